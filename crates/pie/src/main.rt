@@ -1,0 +1,46 @@
+//! `pie`: runs traces of a PIE queue controller (RFC 8033) and writes their histories.
+#![tactic(auto)]
+
+mod command;
+mod options;
+
+use command::command;
+use std::env;
+use std::process::ExitCode;
+
+fn main(rt: HostRuntime) -> ExitCode {
+    let words: Vec<String> = match words(&rt) {
+        Some(words) => words,
+        None => return ExitCode::from(1),
+    };
+    let status = command(
+        &rt,
+        rt.alloc(),
+        words.as_slice(),
+        rt.stdin(),
+        &mut rt.stdout(),
+        &mut rt.stderr(),
+    );
+    ExitCode::from(status)
+}
+
+/// The words of the command line, or nothing where they could not be had, which is then said on standard error.
+fn words(rt: &HostRuntime) -> Option<Vec<String>> {
+    let args = match env::args(rt) {
+        Ok(args) => args,
+        Err(_) => {
+            let _ = eprintln!(rt; "pie: out of memory");
+            return None;
+        }
+    };
+    match args.collect(rt.alloc()) {
+        Ok(words) => Some(words),
+        Err(_) => {
+            let _ = eprintln!(rt; "pie: out of memory");
+            None
+        }
+    }
+}
+
+#[cfg(test)]
+mod tests;

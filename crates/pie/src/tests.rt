@@ -1,0 +1,97 @@
+use crate::command::command;
+use std::alloc::AllocError;
+use std::test::Fail;
+
+/// What a run of the program answered: its status, its output and its error stream.
+#[derive(Drop)]
+struct Outcome {
+    status: u8,
+    output: Vec<u8>,
+    errors: Vec<u8>,
+}
+
+fn pie(rt: &HostRuntime, words: &[&str], input: &[u8]) -> Result<Outcome, AllocError> {
+    let alloc = rt.alloc();
+    let mut owned = Vec::new(alloc);
+    for word in words {
+        owned.push(String::from_str(alloc, word)?)?;
+    }
+    let mut output = Vec::new(alloc);
+    let mut errors = Vec::new(alloc);
+    let status = command(rt, alloc, owned.as_slice(), input, &mut output, &mut errors);
+    Ok(Outcome {
+        status,
+        output,
+        errors,
+    })
+}
+
+/// The trace of one arrival and two departures gives its history.
+#[test]
+fn runs_a_trace(rt: HostRuntime) -> Result<(), Fail> {
+    let trace = b"open,0,4,16,100\narrive,1,10,7,1500,ect0,0\ndepart,2,25\ndepart,2,30\n";
+    let history =
+        b"open,0,4,16,100\narrive,1,10,7,1500,ect0,0,enqueue\ndepart,2,25,left,7,1500,ect0\ndepart,2,30,empty\n";
+    let outcome = pie(&rt, &["pie", "run"], trace)?;
+    assert_eq!(rt; outcome.status, 0);
+    assert_eq!(rt; outcome.output.as_slice(), history.as_slice());
+    assert!(rt; outcome.errors.is_empty());
+    Ok(())
+}
+
+/// An empty input writes nothing but the text of its fault.
+#[test]
+fn tells_a_fault(rt: HostRuntime) -> Result<(), Fail> {
+    let outcome = pie(&rt, &["pie", "run"], b"")?;
+    assert_eq!(rt; outcome.status, 1);
+    assert!(rt; outcome.output.is_empty());
+    let text = b"pie: the first record is not an open record\n";
+    assert_eq!(rt; outcome.errors.as_slice(), text.as_slice());
+    let late = pie(&rt, &["pie", "run"], b"open,0,4,16,100\ndepart,2,05\n")?;
+    assert_eq!(rt; late.status, 1);
+    assert_eq!(rt; late.output.as_slice(), b"open,0,4,16,100\n".as_slice());
+    let number = b"pie: record 2: not a number in range\n";
+    assert_eq!(rt; late.errors.as_slice(), number.as_slice());
+    let closed = pie(&rt, &["pie", "run"], b"open,0,0,16,100\n")?;
+    let limits = b"pie: record 1: limits out of range\n";
+    assert_eq!(rt;
+        (closed.status, closed.errors.as_slice()),
+        (1, limits.as_slice())
+    );
+    Ok(())
+}
+
+/// A command line without a subcommand is a mistake, and so is an unknown one.
+#[test]
+fn tells_a_mistake(rt: HostRuntime) -> Result<(), Fail> {
+    let lists: [&[&str]; 3] = [&["pie"], &["pie", "walk"], &["pie", "run", "fast"]];
+    for words in lists {
+        let outcome = pie(&rt, words, b"")?;
+        assert_eq!(rt; outcome.status, 1);
+        assert!(rt; outcome.output.is_empty());
+        assert!(rt; !outcome.errors.is_empty());
+    }
+    Ok(())
+}
+
+/// A request for help is answered on the output.
+#[test]
+fn gives_help(rt: HostRuntime) -> Result<(), Fail> {
+    let lists: [&[&str]; 3] = [
+        &["pie", "--help"],
+        &["pie", "run", "--help"],
+        &["pie", "help"],
+    ];
+    for words in lists {
+        let outcome = pie(&rt, words, b"")?;
+        assert_eq!(rt; outcome.status, 0);
+        assert!(rt; outcome.errors.is_empty());
+        assert!(rt;
+            outcome
+                .output
+                .windows(7)
+                .any(|part| part == b"Example".as_slice())
+        );
+    }
+    Ok(())
+}

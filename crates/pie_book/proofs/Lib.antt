@@ -1,0 +1,3 @@
+pub mod HistoryFacts
+pub mod CoreFacts
+pub mod Examples

@@ -1,0 +1,47 @@
+//! What a book is opened with.
+
+ghost use Rattle.std.specs.Prelude.{◌≡◌};
+
+use pie_params::Params;
+
+/// The limits of a book (this project's own), not yet looked at.
+#[derive(Clone, Copy, Debug, PartialEq, Eq)]
+pub struct Limits {
+    /// How many packets the ring holds: 1 to 65536.
+    pub packets: u32,
+    /// How many events the tail holds: 1 to 1048576.
+    pub tail: u32,
+    /// How many events there may be in all: 1 to `2^40`.
+    pub events: u64,
+}
+
+impl Limits {
+    ghost use Rattle.pie_book.specs.Opening.{are_in_range};
+
+    /// The greatest ring, in packets.
+    pub const MOST_PACKETS: u32 = 65536;
+    /// The longest tail, in events.
+    pub const LONGEST_TAIL: u32 = 1_048_576;
+    /// The most events.
+    pub const MOST_EVENTS: u64 = 1 << 40;
+
+    /// Whether each limit is in its range.
+    pub fn are_in_range(self) -> bool
+        ensures { result ≡ are_in_range self }
+    {
+        (1 <= self.packets && self.packets <= Self::MOST_PACKETS)
+            && (1 <= self.tail && self.tail <= Self::LONGEST_TAIL)
+            && (1 <= self.events && self.events <= Self::MOST_EVENTS)
+    }
+}
+
+/// What a book was opened with, kept as it was handed in.
+#[derive(Clone, Copy, Debug, PartialEq, Eq)]
+pub struct Opening {
+    /// The opening moment, in nanoseconds: at most `2^60 - 1`.
+    pub moment: u64,
+    /// The limits, each in its range.
+    pub limits: Limits,
+    /// The parameters.
+    pub params: Params,
+}

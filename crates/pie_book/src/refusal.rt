@@ -1,0 +1,34 @@
+//! Why a book was not opened, and why a command was not taken.
+
+use thiserror::Error;
+
+/// Why a book was not opened (this project's own). The refusals are looked for in this order.
+#[derive(Clone, Copy, Debug, PartialEq, Eq, Error)]
+pub enum OpenRefusal {
+    /// A limit is out of its range.
+    #[error("limits out of range")]
+    BadLimits,
+    /// The opening moment is above `2^60 - 1`.
+    #[error("moment out of range")]
+    Moment,
+    /// There was no memory for the queue and the tail.
+    #[error("out of memory")]
+    Memory,
+}
+
+/// Why a command was not taken (this project's own); the book is as it was. The refusals are looked for in this order.
+#[derive(Clone, Copy, Debug, PartialEq, Eq, Error)]
+pub enum Refusal {
+    /// The moment handed in is above `2^60 - 1`.
+    #[error("moment out of range")]
+    Moment,
+    /// The arriving packet's size is outside 1 to 65535 bytes.
+    #[error("packet size out of range")]
+    Size,
+    /// The book has recorded as many events as its limits allow in all.
+    #[error("no more events")]
+    Exhausted,
+    /// The tail holds as many events as its limits allow.
+    #[error("the tail is full")]
+    HistoryFull,
+}

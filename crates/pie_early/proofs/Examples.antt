@@ -1,0 +1,110 @@
+-- The definitions on worked arrivals: each theorem computes.
+use Rattle.std.specs.Prelude.{◌≡◌, ℕ, ◌^◌, ◌-◌, true, false, List, [], ◌∷◌, ◌++◌, replicate, refl}
+use Rattle.pie_params.specs.Profile.{default_profile}
+use Rattle.pie_control.specs.Parts.{Parts}
+use Rattle.pie_queue.specs.declared.ecn.Ecn.TheVariants.{NotEct, Ect0}
+use Rattle.pie_early.specs.declared.early.Choice.{Choice}
+use Rattle.pie_early.specs.declared.early.Choice.TheVariants.{Enqueue, Mark, Drop}
+use Rattle.pie_early.specs.Decision.{choice_of, is_considered, is_picked}
+use Rattle.pie_early.specs.Events.{EarlyEvent, arrival, cleared}
+use Rattle.pie_early.specs.History.{accumulated}
+
+-- a controller with no burst allowance
+abbrev control : ℕ → ℕ → Parts
+control prob old = record { prob = prob; old_delay = old; burst = 0; last = 0 }
+
+-- so many considered arrivals at a tenth that were queued
+abbrev queued : ℕ → List EarlyEvent
+queued n = replicate n (arrival true (10 ^ 11) Enqueue)
+
+-- the choice after so many of them, with 3000 bytes in the queue
+abbrev after : ℕ → ℕ → Choice
+after n word = choice_of default_profile (control (10 ^ 11) 15000000) 3000 NotEct word (accumulated (queued n))
+
+eight-accumulated : accumulated (queued 8) ≡ 800_000_000_000
+unfolding accumulated
+eight-accumulated = refl
+
+-- the greatest word picks none before the 85th, where the accumulated probability is exactly 8.5
+second-choice : after 1 (2 ^ 64 - 1) ≡ Enqueue
+unfolding accumulated is_considered is_picked
+second-choice = refl
+
+eighty_fourth-choice : after 83 (2 ^ 64 - 1) ≡ Enqueue
+unfolding accumulated is_considered is_picked
+eighty_fourth-choice = refl
+
+eighty_fifth-choice : after 84 (2 ^ 64 - 1) ≡ Drop
+unfolding accumulated is_considered is_picked
+eighty_fifth-choice = refl
+
+-- the least word picks none while the accumulated probability is below 0.85
+eighth-choice : after 7 0 ≡ Enqueue
+unfolding accumulated is_considered is_picked
+eighth-choice = refl
+
+ninth-choice : after 8 0 ≡ Drop
+unfolding accumulated is_considered is_picked
+ninth-choice = refl
+
+-- a packet whose endpoints understand a mark is dropped at the marking threshold, and marked below
+-- it
+capable_at-choice : choice_of default_profile (control (10 ^ 11) 15000000) 3000 Ect0 0 (accumulated (queued 8)) ≡ Drop
+unfolding accumulated is_considered is_picked
+capable_at-choice = refl
+
+capable_below-choice : choice_of default_profile (control (10 ^ 11 - 1) 15000000) 3000 Ect0 0 (accumulated (queued 8)) ≡ Mark
+unfolding accumulated is_considered is_picked
+capable_below-choice = refl
+
+-- a pick, a clear and an arrival considered at probability 0 each leave nothing accumulated; one
+-- that isn't considered changes nothing
+marked-accumulated : accumulated (queued 8 ++ arrival true (10 ^ 11) Mark ∷ []) ≡ 0
+unfolding accumulated
+marked-accumulated = refl
+
+after_drop-accumulated : accumulated (queued 8 ++ arrival true (10 ^ 11) Drop ∷ queued 2) ≡ 200_000_000_000
+unfolding accumulated
+after_drop-accumulated = refl
+
+cleared-accumulated : accumulated (queued 8 ++ cleared ∷ queued 1) ≡ 100_000_000_000
+unfolding accumulated
+cleared-accumulated = refl
+
+zero-accumulated : accumulated (queued 8 ++ arrival true 0 Enqueue ∷ []) ≡ 0
+unfolding accumulated
+zero-accumulated = refl
+
+unconsidered-accumulated : accumulated (queued 8 ++ arrival false (10 ^ 11) Enqueue ∷ []) ≡ 800_000_000_000
+unfolding accumulated
+unconsidered-accumulated = refl
+
+-- the bounds of what is considered: two packets of the mean size, half the target, a fifth, and no
+-- burst allowance
+two_packets-considered : is_considered default_profile (control (10 ^ 11) 15000000) 2048 ≡ false
+unfolding is_considered
+two_packets-considered = refl
+
+more_than_two-considered : is_considered default_profile (control (10 ^ 11) 15000000) 2049 ≡ true
+unfolding is_considered
+more_than_two-considered = refl
+
+below_half-considered : is_considered default_profile (control (10 ^ 11) 7499999) 3000 ≡ false
+unfolding is_considered
+below_half-considered = refl
+
+half-considered : is_considered default_profile (control (10 ^ 11) 7500000) 3000 ≡ true
+unfolding is_considered
+half-considered = refl
+
+below_fifth-considered : is_considered default_profile (control 199_999_999_999 0) 3000 ≡ false
+unfolding is_considered
+below_fifth-considered = refl
+
+fifth-considered : is_considered default_profile (control 200_000_000_000 0) 3000 ≡ true
+unfolding is_considered
+fifth-considered = refl
+
+burst-considered : is_considered default_profile (record { prob = 10 ^ 11; old_delay = 15000000; burst = 1; last = 0 }) 3000 ≡ false
+unfolding is_considered
+burst-considered = refl

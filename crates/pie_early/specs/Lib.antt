@@ -1,0 +1,3 @@
+pub mod Decision
+pub mod Events
+pub mod History

@@ -1,0 +1,176 @@
+ghost use Rattle.std.specs.Prelude.{◌≡◌, ℕ, ◌+◌, ◌*◌, ◌<◌, ◌↔◌, List, [], ◌∷◌, ◌++◌, true, replicate, IsTrue};
+ghost use Rattle.pie_fixed.specs.declared.TheConstants.{ALWAYS_PICKED};
+ghost use Rattle.pie_early.specs.Decision.{choice_of, is_considered, is_pick, is_picked, picked_choice, IsPicked};
+ghost use Rattle.pie_early.specs.Events.{EarlyEvent, arrival, cleared, is_clearing};
+ghost use Rattle.pie_early.specs.History.{Shows, accumulated};
+
+use pie_control::Control;
+use pie_fixed::{ALWAYS_PICKED, Accu, Prob, chosen};
+use pie_params::Params;
+use pie_queue::Ecn;
+use std::marker::Model;
+
+/// A fifth, in units of `10^-12`: below it a packet is let through while the old delay is below half
+/// the target (RFC 8033, section 4.1).
+const LOW_PROB: u64 = 200_000_000_000;
+
+/// The accumulated probability 0.85, in units of `10^-12`, below which no packet is picked (RFC
+/// 8033, section 5.4).
+const NEVER_PICKED: u64 = 850_000_000_000;
+
+/// What becomes of an arriving packet that the queue has room for.
+#[derive(Clone, Copy, Debug, PartialEq, Eq)]
+pub enum Choice {
+    /// It is queued as it is.
+    Enqueue,
+    /// It is queued, marked as having met congestion (RFC 8033, section 5.1).
+    Mark,
+    /// It is dropped.
+    Drop,
+}
+
+/// The accumulated probability, by which picked packets come neither too close together nor too far
+/// apart (RFC 8033, section 5.4).
+///
+/// Contracts see it as its number of units of `10^-12`. They speak of the list of arrivals and
+/// clears that it was shown.
+#[derive(Clone, Copy, Debug, PartialEq, Eq)]
+pub struct Early {
+    accu: Accu,
+}
+
+impl Model for Early {
+    ghost use Rattle.std.specs.Prelude.{ℕ, ◌<◌};
+    ghost use Rattle.pie_fixed.specs.declared.TheConstants.{ALWAYS_PICKED};
+
+    ghost Value = { ℕ };
+
+    ghost view = { λ e. e.accu };
+
+    ghost invariant = { λ e. e.accu < ALWAYS_PICKED };
+
+    ghost inverse = { λ n. record { accu = n } };
+}
+
+impl Early {
+    /// Early drop before any arrival, with nothing accumulated.
+    pub fn opened() -> Self
+        ensures value { result ≡ 0 }
+        ensures shows { Shows [] result }
+    {
+        Early { accu: Accu::zero() }
+    }
+
+    /// Decides on an arriving packet that is no tail drop: `bytes` are in the queue without it, `ecn`
+    /// is its ECN field, and `word` is random, every `u64` as likely as any other (RFC 8033, sections
+    /// 4.1, 5.1 and 5.4; the comparison by a 64-bit word is this project's own).
+    ///
+    /// An arrival isn't considered while a burst is allowed, while the queue holds at most two packets
+    /// of the mean size, or while the old delay is below half the target and the probability below a
+    /// fifth; it is then queued. At probability 0 a considered arrival clears the accumulated
+    /// probability and is queued. At any other, the probability is added to the accumulated one. Below
+    /// 0.85 the packet is queued, from 8.5 on it is picked, and between the two it is picked by the
+    /// word. A picked packet is marked, where its endpoints understand that and the probability is
+    /// below `mark_ecnth`, and else dropped; either clears the accumulated probability.
+    pub fn consider(
+        &mut self,
+        params: &Params,
+        control: &Control,
+        bytes: u64,
+        ecn: Ecn,
+        word: u64,
+    ) -> Choice
+        ensures choice { result ≡ choice_of params.now control.now bytes ecn word self.old }
+        ensures picked { IsTrue (is_pick result) ↔ IsPicked params.now control.now bytes word self.old }
+
+        // looking back over all that it was shown
+        ensures look_back { (events : List EarlyEvent) →
+            Shows events self.old →
+            result ≡ choice_of params.now control.now bytes ecn word (accumulated events) }
+        ensures shows { (events : List EarlyEvent) →
+            let considered = is_considered params.now control.now bytes in
+            Shows events self.old →
+            Shows (events ++ arrival considered control.now.prob result ∷ []) self.new }
+
+        // between two picks it grows by the probability at each considered arrival
+        ensures grows { IsTrue (is_considered params.now control.now bytes) →
+            0 < control.now.prob →
+            result ≡ Choice.Enqueue →
+            self.new ≡ self.old + control.now.prob }
+    {
+        if !is_considered(params, control, bytes) {
+            return Choice::Enqueue;
+        }
+        let prob = control.prob();
+        if prob.units() == 0 {
+            self.clear();
+            return Choice::Enqueue;
+        }
+        let accu = self.accu.plus(prob);
+        if !is_picked(prob, accu, word) {
+            self.accu = accu;
+            return Choice::Enqueue;
+        }
+        self.clear();
+        picked_choice(params, prob, ecn)
+    }
+
+    /// Sets the accumulated probability to 0, as a tail drop and a reset do (RFC 8033, section 5.4).
+    pub fn clear(&mut self)
+        ensures value { self.new ≡ 0 }
+        ensures shows { (events : List EarlyEvent) →
+            Shows events self.old → Shows (events ++ cleared ∷ []) self.new }
+    {
+        self.accu = Accu::zero();
+    }
+
+    /// The accumulated probability, below 8.5 (RFC 8033, section 5.4).
+    pub fn accu(&self) -> Accu
+        ensures value { result ≡ self.now }
+        ensures bound { result < ALWAYS_PICKED }
+        ensures look_back { (events : List EarlyEvent) →
+            Shows events self.now → result ≡ accumulated events }
+
+        // after a clearing event and n arrivals, considered at one probability and queued, it is
+        // n times that
+        ensures run { (before : List EarlyEvent) (clearing : EarlyEvent) (n prob : ℕ) →
+            IsTrue (is_clearing clearing) →
+            0 < prob →
+            Shows (before ++ clearing ∷ replicate n (arrival true prob Choice.Enqueue)) self.now →
+            result ≡ n * prob }
+    {
+        self.accu
+    }
+}
+
+/// Whether an arrival is considered (RFC 8033, section 4.1).
+#[tactic(auto, using(std::proofs::lemmas::Bool::Decides::nat_tests), unfolding(crate::specs::Decision::is_considered))]
+fn is_considered(params: &Params, control: &Control, bytes: u64) -> bool
+    ensures { result ≡ is_considered params.now control.now bytes }
+{
+    control.burst() == 0
+        && bytes > 2 * params.mean_pkt()
+        && !(2 * control.old() < params.target().units() && control.prob().units() < LOW_PROB)
+}
+
+/// Whether a considered arrival is picked, at an accumulated probability that has its own
+/// probability in it, which isn't 0 (RFC 8033, section 5.4).
+#[tactic(auto, using(std::proofs::lemmas::Bool::Decides::nat_tests), unfolding(crate::specs::Decision::is_picked))]
+fn is_picked(prob: Prob, accu: Accu, word: u64) -> bool
+    requires { 0 < prob }
+    ensures { result ≡ is_picked prob accu word }
+{
+    let accu = accu.units();
+    accu >= NEVER_PICKED && (accu >= ALWAYS_PICKED || chosen(prob, word))
+}
+
+/// What becomes of a picked packet (RFC 8033, section 5.1).
+fn picked_choice(params: &Params, prob: Prob, ecn: Ecn) -> Choice
+    ensures { result ≡ picked_choice params.now prob ecn }
+{
+    if ecn.capable() && prob < params.mark_ecnth() {
+        Choice::Mark
+    } else {
+        Choice::Drop
+    }
+}

@@ -1,0 +1,24 @@
+-- The definitions at examples worked out by hand.
+use Rattle.std.proofs.Common.{◌≡◌, ℕ, ◌<◌, ◌^◌, refl, lit<, arith}
+use Rattle.std.specs.Prelude.{pos, negsuc, int_div}
+use Rattle.pie_fixed.specs.Fixed.{Picks, bounded_of}
+
+-- at a tenth, a word is picked up to 1844674407370955161
+picked : Picks 100_000_000_000 1_844_674_407_370_955_161
+picked = lit< tt
+
+not_picked : Picks 100_000_000_000 1_844_674_407_370_955_162 → ⊥
+not_picked h = omega arith
+
+never_at_zero : (word : ℕ) → Picks 0 word → ⊥
+never_at_zero word h = omega arith
+
+always_at_one : (word : ℕ) → word < 2 ^ 64 → Picks 1_000_000_000_000 word
+always_at_one word h = omega arith
+
+bounds : (bounded_of (negsuc 0) ≡ 0) × (bounded_of (pos 50) ≡ 50) × (bounded_of (pos 1_000_000_000_001) ≡ 1_000_000_000_000)
+bounds = (refl, refl, refl)
+
+-- 7 / 2 is 3, -7 / 2 is -3 and -1 / 2048 is 0
+quotients : (int_div (pos 7) (pos 2) ≡ pos 3) × (int_div (negsuc 6) (pos 2) ≡ negsuc 2) × (int_div (negsuc 0) (pos 2048) ≡ pos 0)
+quotients = (refl, refl, refl)

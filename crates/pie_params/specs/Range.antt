@@ -1,0 +1,43 @@
+-- Which parameters are in their ranges, and the first one that is not.
+use Rattle.std.specs.Prelude.{ℕ, ◌^◌, ◌≤◌, Bool, ◌&&◌, ◌||◌, ◌==◌, nat_le, not, IsTrue, Option, find, List, [], ◌∷◌}
+use Rattle.pie_fixed.specs.declared.TheConstants.{ONE}
+use Rattle.pie_params.specs.declared.raw.Field.{Field}
+use Rattle.pie_params.specs.declared.raw.Field.TheVariants.{Target, TUpdate, MaxBurst, Alpha, Beta, MeanPkt, LimitBytes, MarkEcnth, DqThreshold}
+use Rattle.pie_params.specs.declared.raw.RawParams.{RawParams}
+
+-- a power of two from 1024 to 65536
+abbrev pub is_dq_threshold : ℕ → Bool
+is_dq_threshold n =
+    (n == 2 ^ 10) || (n == 2 ^ 11) || (n == 2 ^ 12) || (n == 2 ^ 13) || (n == 2 ^ 14) || (n == 2 ^ 15) || (n == 2 ^ 16)
+
+-- the field is in its range
+abbrev pub is_in_range : RawParams → Field → Bool
+is_in_range raw Target = nat_le 2 raw.target && nat_le raw.target (10 ^ 10)
+is_in_range raw TUpdate = nat_le 1 raw.t_update && nat_le raw.t_update (10 ^ 10)
+is_in_range raw MaxBurst = nat_le raw.max_burst (10 ^ 12)
+is_in_range raw Alpha = nat_le raw.alpha (10 ^ 6)
+is_in_range raw Beta = nat_le raw.beta (10 ^ 6)
+is_in_range raw MeanPkt = nat_le 1 raw.mean_pkt && nat_le raw.mean_pkt 65535
+is_in_range raw LimitBytes = nat_le 1 raw.limit_bytes && nat_le raw.limit_bytes (2 ^ 30)
+is_in_range raw MarkEcnth = nat_le raw.mark_ecnth ONE
+is_in_range raw DqThreshold = is_dq_threshold raw.dq_threshold
+
+-- the fields, in the order in which they are checked
+abbrev pub checked_fields : List Field
+checked_fields = Target ∷ TUpdate ∷ MaxBurst ∷ Alpha ∷ Beta ∷ MeanPkt ∷ LimitBytes ∷ MarkEcnth ∷ DqThreshold ∷ []
+
+-- the first field out of its range, in that order
+abbrev pub first_bad : RawParams → Option Field
+first_bad raw = find (λ field. not (is_in_range raw field)) checked_fields
+
+-- each field is in its range
+pub record IsInRange (raw : RawParams) : Type 0 where
+  pub target : (2 ≤ raw.target) × (raw.target ≤ 10 ^ 10)
+  pub t_update : (1 ≤ raw.t_update) × (raw.t_update ≤ 10 ^ 10)
+  pub max_burst : raw.max_burst ≤ 10 ^ 12
+  pub alpha : raw.alpha ≤ 10 ^ 6
+  pub beta : raw.beta ≤ 10 ^ 6
+  pub mean_pkt : (1 ≤ raw.mean_pkt) × (raw.mean_pkt ≤ 65535)
+  pub limit_bytes : (1 ≤ raw.limit_bytes) × (raw.limit_bytes ≤ 2 ^ 30)
+  pub mark_ecnth : raw.mark_ecnth ≤ ONE
+  pub dq_threshold : IsTrue (is_dq_threshold raw.dq_threshold)

@@ -1,0 +1,189 @@
+ghost use Rattle.std.specs.Prelude.{◌≡◌, ◌^◌, ◌≤◌, ◌↔◌, IsTrue, IsOk, IfOk, IfErr};
+ghost use Rattle.pie_fixed.specs.declared.TheConstants.{ONE};
+
+use crate::raw::{BadParam, RawParams};
+use pie_fixed::{Gain, Nanos, Prob};
+use std::marker::Model;
+
+/// Parameters that are all in their ranges.
+#[derive(Clone, Copy, Debug, PartialEq, Eq)]
+pub struct Params {
+    target: Nanos,
+    t_update: Nanos,
+    max_burst: Nanos,
+    alpha: Gain,
+    beta: Gain,
+    mean_pkt: u64,
+    limit_bytes: u64,
+    mark_ecnth: Prob,
+    dq_threshold: u64,
+}
+
+impl Model for Params {
+    ghost use Rattle.pie_params.specs.declared.raw.RawParams.{RawParams};
+    ghost use Rattle.pie_params.specs.Range.{IsInRange};
+
+    ghost Value = { RawParams };
+
+    ghost view = { λ p. record { target = p.target; t_update = p.t_update; max_burst = p.max_burst; alpha = p.alpha; beta = p.beta; mean_pkt = p.mean_pkt; limit_bytes = p.limit_bytes; mark_ecnth = p.mark_ecnth; dq_threshold = p.dq_threshold } };
+
+    ghost invariant = { λ p. IsInRange (record { target = p.target; t_update = p.t_update; max_burst = p.max_burst; alpha = p.alpha; beta = p.beta; mean_pkt = p.mean_pkt; limit_bytes = p.limit_bytes; mark_ecnth = p.mark_ecnth; dq_threshold = p.dq_threshold }) };
+
+    ghost inverse = { λ p. record { target = p.target; t_update = p.t_update; max_burst = p.max_burst; alpha = p.alpha; beta = p.beta; mean_pkt = p.mean_pkt; limit_bytes = p.limit_bytes; mark_ecnth = p.mark_ecnth; dq_threshold = p.dq_threshold } };
+}
+
+impl Params {
+    ghost use Rattle.pie_params.specs.Profile.{default_profile};
+    ghost use Rattle.pie_params.specs.Range.{first_bad, is_dq_threshold, IsInRange};
+
+    /// The default parameters: those of RFC 8033 (sections 4.2, 4.4, 5.1 and 5.2) where it has them.
+    pub fn default_profile() -> Self
+        ensures { result ≡ default_profile }
+    {
+        Params::in_range(RawParams {
+            target: 15_000_000,
+            t_update: 15_000_000,
+            max_burst: 150_000_000,
+            alpha: 125,
+            beta: 1250,
+            mean_pkt: 1024,
+            limit_bytes: 262_144,
+            mark_ecnth: 100_000_000_000,
+            dq_threshold: 16384,
+        })
+    }
+
+    /// Checks each field against its range, in the order of [`RawParams`]' fields.
+    ///
+    /// # Errors
+    ///
+    /// `BadParam` with the first field that is out of its range.
+    pub fn check(raw: RawParams) -> Result<Self, BadParam>
+        ensures accepts { IsOk result ↔ IsInRange raw }
+        ensures same { IfOk result (λ params. params ≡ raw) }
+        ensures checked { IfOk result (λ _. first_bad raw ≡ None) }
+        ensures refuses { IfErr result (λ e. first_bad raw ≡ Some e.0) }
+    {
+        match raw.first_bad() {
+            Some(field) => Err(BadParam(field)),
+            None => Ok(Params::in_range(raw)),
+        }
+    }
+
+    /// The parameters of a record that is in its ranges.
+    fn in_range(raw: RawParams) -> Self
+        requires { IsInRange raw }
+        ensures { result ≡ raw }
+    {
+        Params {
+            target: Nanos::from_units(raw.target).unwrap(),
+            t_update: Nanos::from_units(raw.t_update).unwrap(),
+            max_burst: Nanos::from_units(raw.max_burst).unwrap(),
+            alpha: Gain::from_units(raw.alpha).unwrap(),
+            beta: Gain::from_units(raw.beta).unwrap(),
+            mean_pkt: raw.mean_pkt,
+            limit_bytes: raw.limit_bytes,
+            mark_ecnth: Prob::from_units(raw.mark_ecnth).unwrap(),
+            dq_threshold: raw.dq_threshold,
+        }
+    }
+
+    /// The plain record of these parameters, which is in its ranges.
+    pub fn raw(self) -> RawParams
+        ensures same { result ≡ self }
+        ensures in_range { IsInRange self }
+        ensures checked { first_bad self ≡ None }
+    {
+        RawParams {
+            target: self.target.units(),
+            t_update: self.t_update.units(),
+            max_burst: self.max_burst.units(),
+            alpha: self.alpha.units(),
+            beta: self.beta.units(),
+            mean_pkt: self.mean_pkt,
+            limit_bytes: self.limit_bytes,
+            mark_ecnth: self.mark_ecnth.units(),
+            dq_threshold: self.dq_threshold,
+        }
+    }
+
+    /// The reference queueing delay, 2 to 10^10 nanoseconds (RFC 8033, section 4.2).
+    pub fn target(self) -> Nanos
+        ensures value { result ≡ self.target }
+        ensures at_least { 2 ≤ self.target }
+        ensures at_most { self.target ≤ 10 ^ 10 }
+    {
+        self.target
+    }
+
+    /// The time between two updates, 1 to 10^10 nanoseconds (RFC 8033, section 4.2).
+    pub fn t_update(self) -> Nanos
+        ensures value { result ≡ self.t_update }
+        ensures at_least { 1 ≤ self.t_update }
+        ensures at_most { self.t_update ≤ 10 ^ 10 }
+    {
+        self.t_update
+    }
+
+    /// The burst allowance, at most 10^12 nanoseconds (RFC 8033, section 4.4).
+    pub fn max_burst(self) -> Nanos
+        ensures value { result ≡ self.max_burst }
+        ensures at_most { self.max_burst ≤ 10 ^ 12 }
+    {
+        self.max_burst
+    }
+
+    /// The gain on the delay's distance from the target, at most 10^6 thousandths per second (RFC
+    /// 8033, section 4.2).
+    pub fn alpha(self) -> Gain
+        ensures value { result ≡ self.alpha }
+        ensures at_most { self.alpha ≤ 10 ^ 6 }
+    {
+        self.alpha
+    }
+
+    /// The gain on the delay's change, at most 10^6 thousandths per second (RFC 8033, section 4.2).
+    pub fn beta(self) -> Gain
+        ensures value { result ≡ self.beta }
+        ensures at_most { self.beta ≤ 10 ^ 6 }
+    {
+        self.beta
+    }
+
+    /// The mean packet size, 1 to 65535 bytes (RFC 8033, section 4.1).
+    pub fn mean_pkt(self) -> u64
+        ensures value { result ≡ self.mean_pkt }
+        ensures at_least { 1 ≤ self.mean_pkt }
+        ensures at_most { self.mean_pkt ≤ 65535 }
+    {
+        self.mean_pkt
+    }
+
+    /// The queue's limit, 1 to 2^30 bytes (RFC 8033, section 4.1).
+    pub fn limit_bytes(self) -> u64
+        ensures value { result ≡ self.limit_bytes }
+        ensures at_least { 1 ≤ self.limit_bytes }
+        ensures at_most { self.limit_bytes ≤ 2 ^ 30 }
+    {
+        self.limit_bytes
+    }
+
+    /// The probability from which a packet is dropped and not marked (RFC 8033, section 5.1).
+    pub fn mark_ecnth(self) -> Prob
+        ensures value { result ≡ self.mark_ecnth }
+        ensures at_most { self.mark_ecnth ≤ ONE }
+    {
+        self.mark_ecnth
+    }
+
+    /// The bytes that a cycle of the departure rate counts, a power of two from 1024 to 65536 (RFC
+    /// 8033, section 5.2).
+    pub fn dq_threshold(self) -> u64
+        ensures value { result ≡ self.dq_threshold }
+        ensures power_of_two { IsTrue (is_dq_threshold self.dq_threshold) }
+        ensures at_least { 1024 ≤ self.dq_threshold }
+        ensures at_most { self.dq_threshold ≤ 65536 }
+    {
+        self.dq_threshold
+    }
+}

@@ -1,0 +1,2 @@
+pub mod QueueFacts
+pub mod Examples

@@ -1,0 +1,42 @@
+-- What a byte queue's list and sum do at an arrival and at a departure.
+use Rattle.std.proofs.Common.{◌≡◌, ◌≤◌, ◌<◌, ◌+◌, ◌*◌, ℕ, List, [], ◌∷◌, ◌++◌, length, drop, refl, arith, length-append, length-drop}
+use Rattle.std.specs.Prelude.{All, slice_get, Some}
+use Rattle.std.proofs.lemmas.List.Sums.{sum_by-append, sum_by-cons, sum_by-le}
+use Rattle.std.proofs.lemmas.List.Elements.{All-append, All-drop, All-cons, All-nil}
+use Rattle.pie_queue.specs.declared.packet.Waiting.{Waiting}
+use Rattle.pie_queue.specs.Queue.{Queue, IsQueue, HasSize, IsSize, bytes_of}
+
+-- the sum fits 32 bits
+pub bytes-bound : (queue : Queue) → IsQueue queue → bytes_of queue.waiting ≤ 65535 * 65536
+bytes-bound queue kept =
+    let each : All (λ entry. entry.packet.size ≤ 65535) queue.waiting = λ k d within. (kept.sizes k d within).1 in
+    let sum = sum_by-le (λ (entry : Waiting). entry.packet.size) 65535 queue.waiting each in
+    let count : length queue.waiting ≤ 65536 = let a = kept.within in let b = kept.ring in omega arith in
+    omega (arith, sum)
+
+-- one more packet adds its size
+pub bytes-push : (entries : List Waiting) (entry : Waiting) → bytes_of (entries ++ entry ∷ []) ≡ bytes_of entries + entry.packet.size
+bytes-push entries entry =
+    let sum = sum_by-append (λ (w : Waiting). w.packet.size) entries (entry ∷ []) in omega (arith, sum)
+
+-- the oldest leaves with its size
+pub bytes-drop : (entries : List Waiting) (entry : Waiting) → slice_get entries 0 ≡ Some entry → bytes_of entries ≡ entry.packet.size + bytes_of (drop 1 entries)
+bytes-drop [] entry first = cc
+bytes-drop (e ∷ entries) entry first =
+    let same : e ≡ entry = cc in rw (sum_by-cons (λ (w : Waiting). w.packet.size) e entries, same) refl
+
+pub IsQueue-push : (entries : List Waiting) (entry : Waiting) (packets : ℕ) → IsQueue (record { waiting = entries; packets = packets })
+    → length entries < packets → IsSize entry.packet.size → IsQueue (record { waiting = entries ++ entry ∷ []; packets = packets })
+IsQueue-push entries entry packets kept room size = record {
+  ring = kept.ring;
+  within = let more = length-append entries (entry ∷ []) in omega (arith, more);
+  sizes = All-append HasSize entries (entry ∷ []) kept.sizes (All-cons HasSize entry [] size (All-nil HasSize));
+}
+
+pub IsQueue-drop : (entries : List Waiting) (packets : ℕ) → IsQueue (record { waiting = entries; packets = packets })
+    → IsQueue (record { waiting = drop 1 entries; packets = packets })
+IsQueue-drop entries packets kept = record {
+  ring = kept.ring;
+  within = let fewer = length-drop 1 entries in let all = kept.within in omega (arith, fewer);
+  sizes = All-drop HasSize 1 entries kept.sizes;
+}

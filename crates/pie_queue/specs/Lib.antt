@@ -1,0 +1,2 @@
+pub mod Ecn
+pub mod Queue

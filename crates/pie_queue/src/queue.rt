@@ -1,0 +1,119 @@
+//! The queue of packets: a ring, and the running sum of the sizes.
+ghost use Rattle.std.specs.Prelude.{◌≡◌, ◌≤◌, ◌*◌, ◌↔◌, [], ◌∷◌, ◌++◌, length, drop, slice_get, IsErr, IsTrue, IfOk, IfErr, OnOk};
+ghost use Rattle.pie_queue.specs.Queue.{IsSize, bytes_of};
+
+use crate::{Packet, Waiting};
+use circular_buffer::HeapCircularBuffer;
+use pie_fixed::Nanos;
+use std::alloc::Global;
+use std::marker::Model;
+use thiserror::Error;
+
+/// There was no memory for the queue's ring.
+#[derive(Clone, Copy, Debug, PartialEq, Eq, Error)]
+#[error("out of memory")]
+pub struct Memory;
+
+/// The packets of one link buffer in the order of their arrival, and the sum of their sizes: the queue whose length
+/// in bytes RFC 8033 (section 4.1) looks at. The limit in packets is this project's own.
+#[derive(Drop)]
+pub struct ByteQueue {
+    ring: HeapCircularBuffer<Waiting>,
+    bytes: u64,
+}
+
+impl Model for ByteQueue {
+    ghost use Rattle.std.specs.Prelude.{◌≡◌};
+    ghost use Rattle.pie_queue.specs.Queue.{Queue, IsQueue, bytes_of};
+
+    ghost Value = { Queue };
+
+    ghost view = { λ queue. record { waiting = queue.ring.items; packets = queue.ring.capacity } };
+
+    ghost invariant = { λ queue. (queue.bytes ≡ bytes_of queue.ring.items) × IsQueue (record { waiting = queue.ring.items; packets = queue.ring.capacity }) };
+}
+
+impl ByteQueue {
+    /// An empty queue that holds at most `packets` packets, 1 to 65536. Its whole memory is taken here.
+    ///
+    /// # Errors
+    ///
+    /// `Memory` where there was none for the ring.
+    pub fn new(alloc: Global, packets: u32) -> Result<ByteQueue, Memory>
+        requires at_least_one { 1 ≤ packets }
+        requires at_most { packets ≤ 65536 }
+        ensures { IfOk result (λ queue. queue ≡ record { waiting = []; packets = packets }) }
+    {
+        match HeapCircularBuffer::with_capacity(alloc, packets as usize) {
+            Ok(ring) => Ok(ByteQueue { ring, bytes: 0 }),
+            Err(_) => Err(Memory),
+        }
+    }
+
+    /// Puts a packet of 1 to 65535 bytes at the end, with the moment of its arrival. It takes no memory.
+    ///
+    /// # Errors
+    ///
+    /// The packet itself where the ring is full, and nothing has changed.
+    pub fn admit(&mut self, packet: Packet, since: Nanos) -> Result<(), Packet>
+        requires { IsSize packet.size }
+        ensures full { IsErr result ↔ (length self.old.waiting ≡ self.old.packets) }
+        ensures queued { OnOk result (self.new ≡ record self.old { waiting = self.old.waiting ++ (record { packet = packet; since = since }) ∷ [] }) }
+        ensures refused { IfErr result (λ back. (back ≡ packet) × (self.new ≡ self.old)) }
+    {
+        match self.ring.try_push_back(Waiting { packet, since }) {
+            Ok(()) => {
+                self.bytes += u64::from(packet.size);
+                Ok(())
+            }
+            Err(_) => Err(packet),
+        }
+    }
+
+    /// Takes the oldest packet out, if there is one (first in, first out).
+    pub fn take(&mut self) -> Option<Waiting>
+        ensures oldest { result ≡ slice_get self.old.waiting 0 }
+        ensures rest { self.new ≡ record self.old { waiting = drop 1 self.old.waiting } }
+    {
+        let oldest = self.ring.pop_front()?;
+        self.bytes -= u64::from(oldest.packet.size);
+        Some(oldest)
+    }
+
+    /// The sum of the sizes of the packets that wait, in bytes: at most 65535 times 65536.
+    pub fn bytes(&self) -> u64
+        ensures sum { result ≡ bytes_of self.now.waiting }
+        ensures within { result ≤ 65535 * 65536 }
+    {
+        self.bytes
+    }
+
+    /// How many packets wait: at most 65536.
+    pub fn len(&self) -> usize
+        ensures count { result ≡ length self.now.waiting }
+        ensures within { (result ≤ self.now.packets) × (self.now.packets ≤ 65536) }
+    {
+        self.ring.len()
+    }
+
+    /// Whether no packet waits.
+    pub fn is_empty(&self) -> bool
+        ensures { IsTrue result ↔ (self.now.waiting ≡ []) }
+    {
+        self.ring.is_empty()
+    }
+
+    /// How many packets the ring holds at most, 1 to 65536.
+    pub fn packets(&self) -> usize
+        ensures { result ≡ self.now.packets }
+    {
+        self.ring.capacity()
+    }
+
+    /// The packet at `index`, counted from the oldest, which is at 0; `None` past the newest.
+    pub fn get(&self, index: usize) -> Option<Waiting>
+        ensures { result ≡ slice_get self.now.waiting index }
+    {
+        self.ring.get(index).copied()
+    }
+}

@@ -1,0 +1,4 @@
+mod Examples
+pub mod Laws
+pub mod Averages
+pub mod Steps

@@ -1,0 +1,95 @@
+-- What an estimate shows after one more departure, for each way through the code.
+use Rattle.std.proofs.Common.{◌≡◌, ℕ, ◌+◌, ◌-◌, ◌<◌, ◌≤◌, Bool, true, false, cond, List, [], ◌∷◌, ◌++◌, length, Option, Some, None, refl, sym, ap, ◌∙◌, arith, max, map}
+use Rattle.std.specs.Prelude.{option_map, nat_le, IfSome}
+use Rattle.std.proofs.lemmas.List.{append-nil, drop_all, length_push}
+use Rattle.std.proofs.lemmas.Bool.{le-leb, lt-leb}
+use Rattle.pie_rate.specs.Departures.{Departure, departure_at, bytes_after}
+use Rattle.pie_rate.specs.Cycles.{Cycle, begun}
+use Rattle.pie_rate.specs.Average.{sample_of, samples, average_of, average, with_sample}
+use Rattle.pie_rate.specs.Estimate.{Begun, Estimate, Shows, begun_at}
+use Rattle.pie_rate.proofs.Laws.{added, opens, begins, begun-push, begun-within, samples-push, departure_at-push_old, departure_at-push_new, bytes_after-push}
+use Rattle.pie_rate.proofs.Averages.{NoneZero-samples, average_of-push}
+
+module _ (threshold : ℕ) (ds : List Departure) (d : Departure) where
+  -- the cycle that the departure opens, if it leaves enough behind
+  abbrev pub opened : Option Begun
+  opened = cond (nat_le threshold d.bytes_left) (Some (record { start = d.moment; count = 0 })) None
+
+  begun_at-new : begun_at (ds ++ d ∷ []) (length ds) ≡ record { start = d.moment; count = 0 }
+  begun_at-new =
+      let past = drop_all (length ds + 1) (ds ++ d ∷ []) (omega (arith, length_push ds d)) in
+      rw (departure_at-push_new threshold ds d, past) refl
+
+  map_opens : (b : Bool) → option_map (begun_at (ds ++ d ∷ [])) (cond b (Some (length ds)) None) ≡ cond b (Some (record { start = d.moment; count = 0 })) None
+  map_opens true = ap Some begun_at-new
+  map_opens false = refl
+
+  average-kept : (o : Option ℕ) → begun threshold ds ≡ o → added threshold ds d o ≡ [] → average threshold (ds ++ d ∷ []) ≡ average threshold ds
+  unfolding average
+  average-kept o e a =
+      ap (average_of threshold) (samples-push threshold ds d ∙ ap (λ cs. samples threshold ds ++ map (sample_of (ds ++ d ∷ [])) cs) (ap (added threshold ds d) e ∙ a) ∙ append-nil (samples threshold ds))
+
+  begun_at-push : (i : ℕ) → i < length ds → begun_at (ds ++ d ∷ []) i ≡ record { start = (departure_at ds i).moment; count = bytes_after ds i + d.size }
+  begun_at-push i h = rw (departure_at-push_old threshold ds d i h, bytes_after-push threshold ds d i h) refl
+
+  -- no cycle was begun
+  idle_by : (o : Option ℕ) (e : Estimate) → begun threshold ds ≡ o → option_map (begun_at ds) o ≡ None → Shows threshold ds e
+      → Shows threshold (ds ++ d ∷ []) (record { average = e.average; begun = opened })
+  idle_by (Some i) e b n s = absurd (cc)
+  idle_by None e b n s = record {
+    average = s.average ∙ sym (average-kept None b refl);
+    begun = sym (map_opens (nat_le threshold d.bytes_left))
+        ∙ ap (option_map (begun_at (ds ++ d ∷ []))) (sym (begun-push threshold ds d ∙ ap (begins threshold ds d) b));
+  }
+
+  pub idle : (e : Estimate) → e.begun ≡ None → Shows threshold ds e → Shows threshold (ds ++ d ∷ []) (record { average = e.average; begun = opened })
+  idle e n s = idle_by (begun threshold ds) e refl (sym s.begun ∙ n) s
+
+  -- a cycle was begun, and counts the departure without closing
+  counts_by : (o : Option ℕ) (e : Estimate) (cycle : Begun) → begun threshold ds ≡ o → IfSome o (λ i. i < length ds) → option_map (begun_at ds) o ≡ Some cycle
+      → cycle.count + d.size < threshold → Shows threshold ds e
+      → Shows threshold (ds ++ d ∷ []) (record { average = e.average; begun = Some (record { start = cycle.start; count = cycle.count + d.size }) })
+  counts_by None e cycle b w n less s = absurd (cc)
+  counts_by (Some i) e cycle b w n less s =
+      let same : begun_at ds i ≡ cycle = cc in
+      let short : nat_le threshold (bytes_after ds i + d.size) ≡ false = lt-leb _ _ (rw (ap (λ x. x.count) same) less) in
+      record {
+        average = s.average ∙ sym (average-kept (Some i) b (rw short refl));
+        begun =
+            let after : begun threshold (ds ++ d ∷ []) ≡ Some i = begun-push threshold ds d ∙ ap (begins threshold ds d) b ∙ ap (λ t. cond t (opens threshold ds d) (Some i)) short in
+            rw (after, ← same) (ap Some (sym (begun_at-push i w)));
+      }
+
+  pub counts : (e : Estimate) (cycle : Begun) → e.begun ≡ Some cycle → cycle.count + d.size < threshold → Shows threshold ds e
+      → Shows threshold (ds ++ d ∷ []) (record { average = e.average; begun = Some (record { start = cycle.start; count = cycle.count + d.size }) })
+  counts e cycle n less s = counts_by (begun threshold ds) e cycle refl (begun-within threshold ds d) (sym s.begun ∙ n) less s
+
+  -- a cycle was begun, and the departure closes it
+  average-closed : (i : ℕ) → threshold ≤ 65536 → i < length ds → begun threshold ds ≡ Some i → nat_le threshold (bytes_after ds i + d.size) ≡ true
+      → average threshold (ds ++ d ∷ []) ≡ with_sample threshold (average threshold ds) (max 1 (d.moment - (departure_at ds i).moment))
+  unfolding average
+  average-closed i t w b full =
+      let cycle : List Cycle = record { opened = i; closed = length ds } ∷ [] in
+      let gained : added threshold ds d (begun threshold ds) ≡ record { opened = i; closed = length ds } ∷ [] = rw (b, full) refl in
+      let sample : map (sample_of (ds ++ d ∷ [])) (record { opened = i; closed = length ds } ∷ []) ≡ max 1 (d.moment - (departure_at ds i).moment) ∷ []
+      = rw (departure_at-push_new threshold ds d, departure_at-push_old threshold ds d i w) refl in
+      ap (average_of threshold) (samples-push threshold ds d ∙ ap (λ cs. samples threshold ds ++ map (sample_of (ds ++ d ∷ [])) cs) gained ∙ ap (λ xs. samples threshold ds ++ xs) sample)
+      ∙ average_of-push threshold t (samples threshold ds) (max 1 (d.moment - (departure_at ds i).moment)) (NoneZero-samples threshold ds)
+
+  closes_by : (o : Option ℕ) (e : Estimate) (cycle : Begun) → threshold ≤ 65536 → begun threshold ds ≡ o → IfSome o (λ i. i < length ds) → option_map (begun_at ds) o ≡ Some cycle
+      → threshold ≤ cycle.count + d.size → Shows threshold ds e
+      → Shows threshold (ds ++ d ∷ []) (record { average = with_sample threshold e.average (max 1 (d.moment - cycle.start)); begun = opened })
+  closes_by None e cycle t b w n full s = absurd (cc)
+  closes_by (Some i) e cycle t b w n full s =
+      let same : begun_at ds i ≡ cycle = cc in
+      let closed : nat_le threshold (bytes_after ds i + d.size) ≡ true = le-leb _ _ (rw (ap (λ x. x.count) same) full) in
+      let start : (departure_at ds i).moment ≡ cycle.start = ap (λ x. x.start) same in
+      record {
+        average = rw (s.average, ← start) (sym (average-closed i t w b closed));
+        begun = sym (map_opens (nat_le threshold d.bytes_left))
+            ∙ ap (option_map (begun_at (ds ++ d ∷ []))) (sym (begun-push threshold ds d ∙ ap (begins threshold ds d) b ∙ ap (λ t. cond t (opens threshold ds d) (Some i)) closed));
+      }
+
+  pub closes : (e : Estimate) (cycle : Begun) → threshold ≤ 65536 → e.begun ≡ Some cycle → threshold ≤ cycle.count + d.size → Shows threshold ds e
+      → Shows threshold (ds ++ d ∷ []) (record { average = with_sample threshold e.average (max 1 (d.moment - cycle.start)); begun = opened })
+  closes e cycle t n full s = closes_by (begun threshold ds) e cycle t refl (begun-within threshold ds d) (sym s.begun ∙ n) full s

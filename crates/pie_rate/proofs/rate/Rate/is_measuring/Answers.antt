@@ -1,0 +1,6 @@
+use Rattle.pie_rate.specs.Departures.{departure}
+use Rattle.pie_rate.proofs.Laws.{begun-unclosed}
+use Rattle.pie_rate.proofs.rate.Rate.is_measuring.Goals as goal
+
+pub returns-clause-unclosed : goal.returns-clause-unclosed
+returns-clause-unclosed c = λ threshold departures. begun-unclosed threshold departures (departure 0 0 0)

@@ -1,0 +1,31 @@
+-- What callers see of a rate estimate, and which departures it shows.
+use Rattle.std.specs.Prelude.{◌≡◌, ℕ, List, Option, Some, None, option_map, refl}
+use Rattle.std.proofs.Common.{ap}
+use Rattle.pie_rate.specs.Departures.{Departure, departure_at, bytes_after}
+use Rattle.pie_rate.specs.Cycles.{begun}
+use Rattle.pie_rate.specs.Average.{average}
+
+-- a cycle that is begun: the moment of the departure that opened it, and the bytes that left after
+-- it
+pub record Begun : Type 0 where
+  pub start : ℕ
+  pub count : ℕ
+
+-- the average, 0 with no sample, and the cycle that is begun, if there is one
+pub record Estimate : Type 0 where
+  pub average : ℕ
+  pub begun : Option Begun
+
+-- the cycle that the departure at position i opens
+abbrev pub begun_at : List Departure → ℕ → Begun
+begun_at departures i = record { start = (departure_at departures i).moment; count = bytes_after departures i }
+
+-- cleared and then shown these departures at this threshold, a rate holds this estimate
+pub record Shows (threshold : ℕ) (departures : List Departure) (estimate : Estimate) : Type 0 where
+  pub average : estimate.average ≡ average threshold departures
+  pub begun : estimate.begun ≡ option_map (begun_at departures) (begun threshold departures)
+
+-- a change of the value and back leaves an `Option` as it was
+pub option_map_back : {A B : Type 0} (f : A → B) (g : B → A) → ((x : A) → g (f x) ≡ x) → (o : Option A) → option_map g (option_map f o) ≡ o
+option_map_back f g back None = refl
+option_map_back f g back (Some x) = ap Some (back x)

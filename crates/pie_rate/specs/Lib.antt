@@ -1,0 +1,4 @@
+pub mod Departures
+pub mod Cycles
+pub mod Average
+pub mod Estimate

@@ -1,0 +1,166 @@
+//! The estimate of the departure rate.
+ghost use Rattle.std.specs.Prelude.{◌≡◌, ◌+◌, ◌-◌, ◌^◌, ◌<◌, ◌≤◌, ◌↔◌, ℕ, List, [], ◌∷◌, ◌++◌, None, IsTrue, IsSome, IfSome, max};
+ghost use Rattle.pie_rate.specs.Average.{average, with_sample};
+ghost use Rattle.pie_rate.specs.Cycles.{cycles, begun, first_closing};
+ghost use Rattle.pie_rate.specs.Departures.{Departure, departure};
+ghost use Rattle.pie_rate.specs.Estimate.{Shows};
+
+use pie_fixed::Nanos;
+use std::marker::Model;
+
+/// The bytes over which the weights of a new sample and of the average are counted, which is also
+/// the largest threshold (this project's own).
+const WEIGHTS: u64 = 65_536;
+
+/// A measurement cycle that no departure has closed yet.
+#[derive(Clone, Copy, Debug, PartialEq, Eq)]
+struct OpenCycle {
+    /// The moment of the departure that opened it.
+    start: Nanos,
+    /// The bytes of the departures after that one.
+    count: u64,
+}
+
+/// How long the queue takes to let a threshold of bytes depart, estimated from measurement cycles
+/// (RFC 8033, section 5.2).
+///
+/// Contracts see the average and the cycle that is begun. They speak of the list of departures that
+/// it was shown since it was cleared.
+#[derive(Clone, Copy, Debug, PartialEq, Eq)]
+pub struct Rate {
+    average: u64,
+    begun: Option<OpenCycle>,
+}
+
+impl Model for Rate {
+    ghost use Rattle.std.specs.Prelude.{◌^◌, ◌<◌, option_map, refl};
+    ghost use Rattle.std.specs.Option.{ForSome};
+    ghost use Rattle.std.proofs.Common.{ap};
+    ghost use Rattle.pie_rate.specs.Estimate.{Estimate, option_map_back};
+
+    ghost Value = { Estimate };
+
+    ghost view = { λ r. record {
+      average = r.average;
+      begun = option_map (λ c. record { start = c.start; count = c.count }) r.begun;
+    } };
+
+    ghost invariant = { λ r. (r.average < 2 ^ 60) × ForSome r.begun (λ c. c.count < 65536) };
+
+    ghost inverse = { λ e. record {
+      average = e.average;
+      begun = option_map (λ b. record { start = b.start; count = b.count }) e.begun;
+    } };
+
+    ghost inverse_ok = { λ r h. ap (λ o. record { average = r.average; begun = o })
+        (option_map_back (λ c. record { start = c.start; count = c.count })
+        (λ b. record { start = b.start; count = b.count }) (λ c. refl) r.begun) };
+}
+
+impl Rate {
+    /// The estimate before any departure: no sample, and no cycle begun.
+    pub fn cleared() -> Rate
+        ensures { (threshold : ℕ) → Shows threshold [] result }
+    {
+        Rate {
+            average: 0,
+            begun: None,
+        }
+    }
+
+    /// Takes in one departure: the packet's size and the bytes that it leaves in the queue, its
+    /// moment, and the threshold in bytes, at most 65536 and the same for all departures since the
+    /// estimate was cleared (RFC 8033, section 5.2; when a cycle opens and closes, and what it counts,
+    /// is this project's own).
+    ///
+    /// A cycle that is begun first counts the packet, and closes once it has counted the threshold.
+    /// Then, where none is begun and at least the threshold is left, one begins here, without this
+    /// packet's bytes. A closed cycle gives a sample, the nanoseconds that it took and at least 1. The
+    /// first sample is the average. A later one joins it with the weight of the threshold in 65536
+    /// bytes, rounded down.
+    pub fn departed(&mut self, size: u32, bytes_left: u64, moment: Nanos, threshold: u64)
+        requires { threshold ≤ 65536 }
+        ensures { (departures : List Departure) →
+            Shows threshold departures self.old →
+            Shows threshold (departures ++ departure size bytes_left moment ∷ []) self.new }
+    {
+        if let Some(cycle) = self.begun {
+            let count = cycle.count + u64::from(size);
+            if count < threshold {
+                self.begun = Some(OpenCycle {
+                    start: cycle.start,
+                    count,
+                });
+                return;
+            }
+            let sample = sample(cycle.start, moment);
+            self.average = averaged(self.average, sample, threshold);
+        }
+        self.begun = if bytes_left < threshold {
+            None
+        } else {
+            Some(OpenCycle {
+                start: moment,
+                count: 0,
+            })
+        };
+    }
+
+    /// The average time, in nanoseconds, in which a threshold of bytes departs, below `2^60`; 0 with
+    /// no sample, and never 0 with one (RFC 8033, section 5.2).
+    pub fn average(&self) -> u64
+        ensures value { result ≡ self.now.average }
+        ensures bound { result < 2 ^ 60 }
+
+        // looking back over the departures that it shows
+        ensures look_back { (threshold : ℕ) (departures : List Departure) →
+            Shows threshold departures self.now → result ≡ average threshold departures }
+
+        // it is 0 where no cycle gave a sample, and there alone
+        ensures zero { (threshold : ℕ) (departures : List Departure) →
+            threshold ≤ 65536 →
+            Shows threshold departures self.now →
+            ((result ≡ 0) ↔ (cycles threshold departures ≡ [])) }
+    {
+        self.average
+    }
+
+    /// Whether a cycle is begun (RFC 8033, section 5.2).
+    pub fn is_measuring(&self) -> bool
+        ensures value { IsTrue result ↔ IsSome self.now.begun }
+        ensures look_back { (threshold : ℕ) (departures : List Departure) →
+            Shows threshold departures self.now →
+            (IsTrue result ↔ IsSome (begun threshold departures)) }
+
+        // a cycle that is begun has no departure that closes it
+        ensures unclosed { (threshold : ℕ) (departures : List Departure) →
+            IfSome (begun threshold departures) (λ i. first_closing threshold departures i ≡ None) }
+    {
+        self.begun.is_some()
+    }
+}
+
+/// The sample of a cycle: how long it took, in nanoseconds, and at least 1.
+fn sample(start: Nanos, end: Nanos) -> u64
+    ensures value { result ≡ max 1 (end - start) }
+    ensures bound { result < 2 ^ 60 }
+{
+    end.units().saturating_sub(start.units()).max(1)
+}
+
+/// The average with one more sample: the first sample itself, where the average is 0 for want of
+/// one (RFC 8033, section 5.2).
+fn averaged(average: u64, sample: u64, threshold: u64) -> u64
+    requires average_in { average < 2 ^ 60 }
+    requires sample_in { sample < 2 ^ 60 }
+    requires threshold_in { threshold ≤ 65536 }
+    ensures value { result ≡ with_sample threshold average sample }
+    ensures bound { result < 2 ^ 60 }
+{
+    if average == 0 {
+        return sample;
+    }
+    let kept = u128::from(average) * u128::from(WEIGHTS - threshold);
+    let added = u128::from(sample) * u128::from(threshold);
+    ((added + kept) / u128::from(WEIGHTS)) as u64
+}

@@ -1,0 +1,72 @@
+-- How far the run of a trace has come: what was done so far and what the records that are left will do make up what all
+-- of them do.
+use Rattle.std.specs.Prelude.{ℕ, ◌≡◌, ◌+◌, List, [], ◌∷◌, ◌++◌, length, Bool, true, false, Option, Some, None, Result, Ok, Err, is_err, ⊤, IsErrAnd}
+use Rattle.std.specs.Io.KnownBytes.{Appends}
+use Rattle.std.specs.Prelude.{cond}
+use Rattle.pie_book.specs.declared.opening.Opening.{Opening}
+use Rattle.pie_book.specs.Book.{BookView, Tells}
+use Rattle.pie_book.specs.Run.{Progress, start, next, outcome, outcomes, progress_after}
+use Rattle.pie_trace.specs.declared.fault.TraceFault.{TraceFault}
+use Rattle.pie_trace.specs.declared.fields.Request.{Request}
+use Rattle.pie_trace.specs.declared.run.RunEnd.{RunEnd}
+use Rattle.pie_trace.specs.Fault.{is_device}
+use Rattle.pie_trace.specs.Text.{Row, text_of}
+use Rattle.pie_trace.specs.History.{answered_row, end_of, fault_of, first_fault, history_text, refused_count, step_of, steps_of, text_left}
+
+-- a book stands where a run from its opening stands
+pub record IsAt (book : BookView) (opening : Opening) (progress : Progress) : Type 0 where
+  pub opened : book.opening ≡ opening
+  pub tells : Tells book progress.history
+  pub held : length book.tail ≡ progress.held
+
+-- of the records after the first, `rows` are left, the first of them with this number; `text` is the history text so
+-- far, and `refused` were refused
+pub record HasCome (most : ℕ) (opening : Opening) (all : List Row) (number : ℕ) (progress : Progress) (rows : List Row) (text : List ℕ) (refused : ℕ) : Type 0 where
+  pub fault : first_fault most 2 all ≡ first_fault most number rows
+  pub written : text_left most opening 2 start all ≡ text ++ text_left most opening number progress rows
+  pub ended : progress_after opening start (steps_of all) ≡ progress_after opening progress (steps_of rows)
+  pub refusals : refused_count (outcomes opening start (steps_of all)) ≡ refused + refused_count (outcomes opening progress (steps_of rows))
+
+-- what a record after the first did, where it reads well: its command is answered after the run so far, and its history
+-- record joins the text
+pub record IsAnswered (number : ℕ) (row : Row) (request : Request) (opening : Opening) (new : BookView) (refused refused_then : ℕ) (text text_then : List ℕ) (progress : Progress) : Type 0 where
+  pub stands : IsAt new opening (next opening progress (step_of request))
+  pub refusals : refused_then ≡ refused + cond (is_err (outcome opening progress request.command)) 1 0
+  pub written : text_then ≡ text ++ text_of (answered_row number row (outcome opening progress request.command))
+
+-- where a run stands among all records after the first: some are left, and the text of the others was written
+pub record Stands (most : ℕ) (opening : Opening) (all : List Row) (number : ℕ) (book : BookView) (refused : ℕ) (left : Option (List Row)) (before now : Option (List ℕ)) : Type 0 where
+  pub rows : List Row
+  pub progress : Progress
+  pub text : List ℕ
+  pub remain : left ≡ Some rows
+  pub stands : IsAt book opening progress
+  pub come : HasCome most opening all number progress rows text refused
+  pub written : Appends before now text
+
+-- the steps of a trace ended with their last record, with no fault
+pub record AreDone (most : ℕ) (opening : Opening) (all : List Row) (book : BookView) (refused : ℕ) (before now : Option (List ℕ)) : Type 0 where
+  pub sound : first_fault most 2 all ≡ None
+  pub stands : IsAt book opening (progress_after opening start (steps_of all))
+  pub refusals : refused ≡ refused_count (outcomes opening start (steps_of all))
+  pub written : Appends before now (text_left most opening 2 start all)
+
+-- they ended at the first fault
+pub record AreStopped (most : ℕ) (opening : Opening) (all : List Row) (why : TraceFault) (before now : Option (List ℕ)) : Type 0 where
+  pub first : first_fault most 2 all ≡ Some why
+  pub written : Appends before now (text_left most opening 2 start all)
+
+-- how a run of a whole trace ends, where neither the reader, the writer nor memory failed
+abbrev pub Ends : ℕ → List Row → Result RunEnd TraceFault → Option (List ℕ) → Option (List ℕ) → Type 0
+Ends most all (Ok end) before now = (fault_of most all ≡ None) × (end_of all ≡ Some end) × Appends before now (history_text most all)
+Ends most all (Err why) before now = is_device why ≡ false → (fault_of most all ≡ Some why) × Appends before now (history_text most all)
+
+-- neither the reader, the writer nor memory failed
+abbrev pub IsTold : Result RunEnd TraceFault → Type 0
+IsTold (Ok end) = ⊤
+IsTold (Err why) = is_device why ≡ false
+
+-- the last rows were written out and the answer stays, or the answer is that something failed
+abbrev pub Closes : Result RunEnd TraceFault → Result (Unit {0}) TraceFault → Result RunEnd TraceFault → Type 0
+Closes result (Ok written) answer = answer ≡ result
+Closes result (Err why) answer = IsErrAnd answer (λ failed. is_device failed ≡ true)

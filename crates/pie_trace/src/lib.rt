@@ -1,0 +1,20 @@
+//! Traces of commands, and the history text that a run of a trace writes.
+//!
+//! The definitions that the contracts cite stand in `specs/`: the records of a text, its first fault, and its history
+//! text.
+#![tactic(auto)]
+
+mod answer;
+pub mod fault;
+mod fields;
+mod number;
+mod records;
+mod rows;
+pub mod run;
+mod session;
+
+pub use fault::{Flaw, OpenFault, TraceFault};
+pub use run::{RunEnd, run_trace, run_trace_within};
+
+#[cfg(test)]
+mod tests;

@@ -1,0 +1,226 @@
+//! Runs of whole traces over memory, with the histories and the answers that they have to have.
+
+mod devices;
+mod parts;
+
+use crate::{Flaw, OpenFault, RunEnd, TraceFault, run_trace, run_trace_within};
+use pie_book::Registers;
+use std::alloc::Global;
+use std::test::Fail;
+
+/// One arrival and two departures, the second of an empty queue.
+const ONE_ARRIVAL: &str = "open,0,4,16,100\n\
+    arrive,1,10,7,1500,ect0,0\n\
+    depart,2,25\n\
+    depart,2,30\n";
+
+const ONE_ARRIVAL_HISTORY: &str = "open,0,4,16,100\n\
+    arrive,1,10,7,1500,ect0,0,enqueue\n\
+    depart,2,25,left,7,1500,ect0\n\
+    depart,2,30,empty\n";
+
+/// Three departures, the third past the limit of two events.
+const THREE_DEPARTURES: &str = "open,0,4,4,2\n\
+    depart,1,1\n\
+    depart,1,1\n\
+    depart,1,1\n";
+
+fn run(alloc: Global, text: &str) -> (Result<RunEnd, TraceFault>, Vec<u8>) {
+    let mut out = Vec::new(alloc);
+    let result = run_trace(alloc, text.as_bytes(), &mut out);
+    (result, out)
+}
+
+fn run_within(alloc: Global, text: &str, most: u64) -> (Result<RunEnd, TraceFault>, Vec<u8>) {
+    let mut out = Vec::new(alloc);
+    let result = run_trace_within(alloc, text.as_bytes(), &mut out, most);
+    (result, out)
+}
+
+#[test]
+fn one_arrival_and_two_departures(rt: HostRuntime) {
+    let crlf = "open,0,4,16,100\r\narrive,1,10,7,1500,ect0,0\r\ndepart,2,25\r\ndepart,2,30\r\n";
+    let quoted = "open,0,4,16,100\narrive,1,10,7,1500,ect0,0\n\"depart\",2,25\ndepart,2,30";
+    let end = RunEnd {
+        events: 3,
+        refused: 0,
+        registers: Registers {
+            count: 3,
+            moment: 30,
+            packets: 0,
+            bytes: 0,
+        },
+    };
+    for text in [ONE_ARRIVAL, crlf, quoted] {
+        let (result, out) = run(rt.alloc(), text);
+        assert_eq!(rt; result, Ok(end), "{text}");
+        assert_eq!(rt; out.as_slice(), ONE_ARRIVAL_HISTORY.as_bytes(), "{text}");
+    }
+}
+
+#[test]
+fn histories(rt: HostRuntime) {
+    let cases = [
+        ("open,0,4,16,100\n", "open,0,4,16,100\n", (0, 0)),
+        (
+            "open,0,4,16,100\n\
+             arrive,1,1,1,65535,not,0\narrive,1,2,2,65535,not,0\narrive,1,3,3,65535,not,0\narrive,1,4,4,65535,not,0\n\
+             arrive,1,5,5,5,not,0\narrive,1,6,6,4,not,0\n\
+             arrive,1,7,7,0,not,0\narrive,1,8,8,65536,not,0\n",
+            "open,0,4,16,100\n\
+             arrive,1,1,1,65535,not,0,enqueue\narrive,1,2,2,65535,not,0,enqueue\narrive,1,3,3,65535,not,0,enqueue\narrive,1,4,4,65535,not,0,enqueue\n\
+             arrive,1,5,5,5,not,0,bytes\narrive,1,6,6,4,not,0,packets\n\
+             refused,8,2\nrefused,9,2\n",
+            (6, 2),
+        ),
+        (
+            "open,0,5,16,100\n\
+             arrive,1,1,1,65535,not,0\narrive,1,2,2,65535,not,0\narrive,1,3,3,65535,not,0\narrive,1,4,4,65535,not,0\n\
+             arrive,1,5,5,5,not,0\narrive,1,6,6,4,not,0\narrive,1,7,7,1,not,0\n",
+            "open,0,5,16,100\n\
+             arrive,1,1,1,65535,not,0,enqueue\narrive,1,2,2,65535,not,0,enqueue\narrive,1,3,3,65535,not,0,enqueue\narrive,1,4,4,65535,not,0,enqueue\n\
+             arrive,1,5,5,5,not,0,bytes\narrive,1,6,6,4,not,0,enqueue\narrive,1,7,7,1,not,0,bytes\n",
+            (7, 0),
+        ),
+        (
+            "open,0,4,1,100\ndepart,1,1\ndepart,1,1\n",
+            "open,0,4,1,100\ndepart,1,1,empty\nrefused,3,5\n",
+            (1, 1),
+        ),
+        (
+            THREE_DEPARTURES,
+            "open,0,4,4,2\ndepart,1,1,empty\ndepart,1,1,empty\nrefused,4,4\n",
+            (2, 1),
+        ),
+        (
+            "open,1152921504606846975,4,16,100\n\
+             depart,65535,1152921504606846976\n\
+             arrive,0,1152921504606846975,18446744073709551615,64,ect1,18446744073709551615\n\
+             arrive,0,5,0,65,ce,0\n\
+             depart,1,0\ndepart,1,0\n",
+            "open,1152921504606846975,4,16,100\n\
+             refused,2,1\n\
+             arrive,0,1152921504606846975,18446744073709551615,64,ect1,18446744073709551615,enqueue\n\
+             arrive,0,5,0,65,ce,0,enqueue\n\
+             depart,1,0,left,18446744073709551615,64,ect1\ndepart,1,0,left,0,65,ce\n",
+            (4, 1),
+        ),
+    ];
+    for (text, history, want) in cases {
+        let (result, out) = run(rt.alloc(), text);
+        let ended = result.map(|end| (end.events, end.refused));
+        assert_eq!(rt; ended, Ok(want), "{text}");
+        assert_eq!(rt; out.as_slice(), history.as_bytes(), "{text}");
+    }
+}
+
+#[test]
+fn faulty_openings(rt: HostRuntime) {
+    let cases = [
+        ("", TraceFault::NoOpen),
+        ("depart,1,5", TraceFault::NoOpen),
+        ("open,0,4,16,100,1\n", TraceFault::Fields { row: 1 }),
+        ("open,0,4,16\n", TraceFault::Fields { row: 1 }),
+        ("open,0,4,016,100\n", TraceFault::Number { row: 1 }),
+        ("open,0,4294967296,16,100\n", TraceFault::Number { row: 1 }),
+        (
+            "open,1152921504606846976,0,4,2\n",
+            TraceFault::Opening(OpenFault::Limits),
+        ),
+        ("open,0,0,4,2\n", TraceFault::Opening(OpenFault::Limits)),
+        (
+            "open,1152921504606846976,4,4,2\n",
+            TraceFault::Opening(OpenFault::Moment),
+        ),
+    ];
+    for (text, fault) in cases {
+        let (result, out) = run(rt.alloc(), text);
+        assert_eq!(rt; result, Err(fault), "{text}");
+        assert!(rt; out.is_empty(), "{text}");
+    }
+}
+
+#[test]
+fn faulty_records(rt: HostRuntime) -> Result<(), Fail> {
+    let alloc = rt.alloc();
+    let number = TraceFault::Number { row: 3 };
+    let cases = [
+        ("dep,1,1", TraceFault::Kind { row: 3 }),
+        ("open,0,4,16,100", TraceFault::Kind { row: 3 }),
+        ("depart,1", TraceFault::Fields { row: 3 }),
+        ("depart,1,1,empty", TraceFault::Fields { row: 3 }),
+        ("arrive,1,10,7,1500,ect0", TraceFault::Fields { row: 3 }),
+        ("depart,01,1", number),
+        ("depart,1,", number),
+        ("depart,65536,1", number),
+        ("depart,1,18446744073709551616", number),
+        ("arrive,1,10,7,4294967296,ect0,0", number),
+        ("arrive,1,10,7,1500,ect0,18446744073709551616", number),
+        ("arrive,1,10,7,1500,ECT0,0", TraceFault::Word { row: 3 }),
+        // The first bad field counts.
+        ("arrive,1,10,7,-1,ect2,0", number),
+        ("arrive,1,10,7,1500,ect2,-1", TraceFault::Word { row: 3 }),
+    ];
+    for (record, fault) in cases {
+        let text = format!(in alloc; "open,0,4,16,100\ndepart,1,1\n{record}\ndepart,1,2\n")?;
+        let (result, out) = run(alloc, text.as_str());
+        assert_eq!(rt; result, Err(fault), "{record}");
+        assert_eq!(rt;
+            out.as_slice(),
+            b"open,0,4,16,100\ndepart,1,1,empty\n".as_slice(),
+            "{record}"
+        );
+    }
+    Ok(())
+}
+
+#[test]
+fn a_run_reads_no_more_records_than_it_may(rt: HostRuntime) {
+    let history = "open,0,4,4,2\ndepart,1,1,empty\ndepart,1,1,empty\nrefused,4,4\n";
+    let cases = [
+        (0, "", Err(TraceFault::TooLong)),
+        (1, "open,0,4,4,2\n", Err(TraceFault::TooLong)),
+        (
+            3,
+            "open,0,4,4,2\ndepart,1,1,empty\ndepart,1,1,empty\n",
+            Err(TraceFault::TooLong),
+        ),
+        (4, history, Ok(2)),
+        (5, history, Ok(2)),
+    ];
+    for (most, history, want) in cases {
+        let (result, out) = run_within(rt.alloc(), THREE_DEPARTURES, most);
+        assert_eq!(rt; result.map(|end| end.events), want, "{most}");
+        assert_eq!(rt; out.as_slice(), history.as_bytes(), "{most}");
+    }
+    let (result, _) = run_within(rt.alloc(), "", 0);
+    assert_eq!(rt; result, Err(TraceFault::NoOpen));
+}
+
+#[test]
+fn faults_say_what_is_wrong(rt: HostRuntime) -> Result<(), Fail> {
+    let cases = [
+        (TraceFault::Read, "cannot read the input"),
+        (TraceFault::Write, "cannot write the output"),
+        (TraceFault::Memory, "out of memory"),
+        (TraceFault::NoOpen, "the first record is not an open record"),
+        (Flaw::Kind.at(3), "record 3: unknown kind"),
+        (Flaw::Fields.at(4), "record 4: wrong number of fields"),
+        (Flaw::Number.at(5), "record 5: not a number in range"),
+        (Flaw::Word.at(6), "record 6: unknown word"),
+        (TraceFault::TooLong, "too many records"),
+        (
+            TraceFault::Opening(OpenFault::Limits),
+            "record 1: limits out of range",
+        ),
+        (
+            TraceFault::Opening(OpenFault::Moment),
+            "record 1: moment out of range",
+        ),
+    ];
+    for (fault, want) in cases {
+        let text = format!(in rt.alloc(); "{fault}")?;
+        assert_eq!(rt; text.as_str(), want);
+    }
+    Ok(())
+}

@@ -1,0 +1,71 @@
+-- The definitions at examples worked out by hand, with the default parameters.
+use Rattle.std.proofs.Common.{◌≡◌, ℕ, ◌^◌, List, [], ◌∷◌, refl}
+use Rattle.pie_params.specs.declared.raw.RawParams.{RawParams}
+use Rattle.pie_params.specs.Profile.{default_profile}
+use Rattle.pie_control.specs.Delay.{delay_of}
+use Rattle.pie_control.specs.Events.{ControlEvent, reset, update_at}
+use Rattle.pie_control.specs.History.{probability, last_delay, last_moment, granted_burst, burst_allowance}
+use Rattle.pie_control.specs.Next.{raw_step, tuning_divisor, tuned_step, decayed, next}
+
+delays : (delay_of 49152 14_000_000 16384 ≡ 42_000_000) × (delay_of 49152 0 16384 ≡ 0) × (delay_of (2 ^ 30) (2 ^ 59) 1024 ≡ 1_099_511_627_776)
+unfolding delay_of
+delays = (refl, refl, refl)
+
+next_of : ℕ → ℕ → ℕ → ℕ
+next_of prob delay old = next default_profile prob delay old
+
+rises : (next_of 0 30_000_000 0 ≡ 19_226_074) × (next_of 19_226_074 30_000_000 30_000_000 ≡ 33_874_511)
+unfolding next_of next raw_step tuning_divisor tuned_step decayed
+rises = (refl, refl)
+
+capped_from_a_tenth : (next_of 100_000_000_000 60_000_000 15_000_000 ≡ 120_000_000_000) × (next_of 99_999_999_999 60_000_000 15_000_000 ≡ 130_937_499_999)
+unfolding next_of next raw_step tuning_divisor tuned_step decayed
+capped_from_a_tenth = (refl, refl)
+
+decays : (next_of (10 ^ 12) 0 0 ≡ 978_162_500_000) × (next_of 50 0 0 ≡ 0)
+unfolding next_of next raw_step tuning_divisor tuned_step decayed
+decays = (refl, refl)
+
+-- two updates, a reset, and one more
+some_events : List ControlEvent
+some_events =
+    update_at default_profile 30_000_000 5 ∷ update_at default_profile 30_000_000 6 ∷ reset default_profile ∷ update_at default_profile 40_000_000 7 ∷ []
+
+after_two : (probability (update_at default_profile 30_000_000 5 ∷ update_at default_profile 30_000_000 6 ∷ []) ≡ next_of (next_of 0 30_000_000 0) 30_000_000 30_000_000)
+unfolding probability next_of
+after_two = refl
+
+after_a_reset : (probability some_events ≡ next_of 0 40_000_000 0) × (last_delay some_events ≡ 40_000_000) × (last_moment 1 some_events ≡ 7)
+unfolding some_events probability last_delay last_moment next_of
+after_a_reset = (refl, refl, refl)
+
+no_update_yet : (probability [] ≡ 0) × (last_delay [] ≡ 0) × (last_moment 9 [] ≡ 9) × (burst_allowance default_profile [] ≡ 150_000_000)
+unfolding probability last_delay last_moment burst_allowance granted_burst
+no_update_yet = (refl, refl, refl, refl)
+
+-- each update under load takes 15 milliseconds off, and there is nothing below 0
+load : ℕ → ControlEvent
+load moment = update_at default_profile 30_000_000 moment
+
+ten_updates : List ControlEvent
+ten_updates = load 1 ∷ load 2 ∷ load 3 ∷ load 4 ∷ load 5 ∷ load 6 ∷ load 7 ∷ load 8 ∷ load 9 ∷ load 10 ∷ []
+
+bursts : (burst_allowance default_profile (load 1 ∷ []) ≡ 135_000_000) × (burst_allowance default_profile ten_updates ≡ 0) × (burst_allowance default_profile (load 0 ∷ ten_updates) ≡ 0)
+unfolding load ten_updates burst_allowance granted_burst next raw_step tuning_divisor tuned_step decayed
+bursts = (refl, refl, refl)
+
+-- a reset makes the allowance whole again, and so does a calm update, here under a smaller
+-- `max_burst`
+smaller : RawParams
+smaller = record default_profile { max_burst = 40_000_000 }
+
+calm : ControlEvent
+calm = update_at smaller 1_000_000 3
+
+refills : (burst_allowance default_profile (load 1 ∷ reset default_profile ∷ load 2 ∷ []) ≡ 135_000_000) × (burst_allowance default_profile (reset default_profile ∷ calm ∷ []) ≡ 40_000_000)
+unfolding load calm smaller burst_allowance granted_burst next raw_step tuning_divisor tuned_step decayed
+refills = (refl, refl)
+
+grants : (granted_burst default_profile (load 1 ∷ calm ∷ []) ≡ 150_000_000) × (granted_burst default_profile (calm ∷ load 1 ∷ []) ≡ 40_000_000) × (burst_allowance default_profile (calm ∷ load 1 ∷ []) ≡ 25_000_000)
+unfolding load calm smaller burst_allowance granted_burst next raw_step tuning_divisor tuned_step decayed
+grants = (refl, refl, refl)

@@ -1,0 +1,105 @@
+-- What one more update or reset at the end of the events does to each definition that looks back.
+use Rattle.std.proofs.Common.{◌≡◌, ℕ, ◌-◌, ◌≤◌, Bool, true, false, if◌then◌else◌, List, [], ◌∷◌, ◌++◌, reverse, arith, sum_by}
+use Rattle.std.proofs.lemmas.List.{reverse-append}
+use Rattle.std.proofs.lemmas.List.Sums.{sum_by-cons}
+use Rattle.pie_params.specs.declared.raw.RawParams.{RawParams}
+use Rattle.pie_control.specs.Events.{ControlEvent, updated, reset, Update, update_at, updates_after_reset}
+use Rattle.pie_control.specs.History.{probability, last_delay, last_moment, granted_burst, burst_allowance, burst_after, ends_calm, is_calm, updates_after_refill, burst_after_refill, Shows}
+use Rattle.pie_control.specs.Next.{next}
+use Rattle.pie_control.specs.Parts.{Parts}
+
+-- seen from the newest, the event added at the end comes first
+reversed : (events : List ControlEvent) (e : ControlEvent) → reverse (events ++ e ∷ []) ≡ e ∷ reverse events
+reversed events e = reverse-append events (e ∷ [])
+
+pub probability-updated : (events : List ControlEvent) (params : RawParams) (delay moment : ℕ)
+    → probability (events ++ update_at params delay moment ∷ []) ≡ next params (probability events) delay (last_delay events)
+unfolding probability last_delay
+probability-updated events params delay moment = rw (reversed events (update_at params delay moment))
+
+pub probability-reset : (events : List ControlEvent) (params : RawParams) → probability (events ++ reset params ∷ []) ≡ 0
+unfolding probability
+probability-reset events params = rw (reversed events (reset params))
+
+pub last_delay-updated : (events : List ControlEvent) (params : RawParams) (delay moment : ℕ)
+    → last_delay (events ++ update_at params delay moment ∷ []) ≡ delay
+unfolding last_delay
+last_delay-updated events params delay moment = rw (reversed events (update_at params delay moment))
+
+pub last_delay-reset : (events : List ControlEvent) (params : RawParams) → last_delay (events ++ reset params ∷ []) ≡ 0
+unfolding last_delay
+last_delay-reset events params = rw (reversed events (reset params))
+
+pub last_moment-updated : (start : ℕ) (events : List ControlEvent) (params : RawParams) (delay moment : ℕ)
+    → last_moment start (events ++ update_at params delay moment ∷ []) ≡ moment
+unfolding last_moment
+last_moment-updated start events params delay moment = rw (reversed events (update_at params delay moment))
+
+pub last_moment-reset : (start : ℕ) (events : List ControlEvent) (params : RawParams)
+    → last_moment start (events ++ reset params ∷ []) ≡ last_moment start events
+unfolding last_moment
+last_moment-reset start events params = rw (reversed events (reset params))
+
+-- the time between two updates
+abbrev interval : Update → ℕ
+interval u = u.params.t_update
+
+-- a refill starts over, and any other update takes its `t_update` off
+refilled : (calm : Bool) (whole granted : ℕ) (u : Update) (spent : List Update)
+    → (if calm then whole else granted) - sum_by interval (if calm then [] else (u ∷ spent))
+    ≡ (if calm then whole else (granted - sum_by interval spent - interval u))
+refilled true whole granted u spent = let e : whole - 0 ≡ whole = omega arith in e
+refilled false whole granted u spent =
+    let cons = sum_by-cons interval u spent in
+    let e : granted - sum_by interval (u ∷ spent) ≡ granted - sum_by interval spent - interval u = omega arith in
+    e
+
+pub burst_allowance-updated : (opening : RawParams) (events : List ControlEvent) (params : RawParams) (delay moment : ℕ)
+    → burst_allowance opening (events ++ update_at params delay moment ∷ [])
+    ≡ (if ends_calm params (next params (probability events) delay (last_delay events)) delay (last_delay events)
+    then params.max_burst else (burst_allowance opening events - params.t_update))
+unfolding burst_allowance granted_burst probability last_delay
+burst_allowance-updated opening events params delay moment =
+    let u : Update = record { params = params; delay = delay; moment = moment } in
+    let earlier = reverse events in
+    let calm = is_calm u (updates_after_reset earlier) in
+    rw (reversed events (updated u))
+    (refilled calm params.max_burst (burst_after_refill opening earlier) u (updates_after_refill earlier))
+
+pub burst_allowance-reset : (opening : RawParams) (events : List ControlEvent) (params : RawParams)
+    → burst_allowance opening (events ++ reset params ∷ []) ≡ params.max_burst
+unfolding burst_allowance granted_burst
+burst_allowance-reset opening events params = rw (reversed events (reset params)) (omega arith)
+
+pub burst_allowance-granted : (opening : RawParams) (events : List ControlEvent)
+    → burst_allowance opening events ≤ granted_burst opening events
+unfolding burst_allowance
+burst_allowance-granted opening events = omega arith
+
+pub Shows-updated : (opening : RawParams) (start : ℕ) (events : List ControlEvent) (params : RawParams) (delay moment : ℕ) (before after : Parts)
+    → Shows opening start events before
+    → after.prob ≡ next params before.prob delay before.old_delay
+    → after.old_delay ≡ delay
+    → after.burst ≡ burst_after params before delay
+    → after.last ≡ moment
+    → Shows opening start (events ++ update_at params delay moment ∷ []) after
+Shows-updated opening start events params delay moment before after shows p d b l = record {
+  prob = rw (p, probability-updated events params delay moment, shows.prob, shows.old_delay);
+  old_delay = rw (d, last_delay-updated events params delay moment);
+  burst = rw (b, burst_allowance-updated opening events params delay moment, shows.burst, shows.prob, shows.old_delay);
+  last = rw (l, last_moment-updated start events params delay moment);
+}
+
+pub Shows-reset : (opening : RawParams) (start : ℕ) (events : List ControlEvent) (params : RawParams) (before after : Parts)
+    → Shows opening start events before
+    → after.prob ≡ 0
+    → after.old_delay ≡ 0
+    → after.burst ≡ params.max_burst
+    → after.last ≡ before.last
+    → Shows opening start (events ++ reset params ∷ []) after
+Shows-reset opening start events params before after shows p d b l = record {
+  prob = rw (p, probability-reset events params);
+  old_delay = rw (d, last_delay-reset events params);
+  burst = rw (b, burst_allowance-reset opening events params);
+  last = rw (l, last_moment-reset start events params) shows.last;
+}

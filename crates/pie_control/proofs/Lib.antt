@@ -1,0 +1,3 @@
+mod Examples
+pub mod Laws
+pub mod Quotients

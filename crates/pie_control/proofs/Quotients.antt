@@ -1,0 +1,25 @@
+-- Bounds that the roundings of an update keep.
+use Rattle.std.proofs.Common.{ℕ, suc, ◌≤◌, arith}
+use Rattle.std.specs.Prelude.{ℤ, pos, negsuc, ◌≤ℤ◌, ◌*ℤ◌, int_div}
+use Rattle.std.proofs.lemmas.Int.{ints}
+use Rattle.std.proofs.Math.Nat.{div-le_self}
+use Rattle.pie_fixed.specs.Fixed.{bounded_of}
+
+pub int_div-above : (z : ℤ) (d n : ℕ) → negsuc n ≤ℤ z → negsuc n ≤ℤ int_div z (pos d)
+int_div-above (pos a) d n h = omega (arith, ints)
+int_div-above (negsuc a) d n h = omega (arith, ints, div-le_self (suc a) d)
+
+pub int_div-below : (z : ℤ) (d n : ℕ) → z ≤ℤ pos n → int_div z (pos d) ≤ℤ pos n
+int_div-below (pos a) d n h = omega (arith, ints, div-le_self a d)
+int_div-below (negsuc a) d n h = omega (arith, ints)
+
+-- 98 hundredths are no larger, where the whole is not below zero
+pub decay-below : (z : ℤ) (n : ℕ) → z ≤ℤ pos n → int_div (z *ℤ pos 98) (pos 100) ≤ℤ pos n
+decay-below (pos a) n h = omega (arith, ints)
+decay-below (negsuc a) n h = omega (arith, ints)
+
+pub bounded_of-below : (z : ℤ) (n : ℕ) → z ≤ℤ pos n → bounded_of z ≤ n
+bounded_of-below (pos a) n h = omega (arith, ints)
+bounded_of-below (negsuc a) n h = omega (arith, ints)
+
+pub ruleset quotients = (int_div-above, int_div-below, decay-below)

@@ -1,0 +1,8 @@
+use Rattle.std.proofs.Common.{rules}
+use Rattle.pie_control.proofs.Laws.{Shows-reset}
+use Rattle.pie_control.proofs.control.Control.reset.Goals as goal
+
+pub returns-clause-shows : goal.returns-clause-shows
+returns-clause-shows c opening start events shows =
+    Shows-reset opening start events c.args.params.now c.args.self.now _ shows
+    (search rules) (search rules) (search rules) (search rules)

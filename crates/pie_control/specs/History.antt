@@ -1,0 +1,84 @@
+-- The controller's registers, looking back over all that it was shown (RFC 8033, sections 4.2 and
+-- 4.4). Every list of updates here has the newest first.
+use Rattle.std.specs.Prelude.{◌≡◌, ℕ, ◌-◌, ◌*◌, Bool, ◌&&◌, ◌==◌, nat_lt, if◌then◌else◌, List, [], ◌∷◌, reverse, sum_by}
+use Rattle.pie_params.specs.declared.raw.RawParams.{RawParams}
+use Rattle.pie_control.specs.Events.{ControlEvent, updated, reset, Update, all_updates, updates_after_reset}
+use Rattle.pie_control.specs.Next.{next}
+use Rattle.pie_control.specs.Parts.{Parts}
+
+-- the delay of the newest update, 0 with none
+abbrev pub newest_delay : List Update → ℕ
+newest_delay [] = 0
+newest_delay (u ∷ _) = u.delay
+
+-- the moment of the newest update, `start` with none
+abbrev pub newest_moment : ℕ → List Update → ℕ
+newest_moment start [] = start
+newest_moment start (u ∷ _) = u.moment
+
+-- from 0, the next probability along the updates, each with its own delay and that of the one before
+abbrev pub probability_along : List Update → ℕ
+probability_along [] = 0
+probability_along (u ∷ earlier) = next u.params (probability_along earlier) u.delay (newest_delay earlier)
+
+-- an update is calm: the probability after it is 0, and its delay and the old one are each below
+-- half the target
+abbrev pub ends_calm : RawParams → ℕ → ℕ → ℕ → Bool
+ends_calm params prob delay old =
+    (prob == 0) && nat_lt (2 * delay) params.target && nat_lt (2 * old) params.target
+
+-- an update after these earlier ones is calm
+abbrev pub is_calm : Update → List Update → Bool
+is_calm u earlier = ends_calm u.params (probability_along (u ∷ earlier)) u.delay (newest_delay earlier)
+
+-- of events with the newest first, the updates after the last reset or calm update
+abbrev pub updates_after_refill : List ControlEvent → List Update
+updates_after_refill [] = []
+updates_after_refill (reset _ ∷ _) = []
+updates_after_refill (updated u ∷ earlier) =
+    if is_calm u (updates_after_reset earlier) then [] else (u ∷ updates_after_refill earlier)
+
+-- of events with the newest first, the `max_burst` in force at the last reset or calm update, at
+-- the opening with none
+abbrev pub burst_after_refill : RawParams → List ControlEvent → ℕ
+burst_after_refill opening [] = opening.max_burst
+burst_after_refill opening (reset params ∷ _) = params.max_burst
+burst_after_refill opening (updated u ∷ earlier) =
+    if is_calm u (updates_after_reset earlier) then u.params.max_burst else burst_after_refill opening earlier
+
+-- the probability: along the updates after the last reset
+unfoldable pub probability : List ControlEvent → ℕ
+probability events = probability_along (updates_after_reset (reverse events))
+
+-- the old delay: that of the last update after the last reset
+unfoldable pub last_delay : List ControlEvent → ℕ
+last_delay events = newest_delay (updates_after_reset (reverse events))
+
+-- the moment of the last update, or of the opening
+unfoldable pub last_moment : ℕ → List ControlEvent → ℕ
+last_moment start events = newest_moment start (all_updates (reverse events))
+
+-- the `max_burst` in force when the burst allowance was last set to it
+unfoldable pub granted_burst : RawParams → List ControlEvent → ℕ
+granted_burst opening events = burst_after_refill opening (reverse events)
+
+-- the burst allowance: what was last granted, less the `t_update` of each update after that, and
+-- not below 0
+unfoldable pub burst_allowance : RawParams → List ControlEvent → ℕ
+burst_allowance opening events =
+    granted_burst opening events - sum_by (λ u. u.params.t_update) (updates_after_refill (reverse events))
+
+-- opened with these parameters at the moment `start`, a controller that was then shown these events
+-- holds these parts
+pub record Shows (opening : RawParams) (start : ℕ) (events : List ControlEvent) (parts : Parts) : Type 0 where
+  pub prob : parts.prob ≡ probability events
+  pub old_delay : parts.old_delay ≡ last_delay events
+  pub burst : parts.burst ≡ burst_allowance opening events
+  pub last : parts.last ≡ last_moment start events
+
+-- the burst allowance after an update, from the parts before it
+abbrev pub burst_after : RawParams → Parts → ℕ → ℕ
+burst_after params before delay =
+    if ends_calm params (next params before.prob delay before.old_delay) delay before.old_delay
+    then params.max_burst
+    else (before.burst - params.t_update)

@@ -1,0 +1,153 @@
+ghost use Rattle.std.specs.Prelude.{◌≡◌, ℕ, ◌^◌, ◌≤◌, List, [], ◌∷◌, ◌++◌, if◌then◌else◌};
+ghost use Rattle.pie_params.specs.declared.raw.RawParams.{RawParams};
+ghost use Rattle.pie_control.specs.declared.update.TheConstants.{MAX_DELAY};
+ghost use Rattle.pie_control.specs.Events.{ControlEvent, reset, update_at};
+ghost use Rattle.pie_control.specs.History.{Shows, burst_after, ends_calm, granted_burst};
+ghost use Rattle.pie_control.specs.Next.{next};
+
+use crate::update::next_probability;
+use pie_fixed::{Nanos, Prob, bounded};
+use pie_params::Params;
+use std::marker::Model;
+
+/// The controller's registers: the probability, the old delay, the burst allowance and the moment of
+/// the last update.
+#[derive(Clone, Copy, Debug, PartialEq, Eq)]
+pub struct Control {
+    prob: Prob,
+    old_delay: u64,
+    burst: u64,
+    last: Nanos,
+}
+
+impl Model for Control {
+    ghost use Rattle.std.specs.Prelude.{◌^◌, ◌≤◌};
+    ghost use Rattle.pie_control.specs.declared.update.TheConstants.{MAX_DELAY};
+    ghost use Rattle.pie_control.specs.Parts.{Parts};
+
+    ghost Value = { Parts };
+
+    ghost view = { λ c. record { prob = c.prob; old_delay = c.old_delay; burst = c.burst; last = c.last } };
+
+    ghost invariant = { λ c. (c.old_delay ≤ MAX_DELAY) × (c.burst ≤ 10 ^ 12) };
+
+    ghost inverse = { λ c. record { prob = c.prob; old_delay = c.old_delay; burst = c.burst; last = c.last } };
+}
+
+impl Control {
+    /// The controller at its opening: probability and old delay 0, the whole burst allowance, and the
+    /// opening's moment as that of the last update (RFC 8033, sections 4.2 and 4.4).
+    pub fn opened(params: &Params, moment: Nanos) -> Self
+        ensures prob { result.prob ≡ 0 }
+        ensures old { result.old_delay ≡ 0 }
+        ensures burst { result.burst ≡ params.now.max_burst }
+        ensures last { result.last ≡ moment }
+        ensures shows { Shows params.now moment [] result }
+    {
+        Control::from_parts(bounded(0), 0, params.max_burst().units(), moment)
+    }
+
+    /// A controller in any state: the old delay is at most [`MAX_DELAY`](crate::MAX_DELAY), the burst
+    /// allowance at most 10^12 nanoseconds.
+    pub fn from_parts(prob: Prob, old: u64, burst: u64, last: Nanos) -> Self
+        requires old { old ≤ MAX_DELAY }
+        requires burst { burst ≤ 10 ^ 12 }
+        ensures prob { result.prob ≡ prob }
+        ensures old { result.old_delay ≡ old }
+        ensures burst { result.burst ≡ burst }
+        ensures last { result.last ≡ last }
+    {
+        Control {
+            prob,
+            old_delay: old,
+            burst,
+            last,
+        }
+    }
+
+    /// Makes an update: the next probability from the given delay and the old one, and the burst
+    /// allowance less `t_update`, or whole again after a calm update. The delay, at most
+    /// [`MAX_DELAY`](crate::MAX_DELAY) nanoseconds, becomes the old delay, and the moment that of the
+    /// last update (RFC 8033, sections 4.2, 4.4 and 5.5).
+    pub fn update(&mut self, params: &Params, delay: u64, moment: Nanos)
+        requires { delay ≤ MAX_DELAY }
+        ensures prob { self.new.prob ≡ next params.now self.old.prob delay self.old.old_delay }
+        ensures old { self.new.old_delay ≡ delay }
+        ensures burst { self.new.burst ≡ burst_after params.now self.old delay }
+        ensures last { self.new.last ≡ moment }
+        ensures shows { (opening : RawParams) (start : ℕ) (events : List ControlEvent) →
+            Shows opening start events self.old →
+            Shows opening start (events ++ update_at params.now delay moment ∷ []) self.new }
+    {
+        let prob = next_probability(params, self.prob, delay, self.old_delay);
+        let calm = is_calm(params, prob, delay, self.old_delay);
+        let whole = params.max_burst().units();
+        let left = self.burst.saturating_sub(params.t_update().units());
+        *self = Control {
+            prob,
+            old_delay: delay,
+            burst: if calm { whole } else { left },
+            last: moment,
+        };
+    }
+
+    /// Sets probability and old delay to 0 and the burst allowance to `max_burst`, and keeps the
+    /// moment of the last update (this project's own).
+    pub fn reset(&mut self, params: &Params)
+        ensures prob { self.new.prob ≡ 0 }
+        ensures old { self.new.old_delay ≡ 0 }
+        ensures burst { self.new.burst ≡ params.now.max_burst }
+        ensures last { self.new.last ≡ self.old.last }
+        ensures shows { (opening : RawParams) (start : ℕ) (events : List ControlEvent) →
+            Shows opening start events self.old →
+            Shows opening start (events ++ reset params.now ∷ []) self.new }
+    {
+        *self = Control::from_parts(bounded(0), 0, params.max_burst().units(), self.last);
+    }
+
+    /// The probability of drop or mark (RFC 8033, section 4.2).
+    pub fn prob(&self) -> Prob
+        ensures { result ≡ self.now.prob }
+    {
+        self.prob
+    }
+
+    /// The old delay, that of the last update, in nanoseconds, at most
+    /// [`MAX_DELAY`](crate::MAX_DELAY) (RFC 8033, section 4.2).
+    pub fn old(&self) -> u64
+        ensures value { result ≡ self.now.old_delay }
+        ensures within { self.now.old_delay ≤ MAX_DELAY }
+    {
+        self.old_delay
+    }
+
+    /// The burst allowance, in nanoseconds, at most 10^12 (RFC 8033, section 4.4).
+    pub fn burst(&self) -> u64
+        ensures value { result ≡ self.now.burst }
+        ensures within { self.now.burst ≤ 10 ^ 12 }
+
+        // It never exceeds the `max_burst` in force when it was last set to that.
+        ensures granted { (opening : RawParams) (start : ℕ) (events : List ControlEvent) →
+            Shows opening start events self.now → self.now.burst ≤ granted_burst opening events }
+    {
+        self.burst
+    }
+
+    /// The moment of the last update, or of the opening (RFC 8033, section 4.2).
+    pub fn last(&self) -> Nanos
+        ensures { result ≡ self.now.last }
+    {
+        self.last
+    }
+}
+
+/// Whether an update is calm: the probability after it is 0, and its delay and the old one are each
+/// below half the target (RFC 8033, section 4.4).
+fn is_calm(params: &Params, prob: Prob, delay: u64, old: u64) -> bool
+    requires delay { delay ≤ MAX_DELAY }
+    requires old { old ≤ MAX_DELAY }
+    ensures { result ≡ ends_calm params.now prob delay old }
+{
+    let target = params.target().units();
+    prob.units() == 0 && 2 * delay < target && 2 * old < target
+}

@@ -1,0 +1,118 @@
+ghost use Rattle.std.specs.Prelude.{◌≡◌, ℕ, ◌+◌, ◌^◌, ◌<◌, ◌≤◌, pos, negsuc, ◌-ℤ◌, ◌*ℤ◌, ◌≤ℤ◌};
+ghost use Rattle.pie_fixed.specs.declared.TheConstants.{ONE};
+ghost use Rattle.pie_control.specs.Delay.{delay_of};
+ghost use Rattle.pie_control.specs.Next.{decayed, next, raw_step, tuned_step, tuning_divisor};
+
+use pie_fixed::{Gain, Prob, bounded, toward_zero};
+use pie_params::Params;
+
+/// The greatest delay, `2^40` nanoseconds, at which an estimate is cut off (this project's own).
+pub const MAX_DELAY: u64 = 1 << 40;
+
+/// A tenth, the probability from which a step upward is capped (RFC 8033, section 5.5).
+const CAPPED_FROM: u64 = 100_000_000_000;
+
+/// Two hundredths, the largest step upward from there (RFC 8033, section 5.5).
+const LARGEST_STEP: i128 = 20_000_000_000;
+
+/// The queueing delay in nanoseconds, at most [`MAX_DELAY`]: `bytes * average / threshold`, rounded
+/// down, where `average` nanoseconds is the average time in which `threshold` bytes leave (RFC
+/// 8033, section 5.2).
+#[tactic(auto, unfolding(crate::specs::Delay::delay_of))]
+pub fn delay(bytes: u64, average: u64, threshold: u64) -> u64
+    requires bytes { bytes ≤ 2 ^ 30 }
+    requires average { average < 2 ^ 60 }
+    requires threshold { 0 < threshold }
+    ensures value { result ≡ delay_of bytes average threshold }
+    ensures within { result ≤ MAX_DELAY }
+{
+    let estimate = u128::from(bytes) * u128::from(average) / u128::from(threshold);
+    estimate.min(u128::from(MAX_DELAY)) as u64
+}
+
+/// A gain times the difference of two times, in units of `10^-12`.
+fn weighted(gain: Gain, time: u64, from: u64) -> i128
+    requires time { time ≤ MAX_DELAY }
+    requires from { from ≤ MAX_DELAY }
+    ensures value { result ≡ pos gain *ℤ (pos time -ℤ pos from) }
+    ensures above { negsuc (2 ^ 60) ≤ℤ result }
+    ensures below { result ≤ℤ pos (2 ^ 60) }
+{
+    i128::from(gain.units()) * (i128::from(time) - i128::from(from))
+}
+
+/// By how much the probability would change, before auto-tuning.
+#[tactic(auto, unfolding(crate::specs::Next::raw_step))]
+fn raw_step(params: &Params, delay: u64, old: u64) -> i128
+    requires delay { delay ≤ MAX_DELAY }
+    requires old { old ≤ MAX_DELAY }
+    ensures value { result ≡ raw_step params.now delay old }
+    ensures above { negsuc (2 ^ 62) ≤ℤ result }
+    ensures below { result ≤ℤ pos (2 ^ 62) }
+{
+    weighted(params.alpha(), delay, params.target().units()) + weighted(params.beta(), delay, old)
+}
+
+/// What auto-tuning divides a step by, at the probability before the update.
+#[tactic(auto, unfolding(crate::specs::Next::tuning_divisor))]
+fn tuning_divisor(prob: Prob) -> u32
+    ensures value { result ≡ tuning_divisor prob }
+    ensures positive { 0 < result }
+{
+    match prob.units() {
+        ..1_000_000 => 2048,
+        ..10_000_000 => 512,
+        ..100_000_000 => 128,
+        ..1_000_000_000 => 32,
+        ..10_000_000_000 => 8,
+        ..100_000_000_000 => 2,
+        _ => 1,
+    }
+}
+
+/// The step after auto-tuning and the cap, at the probability before the update.
+#[tactic(auto, using(crate::proofs::Quotients::quotients), unfolding(crate::specs::Next::tuned_step))]
+fn tuned_step(prob: Prob, step: i128) -> i128
+    requires above { negsuc (2 ^ 62) ≤ℤ step }
+    requires below { step ≤ℤ pos (2 ^ 62) }
+    ensures value { result ≡ tuned_step prob step }
+    ensures above { negsuc (2 ^ 62) ≤ℤ result }
+    ensures below { result ≤ℤ pos (2 ^ 62) }
+    ensures cap { 10 ^ 11 ≤ prob → result ≤ℤ pos 20_000_000_000 }
+{
+    let tuned = toward_zero(step, tuning_divisor(prob));
+    if prob.units() < CAPPED_FROM {
+        tuned
+    } else {
+        tuned.min(LARGEST_STEP)
+    }
+}
+
+/// The sum of probability and step, after the decay while both delays are 0.
+#[tactic(auto, using(crate::proofs::Quotients::quotients), unfolding(crate::specs::Next::decayed))]
+fn decayed(delay: u64, old: u64, sum: i128) -> i128
+    requires above { negsuc (2 ^ 63) ≤ℤ sum }
+    requires below { sum ≤ℤ pos (2 ^ 63) }
+    ensures value { result ≡ decayed delay old sum }
+    ensures shrinks { (n : ℕ) → sum ≤ℤ pos n → result ≤ℤ pos n }
+{
+    if delay == 0 && old == 0 {
+        sum * 98 / 100
+    } else {
+        sum
+    }
+}
+
+/// The probability after an update with the given delay, from that before it and the old delay (RFC
+/// 8033, sections 4.2 and 5.5). Delays are in nanoseconds, at most [`MAX_DELAY`].
+#[tactic(auto, unfolding(crate::specs::Next::next))]
+pub fn next_probability(params: &Params, prob: Prob, delay: u64, old: u64) -> Prob
+    requires delay { delay ≤ MAX_DELAY }
+    requires old { old ≤ MAX_DELAY }
+    ensures value { result ≡ next params.now prob delay old }
+    ensures within { result ≤ ONE }
+    ensures cap { 10 ^ 11 ≤ prob → result ≤ prob + 20_000_000_000 }
+{
+    let step = tuned_step(prob, raw_step(params, delay, old));
+    bounded(decayed(delay, old, i128::from(prob.units()) + step))
+}

@@ -1,6 +1,6 @@
 -- How far the run of a trace has come: what was done so far and what the records that are left will do make up what all
 -- of them do.
-use Rattle.std.specs.Prelude.{ℕ, ◌≡◌, ◌+◌, List, [], ◌∷◌, ◌++◌, length, Bool, true, false, Option, Some, None, Result, Ok, Err, is_err, ⊤, IsErrAnd}
+use Rattle.std.specs.Prelude.{ℕ, ◌≡◌, ◌+◌, List, ◌++◌, length, true, false, Option, Some, None, Result, Ok, Err, is_err, ⊤, IsErrAnd}
 use Rattle.std.specs.Io.KnownBytes.{Appends}
 use Rattle.std.specs.Prelude.{cond}
 use Rattle.pie_book.specs.declared.opening.Opening.{Opening}

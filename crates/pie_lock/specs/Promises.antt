@@ -1,0 +1,41 @@
+-- What the lock's calls promise, over what contracts see of passes and helds.
+use Rattle.std.specs.Prelude.{◌≡◌, ℕ, ◌-◌, ◌⊎◌, min, max, [], ◌++◌, Option}
+use Rattle.std.specs.Option.{option_to_list}
+use Rattle.pie_lock.specs.Views.{LockView, PassView, HeldView}
+use Rattle.pie_lock.specs.Steps.{GoesOn}
+
+module _ {S E O : Type 0} where
+  -- the held is of this pass: it has the lock and the numbers of the pass
+  abbrev pub IsOfPass : PassView E O → HeldView S E O → Type 0
+  IsOfPass p h = (h.lock ≡ p.lock) × (h.first ≡ p.first) × (h.limit ≡ p.limit)
+
+  -- the pass after a put: the lock and the numbers of the held, and its front with the entry added, if there is one
+  abbrev pub pass_after : HeldView S E O → Option E → PassView E O
+  pass_after h entry = record { lock = h.lock; front = h.front ++ option_to_list entry; first = h.first; limit = h.limit }
+
+module _ {E O : Type 0} where
+  -- the pass of a new lock: it has all numbers, and was shown nothing
+  abbrev pub first_pass : LockView O → ℕ → PassView E O
+  first_pass lock numbers = record { lock = lock; front = []; first = 0; limit = numbers }
+
+  -- the pass without its highest number
+  abbrev pub without_highest : PassView E O → PassView E O
+  without_highest p = record { lock = p.lock; front = p.front; first = p.first; limit = p.limit - 1 }
+
+  -- the pass with its highest number alone
+  abbrev pub highest_alone : PassView E O → PassView E O
+  highest_alone p = record { lock = p.lock; front = p.front; first = p.limit - 1; limit = p.limit }
+
+  -- the range of the one ends where that of the other begins
+  abbrev pub IsBeside : PassView E O → PassView E O → Type 0
+  IsBeside p q = (p.limit ≡ q.first) ⊎ (q.limit ≡ p.first)
+
+  -- q was shown all that p was, and no more under the numbers of p
+  abbrev pub IsBehind : (E → ℕ) → PassView E O → PassView E O → Type 0
+  IsBehind number p q = GoesOn number p.first p.limit p.front q.front
+
+  -- r is p and q together: both ranges, and the longer front, which the shorter begins
+  abbrev pub IsBothOf : (E → ℕ) → PassView E O → PassView E O → PassView E O → Type 0
+  IsBothOf number p q r =
+      (r.lock ≡ p.lock) × (r.first ≡ min p.first q.first) × (r.limit ≡ max p.limit q.limit)
+      × ((IsBehind number p q × (r.front ≡ q.front)) ⊎ (IsBehind number q p × (r.front ≡ p.front)))

@@ -1,0 +1,78 @@
+-- The rule of the lock, in plain data.
+-- A history is a list of entries. Each pass has a front, the list that its holder has been shown, and a range of numbers.
+use Rattle.std.specs.Prelude.{◌≡◌, ◌≢◌, ℕ, ◌<◌, ◌≤◌, ◌⊎◌, List, [], Option, Some, length, slice_index, All}
+use mathlib.Core.List.{IsPrefix}
+use mathlib.Core.Option.{none, some}
+use lib.ListN.{get_elem?}
+use Rattle.atomic_table.specs.Table.{State}
+use Rattle.pie_lock.specs.declared.view.Shown.{Shown}
+use Rattle.pie_lock.specs.declared.view.Place.{Place}
+use Rattle.pie_lock.specs.declared.view.Place.TheVariants.{Spent, Waits, Holds, Meets}
+use Rattle.pie_lock.specs.declared.view.Lodged.{Lodged}
+use Rattle.pie_lock.specs.Own.{own}
+
+module _ {E O : Type 0} where
+  -- the view of the first seat: nothing was shown, and it has all numbers
+  abbrev pub opened : O → ℕ → Place E O
+  opened origin numbers = Waits (record { front = []; first = 0; limit = numbers; numbers = numbers; origin = Some origin })
+
+  -- a number of a pass
+  abbrev pub IsNumberOf : Shown E O → ℕ → Type 0
+  IsNumberOf p n = (p.first ≤ n) × (n < p.limit)
+
+  -- a number of what a seat has
+  abbrev pub IsNumberAt : Place E O → ℕ → Type 0
+  IsNumberAt Spent n = ⊥
+  IsNumberAt (Waits p) n = IsNumberOf p n
+  IsNumberAt (Holds p) n = IsNumberOf p n
+  IsNumberAt (Meets p q) n = IsNumberOf p n ⊎ IsNumberOf q n
+
+  -- what holds of each pass that a seat has; the spent view of a joined seat has none
+  abbrev pub EachPass : (Shown E O → Type 0) → Place E O → Type 0
+  EachPass P Spent = Unit {0}
+  EachPass P (Waits p) = P p
+  EachPass P (Holds p) = P p
+  EachPass P (Meets p q) = P p × P q
+
+  -- the history begins with all that this pass was shown, and has under its numbers what its front has.
+  -- The pass knows the lock's origin and how many numbers there are, and its own are some of these
+  pub record Follows (number : E → ℕ) (origin : O) (numbers : ℕ) (history : List E) (p : Shown E O) : Type 0 where
+    pub shown : IsPrefix p.front history
+    pub owned : own number p.first p.limit history ≡ own number p.first p.limit p.front
+    pub nonempty : p.first < p.limit
+    pub below : p.limit ≤ numbers
+    pub of_all : p.numbers ≡ numbers
+    pub of_origin : p.origin ≡ Some origin
+
+  -- the list of the live passes' views against one history
+  pub record Agreed (number : E → ℕ) (origin : O) (numbers : ℕ) (history : List E) (views : List (Place E O)) : Type 0 where
+    pub each_follows : (seat : ℕ) (view : Place E O) → get_elem? views seat ≡ some view → EachPass (Follows number origin numbers history) view
+    pub apart : (seat other : ℕ) (view w : Place E O) (n : ℕ) → seat ≢ other → get_elem? views seat ≡ some view → get_elem? views other ≡ some w → IsNumberAt view n → IsNumberAt w n → ⊥
+    pub entries_below : All (λ e. number e < numbers) history
+
+  -- no seat has the state
+  abbrev pub NoneHolds : List (Place E O) → Type 0
+  NoneHolds views = (seat : ℕ) (p : Shown E O) → get_elem? views seat ≡ some (Holds p) → ⊥
+
+  -- one seat has the state, and its front is this history
+  abbrev pub OneHolds : List E → List (Place E O) → Type 0
+  OneHolds history views =
+      (holder : ℕ) × (p : Shown E O) × (get_elem? views holder ≡ some (Holds p)) × (p.front ≡ history)
+      × ((seat : ℕ) (q : Shown E O) → get_elem? views seat ≡ some (Holds q) → seat ≡ holder)
+
+module _ {S E O : Type 0} (number : E → ℕ) (origin_of : S → O) (tells : S → List E → Type 0) (origin : O) (numbers : ℕ) where
+  -- while the word is FREE: the state is in the slot, has the lock's origin and tells the history
+  abbrev pub WhileFree : List E → State (Option (Lodged S E)) (Place E O) → Type 0
+  WhileFree history s =
+      (slice_index s.words 0 ≡ 0) × NoneHolds s.views
+      × ((lodged : Lodged S E) × (get_elem? s.homes 0 ≡ some (some (Some lodged))) × (origin_of lodged.state ≡ origin) × tells lodged.state history)
+
+  -- while it is HELD: the slot is out to one seat, whose front is the history
+  abbrev pub WhileHeld : List E → State (Option (Lodged S E)) (Place E O) → Type 0
+  WhileHeld history s = (slice_index s.words 0 ≡ 1) × OneHolds history s.views × (get_elem? s.homes 0 ≡ some none)
+
+  -- there is one history, which agrees with all live passes
+  abbrev pub Ruled : State (Option (Lodged S E)) (Place E O) → Type 0
+  Ruled s =
+      (length s.words ≡ 1)
+      × ((history : List E) × Agreed number origin numbers history s.views × (WhileFree history s ⊎ WhileHeld history s))

@@ -1,0 +1,18 @@
+-- The histories that a counter tells.
+use Rattle.std.specs.Prelude.{◌≡◌, ℕ, List, length}
+use Rattle.std.specs.List.{sum_by}
+use Rattle.std.proofs.Common.{sym, ◌∙◌}
+use Rattle.pie_lock.specs.declared.counter.CounterEntry.{CounterEntry}
+
+-- what contracts see of a counter
+pub record Tally : Type 0 where
+  pub count : ℕ
+  pub total : ℕ
+
+-- as many entries as were counted, whose amounts add up to the total
+pub record Tells (tally : Tally) (history : List CounterEntry) : Type 0 where
+  pub counted : length history ≡ tally.count
+  pub added_up : sum_by (λ e. e.amount) history ≡ tally.total
+
+pub Tells-one_length : (tally : Tally) (xs ys : List CounterEntry) → Tells tally xs → Tells tally ys → length xs ≡ length ys
+Tells-one_length tally xs ys a b = a.counted ∙ sym b.counted

@@ -1,0 +1,295 @@
+//! The lock, and what its callers do with it.
+ghost use Rattle.std.specs.Prelude.{◌≡◌, ◌≢◌, ◌+◌, ◌<◌, ◌↔◌, [], ◌∷◌, ◌++◌, List, Some, None, IsOk, IsErr, IfOk, IfErr, OnOk, OnErr, IfSome};
+
+use crate::kept::Kept;
+use crate::pass::{Held, Pass};
+use crate::refusal::{LockRefusal, OneNumber, StillHeld};
+use crate::rule::{Cut, Free, Meet, Merge, Ruling, Take};
+use crate::view::{About, Lodged, Place};
+use atomic_table::{Refused, Seat, Table};
+use crossbeam_utils::Backoff;
+use std::alloc::Global;
+use std::marker::Model;
+use std::snapshot::Snapshot;
+use std::sync::Wait;
+
+// The lock's one word and one slot.
+const WORD: usize = 0;
+
+const SLOT: usize = 0;
+
+// No pass has the state.
+const FREE: u64 = 0;
+
+// One pass has the state.
+const HELD: u64 = 1;
+
+/// A state that one pass at a time may have.
+///
+/// Contracts see it as which lock it is, the origin of the state that it was opened with, and how many numbers it has.
+#[derive(Drop)]
+pub struct RuledLock<S: Kept> {
+    table: Table<Option<Lodged<S, S::Entry>>, Place<S::Entry, S::Origin>, About<S>, Ruling, Global>,
+}
+
+impl<S: Kept> Model for RuledLock<S> {
+    ghost use Rattle.std.specs.Prelude.{◌≡◌, Some};
+    ghost use Rattle.pie_lock.specs.Views.{LockView};
+
+    ghost Value = { LockView S.Origin };
+
+    ghost view = { λ l. record { id = l.table.shared.table_id; origin = Some (S.origin_of l.table.shared.key.first.value); numbers = l.table.shared.key.numbers } };
+
+    ghost invariant = { λ l. (l.table.shared.table_id.words ≡ 1) × (l.table.shared.table_id.slots ≡ 1) };
+}
+
+impl<S: Kept> RuledLock<S> {
+    ghost use Rattle.std.specs.Option.{option_to_list};
+    ghost use Rattle.pie_lock.specs.Views.{HoldsAll};
+    ghost use Rattle.pie_lock.specs.Steps.{GoesOn, pass_at, AreAdjacent};
+    ghost use Rattle.pie_lock.specs.Seating.{IsIdle, IsMerged};
+    ghost use Rattle.pie_lock.specs.Promises.{first_pass, IsOfPass, pass_after, without_highest, highest_alone, IsBeside, IsBothOf};
+    ghost use Rattle.pie_lock.specs.declared.view.Lodged.{Lodged};
+
+    /// A lock over `state`, and a pass with the numbers `0..numbers`.
+    ///
+    /// `NoNumbers` comes exactly where `numbers` is 0, and `Memory` where there was none. Either hands the state back.
+    pub fn new(
+        alloc: Global,
+        state: S,
+        numbers: u16,
+    ) -> Result<(RuledLock<S>, Pass<S>), (S, LockRefusal)>
+        requires { S.tells state [] }
+        ensures origin { IfOk result (λ made. made.0.origin ≡ Some (S.origin_of state)) }
+        ensures numbers { IfOk result (λ made. made.0.numbers ≡ numbers) }
+        ensures pass { IfOk result (λ made. made.1 ≡ first_pass made.0 numbers) }
+        ensures some { OnOk result (numbers ≢ 0) }
+        ensures back { IfErr result (λ refused. refused.0 ≡ state) }
+        ensures no_numbers { IfErr result (λ refused. (refused.1 ≡ LockRefusal.NoNumbers) ↔ (numbers ≡ 0)) }
+    {
+        if numbers == 0 {
+            return Err((state, LockRefusal::NoNumbers));
+        }
+        let about = About {
+            first: Snapshot::of(&state),
+            numbers,
+        };
+        let Ok(mut slots) = Vec::with_capacity(alloc, 1) else {
+            return Err((state, LockRefusal::Memory));
+        };
+        slots.push_reserved(Some(Lodged { state, added: None }));
+        match Table::new(alloc, &[FREE], slots, &about) {
+            Ok((table, seat)) => {
+                let pass = Pass {
+                    first: 0,
+                    limit: numbers,
+                    seat,
+                };
+                Ok((RuledLock { table }, pass))
+            }
+            Err(Refused { slots }) => Err((state_of(slots), LockRefusal::Memory)),
+        }
+    }
+
+    // Takes the state out of the slot that the seat has.
+    fn lift(&self, seat: &mut Seat<Option<Lodged<S, S::Entry>>, Place<S::Entry, S::Origin>>) -> S
+        requires table { seat.old.table_id ≡ self.now.id }
+        requires slot { (lodged : Lodged S S.Entry) × (seat.old.me.1 ≡ (0, Some lodged) ∷ []) }
+        ensures seat { (seat.new.table_id ≡ seat.old.table_id) × (seat.new.id ≡ seat.old.id) × (seat.new.me ≡ (seat.old.me.0, (0, None) ∷ [])) }
+        ensures state { (lodged : Lodged S S.Entry) → seat.old.me.1 ≡ (0, Some lodged) ∷ [] → result ≡ lodged.state }
+    {
+        let Some(lodged) = self.table.shared.exchange(seat, SLOT, None) else {
+            unreachable!()
+        };
+        lodged.state
+    }
+
+    // Puts the state into the slot that the seat has, beside the entry that the seat's front is to gain.
+    fn lay(
+        &self,
+        seat: &mut Seat<Option<Lodged<S, S::Entry>>, Place<S::Entry, S::Origin>>,
+        state: S,
+        entry: Option<S::Entry>,
+    )
+        requires table { seat.old.table_id ≡ self.now.id }
+        requires slot { seat.old.me.1 ≡ (0, None) ∷ [] }
+        ensures seat { (seat.new.table_id ≡ seat.old.table_id) × (seat.new.id ≡ seat.old.id) }
+        ensures slot { (lodged : Lodged S S.Entry) × (lodged.state ≡ state) × (lodged.added ≡ entry) × (seat.new.me ≡ (seat.old.me.0, (0, Some lodged) ∷ [])) }
+    {
+        let lodged = Lodged {
+            state,
+            added: entry,
+        };
+        let None = self.table.shared.exchange(seat, SLOT, Some(lodged)) else {
+            unreachable!()
+        };
+    }
+
+    /// Takes the state, or hands the pass back as it was where the state is out. It waits for nobody.
+    pub fn try_take(&self, pass: Pass<S>) -> Result<Held<S>, Pass<S>>
+        requires own { pass.lock ≡ self.now }
+        ensures pass { IfOk result (IsOfPass pass) }
+        ensures front { IfOk result (λ held. GoesOn S.number_of pass.first pass.limit pass.front held.front) }
+        ensures origin { IfOk result (λ held. held.lock.origin ≡ Some (S.origin_of held.state)) }
+        ensures told { IfOk result (λ held. S.tells held.state held.front) }
+        ensures alone { HoldsAll pass → IsOk result }
+        ensures same { HoldsAll pass → IfOk result (λ held. held.front ≡ pass.front) }
+        ensures busy { IfErr result (λ back. back ≡ pass) }
+    {
+        let Pass {
+            first,
+            limit,
+            mut seat,
+        } = pass;
+        let found = self
+            .table
+            .shared
+            .compare_exchange::<Take>(&mut seat, WORD, FREE, HELD);
+        if found != FREE {
+            return Err(Pass { first, limit, seat });
+        }
+        let state = self.lift(&mut seat);
+        Ok(Held {
+            state,
+            first,
+            limit,
+            seat,
+        })
+    }
+
+    /// Takes the state. It waits while the state is out, and nothing is claimed of how long.
+    pub fn take<R: Wait>(&self, rt: &R, pass: Pass<S>) -> Held<S>
+        requires own { pass.lock ≡ self.now }
+        ensures pass { IsOfPass pass result }
+        ensures front { GoesOn S.number_of pass.first pass.limit pass.front result.front }
+        ensures origin { result.lock.origin ≡ Some (S.origin_of result.state) }
+        ensures told { S.tells result.state result.front }
+        ensures same { HoldsAll pass → result.front ≡ pass.front }
+    {
+        let mut waiting = pass;
+        let backoff = Backoff::new();
+        for _ in rt.forever() {
+            waiting = match self.try_take(waiting) {
+                Ok(held) => return held,
+                Err(pass) => pass,
+            };
+            backoff.snooze();
+        }
+        unreachable!()
+    }
+
+    /// Gives the state back, with the entry that this call adds to the history, if it adds one. It waits for nobody.
+    pub fn put(&self, held: Held<S>, entry: Option<S::Entry>) -> Pass<S>
+        requires own { held.lock ≡ self.now }
+        requires number { IfSome entry (λ e. S.number_of e ≡ held.first) }
+        requires origin { held.lock.origin ≡ Some (S.origin_of held.state) }
+        requires told { S.tells held.state (held.front ++ option_to_list entry) }
+        ensures { result ≡ pass_after held entry }
+    {
+        let Held {
+            state,
+            first,
+            limit,
+            mut seat,
+        } = held;
+        self.lay(&mut seat, state, entry);
+        self.table.shared.store::<Free>(&mut seat, WORD, FREE);
+        Pass { first, limit, seat }
+    }
+
+    /// A new pass with the highest number of `pass` alone and the same front.
+    ///
+    /// `OneNumber` comes exactly where the pass has one number, and changes nothing.
+    pub fn share(&self, pass: &mut Pass<S>) -> Result<Pass<S>, OneNumber>
+        requires own { pass.old.lock ≡ self.now }
+        ensures rest { OnOk result (pass.new ≡ without_highest pass.old) }
+        ensures shared { IfOk result (λ new. new ≡ highest_alone pass.old) }
+        ensures one_number { IsErr result ↔ (pass.old.limit ≡ pass.old.first + 1) }
+        ensures unchanged { OnErr result (pass.new ≡ pass.old) }
+    {
+        let last = pass.limit - 1;
+        if pass.first == last {
+            return Err(OneNumber);
+        }
+        let seat = self.table.shared.split_seat::<Cut>(&mut pass.seat);
+        let new = Pass {
+            first: last,
+            limit: pass.limit,
+            seat,
+        };
+        pass.limit = last;
+        Ok(new)
+    }
+
+    /// Makes one pass of two, with both ranges and the longer front.
+    ///
+    /// Hands `other` back exactly where neither's `limit()` is the other's `first()`; both passes are then as they were.
+    pub fn gather(&self, pass: &mut Pass<S>, other: Pass<S>) -> Result<(), Pass<S>>
+        requires own { (pass.old.lock ≡ self.now) × (other.lock ≡ self.now) }
+        ensures both { OnOk result (IsBothOf S.number_of pass.old other pass.new) }
+        ensures beside { IsOk result ↔ IsBeside pass.old other }
+        ensures back { IfErr result (λ back. back ≡ other) }
+        ensures unchanged { OnErr result (pass.new ≡ pass.old) }
+    {
+        if pass.limit != other.first && other.limit != pass.first {
+            return Err(other);
+        }
+        let Pass { first, limit, seat } = other;
+        self.join(&mut pass.seat, seat);
+        pass.first = pass.first.min(first);
+        pass.limit = pass.limit.max(limit);
+        Ok(())
+    }
+
+    // Makes one seat of two whose passes have adjacent ranges.
+    fn join(
+        &self,
+        seat: &mut Seat<Option<Lodged<S, S::Entry>>, Place<S::Entry, S::Origin>>,
+        other: Seat<Option<Lodged<S, S::Entry>>, Place<S::Entry, S::Origin>>,
+    )
+        requires tables { (seat.old.table_id ≡ self.now.id) × (other.table_id ≡ self.now.id) }
+        requires waiting { IsIdle seat.old.me × IsIdle other.me }
+        requires beside { AreAdjacent (pass_at seat.old.me.0) (pass_at other.me.0) }
+        ensures seat { (seat.new.table_id ≡ seat.old.table_id) × (seat.new.id ≡ seat.old.id) }
+        ensures merged { IsMerged S.number_of seat.old.me other.me seat.new.me }
+    {
+        self.table.shared.join_seat::<Meet>(seat, other);
+        self.table.shared.load::<Merge>(seat, WORD);
+    }
+
+    /// The state, where no pass has it. It waits for nobody.
+    ///
+    /// A pass with all numbers always closes the lock: then no other pass is left that could have the state.
+    pub fn close(self, pass: Pass<S>) -> Result<S, StillHeld<S>>
+        requires own { pass.lock ≡ self }
+        ensures origin { IfOk result (λ state. pass.lock.origin ≡ Some (S.origin_of state)) }
+        ensures told { IfOk result (λ state. (history : List S.Entry) × GoesOn S.number_of pass.first pass.limit pass.front history × S.tells state history) }
+        ensures alone { HoldsAll pass → IsOk result }
+        ensures same { HoldsAll pass → IfOk result (λ state. S.tells state pass.front) }
+        ensures still_held { IfErr result (λ back. (back.lock ≡ self) × (back.pass ≡ pass)) }
+    {
+        match self.try_take(pass) {
+            Ok(held) => {
+                let Held {
+                    state,
+                    first: _,
+                    limit: _,
+                    seat: _,
+                } = held;
+                Ok(state)
+            }
+            Err(pass) => Err(StillHeld { lock: self, pass }),
+        }
+    }
+}
+
+// The state that lies in the one slot.
+fn state_of<S: Drop, E: Drop>(mut slots: Vec<Option<Lodged<S, E>>>) -> S
+    requires { (lodged : Lodged S E) × (slots.items ≡ Some lodged ∷ []) }
+    ensures { (lodged : Lodged S E) → slots.items ≡ Some lodged ∷ [] → result ≡ lodged.state }
+{
+    let Some(Some(lodged)) = slots.pop() else {
+        unreachable!()
+    };
+    lodged.state
+}

@@ -1,0 +1,83 @@
+//! What a caller has of a lock: a pass, or, while it has the state, a held.
+ghost use Rattle.std.specs.Prelude.{◌≡◌, ◌<◌};
+
+use crate::kept::Kept;
+use crate::view::{Lodged, Place};
+use atomic_table::Seat;
+use std::marker::Model;
+
+/// The right to take the state, under the numbers `first()..limit()`, of which there is one at least.
+///
+/// Contracts see it as its lock, its front, which is the list that its holder has been shown, and its range of numbers.
+/// It has no bytes but those of its range. A pass that is dropped takes its numbers with it.
+#[derive(Drop)]
+pub struct Pass<S: Kept> {
+    pub(crate) first: u16,
+    pub(crate) limit: u16,
+    pub(crate) seat: Seat<Option<Lodged<S, S::Entry>>, Place<S::Entry, S::Origin>>,
+}
+
+impl<S: Kept> Model for Pass<S> {
+    ghost use Rattle.pie_lock.specs.Views.{PassView};
+
+    ghost Value = { PassView S.Entry S.Origin };
+
+    ghost use Rattle.pie_lock.specs.Seating.{pass_of_seat, IsWaiting};
+
+    ghost view = { λ p. pass_of_seat p.first p.limit p.seat };
+
+    ghost invariant = { λ p. IsWaiting p.first p.limit p.seat.me };
+}
+
+impl<S: Kept> Pass<S> {
+    /// The least of its numbers, under which its entries stand.
+    pub fn first(&self) -> u16
+        ensures value { result ≡ self.now.first }
+        ensures some { self.now.first < self.now.limit }
+    {
+        self.first
+    }
+
+    /// One above the greatest of its numbers.
+    pub fn limit(&self) -> u16
+        ensures value { result ≡ self.now.limit }
+        ensures some { self.now.first < self.now.limit }
+    {
+        self.limit
+    }
+}
+
+/// A pass that has the state. It is not `Drop`: it ends in `RuledLock::put`.
+pub struct Held<S: Kept> {
+    pub(crate) state: S,
+    pub(crate) first: u16,
+    pub(crate) limit: u16,
+    pub(crate) seat: Seat<Option<Lodged<S, S::Entry>>, Place<S::Entry, S::Origin>>,
+}
+
+impl<S: Kept> Model for Held<S> {
+    ghost use Rattle.pie_lock.specs.Views.{HeldView};
+
+    ghost Value = { HeldView S S.Entry S.Origin };
+
+    ghost use Rattle.pie_lock.specs.Seating.{held_of_seat, IsHolding};
+
+    ghost view = { λ h. held_of_seat h.first h.limit h.seat h.state };
+
+    ghost invariant = { λ h. IsHolding h.first h.limit h.seat.me };
+}
+
+impl<S: Kept> Held<S> {
+    ghost use types.Logic.{sem};
+    ghost use Rattle.std.specs.Borrow.{Lends};
+    ghost use Rattle.pie_lock.specs.contracts.pass.Held.{the_row};
+    ghost use Rattle.pie_lock.specs.Views.{with_state};
+
+    /// The state. What is left in it is what `RuledLock::put` gives back to the lock.
+    pub fn state(&mut self) -> &mut S
+        ensures* writes_back { sem 𝓛 (Lends (the_row S.row S.Entry.row S.Origin.row S.Kept) S.row self.entry result (with_state self.old)) }
+        ensures value { result.now ≡ self.old.state }
+    {
+        &mut self.state
+    }
+}

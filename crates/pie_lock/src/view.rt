@@ -1,0 +1,38 @@
+//! What the lock's seats know, and what lies in its slot.
+use std::collections::LinkedList;
+use std::snapshot::Snapshot;
+
+/// What one pass was shown. No value of it is made.
+pub struct Shown<E, O> {
+    pub front: LinkedList<E>,
+    pub first: u16,
+    pub limit: u16,
+    pub numbers: u16,
+    pub origin: Option<O>,
+}
+
+/// What a seat at the lock's table knows. No value of it is made.
+pub enum Place<E, O> {
+    /// It was joined into another seat, and knows nothing.
+    Spent,
+    /// It has a pass.
+    Waits(Shown<E, O>),
+    /// It has the state.
+    Holds(Shown<E, O>),
+    /// It has two passes, which the next load makes one.
+    Meets(Shown<E, O>, Shown<E, O>),
+}
+
+/// What lies in the slot: the state, and the entry that its last put adds.
+#[derive(Drop)]
+pub struct Lodged<S, E> {
+    pub state: S,
+    pub added: Option<E>,
+}
+
+/// What the table is told when it is made: the first state and how many numbers there are.
+#[derive(Drop)]
+pub struct About<S> {
+    pub first: Snapshot<S>,
+    pub numbers: u16,
+}

@@ -25,6 +25,17 @@ const THREE_DEPARTURES: &str = "open,0,4,4,2\n\
     depart,1,1\n\
     depart,1,1\n";
 
+/// Four arrivals of 65535 bytes.
+const FOUR_LARGE: &str = "arrive,1,1,1,65535,not,0\n\
+    arrive,1,2,2,65535,not,0\n\
+    arrive,1,3,3,65535,not,0\n\
+    arrive,1,4,4,65535,not,0\n";
+
+const FOUR_LARGE_HISTORY: &str = "arrive,1,1,1,65535,not,0,enqueue\n\
+    arrive,1,2,2,65535,not,0,enqueue\n\
+    arrive,1,3,3,65535,not,0,enqueue\n\
+    arrive,1,4,4,65535,not,0,enqueue\n";
+
 fn run(alloc: Global, text: &str) -> (Result<RunEnd, TraceFault>, Vec<u8>) {
     let mut out = Vec::new(alloc);
     let result = run_trace(alloc, text.as_bytes(), &mut out);
@@ -59,29 +70,53 @@ fn one_arrival_and_two_departures(rt: HostRuntime) {
 }
 
 #[test]
-fn histories(rt: HostRuntime) {
+fn an_opening_alone(rt: HostRuntime) {
+    let (result, out) = run(rt.alloc(), "open,0,4,16,100\n");
+    let end = RunEnd {
+        events: 0,
+        refused: 0,
+        registers: Registers {
+            count: 0,
+            moment: 0,
+            packets: 0,
+            bytes: 0,
+        },
+    };
+    assert_eq!(rt; result, Ok(end));
+    assert_eq!(rt; out.as_slice(), b"open,0,4,16,100\n".as_slice());
+}
+
+#[test]
+fn drops_at_the_limits(rt: HostRuntime) -> Result<(), Fail> {
+    let alloc = rt.alloc();
+    // After 262140 bytes the byte limit leaves room for 4.
     let cases = [
-        ("open,0,4,16,100\n", "open,0,4,16,100\n", (0, 0)),
         (
-            "open,0,4,16,100\n\
-             arrive,1,1,1,65535,not,0\narrive,1,2,2,65535,not,0\narrive,1,3,3,65535,not,0\narrive,1,4,4,65535,not,0\n\
-             arrive,1,5,5,5,not,0\narrive,1,6,6,4,not,0\n\
-             arrive,1,7,7,0,not,0\narrive,1,8,8,65536,not,0\n",
-            "open,0,4,16,100\n\
-             arrive,1,1,1,65535,not,0,enqueue\narrive,1,2,2,65535,not,0,enqueue\narrive,1,3,3,65535,not,0,enqueue\narrive,1,4,4,65535,not,0,enqueue\n\
-             arrive,1,5,5,5,not,0,bytes\narrive,1,6,6,4,not,0,packets\n\
-             refused,8,2\nrefused,9,2\n",
-            (6, 2),
+            4,
+            "arrive,1,5,5,5,not,0\narrive,1,6,6,4,not,0\narrive,1,7,7,0,not,0\narrive,1,8,8,65536,not,0\n",
+            "arrive,1,5,5,5,not,0,bytes\narrive,1,6,6,4,not,0,packets\nrefused,8,2\nrefused,9,2\n",
         ),
         (
-            "open,0,5,16,100\n\
-             arrive,1,1,1,65535,not,0\narrive,1,2,2,65535,not,0\narrive,1,3,3,65535,not,0\narrive,1,4,4,65535,not,0\n\
-             arrive,1,5,5,5,not,0\narrive,1,6,6,4,not,0\narrive,1,7,7,1,not,0\n",
-            "open,0,5,16,100\n\
-             arrive,1,1,1,65535,not,0,enqueue\narrive,1,2,2,65535,not,0,enqueue\narrive,1,3,3,65535,not,0,enqueue\narrive,1,4,4,65535,not,0,enqueue\n\
-             arrive,1,5,5,5,not,0,bytes\narrive,1,6,6,4,not,0,enqueue\narrive,1,7,7,1,not,0,bytes\n",
-            (7, 0),
+            5,
+            "arrive,1,5,5,5,not,0\narrive,1,6,6,4,not,0\narrive,1,7,7,1,not,0\n",
+            "arrive,1,5,5,5,not,0,bytes\narrive,1,6,6,4,not,0,enqueue\narrive,1,7,7,1,not,0,bytes\n",
         ),
+    ];
+    for (packets, rest, rest_history) in cases {
+        let text = format!(in alloc; "open,0,{packets},16,100\n{FOUR_LARGE}{rest}")?;
+        let history = format!(in alloc;
+            "open,0,{packets},16,100\n{FOUR_LARGE_HISTORY}{rest_history}"
+        )?;
+        let (result, out) = run(alloc, text.as_str());
+        assert!(rt; result.is_ok(), "{text}");
+        assert_eq!(rt; out.as_slice(), history.as_bytes(), "{text}");
+    }
+    Ok(())
+}
+
+#[test]
+fn refusals_and_answers(rt: HostRuntime) {
+    let cases = [
         (
             "open,0,4,1,100\ndepart,1,1\ndepart,1,1\n",
             "open,0,4,1,100\ndepart,1,1,empty\nrefused,3,5\n",

@@ -26,7 +26,7 @@ struct Input {
     ghost average_in: { average < 2 ^ 60 },
 }
 
-/// Updates at rising moments with delays below 40 milliseconds, from all probabilities below `10^-12 * 2^40`.
+/// Updates at rising moments with delays below 40 milliseconds, from probabilities of each magnitude.
 fn inputs(alloc: Global) -> Result<Vec<Input>, AllocError> {
     let mut words = Words::new();
     let mut updates = Vec::with_capacity(alloc, INPUTS as usize)?;

@@ -1,3 +1,0 @@
-pub mod HistoryFacts
-pub mod CoreFacts
-pub mod Examples

@@ -1,6 +1,11 @@
 pub mod Opening
+pub mod Deed
 pub mod History
+pub mod Estimates
+pub mod Registers
+pub mod Statistics
 pub mod Decision
-pub mod Run
 pub mod Core
+pub mod Tally
 pub mod Book
+pub mod Run

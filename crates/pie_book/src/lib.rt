@@ -2,7 +2,7 @@
 //! looking back over the whole history would give.
 //!
 //! The definitions that the contracts cite stand in `specs/`: they look back over the list of all events and hold no
-//! register. `Tells` says that a book stands for a history.
+//! register. `Shows` says that a core stands for a history, `Tells` that a book does.
 #![tactic(auto)]
 
 pub mod book;
@@ -11,12 +11,14 @@ pub mod opening;
 mod queue_core;
 pub mod refusal;
 pub mod registers;
+pub mod stats;
+mod tally;
 
 pub use book::Book;
 pub use command::{Answer, Command, Event};
-pub use opening::{Limits, Opening};
-pub use refusal::{OpenRefusal, Refusal};
+pub use opening::{Choices, Limits, Mode, Opening};
+pub use queue_core::Core;
+pub use refusal::{FoldRefusal, OpenRefusal, Refusal};
 pub use registers::Registers;
+pub use stats::Stats;
 
-#[cfg(test)]
-mod tests;

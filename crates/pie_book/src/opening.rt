@@ -35,6 +35,22 @@ impl Limits {
     }
 }
 
+/// What a full tail does (this project's own).
+#[derive(Clone, Copy, Debug, PartialEq, Eq)]
+pub enum Mode {
+    /// A command that would add an event to a full tail is refused: events leave the tail by folds alone.
+    Bounded,
+    /// The oldest event of a full tail goes into the checkpoint, and is not handed out.
+    Rolling,
+}
+
+/// What else is chosen at an opening (this project's own).
+#[derive(Clone, Copy, Debug, PartialEq, Eq)]
+pub struct Choices {
+    /// What a full tail does.
+    pub mode: Mode,
+}
+
 /// What a book was opened with, kept as it was handed in.
 #[derive(Clone, Copy, Debug, PartialEq, Eq)]
 pub struct Opening {
@@ -44,4 +60,6 @@ pub struct Opening {
     pub limits: Limits,
     /// The parameters.
     pub params: Params,
+    /// What a full tail does.
+    pub choices: Choices,
 }

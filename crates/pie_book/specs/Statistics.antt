@@ -1,0 +1,133 @@
+-- The statistics after a history: counts, sums and greatest values over all its events.
+use Rattle.std.specs.Prelude.{ℕ, ◌+◌, ◌-◌, Bool, true, false, List, [], ◌∷◌, map, Option, Some, None, count_by, sum_by, if◌then◌else◌}
+use Rattle.std.specs.List.{filter_map}
+use Rattle.std.specs.Option.{is_some, option_map_or}
+use Rattle.pie_queue.specs.declared.packet.Packet.{Packet}
+use Rattle.pie_queue.specs.declared.packet.Waiting.{Waiting}
+use Rattle.pie_book.specs.declared.command.Event.{Event}
+use Rattle.pie_book.specs.declared.opening.Opening.{Opening}
+use Rattle.pie_book.specs.declared.stats.Stats.{Stats}
+use Rattle.pie_book.specs.Deed.{Deed, deed_of, departure, is_update, sets_params, queued, marked, dropped_early, dropped_bytes, dropped_packets, found_none, was_reset}
+use Rattle.pie_book.specs.History.{Place, places, up_to, greatest, effective_moment, waiting_after, bytes_after}
+use Rattle.pie_book.specs.Estimates.{delay_after}
+
+abbrev pub is_queued : Deed → Bool
+is_queued (queued packet) = true
+is_queued _ = false
+
+abbrev pub is_marked : Deed → Bool
+is_marked (marked packet) = true
+is_marked _ = false
+
+abbrev pub is_dropped_early : Deed → Bool
+is_dropped_early dropped_early = true
+is_dropped_early _ = false
+
+abbrev pub is_dropped_bytes : Deed → Bool
+is_dropped_bytes dropped_bytes = true
+is_dropped_bytes _ = false
+
+abbrev pub is_dropped_packets : Deed → Bool
+is_dropped_packets dropped_packets = true
+is_dropped_packets _ = false
+
+-- an arrival, whatever its verdict
+abbrev pub is_arrival : Deed → Bool
+is_arrival (queued packet) = true
+is_arrival (marked packet) = true
+is_arrival dropped_early = true
+is_arrival dropped_bytes = true
+is_arrival dropped_packets = true
+is_arrival _ = false
+
+abbrev pub is_departure : Deed → Bool
+is_departure d = is_some (departure d)
+
+abbrev pub is_found_none : Deed → Bool
+is_found_none found_none = true
+is_found_none _ = false
+
+abbrev pub is_reset : Deed → Bool
+is_reset was_reset = true
+is_reset _ = false
+
+-- how many events did what passes the test
+abbrev pub count_of : (Deed → Bool) → List Event → ℕ
+count_of test history = count_by (λ event. test (deed_of event)) history
+
+-- the bytes that departed by an event
+abbrev pub bytes_departed : Deed → ℕ
+bytes_departed d = option_map_or (λ (packet : Packet). packet.size) (departure d) 0
+
+-- the time since the oldest of these packets arrived
+abbrev pub age_of_oldest : ℕ → List Waiting → ℕ
+age_of_oldest now [] = 0
+age_of_oldest now (oldest ∷ others) = now - oldest.since
+
+-- how long the packet had waited that departed at this effective moment, where these packets waited
+abbrev pub wait_of : Deed → ℕ → List Waiting → ℕ
+wait_of d now waiting = if is_departure d then age_of_oldest now waiting else 0
+
+-- .. at a place
+abbrev pub wait_at : Opening → Place → ℕ
+wait_at opening place = wait_of (deed_of place.event) (effective_moment opening (up_to place)) (waiting_after opening place.before)
+
+-- the delay of an update
+abbrev pub delay_shown : Deed → ℕ → Option ℕ
+delay_shown d delay = if is_update d then Some delay else None
+
+-- .. at a place
+abbrev pub delay_at : Opening → Place → Option ℕ
+delay_at opening place = delay_shown (deed_of place.event) (delay_after opening place.before)
+
+-- the greatest number of bytes in the queue after an event
+unfoldable pub largest_queue : Opening → List Event → ℕ
+largest_queue opening history = greatest (map (λ place. bytes_after opening (up_to place)) (places history))
+
+-- the greatest delay of an update
+unfoldable pub largest_delay : Opening → List Event → ℕ
+largest_delay opening history = greatest (filter_map (delay_at opening) (places history))
+
+-- the time that the departed packets had waited, summed
+unfoldable pub waited : Opening → List Event → ℕ
+waited opening history = sum_by (wait_at opening) (places history)
+
+-- the statistics
+unfoldable pub stats_after : Opening → List Event → Stats
+stats_after opening history = record {
+  arrivals = count_of is_arrival history;
+  enqueued = count_of is_queued history;
+  marked = count_of is_marked history;
+  early = count_of is_dropped_early history;
+  over_bytes = count_of is_dropped_bytes history;
+  over_packets = count_of is_dropped_packets history;
+  left = count_of is_departure history;
+  left_bytes = sum_by (λ event. bytes_departed (deed_of event)) history;
+  empty = count_of is_found_none history;
+  updates = count_of is_update history;
+  resets = count_of is_reset history;
+  changes = count_of sets_params history;
+  largest_queue = largest_queue opening history;
+  largest_delay = largest_delay opening history;
+  waited = waited opening history;
+}
+
+-- the statistics of no event
+abbrev pub no_stats : Stats
+no_stats = record {
+  arrivals = 0;
+  enqueued = 0;
+  marked = 0;
+  early = 0;
+  over_bytes = 0;
+  over_packets = 0;
+  left = 0;
+  left_bytes = 0;
+  empty = 0;
+  updates = 0;
+  resets = 0;
+  changes = 0;
+  largest_queue = 0;
+  largest_delay = 0;
+  waited = 0;
+}

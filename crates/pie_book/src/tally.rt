@@ -1,0 +1,160 @@
+//! How many events there were, and their statistics, added up.
+ghost use Rattle.std.specs.Prelude.{◌≡◌, ◌+◌, ◌<◌, ◌≤◌, ◌^◌, ℕ};
+ghost use Rattle.pie_queue.specs.declared.packet.Packet.{Packet};
+ghost use Rattle.pie_book.specs.Deed.{arrival_deed, found_none, updated, was_reset, departed, set};
+ghost use Rattle.pie_book.specs.Core.{counted, with_queue};
+ghost use Rattle.pie_params.specs.declared.raw.RawParams.{RawParams};
+
+use crate::{Answer, Stats};
+use pie_queue::Packet;
+use std::marker::Model;
+
+/// The number of events, and the statistics. The largest queue is kept by `queue_is` alone, since it looks at what waits
+/// after each event.
+#[derive(Drop)]
+pub(crate) struct Tally {
+    count: u64,
+    stats: Stats,
+}
+
+impl Model for Tally {
+    ghost use Rattle.pie_book.specs.Tally.{TallyView, IsReached};
+
+    ghost Value = { TallyView };
+
+    ghost view = { λ t. record { count = t.count; stats = t.stats } };
+
+    ghost invariant = { λ t. IsReached t.count t.stats };
+}
+
+impl Tally {
+    ghost use Rattle.pie_book.specs.Tally.{TallyView};
+    ghost use Rattle.pie_book.specs.Statistics.{no_stats};
+
+    /// No event yet.
+    pub(crate) fn empty() -> Tally
+        ensures { result ≡ record { count = 0; stats = no_stats } }
+    {
+        let stats = Stats {
+            arrivals: 0,
+            enqueued: 0,
+            marked: 0,
+            early: 0,
+            over_bytes: 0,
+            over_packets: 0,
+            left: 0,
+            left_bytes: 0,
+            empty: 0,
+            updates: 0,
+            resets: 0,
+            changes: 0,
+            largest_queue: 0,
+            largest_delay: 0,
+            waited: 0,
+        };
+        Tally { count: 0, stats }
+    }
+
+    /// One more arrival, with its verdict.
+    pub(crate) fn arrived(&mut self, verdict: Answer)
+        requires { self.old.count < 2 ^ 40 }
+        ensures { (packet : Packet) → self.new ≡ record { count = self.old.count + 1; stats = counted self.old.stats (arrival_deed packet verdict) 0 0 } }
+    {
+        self.count += 1;
+        match verdict {
+            Answer::Enqueued => {
+                self.stats.arrivals += 1;
+                self.stats.enqueued += 1;
+            }
+            Answer::Marked => {
+                self.stats.arrivals += 1;
+                self.stats.marked += 1;
+            }
+            Answer::DroppedEarly => {
+                self.stats.arrivals += 1;
+                self.stats.early += 1;
+            }
+            Answer::DroppedBytes => {
+                self.stats.arrivals += 1;
+                self.stats.over_bytes += 1;
+            }
+            Answer::DroppedPackets => {
+                self.stats.arrivals += 1;
+                self.stats.over_packets += 1;
+            }
+            Answer::Empty | Answer::Left(_) | Answer::Updated { .. } | Answer::Done => {}
+        }
+    }
+
+    /// One more packet departed, of this size, after this many nanoseconds.
+    pub(crate) fn departed(&mut self, packet: Packet, waited: u64)
+        requires count { self.old.count < 2 ^ 40 }
+        requires size { packet.size ≤ 65535 }
+        requires waited { waited ≤ 2 ^ 60 }
+        ensures { self.new ≡ record { count = self.old.count + 1; stats = counted self.old.stats (departed packet) 0 waited } }
+    {
+        self.count += 1;
+        self.stats.left += 1;
+        self.stats.left_bytes += u64::from(packet.size);
+        self.stats.waited += u128::from(waited);
+    }
+
+    /// One more departure that found no packet.
+    pub(crate) fn found_none(&mut self)
+        requires { self.old.count < 2 ^ 40 }
+        ensures { self.new ≡ record { count = self.old.count + 1; stats = counted self.old.stats found_none 0 0 } }
+    {
+        self.count += 1;
+        self.stats.empty += 1;
+    }
+
+    /// One more update, with this delay.
+    pub(crate) fn updated(&mut self, delay: u64)
+        requires { self.old.count < 2 ^ 40 }
+        ensures { self.new ≡ record { count = self.old.count + 1; stats = counted self.old.stats updated delay 0 } }
+    {
+        self.count += 1;
+        self.stats.updates += 1;
+        self.stats.largest_delay = self.stats.largest_delay.max(delay);
+    }
+
+    /// One more reset.
+    pub(crate) fn was_reset(&mut self)
+        requires { self.old.count < 2 ^ 40 }
+        ensures { self.new ≡ record { count = self.old.count + 1; stats = counted self.old.stats was_reset 0 0 } }
+    {
+        self.count += 1;
+        self.stats.resets += 1;
+    }
+
+    /// One more change of the parameters.
+    pub(crate) fn changed(&mut self)
+        requires { self.old.count < 2 ^ 40 }
+        ensures { (params : RawParams) → self.new ≡ record { count = self.old.count + 1; stats = counted self.old.stats (set params) 0 0 } }
+    {
+        self.count += 1;
+        self.stats.changes += 1;
+    }
+
+    /// So many bytes wait after the event that was counted last.
+    pub(crate) fn queue_is(&mut self, bytes: u64)
+        ensures { self.new ≡ record { count = self.old.count; stats = with_queue self.old.stats bytes } }
+    {
+        self.stats.largest_queue = self.stats.largest_queue.max(bytes);
+    }
+
+    /// How many events there were.
+    pub(crate) fn count(&self) -> u64
+        ensures value { result ≡ self.now.count }
+        ensures within { result ≤ 2 ^ 40 }
+    {
+        self.count
+    }
+
+    /// The statistics.
+    pub(crate) fn stats(&self) -> Stats
+        ensures { result ≡ self.now.stats }
+    {
+        self.stats
+    }
+}

@@ -14,6 +14,8 @@ pub mod refusal;
 pub mod registers;
 pub mod stats;
 mod tally;
+#[cfg(test)]
+mod tests;
 
 pub use book::Book;
 pub use command::{Answer, Command, Event};

@@ -1,2 +1,4 @@
 pub mod RunFacts
 pub mod Examples
+pub mod ExamplesRates
+pub mod ExamplesMarks

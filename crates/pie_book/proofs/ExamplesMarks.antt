@@ -119,3 +119,108 @@ the_parts = refl
 the_due : due_after opening fourteen ≡ 1001003
 unfolding parts_after control_events delay_after delay_of departures_after params_after last_or places effective_moment greatest waiting_after departed_count admitted average samples begun cycles first_position first_opening first_closing first_cycle cycles_from probability last_delay last_moment granted_burst burst_allowance raw_step tuning_divisor tuned_step decayed next
 the_due = refl
+
+-- of the first four arrivals none is considered, since the old delay and the probability are 0; of the last three all are
+the_early_events : early_events opening fourteen
+    ≡ arrival false 0 Enqueue ∷ arrival false 0 Enqueue ∷ arrival false 0 Enqueue ∷ arrival false 0 Enqueue ∷ arrival true 903954174169 Mark
+    ∷ arrival true 903954174169 Drop ∷ arrival true 903954174169 Enqueue ∷ cleared ∷ []
+unfolding accu_after early_events accumulated is_considered is_picked parts_after control_events delay_after delay_of departures_after params_after last_or places effective_moment greatest waiting_after departed_count admitted average samples begun cycles first_position first_opening first_closing first_cycle cycles_from probability last_delay last_moment granted_burst burst_allowance raw_step tuning_divisor tuned_step decayed next
+the_early_events = refl
+
+-- the mark and the drop each leave nothing accumulated, the lone enqueue its probability, and the reset nothing
+the_accumulated : map (accu_after opening) ((updated_thrice ++ mark ∷ []) ∷ twelve ∷ thirteen ∷ fourteen ∷ []) ≡ 0 ∷ 903954174169 ∷ 903954174169 ∷ 0 ∷ []
+unfolding accu_after early_events accumulated is_considered is_picked parts_after control_events delay_after delay_of departures_after params_after last_or places effective_moment greatest waiting_after departed_count admitted average samples begun cycles first_position first_opening first_closing first_cycle cycles_from probability last_delay last_moment granted_burst burst_allowance raw_step tuning_divisor tuned_step decayed next
+the_accumulated = refl
+
+-- what each command is answered after the events before it
+decided_departure : decision opening (two_departed) (Depart 1001001) ≡ Left (packet 3 1024)
+unfolding accu_after early_events accumulated is_considered is_picked parts_after control_events delay_after delay_of departures_after params_after last_or places effective_moment greatest waiting_after departed_count admitted average samples begun cycles first_position first_opening first_closing first_cycle cycles_from probability last_delay last_moment granted_burst burst_allowance raw_step tuning_divisor tuned_step decayed next
+decided_departure = refl
+
+decided_updates : (decision opening two_departed (Update 1001000) ≡ Updated 2000000 830077294 0)
+    × (decision opening (two_departed ++ first_update ∷ []) (Update 1001001) ≡ Updated 2000000 53955024169 0)
+    × (decision opening (two_departed ++ first_update ∷ second_update ∷ []) (Update 1001002) ≡ Updated 2000000 903954174169 0)
+unfolding accu_after early_events accumulated is_considered is_picked parts_after control_events delay_after delay_of departures_after params_after last_or places effective_moment greatest waiting_after departed_count admitted average samples begun cycles first_position first_opening first_closing first_cycle cycles_from probability last_delay last_moment granted_burst burst_allowance raw_step tuning_divisor tuned_step decayed next
+decided_updates = (refl, refl, refl)
+
+decided_arrivals : (decision opening updated_thrice mark.command ≡ Marked)
+    × (decision opening (updated_thrice ++ mark ∷ []) drop_of_one.command ≡ DroppedEarly)
+    × (decision opening (updated_thrice ++ mark ∷ drop_of_one ∷ []) lone.command ≡ Enqueued)
+unfolding accu_after early_events accumulated is_considered is_picked parts_after control_events delay_after delay_of departures_after params_after last_or places effective_moment greatest waiting_after departed_count admitted average samples begun cycles first_position first_opening first_closing first_cycle cycles_from probability last_delay last_moment granted_burst burst_allowance raw_step tuning_divisor tuned_step decayed next
+decided_arrivals = (refl, refl, refl)
+
+-- with the least word the lone packet would have been dropped, and a packet whose endpoints understand a mark is marked
+decided_otherwise : (decision opening (updated_thrice ++ mark ∷ drop_of_one ∷ []) (Arrive 1001003 (packet 7 500) 0) ≡ DroppedEarly)
+    × (decision opening (updated_thrice ++ mark ∷ drop_of_one ∷ []) (Arrive 1001003 (capable 7 500) 0) ≡ Marked)
+    × (decision opening twelve change.command ≡ Done) × (decision opening thirteen restart.command ≡ Done)
+unfolding accu_after early_events accumulated is_considered is_picked parts_after control_events delay_after delay_of departures_after params_after last_or places effective_moment greatest waiting_after departed_count admitted average samples begun cycles first_position first_opening first_closing first_cycle cycles_from probability last_delay last_moment granted_burst burst_allowance raw_step tuning_divisor tuned_step decayed next
+decided_otherwise = (refl, refl, refl, refl)
+
+-- an update before the due moment is refused, by its effective moment
+too_soon : (refusal_by_rule opening fourteen (Update 1001002) ≡ None) × (refusal_by_rule opening two_departed (Update 0) ≡ None)
+    × (refusal_by_rule opening (two_departed ++ first_update ∷ []) (Update 1001000) ≡ Some (TooSoon 1001001))
+unfolding parts_after control_events delay_after delay_of departures_after params_after last_or places effective_moment greatest waiting_after departed_count admitted average samples begun cycles first_position first_opening first_closing first_cycle cycles_from probability last_delay last_moment granted_burst burst_allowance raw_step tuning_divisor tuned_step decayed next
+too_soon = (refl, refl, refl)
+
+abbrev shown : ℕ → ℕ → ℕ → ℕ → ℕ → ℕ → ℕ → ℕ → ℕ → ℕ → Bool → RawParams → Registers
+shown count moment packets bytes prob old accu burst last average measuring params = record {
+  count = count;
+  moment = moment;
+  packets = packets;
+  bytes = bytes;
+  prob = prob;
+  old = old;
+  accu = accu;
+  burst = burst;
+  last = last;
+  average = average;
+  measuring = measuring;
+  params = params;
+}
+
+registers_at_twelve : registers_after opening twelve ≡ shown 12 1001003 4 3048 903954174169 2000000 903954174169 0 1001002 1000000 true no_burst
+unfolding registers_after accu_after early_events accumulated is_considered is_picked parts_after control_events delay_after delay_of departures_after params_after last_or places effective_moment greatest waiting_after departed_count admitted average samples begun cycles first_position first_opening first_closing first_cycle cycles_from probability last_delay last_moment granted_burst burst_allowance raw_step tuning_divisor tuned_step decayed next
+registers_at_twelve = refl
+
+registers_at_thirteen : registers_after opening thirteen ≡ shown 13 1001004 4 3048 903954174169 2000000 903954174169 0 1001002 0 false some_burst
+unfolding registers_after accu_after early_events accumulated is_considered is_picked parts_after control_events delay_after delay_of departures_after params_after last_or places effective_moment greatest waiting_after departed_count admitted average samples begun cycles first_position first_opening first_closing first_cycle cycles_from probability last_delay last_moment granted_burst burst_allowance raw_step tuning_divisor tuned_step decayed next
+registers_at_thirteen = refl
+
+registers_at_fourteen : registers_after opening fourteen ≡ shown 14 1001005 4 3048 0 0 0 50 1001002 0 false some_burst
+unfolding registers_after accu_after early_events accumulated is_considered is_picked parts_after control_events delay_after delay_of departures_after params_after last_or places effective_moment greatest waiting_after departed_count admitted average samples begun cycles first_position first_opening first_closing first_cycle cycles_from probability last_delay last_moment granted_burst burst_allowance raw_step tuning_divisor tuned_step decayed next
+registers_at_fourteen = refl
+
+-- the packets that wait, the marked one with CE
+the_waiting : waiting_after opening fourteen
+    ≡ waits (packet 3 1024) 0 ∷ waits (packet 4 1024) 0 ∷ waits (record { tag = 5; size = 500; ecn = Ce }) 1001003 ∷ waits (packet 7 500) 1001003 ∷ []
+unfolding waiting_after departed_count admitted places effective_moment greatest
+the_waiting = refl
+
+-- the statistics: seven arrivals, of which five were queued as they came, one marked and one dropped early; two departures after 1000 and 1001000;
+-- three updates; and at last a reset and new parameters
+abbrev tallied : ℕ → ℕ → Stats
+tallied resets changes = record {
+  arrivals = 7;
+  enqueued = 5;
+  marked = 1;
+  early = 1;
+  over_bytes = 0;
+  over_packets = 0;
+  left = 2;
+  left_bytes = 2048;
+  empty = 0;
+  updates = 3;
+  resets = resets;
+  changes = changes;
+  largest_queue = 4096;
+  largest_delay = 2000000;
+  waited = 1002000;
+}
+
+stats_at_twelve : stats_after opening twelve ≡ tallied 0 0
+unfolding stats_after largest_queue largest_delay waited parts_after control_events delay_after delay_of departures_after params_after last_or places effective_moment greatest waiting_after departed_count admitted average samples begun cycles first_position first_opening first_closing first_cycle cycles_from probability last_delay last_moment granted_burst burst_allowance raw_step tuning_divisor tuned_step decayed next
+stats_at_twelve = refl
+
+stats_at_fourteen : stats_after opening fourteen ≡ tallied 1 1
+unfolding stats_after largest_queue largest_delay waited parts_after control_events delay_after delay_of departures_after params_after last_or places effective_moment greatest waiting_after departed_count admitted average samples begun cycles first_position first_opening first_closing first_cycle cycles_from probability last_delay last_moment granted_burst burst_allowance raw_step tuning_divisor tuned_step decayed next
+stats_at_fourteen = refl

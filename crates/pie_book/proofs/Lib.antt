@@ -5,3 +5,7 @@ pub mod StatisticsFacts
 pub mod LookFacts
 pub mod CoreFacts
 pub mod BookFacts
+pub mod RunFacts
+pub mod Examples
+pub mod ExamplesRates
+pub mod ExamplesMarks

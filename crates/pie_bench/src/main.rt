@@ -1,6 +1,7 @@
 //! `pie_bench`: what an event costs in each part of the controller, measured. Its argument names the measurement.
 #![tactic(auto)]
 
+mod book;
 mod control;
 mod early;
 mod lock;
@@ -34,16 +35,18 @@ fn measure<R: Threads + Wait + Clock + Print + Sync>(
         "control" => control::measure(rt, alloc),
         "early" => early::measure(rt, alloc),
         "lock" => lock::measure(rt, alloc),
+        "book" => book::measure(rt, alloc),
         "all" => {
             rate::measure(rt, alloc)?;
             control::measure(rt, alloc)?;
             early::measure(rt, alloc)?;
-            lock::measure(rt, alloc)
+            lock::measure(rt, alloc)?;
+            book::measure(rt, alloc)
         }
         _ => usage(rt),
     }
 }
 
 fn usage(rt: &impl Print) -> io::Result<()> {
-    println!(rt; "pie_bench: name a measurement: rate, control, early, lock or all")
+    println!(rt; "pie_bench: name a measurement: rate, control, early, lock, book or all")
 }

@@ -1,0 +1,165 @@
+//! What an event costs, decided alone and decided and recorded, on a link with 8 per cent more arriving than leaving.
+
+use crate::report::{checksum, nanos};
+use crate::words::Words;
+use pie_book::{Answer, Book, Choices, Command, Core, Limits, Mode};
+use pie_params::Params;
+use pie_queue::{Ecn, Packet};
+use std::alloc::Global;
+use std::io;
+use std::rt::Clock;
+use std::time::Instant;
+
+/// How many events a measurement makes: some 230 seconds of the link's time.
+const EVENTS: u64 = 4_000_000;
+
+/// How many events the tail holds.
+const TAIL: u32 = 4096;
+
+/// The nanoseconds between two arrivals of 1500 bytes, some 108 megabits a second.
+const BETWEEN_ARRIVALS: u64 = 111_111;
+
+/// The nanoseconds between two departures, 100 megabits a second.
+const BETWEEN_DEPARTURES: u64 = 120_000;
+
+/// The nanoseconds between two updates, the default `t_update`.
+const BETWEEN_UPDATES: u64 = 15_000_000;
+
+/// The commands of the link's callers, in the order of their moments.
+#[derive(Drop)]
+struct Stream {
+    arrival: u64,
+    departure: u64,
+    update: u64,
+    tag: u64,
+    words: Words,
+}
+
+impl Stream {
+    fn new() -> Stream {
+        Stream {
+            arrival: BETWEEN_ARRIVALS,
+            departure: BETWEEN_DEPARTURES,
+            update: BETWEEN_UPDATES,
+            tag: 0,
+            words: Words::new(),
+        }
+    }
+
+    /// The next command: at one moment an arrival comes before a departure, and that before an update.
+    fn next(&mut self) -> Command {
+        if self.arrival <= self.departure && self.arrival <= self.update {
+            let moment = self.arrival;
+            self.arrival = moment.wrapping_add(BETWEEN_ARRIVALS);
+            self.tag = self.tag.wrapping_add(1);
+            let packet = Packet {
+                tag: self.tag,
+                size: 1500,
+                ecn: Ecn::NotEct,
+            };
+            let word = self.words.next();
+            return Command::Arrive {
+                moment,
+                packet,
+                word,
+            };
+        }
+        if self.departure <= self.update {
+            let moment = self.departure;
+            self.departure = moment.wrapping_add(BETWEEN_DEPARTURES);
+            return Command::Depart { moment };
+        }
+        let moment = self.update;
+        self.update = moment.wrapping_add(BETWEEN_UPDATES);
+        Command::Update { moment }
+    }
+}
+
+/// A number by which an answer shows in a checksum.
+fn digest(answer: Answer) -> u64 {
+    match answer {
+        Answer::Enqueued => 1,
+        Answer::Marked => 2,
+        Answer::DroppedEarly => 3,
+        Answer::DroppedBytes => 4,
+        Answer::DroppedPackets => 5,
+        Answer::Empty => 6,
+        Answer::Left(packet) => packet.tag,
+        Answer::Updated { delay, prob, .. } => delay.wrapping_add(prob),
+        Answer::Done => 7,
+    }
+}
+
+fn limits() -> Limits {
+    Limits {
+        packets: 1024,
+        tail: TAIL,
+        events: 1 << 40,
+    }
+}
+
+/// Decides all events; the number is that of the answers.
+#[inline(never)]
+fn decide(core: &mut Core, stream: &mut Stream) -> u64 {
+    let mut sum: u64 = 0;
+    for _ in 0..EVENTS {
+        if let Ok(answer) = core.step(1, stream.next()) {
+            sum = sum.wrapping_mul(31).wrapping_add(digest(answer));
+        }
+    }
+    sum
+}
+
+/// Decides and records all events; where the tail is full and `folds` says so, all of it is folded first. The numbers
+/// are that of the answers and how many events were handed out.
+#[inline(never)]
+fn record(alloc: Global, book: &mut Book, stream: &mut Stream, folds: bool) -> (u64, u64) {
+    let mut sum: u64 = 0;
+    let mut handed_out: u64 = 0;
+    for _ in 0..EVENTS {
+        if folds && book.tail_len() == TAIL as usize {
+            if let Ok(events) = book.fold(alloc, u64::from(TAIL)) {
+                handed_out = handed_out.wrapping_add(events.len() as u64);
+            }
+        }
+        if let Ok(answer) = book.apply(1, stream.next()) {
+            sum = sum.wrapping_mul(31).wrapping_add(digest(answer));
+        }
+    }
+    (sum, handed_out)
+}
+
+/// Prints the time of one event decided only (`Core::step`), decided and recorded in a bounded book with folds, and in a
+/// rolling one, and the mean wait of a packet.
+pub fn measure<R: Clock + Print>(rt: &R, alloc: Global) -> io::Result<()> {
+    let params = Params::default_profile();
+    let Ok(mut core) = Core::open(alloc, limits(), params, 0) else {
+        return Ok(());
+    };
+    let start = Instant::now(rt)?;
+    let decided = decide(&mut core, &mut Stream::new());
+    nanos(rt, "book_decided", start.elapsed(rt)?, EVENTS)?;
+    let Ok(mut bounded) = Book::open(alloc, limits(), params, 0) else {
+        return Ok(());
+    };
+    let start = Instant::now(rt)?;
+    let (folded, handed_out) = record(alloc, &mut bounded, &mut Stream::new(), true);
+    nanos(rt, "book_recorded_bounded", start.elapsed(rt)?, EVENTS)?;
+    let rolling = Choices {
+        mode: Mode::Rolling,
+    };
+    let Ok(mut rolling) = Book::open_with(alloc, limits(), params, 0, rolling) else {
+        return Ok(());
+    };
+    let start = Instant::now(rt)?;
+    let (rolled, _) = record(alloc, &mut rolling, &mut Stream::new(), false);
+    nanos(rt, "book_recorded_rolling", start.elapsed(rt)?, EVENTS)?;
+    let stats = core.stats();
+    let wait = stats.waited / u128::from(stats.left).max(1);
+    println!(rt; "book_mean_wait {wait} ns")?;
+    println!(rt; "book_early {} packets", stats.early)?;
+    println!(rt; "book_folded {handed_out} events")?;
+    checksum(rt, "book_decided", decided)?;
+    checksum(rt, "book_bounded", folded)?;
+    checksum(rt, "book_rolling", rolled)
+}

@@ -2,8 +2,8 @@
 use std::collections::LinkedList;
 use std::snapshot::Snapshot;
 
-/// What one pass was shown. No value of it is made.
-pub struct Shown<E, O> {
+/// What a seat knows of a pass: what its holder was shown, and which numbers it has. No value of it is made.
+pub struct KnownPass<E, O> {
     pub front: LinkedList<E>,
     pub first: u16,
     pub limit: u16,
@@ -12,27 +12,27 @@ pub struct Shown<E, O> {
 }
 
 /// What a seat at the lock's table knows. No value of it is made.
-pub enum Place<E, O> {
+pub enum SeatView<E, O> {
     /// It was joined into another seat, and knows nothing.
     Spent,
     /// It has a pass.
-    Waits(Shown<E, O>),
+    Waits(KnownPass<E, O>),
     /// It has the state.
-    Holds(Shown<E, O>),
+    Holds(KnownPass<E, O>),
     /// It has two passes, which the next load makes one.
-    Meets(Shown<E, O>, Shown<E, O>),
+    Meets(KnownPass<E, O>, KnownPass<E, O>),
 }
 
-/// What lies in the slot: the state, and the entry that its last put adds.
+/// What lies in the lock's slot: the state, and the entry that its last put adds.
 #[derive(Drop)]
-pub struct Lodged<S, E> {
+pub struct SlotValue<S, E> {
     pub state: S,
     pub added: Option<E>,
 }
 
-/// What the table is told when it is made: the first state and how many numbers there are.
+/// What the lock is opened with: the first state, and how many numbers there are.
 #[derive(Drop)]
-pub struct About<S> {
-    pub first: Snapshot<S>,
+pub struct LockOpening<S> {
+    pub state: Snapshot<S>,
     pub numbers: u16,
 }

@@ -4,14 +4,14 @@ use Rattle.std.proofs.lemmas.List.Elements.{All-nil, All-cons}
 use mathlib.Core.Option.{some, some-injective, some-ne-none}
 use lib.ListN.{get_elem?}
 use Rattle.atomic_table.specs.Table.{State}
-use Rattle.pie_lock.specs.declared.view.KnownPass.{KnownPass}
-use Rattle.pie_lock.specs.declared.view.SeatView.{SeatView}
-use Rattle.pie_lock.specs.declared.view.SeatView.TheVariants.{Waits, Holds, Meets}
+use Rattle.pie_lock.specs.declared.view.Shown.{Shown}
+use Rattle.pie_lock.specs.declared.view.Place.{Place}
+use Rattle.pie_lock.specs.declared.view.Place.TheVariants.{Waits, Holds, Meets}
 use Rattle.pie_lock.specs.declared.view.SlotValue.{SlotValue}
 use Rattle.pie_lock.specs.declared.lock.TheConstants.{WORD, SLOT, FREE, HELD}
 use Rattle.pie_lock.specs.declared.counter.CounterEntry.{CounterEntry}
 use Rattle.pie_lock.specs.Own.{own}
-use Rattle.pie_lock.specs.Rule.{IsNumberAt, EachPass, SharesNoNumber, Follows, Ruled}
+use Rattle.pie_lock.specs.Rule.{IsNumberAt, EachPass, HasNoNumberTwice, Follows, Ruled}
 use Rattle.pie_lock.specs.Steps.{longer}
 use Rattle.pie_lock.specs.Tally.{Tally, Tells}
 
@@ -45,23 +45,23 @@ told = record { counted = refl; added_up = refl }
 told_too : Tells tally (entry 2 12 ∷ entry 0 0 ∷ [])
 told_too = record { counted = refl; added_up = refl }
 
-abbrev pass : ℕ → List CounterEntry → KnownPass CounterEntry (Unit {0})
+abbrev pass : ℕ → List CounterEntry → Shown CounterEntry (Unit {0})
 pass number front = record { front = front; first = number; limit = number + 1; numbers = 3; origin = Some tt }
 
 -- the pass 0..1 was shown its own entry, 1..2 both, and 2..3 none
-abbrev views : List (SeatView CounterEntry (Unit {0}))
+abbrev views : List (Place CounterEntry (Unit {0}))
 views = Waits (pass 0 (entry 0 5 ∷ [])) ∷ Waits (pass 1 history) ∷ Waits (pass 2 []) ∷ []
 
 abbrev stored : SlotValue Tally CounterEntry
 stored = record { state = tally; added = Some (entry 1 7) }
 
-abbrev free : State (Option (SlotValue Tally CounterEntry)) (SeatView CounterEntry (Unit {0}))
+abbrev free : State (Option (SlotValue Tally CounterEntry)) (Place CounterEntry (Unit {0}))
 free = record { words = 0 ∷ []; homes = some (Some stored) ∷ []; views = views }
 
 abbrev number : CounterEntry → ℕ
 number e = e.caller
 
-abbrev Fits : SeatView CounterEntry (Unit {0}) → Type 0
+abbrev Fits : Place CounterEntry (Unit {0}) → Type 0
 Fits view = EachPass (Follows number tt 3 history) view
 
 first_follows : Fits (Waits (pass 0 (entry 0 5 ∷ [])))
@@ -73,35 +73,35 @@ second_follows = record { shown = ([], refl); owned = refl; nonempty = omega ari
 third_follows : Fits (Waits (pass 2 []))
 third_follows = record { shown = (history, refl); owned = refl; nonempty = omega arith; below = omega arith; of_all = refl; of_origin = refl }
 
-each : (seat : ℕ) (view : SeatView CounterEntry (Unit {0})) → get_elem? views seat ≡ some view → Fits view
+each : (seat : ℕ) (view : Place CounterEntry (Unit {0})) → get_elem? views seat ≡ some view → Fits view
 each zero view e = subst Fits (some-injective (Waits (pass 0 (entry 0 5 ∷ []))) view e) first_follows
 each (suc zero) view e = subst Fits (some-injective (Waits (pass 1 history)) view e) second_follows
 each (suc (suc zero)) view e = subst Fits (some-injective (Waits (pass 2 [])) view e) third_follows
 each (suc (suc (suc n))) view e = absurd (some-ne-none view (sym e))
 
-number_of_seat : (seat : ℕ) (view : SeatView CounterEntry (Unit {0})) (n : ℕ) → get_elem? views seat ≡ some view → IsNumberAt view n → n ≡ seat
+number_of_seat : (seat : ℕ) (view : Place CounterEntry (Unit {0})) (n : ℕ) → get_elem? views seat ≡ some view → IsNumberAt view n → n ≡ seat
 number_of_seat zero view n e is = let h : IsNumberAt (Waits (pass 0 (entry 0 5 ∷ []))) n = subst (λ v. IsNumberAt v n) (sym (some-injective (Waits (pass 0 (entry 0 5 ∷ []))) view e)) is in let a = h.0 in let b = h.1 in omega arith
 number_of_seat (suc zero) view n e is = let h : IsNumberAt (Waits (pass 1 history)) n = subst (λ v. IsNumberAt v n) (sym (some-injective (Waits (pass 1 history)) view e)) is in let a = h.0 in let b = h.1 in omega arith
 number_of_seat (suc (suc zero)) view n e is = let h : IsNumberAt (Waits (pass 2 [])) n = subst (λ v. IsNumberAt v n) (sym (some-injective (Waits (pass 2 [])) view e)) is in let a = h.0 in let b = h.1 in omega arith
 number_of_seat (suc (suc (suc m))) view n e is = absurd (some-ne-none view (sym e))
 
-nobody_holds : (seat : ℕ) (p : KnownPass CounterEntry (Unit {0})) → get_elem? views seat ≡ some (Holds p) → ⊥
+nobody_holds : (seat : ℕ) (p : Shown CounterEntry (Unit {0})) → get_elem? views seat ≡ some (Holds p) → ⊥
 nobody_holds zero p e = let h = some-injective (Waits (pass 0 (entry 0 5 ∷ []))) (Holds p) e in cc
 nobody_holds (suc zero) p e = let h = some-injective (Waits (pass 1 history)) (Holds p) e in cc
 nobody_holds (suc (suc zero)) p e = let h = some-injective (Waits (pass 2 [])) (Holds p) e in cc
 nobody_holds (suc (suc (suc n))) p e = some-ne-none (Holds p) (sym e)
 
-one_pass_each : (seat : ℕ) (view : SeatView CounterEntry (Unit {0})) → get_elem? views seat ≡ some view → SharesNoNumber view
-one_pass_each zero view e = subst SharesNoNumber (some-injective (Waits (pass 0 (entry 0 5 ∷ []))) view e) tt
-one_pass_each (suc zero) view e = subst SharesNoNumber (some-injective (Waits (pass 1 history)) view e) tt
-one_pass_each (suc (suc zero)) view e = subst SharesNoNumber (some-injective (Waits (pass 2 [])) view e) tt
+one_pass_each : (seat : ℕ) (view : Place CounterEntry (Unit {0})) → get_elem? views seat ≡ some view → HasNoNumberTwice view
+one_pass_each zero view e = subst HasNoNumberTwice (some-injective (Waits (pass 0 (entry 0 5 ∷ []))) view e) tt
+one_pass_each (suc zero) view e = subst HasNoNumberTwice (some-injective (Waits (pass 1 history)) view e) tt
+one_pass_each (suc (suc zero)) view e = subst HasNoNumberTwice (some-injective (Waits (pass 2 [])) view e) tt
 one_pass_each (suc (suc (suc n))) view e = absurd (some-ne-none view (sym e))
 
 -- a seat that joins may have the passes 0..1 and 1..2, and not the pass 1..2 twice
-two_passes : SharesNoNumber (Meets (pass 0 []) (pass 1 history))
+two_passes : HasNoNumberTwice (Meets (pass 0 []) (pass 1 history))
 two_passes n one other = let a = one.1 in let b = other.0 in omega arith
 
-one_pass_twice : SharesNoNumber (Meets (pass 1 []) (pass 1 history)) → ⊥
+one_pass_twice : HasNoNumberTwice (Meets (pass 1 []) (pass 1 history)) → ⊥
 one_pass_twice apart = apart 1 (omega arith, omega arith) (omega arith, omega arith)
 
 -- the free lock meets the rule

@@ -8,9 +8,9 @@ use Rattle.std.proofs.lemmas.List.Elements.{All-append, All-cons, All-nil}
 use mathlib.Core.List.{IsPrefix}
 use mathlib.Core.Logic.{dite}
 use native.Mathlib.Decide.{dec_le}
-use Rattle.pie_lock.specs.declared.view.KnownPass.{KnownPass}
-use Rattle.pie_lock.specs.declared.view.SeatView.{SeatView}
-use Rattle.pie_lock.specs.declared.view.SeatView.TheVariants.{Spent, Waits, Holds, Meets}
+use Rattle.pie_lock.specs.declared.view.Shown.{Shown}
+use Rattle.pie_lock.specs.declared.view.Place.{Place}
+use Rattle.pie_lock.specs.declared.view.Place.TheVariants.{Spent, Waits, Holds, Meets}
 use Rattle.pie_lock.specs.Own.{is_within, own}
 use Rattle.pie_lock.specs.Rule.{IsNumberOf, IsNumberAt, EachPass, Follows}
 use Rattle.pie_lock.specs.Steps.{with_front, with_numbers, made_one, longer, AreAdjacent, GoesOn}
@@ -26,11 +26,11 @@ in_either a b c d n adjacent left right low high =
     adjacent
 
 module _ {E O : Type 0} (number : E → ℕ) (origin : O) (numbers : ℕ) where
-  abbrev Fits : List E → KnownPass E O → Type 0
+  abbrev Fits : List E → Shown E O → Type 0
   Fits history p = Follows number origin numbers history p
 
   -- a pass with some of the numbers
-  pub follows_fewer : (history : List E) (p : KnownPass E O) (first limit : ℕ) → Fits history p → p.first ≤ first → limit ≤ p.limit → first < limit → Fits history (with_numbers p first limit)
+  pub follows_fewer : (history : List E) (p : Shown E O) (first limit : ℕ) → Fits history p → p.first ≤ first → limit ≤ p.limit → first < limit → Fits history (with_numbers p first limit)
   follows_fewer history p first limit f low high some_left =
       let all : E → Bool = λ e. is_within p.first p.limit (number e) in
       let few : E → Bool = λ e. is_within first limit (number e) in
@@ -48,7 +48,7 @@ module _ {E O : Type 0} (number : E → ℕ) (origin : O) (numbers : ℕ) where
       }
 
   -- a pass whose front is the whole history
-  pub follows_whole : (history : List E) (p : KnownPass E O) → Fits history p → (next : List E) → Fits next (with_front p next)
+  pub follows_whole : (history : List E) (p : Shown E O) → Fits history p → (next : List E) → Fits next (with_front p next)
   follows_whole history p f next = record {
     shown = prefix_self next;
     owned = refl;
@@ -58,13 +58,13 @@ module _ {E O : Type 0} (number : E → ℕ) (origin : O) (numbers : ℕ) where
     of_origin = f.of_origin;
   }
 
-  nothing_owned : (k : ℕ) (p : KnownPass E O) (added : Option E) → IfSome added (λ e. number e ≡ k) → (IsNumberOf p k → ⊥) → own number p.first p.limit (option_to_list added) ≡ []
+  nothing_owned : (k : ℕ) (p : Shown E O) (added : Option E) → IfSome added (λ e. number e ≡ k) → (IsNumberOf p k → ⊥) → own number p.first p.limit (option_to_list added) ≡ []
   nothing_owned k p None is not = refl
   nothing_owned k p (Some e) is not =
       quiet_one (λ x. is_within p.first p.limit (number x)) e (not_within p.first p.limit (number e) (λ t. not (let low = t.0 in let high = t.1 in (omega arith, omega arith))))
 
   -- the history grows by an entry that is not of the pass
-  pub follows_longer : (history : List E) (k : ℕ) (p : KnownPass E O) (added : Option E) → IfSome added (λ e. number e ≡ k) → Fits history p → (IsNumberOf p k → ⊥) → Fits (history ++ option_to_list added) p
+  pub follows_longer : (history : List E) (k : ℕ) (p : Shown E O) (added : Option E) → IfSome added (λ e. number e ≡ k) → Fits history p → (IsNumberOf p k → ⊥) → Fits (history ++ option_to_list added) p
   follows_longer history k p added is f not = record {
     shown = prefix_trans p.front history (history ++ option_to_list added) f.shown (option_to_list added, refl);
     owned = same_over_quiet (λ x. is_within p.first p.limit (number x)) history (option_to_list added) (nothing_owned k p added is not) ∙ f.owned;
@@ -74,7 +74,7 @@ module _ {E O : Type 0} (number : E → ℕ) (origin : O) (numbers : ℕ) where
     of_origin = f.of_origin;
   }
 
-  pub each_longer : (history : List E) (k : ℕ) (u : SeatView E O) (added : Option E) → IfSome added (λ e. number e ≡ k) → EachPass (Follows number origin numbers history) u → (IsNumberAt u k → ⊥)
+  pub each_longer : (history : List E) (k : ℕ) (u : Place E O) (added : Option E) → IfSome added (λ e. number e ≡ k) → EachPass (Follows number origin numbers history) u → (IsNumberAt u k → ⊥)
       → EachPass (Follows number origin numbers (history ++ option_to_list added)) u
   each_longer history k Spent added is f not = tt
   each_longer history k (Waits p) added is f not = follows_longer history k p added is f not
@@ -89,7 +89,7 @@ module _ {E O : Type 0} (number : E → ℕ) (origin : O) (numbers : ℕ) where
       All-append (λ x. number x < numbers) history (e ∷ []) all (All-cons (λ x. number x < numbers) e [] (omega arith) (All-nil (λ x. number x < numbers)))
 
   -- the longer of two fronts is a beginning of the history too, and begins with both
-  longer_facts : (history : List E) (p q : KnownPass E O) → Fits history p → Fits history q → (b : Bool) → ltb (length p.front) (length q.front) ≡ b
+  longer_facts : (history : List E) (p q : Shown E O) → Fits history p → Fits history q → (b : Bool) → ltb (length p.front) (length q.front) ≡ b
       → IsPrefix (cond b q.front p.front) history × IsPrefix p.front (cond b q.front p.front) × IsPrefix q.front (cond b q.front p.front)
   longer_facts history p q f g true is =
       let less : length p.front ≤ length q.front = grind (arith, nat_tests) in
@@ -99,7 +99,7 @@ module _ {E O : Type 0} (number : E → ℕ) (origin : O) (numbers : ℕ) where
       (f.shown, prefix_self p.front, prefix_shorter q.front p.front history g.shown f.shown less)
 
   -- two passes with adjacent ranges become one, and each front goes on to the longer
-  pub follows_both : (history : List E) (p q : KnownPass E O) → Fits history p → Fits history q → AreAdjacent p q
+  pub follows_both : (history : List E) (p q : Shown E O) → Fits history p → Fits history q → AreAdjacent p q
       → Fits history (made_one p q) × GoesOn number p.first p.limit p.front (longer p.front q.front) × GoesOn number q.first q.limit q.front (longer p.front q.front)
   follows_both history p q f g adjacent =
       let l = longer_facts history p q f g (ltb (length p.front) (length q.front)) refl in

@@ -4,10 +4,10 @@ use Rattle.std.proofs.lemmas.List.Elements.{All-nil}
 use mathlib.Core.Option.{some, some-injective, some-ne-none}
 use lib.ListN.{get_elem?}
 use Rattle.atomic_table.specs.Table.{opening}
-use Rattle.pie_lock.specs.declared.view.SeatView.{SeatView}
-use Rattle.pie_lock.specs.declared.view.SeatView.TheVariants.{Holds}
+use Rattle.pie_lock.specs.declared.view.Place.{Place}
+use Rattle.pie_lock.specs.declared.view.Place.TheVariants.{Holds}
 use Rattle.pie_lock.specs.declared.view.SlotValue.{SlotValue}
-use Rattle.pie_lock.specs.Rule.{EachPass, SharesNoNumber, Follows, Ruled, opened}
+use Rattle.pie_lock.specs.Rule.{EachPass, HasNoNumberTwice, Follows, Ruled, opened}
 use Rattle.pie_lock.proofs.Prefixes.{prefix_self}
 
 alone : {A : Type 0} (v w : A) (seat : ℕ) → get_elem? (v ∷ []) seat ≡ some w → (seat ≡ 0) × (v ≡ w)
@@ -19,7 +19,7 @@ module _ {S E O : Type 0} (number : E → ℕ) (origin_of : S → O) (tells : S 
       → Ruled number origin_of tells (origin_of first) numbers (opening (0 ∷ []) slots (opened (origin_of first) numbers))
   opens first stored slots numbers only is told some_numbers =
       let origin : O = origin_of first in
-      let v : SeatView E O = opened origin numbers in
+      let v : Place E O = opened origin numbers in
       let follows : EachPass (Follows number origin numbers []) v = record {
         shown = prefix_self [];
         owned = refl;
@@ -35,7 +35,7 @@ module _ {S E O : Type 0} (number : E → ℕ) (origin_of : S → O) (tells : S 
           record {
             each_follows = λ seat w e. subst (EachPass (Follows number origin numbers [])) (alone v w seat e).1 follows;
             apart = λ i j u x n ne ei ej nu nx. ne ((alone v u i ei).0 ∙ sym (alone v x j ej).0);
-            apart_within = λ seat w e. subst SharesNoNumber (alone v w seat e).1 tt;
+            apart_within = λ seat w e. subst HasNoNumberTwice (alone v w seat e).1 tt;
             entries_below = All-nil (λ e. number e < numbers);
           },
           inl (

@@ -6,9 +6,9 @@ use mathlib.Core.Option.{none, some, some-injective}
 use lib.ListN.{get_elem?}
 use Rattle.atomic_table.specs.Table.{State, gives, step, Allows}
 use Rattle.atomic_table.proofs.Lists.{at_set}
-use Rattle.pie_lock.specs.declared.view.KnownPass.{KnownPass}
-use Rattle.pie_lock.specs.declared.view.SeatView.{SeatView}
-use Rattle.pie_lock.specs.declared.view.SeatView.TheVariants.{Waits, Holds}
+use Rattle.pie_lock.specs.declared.view.Shown.{Shown}
+use Rattle.pie_lock.specs.declared.view.Place.{Place}
+use Rattle.pie_lock.specs.declared.view.Place.TheVariants.{Waits, Holds}
 use Rattle.pie_lock.specs.declared.view.SlotValue.{SlotValue}
 use Rattle.pie_lock.specs.Rule.{EachPass, Follows, WhileHeld, Ruled}
 use Rattle.pie_lock.specs.Steps.{with_front, pass_at, freed}
@@ -16,18 +16,18 @@ use Rattle.pie_lock.proofs.Following.{follows_whole, each_longer, below_longer}
 use Rattle.pie_lock.proofs.Seats.{set_at, agreed_set, apart_as_before}
 
 module _ {S E O : Type 0} (number : E → ℕ) (origin_of : S → O) (tells : S → List E → Type 0) (origin : O) (numbers : ℕ) where
-  abbrev Rule : State (Option (SlotValue S E)) (SeatView E O) → Type 0
+  abbrev Rule : State (Option (SlotValue S E)) (Place E O) → Type 0
   Rule s = Ruled number origin_of tells origin numbers s
 
   -- the seat's front is the history
-  front_is : (id : ℕ) (p : KnownPass E O) (s : State (Option (SlotValue S E)) (SeatView E O)) (history : List E) → get_elem? s.views id ≡ some (Holds p)
+  front_is : (id : ℕ) (p : Shown E O) (s : State (Option (SlotValue S E)) (Place E O)) (history : List E) → get_elem? s.views id ≡ some (Holds p)
       → WhileHeld number origin_of tells origin numbers history s → p.front ≡ history
   front_is id p s history at held =
       let same : id ≡ held.1.0 = held.1.4 id p at in
       let e : Holds p ≡ Holds held.1.1 = some-injective (Holds p) (Holds held.1.1) (sym at ∙ (ap (get_elem? s.views) same ∙ held.1.2)) in
       ap (λ v. (pass_at v).front) e ∙ held.1.3
 
-  pub frees_keep : (slots id : ℕ) (p : KnownPass E O) (stored : SlotValue S E) → p.origin ≡ Some (origin_of stored.state)
+  pub frees_keep : (slots id : ℕ) (p : Shown E O) (stored : SlotValue S E) → p.origin ≡ Some (origin_of stored.state)
       → tells stored.state (p.front ++ option_to_list stored.added) → IfSome stored.added (λ e. number e ≡ p.first)
       → Allows Rule slots id (Holds p, (0, Some stored) ∷ []) 0 (λ _. 0) (λ _. freed (step slots 0 0 0 none) (Holds p, (0, Some stored) ∷ []) 0)
   frees_keep slots id p stored from told mine s rule sized at wide =
@@ -39,7 +39,7 @@ module _ {S E O : Type 0} (number : E → ℕ) (origin_of : S → O) (tells : S 
       let added : Option E = stored.added in
       let next : List E = p.front ++ option_to_list added in
       let next_is : history ++ option_to_list added ≡ next = ap (λ l. l ++ option_to_list added) (sym same) in
-      let w : SeatView E O = Waits (with_front p next) in
+      let w : Place E O = Waits (with_front p next) in
       let owner : Some (origin_of stored.state) ≡ Some origin = sym from ∙ f.of_origin in
       let low = f.nonempty in let high = f.below in (
         w,

@@ -4,9 +4,9 @@ use mathlib.Core.Option.{none, some}
 use lib.ListN.{get_elem?}
 use Rattle.atomic_table.specs.Table.{State, keeps, step, stepped, Splits, Joins, Allows}
 use Rattle.atomic_table.proofs.Lists.{at_set, set_else}
-use Rattle.pie_lock.specs.declared.view.KnownPass.{KnownPass}
-use Rattle.pie_lock.specs.declared.view.SeatView.{SeatView}
-use Rattle.pie_lock.specs.declared.view.SeatView.TheVariants.{Spent, Waits, Meets}
+use Rattle.pie_lock.specs.declared.view.Shown.{Shown}
+use Rattle.pie_lock.specs.declared.view.Place.{Place}
+use Rattle.pie_lock.specs.declared.view.Place.TheVariants.{Spent, Waits, Meets}
 use Rattle.pie_lock.specs.declared.view.SlotValue.{SlotValue}
 use Rattle.pie_lock.specs.Rule.{IsNumberAt, EachPass, Follows, Agreed, NoneHolds, OneHolds, WhileFree, WhileHeld, Ruled}
 use Rattle.pie_lock.specs.Steps.{with_numbers, all_but_highest, highest, meeting, made_one, AreAdjacent, merged}
@@ -23,10 +23,10 @@ set_swap (x ∷ xs) (suc i) zero a b ne = refl
 set_swap (x ∷ xs) (suc i) (suc j) a b ne = ap (λ l. x ∷ l) (set_swap xs i j a b (λ e. ne (ap suc e)))
 
 module _ {E O : Type 0} where
-  pub waits_not : (p : KnownPass E O) → IsNoHolder (Waits p)
+  pub waits_not : (p : Shown E O) → IsNoHolder (Waits p)
   waits_not p q e = cc
 
-  pub meets_not : (p r : KnownPass E O) → IsNoHolder (Meets p r)
+  pub meets_not : (p r : Shown E O) → IsNoHolder (Meets p r)
   meets_not p r q e = cc
 
   pub spent_not : IsNoHolder {E = E} {O = O} Spent
@@ -34,27 +34,27 @@ module _ {E O : Type 0} where
 
 module _ {S E O : Type 0} (number : E → ℕ) (origin_of : S → O) (tells : S → List E → Type 0) (origin : O) (numbers : ℕ) where
   abbrev Table : Type 0
-  Table = State (Option (SlotValue S E)) (SeatView E O)
+  Table = State (Option (SlotValue S E)) (Place E O)
 
   abbrev Rule : Table → Type 0
   Rule s = Ruled number origin_of tells origin numbers s
 
   -- the word and the slot stay, and of the views none that has the state comes or goes
-  same_word : (s : Table) (views : List (SeatView E O)) (history : List E) → WhileFree number origin_of tells origin numbers history s ⊎ WhileHeld number origin_of tells origin numbers history s
+  same_word : (s : Table) (views : List (Place E O)) (history : List E) → WhileFree number origin_of tells origin numbers history s ⊎ WhileHeld number origin_of tells origin numbers history s
       → (NoneHolds s.views → NoneHolds views) → (OneHolds history s.views → OneHolds history views)
       → WhileFree number origin_of tells origin numbers history (record { words = s.words; homes = s.homes; views = views })
       ⊎ WhileHeld number origin_of tells origin numbers history (record { words = s.words; homes = s.homes; views = views })
   same_word s views history now free held = ⊎_elim (λ t. inl (t.0, free t.1, t.2)) (λ t. inr (t.0, held t.1, t.2)) now
 
-  pub splits_keep : (id : ℕ) (p : KnownPass E O) → p.first + 1 < p.limit → Splits Rule id (Waits p) (all_but_highest (Waits p)) (highest (Waits p))
+  pub splits_keep : (id : ℕ) (p : Shown E O) → p.first + 1 < p.limit → Splits Rule id (Waits p) (all_but_highest (Waits p)) (highest (Waits p))
   splits_keep id p two s rule at =
       let history : List E = rule.1.0 in
       let agreed = rule.1.1 in
       let f : Follows number origin numbers history p = agreed.each_follows id (Waits p) at in
-      let left : SeatView E O = all_but_highest (Waits p) in
-      let right : SeatView E O = highest (Waits p) in
+      let left : Place E O = all_but_highest (Waits p) in
+      let right : Place E O = highest (Waits p) in
       let some_left = f.nonempty in
-      let views : List (SeatView E O) = set s.views id left in
+      let views : List (Place E O) = set s.views id left in
       let cut : Agreed number origin numbers history views =
       agreed_set number origin numbers history history s.views id left agreed (follows_fewer number origin numbers history p p.first (p.limit - 1) f (omega arith) (omega arith) (omega arith)) tt
       (apart_as_before number origin numbers history s.views id (Waits p) left agreed at (λ n h. let a = h.0 in let b = h.1 in (omega arith, omega arith)))
@@ -76,15 +76,15 @@ module _ {S E O : Type 0} (number : E → ℕ) (origin_of : S → O) (tells : S 
         ),
       )
 
-  pub merges_keep : (slots id : ℕ) (p q : KnownPass E O) → AreAdjacent p q → Allows Rule slots id (Meets p q, []) 0 (λ n. n) (merged number (step slots 0 0 0 none) (Meets p q, []))
+  pub merges_keep : (slots id : ℕ) (p q : Shown E O) → AreAdjacent p q → Allows Rule slots id (Meets p q, []) 0 (λ n. n) (merged number (step slots 0 0 0 none) (Meets p q, []))
   merges_keep slots id p q adjacent s rule sized at wide =
       let history : List E = rule.1.0 in
       let agreed = rule.1.1 in
       let both : EachPass (Follows number origin numbers history) (Meets p q) = agreed.each_follows id (Meets p q) at in
-      let w : SeatView E O = Waits (made_one p q) in
+      let w : Place E O = Waits (made_one p q) in
       let facts = follows_both number origin numbers history p q both.0 both.1 adjacent in
       let words : set s.words 0 (get_or s.words 0 0) ≡ s.words = word_again s.words rule.0 in
-      let views : List (SeatView E O) = set s.views id w in
+      let views : List (Place E O) = set s.views id w in
       let same : record { words = s.words; homes = s.homes; views = views } ≡ stepped s 0 (get_or s.words 0 0) id [] w keeps =
       λ i. record { words = sym words i; homes = s.homes; views = views } in (
         w,
@@ -106,14 +106,14 @@ module _ {S E O : Type 0} (number : E → ℕ) (origin_of : S → O) (tells : S 
         (refl, facts.1, facts.2),
       )
 
-  pub joins_keep : (id other : ℕ) (p q : KnownPass E O) → Joins Rule id (Waits p) other (Waits q) (meeting (Waits p) (Waits q)) Spent
+  pub joins_keep : (id other : ℕ) (p q : Shown E O) → Joins Rule id (Waits p) other (Waits q) (meeting (Waits p) (Waits q)) Spent
   joins_keep id other p q s rule at ne there =
       let history : List E = rule.1.0 in
       let agreed = rule.1.1 in
-      let both : SeatView E O = Meets p q in
+      let both : Place E O = Meets p q in
       let its : get_elem? s.views other ≡ some (Waits q) = sym (set_else s.views id other both ne) ∙ there in
-      let spent : SeatView E O = Spent in
-      let views : List (SeatView E O) = set s.views other spent in
+      let spent : Place E O = Spent in
+      let views : List (Place E O) = set s.views other spent in
       let swap : set views id both ≡ set (set s.views id both) other spent = set_swap s.views other id spent both ne in
       let left : Agreed number origin numbers history views =
       agreed_set number origin numbers history history s.views other spent agreed tt tt (λ j u n ne' e h nu. h) (λ j u ne' e. agreed.each_follows j u e) agreed.entries_below in

@@ -9,9 +9,9 @@ use lib.ListN.{get_elem?}
 use prog.Atomic.{either}
 use Rattle.atomic_table.specs.Table.{State, Me, Act, keeps, takes, step, stepped, carried_after, Valid, Allows}
 use Rattle.atomic_table.proofs.Lists.{at_set, set_again, exchanged}
-use Rattle.pie_lock.specs.declared.view.KnownPass.{KnownPass}
-use Rattle.pie_lock.specs.declared.view.SeatView.{SeatView}
-use Rattle.pie_lock.specs.declared.view.SeatView.TheVariants.{Waits, Holds}
+use Rattle.pie_lock.specs.declared.view.Shown.{Shown}
+use Rattle.pie_lock.specs.declared.view.Place.{Place}
+use Rattle.pie_lock.specs.declared.view.Place.TheVariants.{Waits, Holds}
 use Rattle.pie_lock.specs.declared.view.SlotValue.{SlotValue}
 use Rattle.pie_lock.specs.Own.{is_within}
 use Rattle.pie_lock.specs.Rule.{Follows, Agreed, WhileFree, WhileHeld, Ruled}
@@ -28,23 +28,23 @@ word_again (x ∷ y ∷ xs) e = absurd (omega arith)
 
 module _ {S E O : Type 0} (number : E → ℕ) (origin_of : S → O) (tells : S → List E → Type 0) (origin : O) (numbers : ℕ) where
   abbrev Table : Type 0
-  Table = State (Option (SlotValue S E)) (SeatView E O)
+  Table = State (Option (SlotValue S E)) (Place E O)
 
   abbrev Rule : Table → Type 0
   Rule s = Ruled number origin_of tells origin numbers s
 
-  all_numbers : (p : KnownPass E O) (history : List E) → Follows number origin numbers history p → All (λ e. number e < numbers) history → HasAll p → history ≡ p.front
+  all_numbers : (p : Shown E O) (history : List E) → Follows number origin numbers history p → All (λ e. number e < numbers) history → HasAll p → history ≡ p.front
   all_numbers p history f low all =
       whole_is_front (λ e. is_within p.first p.limit (number e)) p.front history f.shown
       (All-weaker (λ e. number e < numbers) (λ e. is_within p.first p.limit (number e) ≡ true) (λ e h. let a = all.0 in let b = all.1 in let c = f.of_all in within p.first p.limit (number e) (omega arith) (omega arith)) history low)
       f.owned
 
-  wins : (id : ℕ) (p : KnownPass E O) (s : Table) (history : List E) → length s.words ≡ 1 → get_elem? s.views id ≡ some (Waits p) → Agreed number origin numbers history s.views
+  wins : (id : ℕ) (p : Shown E O) (s : Table) (history : List E) → length s.words ≡ 1 → get_elem? s.views id ≡ some (Waits p) → Agreed number origin numbers history s.views
       → WhileFree number origin_of tells origin numbers history s
-      → (w : SeatView E O) × (a : Act (Option (SlotValue S E))) × Valid s.homes [] a × Rule (stepped s 0 1 id [] w a) × Won number origin_of tells p (w, carried_after [] a)
+      → (w : Place E O) × (a : Act (Option (SlotValue S E))) × Valid s.homes [] a × Rule (stepped s 0 1 id [] w a) × Won number origin_of tells p (w, carried_after [] a)
   wins id p s history one at agreed free =
       let stored = free.2.0 in
-      let w : SeatView E O = Holds (with_front p history) in
+      let w : Place E O = Holds (with_front p history) in
       let f : Follows number origin numbers history p = agreed.each_follows id (Waits p) at in
       let written : get_or (set s.words 0 1) 0 0 ≡ 1 = get_or-set_same s.words 0 1 0 (omega arith) in (
         w,
@@ -83,11 +83,11 @@ module _ {S E O : Type 0} (number : E → ℕ) (origin_of : S → O) (tells : S 
       )
 
   -- a seat with all numbers leaves none for one that has the state
-  no_other : (id : ℕ) (p : KnownPass E O) (s : Table) (history : List E) → get_elem? s.views id ≡ some (Waits p) → Agreed number origin numbers history s.views
+  no_other : (id : ℕ) (p : Shown E O) (s : Table) (history : List E) → get_elem? s.views id ≡ some (Waits p) → Agreed number origin numbers history s.views
       → WhileHeld number origin_of tells origin numbers history s → HasAll p → ⊥
   no_other id p s history at agreed held all =
       let holder : ℕ = held.1.0 in
-      let q : KnownPass E O = held.1.1 in
+      let q : Shown E O = held.1.1 in
       let there : get_elem? s.views holder ≡ some (Holds q) = held.1.2 in
       let f : Follows number origin numbers history p = agreed.each_follows id (Waits p) at in
       let g : Follows number origin numbers history q = agreed.each_follows holder (Holds q) there in
@@ -97,8 +97,8 @@ module _ {S E O : Type 0} (number : E → ℕ) (origin_of : S → O) (tells : S 
       let a = all.0 in let b = all.1 in let c = f.of_all in let d = g.nonempty in let l = g.below in
       agreed.apart holder id (Holds q) (Waits p) q.first ne there at (omega arith, omega arith) (omega arith, omega arith))
 
-  loses : (id : ℕ) (p : KnownPass E O) (s : Table) → Rule s → get_elem? s.views id ≡ some (Waits p) → (n : ℕ) → get_or s.words 0 0 ≡ n → n ≢ 0
-      → (w : SeatView E O) × (a : Act (Option (SlotValue S E))) × Valid s.homes [] a × Rule (stepped s 0 n id [] w a) × (◌≡◌ {A = Me (Option (SlotValue S E)) (SeatView E O)} (w, carried_after [] a) (Waits p, [])) × (HasAll p → ⊥)
+  loses : (id : ℕ) (p : Shown E O) (s : Table) → Rule s → get_elem? s.views id ≡ some (Waits p) → (n : ℕ) → get_or s.words 0 0 ≡ n → n ≢ 0
+      → (w : Place E O) × (a : Act (Option (SlotValue S E))) × Valid s.homes [] a × Rule (stepped s 0 n id [] w a) × (◌≡◌ {A = Me (Option (SlotValue S E)) (Place E O)} (w, carried_after [] a) (Waits p, [])) × (HasAll p → ⊥)
   loses id p s rule at n is ne =
       let words : set s.words 0 n ≡ s.words = subst (λ (k : ℕ). set s.words 0 k ≡ s.words) is (word_again s.words rule.0) in
       let views : set s.views id (Waits p) ≡ s.views = set_again s.views id (Waits p) at in
@@ -111,16 +111,16 @@ module _ {S E O : Type 0} (number : E → ℕ) (origin_of : S → O) (tells : S 
         λ all. ⊎_elim (λ free. ne (sym is ∙ free.0)) (λ held. no_other id p s rule.1.0 at rule.1.1 held all) rule.1.2,
       )
 
-  pub takes_keep : (slots id : ℕ) (p : KnownPass E O)
+  pub takes_keep : (slots id : ℕ) (p : Shown E O)
       → Allows Rule slots id (Waits p, []) 0 (λ n. either (n == 0) 1 n) (taken number origin_of tells (step slots 0 0 1 none) (Waits p, []))
   takes_keep slots id p s rule sized at wide =
       let n : ℕ = get_or s.words 0 0 in
       let F : ℕ → Type 0 = λ k.
-      (w : SeatView E O) × (a : Act (Option (SlotValue S E))) × Valid s.homes [] a × Rule (stepped s 0 k id [] w a)
+      (w : Place E O) × (a : Act (Option (SlotValue S E))) × Valid s.homes [] a × Rule (stepped s 0 k id [] w a)
       × taken number origin_of tells (step slots 0 0 1 none) (Waits p, []) n (w, carried_after [] a) in
       exchanged n 0 1 F
       (λ hit.
-      let won : (w : SeatView E O) × (a : Act (Option (SlotValue S E))) × Valid s.homes [] a × Rule (stepped s 0 1 id [] w a) × Won number origin_of tells p (w, carried_after [] a) =
+      let won : (w : Place E O) × (a : Act (Option (SlotValue S E))) × Valid s.homes [] a × Rule (stepped s 0 1 id [] w a) × Won number origin_of tells p (w, carried_after [] a) =
       ⊎_elim (λ free. wins id p s rule.1.0 rule.0 at rule.1.1 free) (λ held. let one = held.0 in absurd (omega arith)) rule.1.2 in
       (won.0, won.1, won.2, won.3, (λ _. won.4, λ ne. absurd (ne hit))))
       (λ miss. let lost = loses id p s rule at n refl miss in (lost.0, lost.1, lost.2, lost.3, (λ e. absurd (miss e), λ _. (lost.4, lost.5))))

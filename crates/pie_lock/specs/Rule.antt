@@ -5,30 +5,30 @@ use mathlib.Core.List.{IsPrefix}
 use mathlib.Core.Option.{none, some}
 use lib.ListN.{get_elem?}
 use Rattle.atomic_table.specs.Table.{State}
-use Rattle.pie_lock.specs.declared.view.KnownPass.{KnownPass}
-use Rattle.pie_lock.specs.declared.view.SeatView.{SeatView}
-use Rattle.pie_lock.specs.declared.view.SeatView.TheVariants.{Spent, Waits, Holds, Meets}
+use Rattle.pie_lock.specs.declared.view.Shown.{Shown}
+use Rattle.pie_lock.specs.declared.view.Place.{Place}
+use Rattle.pie_lock.specs.declared.view.Place.TheVariants.{Spent, Waits, Holds, Meets}
 use Rattle.pie_lock.specs.declared.view.SlotValue.{SlotValue}
 use Rattle.pie_lock.specs.Own.{own}
 
 module _ {E O : Type 0} where
   -- the view of the first seat: nothing was shown, and it has all numbers
-  abbrev pub opened : O → ℕ → SeatView E O
+  abbrev pub opened : O → ℕ → Place E O
   opened origin numbers = Waits (record { front = []; first = 0; limit = numbers; numbers = numbers; origin = Some origin })
 
   -- a number of a pass
-  abbrev pub IsNumberOf : KnownPass E O → ℕ → Type 0
+  abbrev pub IsNumberOf : Shown E O → ℕ → Type 0
   IsNumberOf p n = (p.first ≤ n) × (n < p.limit)
 
   -- a number of what a seat has
-  abbrev pub IsNumberAt : SeatView E O → ℕ → Type 0
+  abbrev pub IsNumberAt : Place E O → ℕ → Type 0
   IsNumberAt Spent n = ⊥
   IsNumberAt (Waits p) n = IsNumberOf p n
   IsNumberAt (Holds p) n = IsNumberOf p n
   IsNumberAt (Meets p q) n = IsNumberOf p n ⊎ IsNumberOf q n
 
   -- what holds of each pass that a seat has; the spent view of a joined seat has none
-  abbrev pub EachPass : (KnownPass E O → Type 0) → SeatView E O → Type 0
+  abbrev pub EachPass : (Shown E O → Type 0) → Place E O → Type 0
   EachPass P Spent = Unit {0}
   EachPass P (Waits p) = P p
   EachPass P (Holds p) = P p
@@ -36,7 +36,7 @@ module _ {E O : Type 0} where
 
   -- the history begins with all that this pass was shown, and has under its numbers what its front has.
   -- The pass knows the lock's origin and how many numbers there are, and its own are some of these
-  pub record Follows (number : E → ℕ) (origin : O) (numbers : ℕ) (history : List E) (p : KnownPass E O) : Type 0 where
+  pub record Follows (number : E → ℕ) (origin : O) (numbers : ℕ) (history : List E) (p : Shown E O) : Type 0 where
     pub shown : IsPrefix p.front history
     pub owned : own number p.first p.limit history ≡ own number p.first p.limit p.front
     pub nonempty : p.first < p.limit
@@ -45,43 +45,43 @@ module _ {E O : Type 0} where
     pub of_origin : p.origin ≡ Some origin
 
   -- the two passes that a joining seat has for a moment have no number in common
-  abbrev pub SharesNoNumber : SeatView E O → Type 0
-  SharesNoNumber Spent = Unit {0}
-  SharesNoNumber (Waits p) = Unit {0}
-  SharesNoNumber (Holds p) = Unit {0}
-  SharesNoNumber (Meets p q) = (n : ℕ) → IsNumberOf p n → IsNumberOf q n → ⊥
+  abbrev pub HasNoNumberTwice : Place E O → Type 0
+  HasNoNumberTwice Spent = Unit {0}
+  HasNoNumberTwice (Waits p) = Unit {0}
+  HasNoNumberTwice (Holds p) = Unit {0}
+  HasNoNumberTwice (Meets p q) = (n : ℕ) → IsNumberOf p n → IsNumberOf q n → ⊥
 
   -- the views of the seats against one history: each pass follows it, no number belongs to two passes, of two
   -- seats or of one that joins, and each entry stands under a number that the lock has
-  pub record Agreed (number : E → ℕ) (origin : O) (numbers : ℕ) (history : List E) (views : List (SeatView E O)) : Type 0 where
-    pub each_follows : (seat : ℕ) (view : SeatView E O) → get_elem? views seat ≡ some view → EachPass (Follows number origin numbers history) view
-    pub apart : (seat other : ℕ) (view w : SeatView E O) (n : ℕ) → seat ≢ other → get_elem? views seat ≡ some view → get_elem? views other ≡ some w → IsNumberAt view n → IsNumberAt w n → ⊥
-    pub apart_within : (seat : ℕ) (view : SeatView E O) → get_elem? views seat ≡ some view → SharesNoNumber view
+  pub record Agreed (number : E → ℕ) (origin : O) (numbers : ℕ) (history : List E) (views : List (Place E O)) : Type 0 where
+    pub each_follows : (seat : ℕ) (view : Place E O) → get_elem? views seat ≡ some view → EachPass (Follows number origin numbers history) view
+    pub apart : (seat other : ℕ) (view w : Place E O) (n : ℕ) → seat ≢ other → get_elem? views seat ≡ some view → get_elem? views other ≡ some w → IsNumberAt view n → IsNumberAt w n → ⊥
+    pub apart_within : (seat : ℕ) (view : Place E O) → get_elem? views seat ≡ some view → HasNoNumberTwice view
     pub entries_below : All (λ e. number e < numbers) history
 
   -- no seat has the state
-  abbrev pub NoneHolds : List (SeatView E O) → Type 0
-  NoneHolds views = (seat : ℕ) (p : KnownPass E O) → get_elem? views seat ≡ some (Holds p) → ⊥
+  abbrev pub NoneHolds : List (Place E O) → Type 0
+  NoneHolds views = (seat : ℕ) (p : Shown E O) → get_elem? views seat ≡ some (Holds p) → ⊥
 
   -- one seat has the state, and its front is this history
-  abbrev pub OneHolds : List E → List (SeatView E O) → Type 0
+  abbrev pub OneHolds : List E → List (Place E O) → Type 0
   OneHolds history views =
-      (holder : ℕ) × (p : KnownPass E O) × (get_elem? views holder ≡ some (Holds p)) × (p.front ≡ history)
-      × ((seat : ℕ) (q : KnownPass E O) → get_elem? views seat ≡ some (Holds q) → seat ≡ holder)
+      (holder : ℕ) × (p : Shown E O) × (get_elem? views holder ≡ some (Holds p)) × (p.front ≡ history)
+      × ((seat : ℕ) (q : Shown E O) → get_elem? views seat ≡ some (Holds q) → seat ≡ holder)
 
 module _ {S E O : Type 0} (number : E → ℕ) (origin_of : S → O) (tells : S → List E → Type 0) (origin : O) (numbers : ℕ) where
   -- while the word is FREE: the state is in the slot, has the lock's origin and tells the history
-  abbrev pub WhileFree : List E → State (Option (SlotValue S E)) (SeatView E O) → Type 0
+  abbrev pub WhileFree : List E → State (Option (SlotValue S E)) (Place E O) → Type 0
   WhileFree history s =
       (slice_index s.words 0 ≡ 0) × NoneHolds s.views
       × ((stored : SlotValue S E) × (get_elem? s.homes 0 ≡ some (some (Some stored))) × (origin_of stored.state ≡ origin) × tells stored.state history)
 
   -- while it is HELD: the slot is out to one seat, whose front is the history
-  abbrev pub WhileHeld : List E → State (Option (SlotValue S E)) (SeatView E O) → Type 0
+  abbrev pub WhileHeld : List E → State (Option (SlotValue S E)) (Place E O) → Type 0
   WhileHeld history s = (slice_index s.words 0 ≡ 1) × OneHolds history s.views × (get_elem? s.homes 0 ≡ some none)
 
   -- there is one history, which agrees with all live passes
-  abbrev pub Ruled : State (Option (SlotValue S E)) (SeatView E O) → Type 0
+  abbrev pub Ruled : State (Option (SlotValue S E)) (Place E O) → Type 0
   Ruled s =
       (length s.words ≡ 1)
       × ((history : List E) × Agreed number origin numbers history s.views × (WhileFree history s ⊎ WhileHeld history s))

@@ -3,50 +3,50 @@ use Rattle.std.specs.Prelude.{◌≡◌, ℕ, ◌<◌, [], ◌∷◌, Option, No
 use Rattle.atomic_table.specs.Table.{Me}
 use Rattle.atomic_table.specs.Seated.{TableId}
 use Rattle.atomic_table.specs.declared.shared.Seat.{Seat}
-use Rattle.pie_lock.specs.declared.view.KnownPass.{KnownPass}
-use Rattle.pie_lock.specs.declared.view.SeatView.{SeatView}
-use Rattle.pie_lock.specs.declared.view.SeatView.TheVariants.{Waits, Holds}
+use Rattle.pie_lock.specs.declared.view.Shown.{Shown}
+use Rattle.pie_lock.specs.declared.view.Place.{Place}
+use Rattle.pie_lock.specs.declared.view.Place.TheVariants.{Waits, Holds}
 use Rattle.pie_lock.specs.declared.view.SlotValue.{SlotValue}
 use Rattle.pie_lock.specs.Steps.{pass_at, made_one, longer, GoesOn}
 use Rattle.pie_lock.specs.Views.{LockView, PassView, HeldView}
 
 module _ {E O : Type 0} where
-  abbrev pub lock_of : TableId → KnownPass E O → LockView O
+  abbrev pub lock_of : TableId → Shown E O → LockView O
   lock_of id p = record { id = id; origin = p.origin; numbers = p.numbers }
 
 -- a pass has these numbers, one at least
-pub record HasNumbers {E O : Type 0} (first limit : ℕ) (p : KnownPass E O) : Type 0 where
+pub record HasNumbers {E O : Type 0} (first limit : ℕ) (p : Shown E O) : Type 0 where
   pub first_is : p.first ≡ first
   pub limit_is : p.limit ≡ limit
   pub nonempty : first < limit
 
 module _ {S E O : Type 0} where
-  abbrev pub pass_of_seat : ℕ → ℕ → Seat (Option (SlotValue S E)) (SeatView E O) → PassView E O
+  abbrev pub pass_of_seat : ℕ → ℕ → Seat (Option (SlotValue S E)) (Place E O) → PassView E O
   pass_of_seat first limit seat =
       record { lock = lock_of seat.table_id (pass_at seat.me.0); front = (pass_at seat.me.0).front; first = first; limit = limit }
 
-  abbrev pub held_of_seat : ℕ → ℕ → Seat (Option (SlotValue S E)) (SeatView E O) → S → HeldView S E O
+  abbrev pub held_of_seat : ℕ → ℕ → Seat (Option (SlotValue S E)) (Place E O) → S → HeldView S E O
   held_of_seat first limit seat state =
       record { lock = lock_of seat.table_id (pass_at seat.me.0); front = (pass_at seat.me.0).front; first = first; limit = limit; state = state }
 
 -- the seat has a pass with these numbers, and no slot
-pub record IsWaiting {S E O : Type 0} (first limit : ℕ) (me : Me (Option (SlotValue S E)) (SeatView E O)) : Type 0 where
-  pub waits : ◌≡◌ {A = Me (Option (SlotValue S E)) (SeatView E O)} me (Waits (pass_at me.0), [])
+pub record IsWaiting {S E O : Type 0} (first limit : ℕ) (me : Me (Option (SlotValue S E)) (Place E O)) : Type 0 where
+  pub waits : ◌≡◌ {A = Me (Option (SlotValue S E)) (Place E O)} me (Waits (pass_at me.0), [])
   pub has : HasNumbers first limit (pass_at me.0)
 
 -- the seat has a pass with these numbers, and the slot, out of which the state was taken
-pub record IsHolding {S E O : Type 0} (first limit : ℕ) (me : Me (Option (SlotValue S E)) (SeatView E O)) : Type 0 where
-  pub holds : ◌≡◌ {A = Me (Option (SlotValue S E)) (SeatView E O)} me (Holds (pass_at me.0), (0, None) ∷ [])
+pub record IsHolding {S E O : Type 0} (first limit : ℕ) (me : Me (Option (SlotValue S E)) (Place E O)) : Type 0 where
+  pub holds : ◌≡◌ {A = Me (Option (SlotValue S E)) (Place E O)} me (Holds (pass_at me.0), (0, None) ∷ [])
   pub has : HasNumbers first limit (pass_at me.0)
 
 -- the seat has a pass, and no slot
-abbrev pub IsIdle : {S E O : Type 0} → Me (Option (SlotValue S E)) (SeatView E O) → Type 0
-IsIdle {S} {E} {O} me = ◌≡◌ {A = Me (Option (SlotValue S E)) (SeatView E O)} me (Waits (pass_at me.0), [])
+abbrev pub IsIdle : {S E O : Type 0} → Me (Option (SlotValue S E)) (Place E O) → Type 0
+IsIdle {S} {E} {O} me = ◌≡◌ {A = Me (Option (SlotValue S E)) (Place E O)} me (Waits (pass_at me.0), [])
 
 -- one seat made of two: it has one pass of their two, and the longer front goes on where each of theirs ends
-abbrev pub IsMerged : {S E O : Type 0} → (E → ℕ) → Me (Option (SlotValue S E)) (SeatView E O) → Me (Option (SlotValue S E)) (SeatView E O) → Me (Option (SlotValue S E)) (SeatView E O) → Type 0
+abbrev pub IsMerged : {S E O : Type 0} → (E → ℕ) → Me (Option (SlotValue S E)) (Place E O) → Me (Option (SlotValue S E)) (Place E O) → Me (Option (SlotValue S E)) (Place E O) → Type 0
 IsMerged {S} {E} {O} number one other made =
     let p = pass_at one.0 in let q = pass_at other.0 in
-    ((◌≡◌ {A = Me (Option (SlotValue S E)) (SeatView E O)} made (Waits (made_one p q), []))
+    ((◌≡◌ {A = Me (Option (SlotValue S E)) (Place E O)} made (Waits (made_one p q), []))
     × GoesOn number p.first p.limit p.front (longer p.front q.front)
     × GoesOn number q.first q.limit q.front (longer p.front q.front))

@@ -4,9 +4,9 @@ use Rattle.std.specs.Option.{option_to_list}
 use Rattle.std.proofs.Math.Dec.{ltb}
 use mathlib.Core.List.{IsPrefix}
 use Rattle.atomic_table.specs.Table.{Me, Step}
-use Rattle.pie_lock.specs.declared.view.KnownPass.{KnownPass}
-use Rattle.pie_lock.specs.declared.view.SeatView.{SeatView}
-use Rattle.pie_lock.specs.declared.view.SeatView.TheVariants.{Spent, Waits, Holds, Meets}
+use Rattle.pie_lock.specs.declared.view.Shown.{Shown}
+use Rattle.pie_lock.specs.declared.view.Place.{Place}
+use Rattle.pie_lock.specs.declared.view.Place.TheVariants.{Spent, Waits, Holds, Meets}
 use Rattle.pie_lock.specs.declared.view.SlotValue.{SlotValue}
 use Rattle.pie_lock.specs.Own.{own}
 
@@ -15,55 +15,55 @@ abbrev pub longer : {E : Type 0} → List E → List E → List E
 longer xs ys = cond (ltb (length xs) (length ys)) ys xs
 
 module _ {E O : Type 0} where
-  abbrev pub with_front : KnownPass E O → List E → KnownPass E O
+  abbrev pub with_front : Shown E O → List E → Shown E O
   with_front p front = record { front = front; first = p.first; limit = p.limit; numbers = p.numbers; origin = p.origin }
 
-  abbrev pub with_numbers : KnownPass E O → ℕ → ℕ → KnownPass E O
+  abbrev pub with_numbers : Shown E O → ℕ → ℕ → Shown E O
   with_numbers p first limit = record { front = p.front; first = first; limit = limit; numbers = p.numbers; origin = p.origin }
 
   -- the pass that a seat has; a spent seat has the pass of no number
-  abbrev pub pass_at : SeatView E O → KnownPass E O
+  abbrev pub pass_at : Place E O → Shown E O
   pass_at Spent = record { front = []; first = 0; limit = 0; numbers = 0; origin = None }
   pass_at (Waits p) = p
   pass_at (Holds p) = p
   pass_at (Meets p q) = p
 
   -- the second pass of a seat that has two
-  abbrev pub other_at : SeatView E O → KnownPass E O
+  abbrev pub other_at : Place E O → Shown E O
   other_at Spent = pass_at Spent
   other_at (Waits p) = p
   other_at (Holds p) = p
   other_at (Meets p q) = q
 
   -- all numbers that the lock has
-  abbrev pub HasAll : KnownPass E O → Type 0
+  abbrev pub HasAll : Shown E O → Type 0
   HasAll p = (p.first ≡ 0) × (p.limit ≡ p.numbers)
 
   -- a seat is split: it keeps all but its highest number
-  abbrev pub all_but_highest : SeatView E O → SeatView E O
+  abbrev pub all_but_highest : Place E O → Place E O
   all_but_highest Spent = Spent
   all_but_highest (Waits p) = Waits (with_numbers p p.first (p.limit - 1))
   all_but_highest (Holds p) = Holds p
   all_but_highest (Meets p q) = Meets p q
 
   -- .. and the new seat has this one alone, with the same front
-  abbrev pub highest : SeatView E O → SeatView E O
+  abbrev pub highest : Place E O → Place E O
   highest Spent = Spent
   highest (Waits p) = Waits (with_numbers p (p.limit - 1) p.limit)
   highest (Holds p) = Spent
   highest (Meets p q) = Spent
 
   -- two seats are joined: the one has both passes, and the other is spent
-  abbrev pub meeting : SeatView E O → SeatView E O → SeatView E O
+  abbrev pub meeting : Place E O → Place E O → Place E O
   meeting v w = Meets (pass_at v) (pass_at w)
 
   -- one pass of two: the longer front, and both ranges
-  abbrev pub made_one : KnownPass E O → KnownPass E O → KnownPass E O
+  abbrev pub made_one : Shown E O → Shown E O → Shown E O
   made_one p q =
       record { front = longer p.front q.front; first = min p.first q.first; limit = max p.limit q.limit; numbers = p.numbers; origin = p.origin }
 
   -- the range of the one ends where that of the other begins
-  abbrev pub AreAdjacent : KnownPass E O → KnownPass E O → Type 0
+  abbrev pub AreAdjacent : Shown E O → Shown E O → Type 0
   AreAdjacent p q = (p.limit ≡ q.first) ⊎ (q.limit ≡ p.first)
 
 -- a front that begins with this one, and has no more under these numbers
@@ -73,7 +73,7 @@ GoesOn number first limit front longer_front =
 
 module _ {S E O : Type 0} (number : E → ℕ) (origin_of : S → O) (tells : S → List E → Type 0) where
   -- the lock was won by the pass p: the slot came to the seat, whose front is now the history that the state tells
-  abbrev pub Won : KnownPass E O → Me (Option (SlotValue S E)) (SeatView E O) → Type 0
+  abbrev pub Won : Shown E O → Me (Option (SlotValue S E)) (Place E O) → Type 0
   Won p after =
       (stored : SlotValue S E) × (history : List E)
       × (after ≡ (Holds (with_front p history), (0, Some stored) ∷ []))
@@ -84,7 +84,7 @@ module _ {S E O : Type 0} (number : E → ℕ) (origin_of : S → O) (tells : S 
       × (HasAll p → history ≡ p.front)
 
   -- the exchange of FREE for HELD: won, or lost and nothing changed. A pass with all numbers does not lose it
-  abbrev pub taken : Step (Option (SlotValue S E)) → Me (Option (SlotValue S E)) (SeatView E O) → ℕ → Me (Option (SlotValue S E)) (SeatView E O) → Type 0
+  abbrev pub taken : Step (Option (SlotValue S E)) → Me (Option (SlotValue S E)) (Place E O) → ℕ → Me (Option (SlotValue S E)) (Place E O) → Type 0
   taken step before found after =
       (found ≡ 0 → Won (pass_at before.0) after) × (found ≢ 0 → (after ≡ before) × (HasAll (pass_at before.0) → ⊥))
 
@@ -101,12 +101,12 @@ module _ {S E : Type 0} where
 
 module _ {S E O : Type 0} where
   -- the store of FREE: the slot is given back, and the entry that lies in it beside the state joins the seat's front
-  abbrev pub freed : Step (Option (SlotValue S E)) → Me (Option (SlotValue S E)) (SeatView E O) → ℕ → Me (Option (SlotValue S E)) (SeatView E O) → Type 0
+  abbrev pub freed : Step (Option (SlotValue S E)) → Me (Option (SlotValue S E)) (Place E O) → ℕ → Me (Option (SlotValue S E)) (Place E O) → Type 0
   freed step before found after =
       after ≡ (Waits (with_front (pass_at before.0) ((pass_at before.0).front ++ added_in before.1)), [])
 
   -- the load after two seats were joined: of the two fronts the one goes on where the other ends, and the seat has one pass
-  abbrev pub merged : (E → ℕ) → Step (Option (SlotValue S E)) → Me (Option (SlotValue S E)) (SeatView E O) → ℕ → Me (Option (SlotValue S E)) (SeatView E O) → Type 0
+  abbrev pub merged : (E → ℕ) → Step (Option (SlotValue S E)) → Me (Option (SlotValue S E)) (Place E O) → ℕ → Me (Option (SlotValue S E)) (Place E O) → Type 0
   merged number step before found after =
       let p = pass_at before.0 in let q = other_at before.0 in
       ((after ≡ (Waits (made_one p q), []))

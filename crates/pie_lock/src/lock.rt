@@ -5,7 +5,7 @@ use crate::kept::Kept;
 use crate::pass::{Held, Pass};
 use crate::refusal::{LockRefusal, OneNumber, StillHeld};
 use crate::rule::{FreeStep, JoinTwo, LockRule, MergeStep, SplitHighest, TakeStep};
-use crate::view::{LockOpening, SeatView, SlotValue};
+use crate::view::{LockOpening, Place, SlotValue};
 use atomic_table::{Refused, Seat, Table};
 use crossbeam_utils::Backoff;
 use std::alloc::Global;
@@ -31,7 +31,7 @@ const HELD: u64 = 1;
 pub struct RuledLock<S: Kept> {
     table: Table<
         Option<SlotValue<S, S::Entry>>,
-        SeatView<S::Entry, S::Origin>,
+        Place<S::Entry, S::Origin>,
         LockOpening<S>,
         LockRule,
         Global,
@@ -103,7 +103,7 @@ impl<S: Kept> RuledLock<S> {
     // Takes the state out of the slot that the seat has.
     fn take_from_slot(
         &self,
-        seat: &mut Seat<Option<SlotValue<S, S::Entry>>, SeatView<S::Entry, S::Origin>>,
+        seat: &mut Seat<Option<SlotValue<S, S::Entry>>, Place<S::Entry, S::Origin>>,
     ) -> S
         requires table { seat.old.table_id ≡ self.now.id }
         requires slot { (stored : SlotValue S S.Entry) × (seat.old.me.1 ≡ (0, Some stored) ∷ []) }
@@ -119,7 +119,7 @@ impl<S: Kept> RuledLock<S> {
     // Puts the state into the slot that the seat has, beside the entry that the seat's front is to gain.
     fn put_into_slot(
         &self,
-        seat: &mut Seat<Option<SlotValue<S, S::Entry>>, SeatView<S::Entry, S::Origin>>,
+        seat: &mut Seat<Option<SlotValue<S, S::Entry>>, Place<S::Entry, S::Origin>>,
         state: S,
         entry: Option<S::Entry>,
     )
@@ -264,8 +264,8 @@ impl<S: Kept> RuledLock<S> {
     // Makes one seat of two whose passes have adjacent ranges.
     fn join(
         &self,
-        seat: &mut Seat<Option<SlotValue<S, S::Entry>>, SeatView<S::Entry, S::Origin>>,
-        other: Seat<Option<SlotValue<S, S::Entry>>, SeatView<S::Entry, S::Origin>>,
+        seat: &mut Seat<Option<SlotValue<S, S::Entry>>, Place<S::Entry, S::Origin>>,
+        other: Seat<Option<SlotValue<S, S::Entry>>, Place<S::Entry, S::Origin>>,
     )
         requires tables { (seat.old.table_id ≡ self.now.id) × (other.table_id ≡ self.now.id) }
         requires waiting { IsIdle seat.old.me × IsIdle other.me }

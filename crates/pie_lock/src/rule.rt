@@ -1,19 +1,16 @@
 //! The rule of the lock's table, and what its steps tell.
 ghost use Rattle.pie_lock.specs.Steps.{taken, freed, merged, all_but_highest, highest, meeting};
-ghost use Rattle.pie_lock.specs.declared.view.SeatView.TheVariants.{Spent};
+ghost use Rattle.pie_lock.specs.declared.view.Place.TheVariants.{Spent};
 
 use crate::kept::Kept;
-use crate::view::{LockOpening, SeatView, SlotValue};
+use crate::view::{LockOpening, Place, SlotValue};
 use atomic_table::{Join, Play, Split, TableRule};
 
 /// The lock's rule.
 pub struct LockRule;
 
-impl<S: Kept> TableRule<
-    Option<SlotValue<S, S::Entry>>,
-    SeatView<S::Entry, S::Origin>,
-    LockOpening<S>,
-> for LockRule {
+impl<S: Kept> TableRule<Option<SlotValue<S, S::Entry>>, Place<S::Entry, S::Origin>, LockOpening<S>>
+    for LockRule {
     ghost use Rattle.pie_lock.specs.Rule.{Ruled, opened};
 
     ghost holds = { λ key. Ruled S.number_of S.origin_of S.tells (S.origin_of key.state.value) key.numbers };
@@ -24,28 +21,28 @@ impl<S: Kept> TableRule<
 /// The step that takes the lock: the exchange of FREE for HELD.
 pub(crate) struct TakeStep;
 
-impl<S: Kept> Play<Option<SlotValue<S, S::Entry>>, SeatView<S::Entry, S::Origin>> for TakeStep {
+impl<S: Kept> Play<Option<SlotValue<S, S::Entry>>, Place<S::Entry, S::Origin>> for TakeStep {
     ghost then = { taken S.number_of S.origin_of S.tells };
 }
 
 /// The step that frees the lock: the store of FREE.
 pub(crate) struct FreeStep;
 
-impl<S: Kept> Play<Option<SlotValue<S, S::Entry>>, SeatView<S::Entry, S::Origin>> for FreeStep {
+impl<S: Kept> Play<Option<SlotValue<S, S::Entry>>, Place<S::Entry, S::Origin>> for FreeStep {
     ghost then = { freed };
 }
 
 /// The step that makes one pass of the two that a seat has: a load.
 pub(crate) struct MergeStep;
 
-impl<S: Kept> Play<Option<SlotValue<S, S::Entry>>, SeatView<S::Entry, S::Origin>> for MergeStep {
+impl<S: Kept> Play<Option<SlotValue<S, S::Entry>>, Place<S::Entry, S::Origin>> for MergeStep {
     ghost then = { merged S.number_of };
 }
 
 /// A seat is split: the highest number of its pass goes to a new seat.
 pub(crate) struct SplitHighest;
 
-impl<E, O> Split<SeatView<E, O>> for SplitHighest {
+impl<E, O> Split<Place<E, O>> for SplitHighest {
     ghost left = { all_but_highest };
 
     ghost right = { highest };
@@ -54,7 +51,7 @@ impl<E, O> Split<SeatView<E, O>> for SplitHighest {
 /// Two seats are joined: one of them has both passes, and the other none.
 pub(crate) struct JoinTwo;
 
-impl<E, O> Join<SeatView<E, O>> for JoinTwo {
+impl<E, O> Join<Place<E, O>> for JoinTwo {
     ghost both = { meeting };
 
     ghost spent = { Spent };

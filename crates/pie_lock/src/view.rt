@@ -3,7 +3,7 @@ use std::collections::LinkedList;
 use std::snapshot::Snapshot;
 
 /// What a seat knows of a pass: what its holder was shown, and which numbers it has. No value of it is made.
-pub struct KnownPass<E, O> {
+pub struct Shown<E, O> {
     pub front: LinkedList<E>,
     pub first: u16,
     pub limit: u16,
@@ -12,15 +12,15 @@ pub struct KnownPass<E, O> {
 }
 
 /// What a seat at the lock's table knows. No value of it is made.
-pub enum SeatView<E, O> {
+pub enum Place<E, O> {
     /// It was joined into another seat, and knows nothing.
     Spent,
     /// It has a pass.
-    Waits(KnownPass<E, O>),
+    Waits(Shown<E, O>),
     /// It has the state.
-    Holds(KnownPass<E, O>),
+    Holds(Shown<E, O>),
     /// It has two passes, which the next load makes one.
-    Meets(KnownPass<E, O>, KnownPass<E, O>),
+    Meets(Shown<E, O>, Shown<E, O>),
 }
 
 /// What lies in the lock's slot: the state, and the entry that its last put adds.

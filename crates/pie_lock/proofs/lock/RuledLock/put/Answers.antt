@@ -2,8 +2,8 @@ use Rattle.std.proofs.Common.{rules, ◌≡◌, ◌++◌, [], ◌∷◌, Option,
 use Rattle.std.specs.Option.{option_to_list}
 use mathlib.Core.Option.{none}
 use Rattle.atomic_table.specs.Table.{Me, step, Allows}
-use Rattle.pie_lock.specs.declared.view.SeatView.{SeatView}
-use Rattle.pie_lock.specs.declared.view.SeatView.TheVariants.{Holds}
+use Rattle.pie_lock.specs.declared.view.Place.{Place}
+use Rattle.pie_lock.specs.declared.view.Place.TheVariants.{Holds}
 use Rattle.pie_lock.specs.declared.view.SlotValue.{SlotValue}
 use Rattle.pie_lock.specs.Rule.{Ruled}
 use Rattle.pie_lock.specs.Steps.{pass_at, freed}
@@ -30,7 +30,7 @@ store-requires g c =
     let first_is : p.first ≡ c.args.held.first = c.held.invariant.has.first_is ∙ ap (λ h. h.first) c.held.view_is in
     let mine : IfSome stored.added (λ e. k.number_of e ≡ p.first) =
     subst (λ a. IfSome a (λ e. k.number_of e ≡ p.first)) (sym entry_is) (subst (λ n. IfSome c.args.entry (λ e. k.number_of e ≡ n)) (sym first_is) c.requires.number) in
-    let P : Me (Option (SlotValue g.row.S.Denot g.row.S-Entry.Denot)) (SeatView g.row.S-Entry.Denot g.row.S-Origin.Denot) → Type 0 =
+    let P : Me (Option (SlotValue g.row.S.Denot g.row.S-Entry.Denot)) (Place g.row.S-Entry.Denot g.row.S-Origin.Denot) → Type 0 =
     λ m. Allows (Ruled k.number_of k.origin_of k.tells origin key.numbers) slots c.put_into_slot.new.seat.id m 0 (λ _. 0) (λ _. freed (step slots 0 0 0 none) m 0) in
     let at_seat : P (Holds p, (0, Some stored) ∷ []) = frees_keep k.number_of k.origin_of k.tells origin key.numbers slots c.put_into_slot.new.seat.id p stored from told mine in
     let at_place : P (seat.me.0, (0, Some stored) ∷ []) = subst (λ v. P (v, (0, Some stored) ∷ [])) (sym (ap (λ m. m.0) c.held.invariant.holds)) at_seat in

@@ -1,11 +1,37 @@
 -- The definitions at examples worked out by hand, with the default parameters.
-use Rattle.std.proofs.Common.{◌≡◌, ℕ, ◌^◌, List, [], ◌∷◌, refl}
+use Rattle.std.proofs.Common.{◌≡◌, ℕ, ◌*◌, ◌-◌, ◌^◌, List, [], ◌∷◌, refl}
+use Rattle.std.specs.Prelude.{pos, map}
+use Rattle.pie_fixed.specs.declared.TheConstants.{ONE}
+use Rattle.pie_control.specs.declared.update.TheConstants.{CAPPED_FROM, LARGEST_STEP, MAX_DELAY}
 use Rattle.pie_params.specs.declared.raw.RawParams.{RawParams}
 use Rattle.pie_params.specs.Profile.{default_profile}
 use Rattle.pie_control.specs.Delay.{delay_of}
 use Rattle.pie_control.specs.Events.{ControlEvent, reset, update_at}
 use Rattle.pie_control.specs.History.{probability, last_delay, last_moment, granted_burst, burst_allowance}
 use Rattle.pie_control.specs.Next.{raw_step, tuning_divisor, tuned_step, decayed, next}
+
+-- the constants: the greatest delay, which clauses and definitions name, is 2 ^ 40 nanoseconds, the cap begins
+-- at a tenth, and the largest step is two hundredths
+max_delay : MAX_DELAY ≡ 2 ^ 40
+max_delay = refl
+
+one : ONE ≡ 10 ^ 12
+one = refl
+
+capped_from : CAPPED_FROM * 10 ≡ ONE
+capped_from = refl
+
+largest_step : LARGEST_STEP ≡ pos (2 * 10 ^ 10)
+largest_step = refl
+
+-- the divisors of auto-tuning, below and at each bound (RFC 8033, section 5.5)
+divisors_below : map (λ n. tuning_divisor (10 ^ n - 1)) (6 ∷ 7 ∷ 8 ∷ 9 ∷ 10 ∷ 11 ∷ 12 ∷ []) ≡ 2048 ∷ 512 ∷ 128 ∷ 32 ∷ 8 ∷ 2 ∷ 1 ∷ []
+unfolding tuning_divisor
+divisors_below = refl
+
+divisors_from : map (λ n. tuning_divisor (10 ^ n)) (6 ∷ 7 ∷ 8 ∷ 9 ∷ 10 ∷ 11 ∷ 12 ∷ []) ≡ 512 ∷ 128 ∷ 32 ∷ 8 ∷ 2 ∷ 1 ∷ 1 ∷ []
+unfolding tuning_divisor
+divisors_from = refl
 
 delays : (delay_of 49152 14_000_000 16384 ≡ 42_000_000) × (delay_of 49152 0 16384 ≡ 0) × (delay_of (2 ^ 30) (2 ^ 59) 1024 ≡ 1_099_511_627_776)
 unfolding delay_of

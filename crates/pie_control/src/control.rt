@@ -82,11 +82,11 @@ impl Control {
         let prob = next_probability(params, self.prob, delay, self.old_delay);
         let calm = is_calm(params, prob, delay, self.old_delay);
         let whole = params.max_burst().units();
-        let left = self.burst.saturating_sub(params.t_update().units());
+        let reduced = self.burst.saturating_sub(params.t_update().units());
         *self = Control {
             prob,
             old_delay: delay,
-            burst: if calm { whole } else { left },
+            burst: if calm { whole } else { reduced },
             last: moment,
         };
     }

@@ -1,13 +1,28 @@
 -- The definitions on worked arrivals: each theorem computes.
-use Rattle.std.specs.Prelude.{◌≡◌, ℕ, ◌^◌, ◌-◌, true, false, List, [], ◌∷◌, ◌++◌, replicate, refl}
+use Rattle.std.specs.Prelude.{◌≡◌, ℕ, ◌^◌, ◌*◌, ◌-◌, true, false, List, [], ◌∷◌, ◌++◌, replicate, refl}
+use Rattle.pie_fixed.specs.declared.TheConstants.{ALWAYS_PICKED, ONE}
 use Rattle.pie_params.specs.Profile.{default_profile}
 use Rattle.pie_control.specs.Parts.{Parts}
 use Rattle.pie_queue.specs.declared.ecn.Ecn.TheVariants.{NotEct, Ect0}
+use Rattle.pie_early.specs.declared.early.TheConstants.{LOW_PROB, NEVER_PICKED}
 use Rattle.pie_early.specs.declared.early.Choice.{Choice}
 use Rattle.pie_early.specs.declared.early.Choice.TheVariants.{Enqueue, Mark, Drop}
-use Rattle.pie_early.specs.Decision.{choice_of, is_considered, is_picked}
+use Rattle.pie_early.specs.Decision.{a_fifth, always_picked, choice_of, is_considered, is_picked, never_picked}
 use Rattle.pie_early.specs.Events.{EarlyEvent, arrival, cleared}
 use Rattle.pie_early.specs.History.{accumulated}
+
+-- the bounds, of the definitions and of the code: a fifth, 0.85 and 8.5
+one : ONE ≡ 10 ^ 12
+one = refl
+
+fifth : (a_fifth * 5 ≡ ONE) × (LOW_PROB ≡ a_fifth)
+fifth = (refl, refl)
+
+never : (never_picked * 100 ≡ 85 * ONE) × (NEVER_PICKED ≡ never_picked)
+never = (refl, refl)
+
+always : (always_picked * 10 ≡ 85 * ONE) × (ALWAYS_PICKED ≡ always_picked)
+always = (refl, refl)
 
 -- a controller with no burst allowance
 abbrev control : ℕ → ℕ → Parts

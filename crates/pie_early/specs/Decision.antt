@@ -1,5 +1,5 @@
 -- Which arrivals early drop considers, which of these it picks, and what becomes of a picked packet
--- (RFC 8033, sections 4.1, 5.1 and 5.4; the comparison by a 64-bit word is this project's own).
+-- (RFC 8033, sections 4.1, 5.1 and 5.4; the comparison by a random word of 64 bits is this project's own).
 use Rattle.std.specs.Prelude.{◌≡◌, ℕ, ◌+◌, ◌*◌, ◌^◌, ◌<◌, ◌≤◌, ◌⊎◌, Bool, true, false, not, ◌&&◌, ◌||◌, ◌==◌, nat_lt, nat_le, if◌then◌else◌}
 use Rattle.pie_fixed.specs.Fixed.{Picks}
 use Rattle.pie_params.specs.declared.raw.RawParams.{RawParams}
@@ -28,7 +28,7 @@ is_considered params control bytes =
 
 -- a considered arrival is picked, at this probability, the sum of the accumulated probability and
 -- this one, and a random word: not at probability 0; not while the sum is below 0.85; always once
--- it is at least 8.5; and between the two by the word
+-- it is at least 8.5; and between the two by the random word
 unfoldable pub is_picked : ℕ → ℕ → ℕ → Bool
 is_picked prob sum word =
     not (prob == 0) && nat_le never_picked sum

@@ -62,16 +62,18 @@ impl Early {
     }
 
     /// Decides on an arriving packet that is no tail drop: `bytes` are in the queue without it, `ecn`
-    /// is its ECN field, and `word` is random, every `u64` as likely as any other (RFC 8033, sections
-    /// 4.1, 5.1 and 5.4; the comparison by a 64-bit word is this project's own).
+    /// is its ECN field, and `word` is a random word, every `u64` as likely as any other (RFC 8033,
+    /// sections 4.1, 5.1 and 5.4; the comparison by a random word of 64 bits is this project's own).
     ///
     /// An arrival isn't considered while a burst is allowed, while the queue holds at most two packets
     /// of the mean size, or while the old delay is below half the target and the probability below a
-    /// fifth; it is then queued. At probability 0 a considered arrival clears the accumulated
-    /// probability and is queued. At any other, the probability is added to the accumulated one. Below
-    /// 0.85 the packet is queued, from 8.5 on it is picked, and between the two it is picked by the
-    /// word. A picked packet is marked, where its endpoints understand that and the probability is
-    /// below `mark_ecnth`, and else dropped; either clears the accumulated probability.
+    /// fifth; it is then queued, and the accumulated probability stays as it is. A considered arrival
+    /// at probability 0 clears the accumulated probability and is queued. A considered arrival at a
+    /// probability above 0 adds that probability to the accumulated one. While the sum is below 0.85 the
+    /// packet is queued, from 8.5 on it is picked, and between the two it is picked where the random
+    /// word lies below the probability. A picked packet is marked where its endpoints understand a mark
+    /// and the probability is below `mark_ecnth`, and dropped otherwise; either clears the accumulated
+    /// probability.
     pub fn consider(
         &mut self,
         params: &Params,
@@ -92,7 +94,8 @@ impl Early {
             Shows events self.old →
             Shows (events ++ arrival considered control.now.prob result ∷ []) self.new }
 
-        // between two picks it grows by the probability at each considered arrival
+        // between two picks it grows by the probability at each arrival that is considered at a
+        // probability above 0
         ensures grows { IsTrue (is_considered params.now control.now bytes) →
             0 < control.now.prob →
             result ≡ Choice.Enqueue →
@@ -131,8 +134,8 @@ impl Early {
         ensures look_back { (events : List EarlyEvent) →
             Shows events self.now → result ≡ accumulated events }
 
-        // after a clearing event and n arrivals, considered at one probability and queued, it is
-        // n times that
+        // after a clearing event and n arrivals, considered at one probability above 0 and queued,
+        // it is n times that
         ensures run { (before : List EarlyEvent) (clearing : EarlyEvent) (n prob : ℕ) →
             IsTrue (is_clearing clearing) →
             0 < prob →

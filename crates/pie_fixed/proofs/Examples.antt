@@ -1,7 +1,25 @@
 -- The definitions at examples worked out by hand.
-use Rattle.std.proofs.Common.{◌≡◌, ℕ, ◌<◌, ◌^◌, refl, lit<, arith}
+use Rattle.std.proofs.Common.{◌≡◌, ℕ, ◌+◌, ◌<◌, ◌^◌, refl, lit<, arith}
 use Rattle.std.specs.Prelude.{pos, negsuc, int_div}
+use Rattle.pie_fixed.specs.declared.TheConstants.{ALWAYS_PICKED, MAX_ACCU, MAX_GAIN, MAX_NANOS, ONE}
 use Rattle.pie_fixed.specs.Fixed.{Picks, bounded_of}
+
+-- the constants that the clauses name are these numbers: 1, a thousand per second in thousandths, the
+-- latest moment, and the accumulated probabilities 8.5 and 9.5
+one : ONE ≡ 10 ^ 12
+one = refl
+
+max_gain : MAX_GAIN ≡ 10 ^ 6
+max_gain = refl
+
+max_nanos : MAX_NANOS + 1 ≡ 2 ^ 60
+max_nanos = refl
+
+always_picked : ALWAYS_PICKED ≡ 8_500_000_000_000
+always_picked = refl
+
+max_accu : MAX_ACCU ≡ 9_500_000_000_000
+max_accu = refl
 
 -- at a tenth, a word is picked up to 1844674407370955161
 picked : Picks 100_000_000_000 1_844_674_407_370_955_161

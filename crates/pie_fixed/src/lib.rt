@@ -33,7 +33,7 @@ pub const MAX_ACCU: u64 = 9_500_000_000_000;
 
 /// Whether a random word picks a packet at a probability: `word / 2^64` lies below it, with no
 /// rounding. At probability 0 no word does, at [`ONE`] every word does (RFC 8033, section 4.1; the
-/// comparison by a 64-bit word is this project's own).
+/// comparison by a random word of 64 bits is this project's own).
 pub fn chosen(prob: Prob, word: u64) -> bool
     ensures { IsTrue result ↔ Picks prob word }
 {

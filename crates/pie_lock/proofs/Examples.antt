@@ -6,13 +6,18 @@ use lib.ListN.{get_elem?}
 use Rattle.atomic_table.specs.Table.{State}
 use Rattle.pie_lock.specs.declared.view.Shown.{Shown}
 use Rattle.pie_lock.specs.declared.view.Place.{Place}
-use Rattle.pie_lock.specs.declared.view.Place.TheVariants.{Waits, Holds}
-use Rattle.pie_lock.specs.declared.view.Lodged.{Lodged}
+use Rattle.pie_lock.specs.declared.view.Place.TheVariants.{Waits, Holds, Meets}
+use Rattle.pie_lock.specs.declared.view.SlotValue.{SlotValue}
+use Rattle.pie_lock.specs.declared.lock.TheConstants.{WORD, SLOT, FREE, HELD}
 use Rattle.pie_lock.specs.declared.counter.CounterEntry.{CounterEntry}
 use Rattle.pie_lock.specs.Own.{own}
-use Rattle.pie_lock.specs.Rule.{IsNumberAt, EachPass, Follows, Ruled}
+use Rattle.pie_lock.specs.Rule.{IsNumberAt, EachPass, HasNoNumberTwice, Follows, Ruled}
 use Rattle.pie_lock.specs.Steps.{longer}
 use Rattle.pie_lock.specs.Tally.{Tally, Tells}
+
+-- the constants of the code are the numbers of the rule: the one word and the one slot, and what the word shows
+constants : (WORD ≡ 0) × (SLOT ≡ 0) × (FREE ≡ 0) × (HELD ≡ 1)
+constants = (refl, refl, refl, refl)
 
 own_of_two_numbers : own (λ (n : ℕ). n) 1 3 (0 ∷ 1 ∷ 2 ∷ 3 ∷ 1 ∷ []) ≡ 1 ∷ 2 ∷ 1 ∷ []
 own_of_two_numbers = refl
@@ -47,11 +52,11 @@ pass number front = record { front = front; first = number; limit = number + 1; 
 abbrev views : List (Place CounterEntry (Unit {0}))
 views = Waits (pass 0 (entry 0 5 ∷ [])) ∷ Waits (pass 1 history) ∷ Waits (pass 2 []) ∷ []
 
-abbrev lodged : Lodged Tally CounterEntry
-lodged = record { state = tally; added = Some (entry 1 7) }
+abbrev stored : SlotValue Tally CounterEntry
+stored = record { state = tally; added = Some (entry 1 7) }
 
-abbrev free : State (Option (Lodged Tally CounterEntry)) (Place CounterEntry (Unit {0}))
-free = record { words = 0 ∷ []; homes = some (Some lodged) ∷ []; views = views }
+abbrev free : State (Option (SlotValue Tally CounterEntry)) (Place CounterEntry (Unit {0}))
+free = record { words = 0 ∷ []; homes = some (Some stored) ∷ []; views = views }
 
 abbrev number : CounterEntry → ℕ
 number e = e.caller
@@ -86,6 +91,19 @@ nobody_holds (suc zero) p e = let h = some-injective (Waits (pass 1 history)) (H
 nobody_holds (suc (suc zero)) p e = let h = some-injective (Waits (pass 2 [])) (Holds p) e in cc
 nobody_holds (suc (suc (suc n))) p e = some-ne-none (Holds p) (sym e)
 
+one_pass_each : (seat : ℕ) (view : Place CounterEntry (Unit {0})) → get_elem? views seat ≡ some view → HasNoNumberTwice view
+one_pass_each zero view e = subst HasNoNumberTwice (some-injective (Waits (pass 0 (entry 0 5 ∷ []))) view e) tt
+one_pass_each (suc zero) view e = subst HasNoNumberTwice (some-injective (Waits (pass 1 history)) view e) tt
+one_pass_each (suc (suc zero)) view e = subst HasNoNumberTwice (some-injective (Waits (pass 2 [])) view e) tt
+one_pass_each (suc (suc (suc n))) view e = absurd (some-ne-none view (sym e))
+
+-- a seat that joins may have the passes 0..1 and 1..2, and not the pass 1..2 twice
+two_passes : HasNoNumberTwice (Meets (pass 0 []) (pass 1 history))
+two_passes n one other = let a = one.1 in let b = other.0 in omega arith
+
+one_pass_twice : HasNoNumberTwice (Meets (pass 1 []) (pass 1 history)) → ⊥
+one_pass_twice apart = apart 1 (omega arith, omega arith) (omega arith, omega arith)
+
 -- the free lock meets the rule
 free_is_ruled : Ruled number (λ (t : Tally). tt) Tells tt 3 free
 free_is_ruled = (
@@ -95,8 +113,9 @@ free_is_ruled = (
     record {
       each_follows = each;
       apart = λ seat other view w n ne at at' is is'. ne (sym (number_of_seat seat view n at is) ∙ number_of_seat other w n at' is');
+      apart_within = one_pass_each;
       entries_below = All-cons (λ e. number e < 3) (entry 0 5) (entry 1 7 ∷ []) (omega arith) (All-cons (λ e. number e < 3) (entry 1 7) [] (omega arith) (All-nil (λ e. number e < 3)));
     },
-    inl (refl, nobody_holds, (lodged, refl, refl, told)),
+    inl (refl, nobody_holds, (stored, refl, refl, told)),
   ),
 )

@@ -6,8 +6,8 @@ use lib.ListN.{get_elem?}
 use Rattle.atomic_table.specs.Table.{opening}
 use Rattle.pie_lock.specs.declared.view.Place.{Place}
 use Rattle.pie_lock.specs.declared.view.Place.TheVariants.{Holds}
-use Rattle.pie_lock.specs.declared.view.Lodged.{Lodged}
-use Rattle.pie_lock.specs.Rule.{EachPass, Follows, Ruled, opened}
+use Rattle.pie_lock.specs.declared.view.SlotValue.{SlotValue}
+use Rattle.pie_lock.specs.Rule.{EachPass, HasNoNumberTwice, Follows, Ruled, opened}
 use Rattle.pie_lock.proofs.Prefixes.{prefix_self}
 
 alone : {A : Type 0} (v w : A) (seat : ℕ) → get_elem? (v ∷ []) seat ≡ some w → (seat ≡ 0) × (v ≡ w)
@@ -15,9 +15,9 @@ alone v w zero e = (refl, some-injective v w e)
 alone v w (suc n) e = absurd (some-ne-none w (sym e))
 
 module _ {S E O : Type 0} (number : E → ℕ) (origin_of : S → O) (tells : S → List E → Type 0) where
-  pub opens : (first : S) (lodged : Lodged S E) (slots : List (Option (Lodged S E))) (numbers : ℕ) → slots ≡ Some lodged ∷ [] → lodged.state ≡ first → tells first [] → numbers ≢ 0
+  pub opens : (first : S) (stored : SlotValue S E) (slots : List (Option (SlotValue S E))) (numbers : ℕ) → slots ≡ Some stored ∷ [] → stored.state ≡ first → tells first [] → numbers ≢ 0
       → Ruled number origin_of tells (origin_of first) numbers (opening (0 ∷ []) slots (opened (origin_of first) numbers))
-  opens first lodged slots numbers only is told some_numbers =
+  opens first stored slots numbers only is told some_numbers =
       let origin : O = origin_of first in
       let v : Place E O = opened origin numbers in
       let follows : EachPass (Follows number origin numbers []) v = record {
@@ -35,12 +35,13 @@ module _ {S E O : Type 0} (number : E → ℕ) (origin_of : S → O) (tells : S 
           record {
             each_follows = λ seat w e. subst (EachPass (Follows number origin numbers [])) (alone v w seat e).1 follows;
             apart = λ i j u x n ne ei ej nu nx. ne ((alone v u i ei).0 ∙ sym (alone v x j ej).0);
+            apart_within = λ seat w e. subst HasNoNumberTwice (alone v w seat e).1 tt;
             entries_below = All-nil (λ e. number e < numbers);
           },
           inl (
             refl,
             (λ seat p e. let t = (alone v (Holds p) seat e).1 in cc),
-            (lodged, refl, ap origin_of is, subst (λ s. tells s []) (sym is) told),
+            (stored, refl, ap origin_of is, subst (λ s. tells s []) (sym is) told),
           ),
         ),
       )

@@ -7,7 +7,7 @@ use Rattle.atomic_table.proofs.Lists.{at_set, at_longer, set_else}
 use Rattle.pie_lock.specs.declared.view.Shown.{Shown}
 use Rattle.pie_lock.specs.declared.view.Place.{Place}
 use Rattle.pie_lock.specs.declared.view.Place.TheVariants.{Holds}
-use Rattle.pie_lock.specs.Rule.{IsNumberAt, EachPass, Follows, Agreed, NoneHolds, OneHolds}
+use Rattle.pie_lock.specs.Rule.{IsNumberAt, EachPass, HasNoNumberTwice, Follows, Agreed, NoneHolds, OneHolds}
 
 module _ {A : Type 0} where
   -- a place that has an element has the new one once it is set
@@ -61,10 +61,10 @@ module _ {E O : Type 0} (number : E → ℕ) (origin : O) (numbers : ℕ) where
 
   -- a seat's view changes, and perhaps the history, so that each pass still follows it
   pub agreed_set : (history next : List E) (views : List (Place E O)) (id : ℕ) (w : Place E O) → Agreed number origin numbers history views
-      → EachPass (Follows number origin numbers next) w → IsApart views id w
+      → EachPass (Follows number origin numbers next) w → HasNoNumberTwice w → IsApart views id w
       → ((j : ℕ) (u : Place E O) → j ≢ id → get_elem? views j ≡ some u → EachPass (Follows number origin numbers next) u)
       → All (λ e. number e < numbers) next → Agreed number origin numbers next (set views id w)
-  agreed_set history next views id w agreed mine apart others below = record {
+  agreed_set history next views id w agreed mine within apart others below = record {
     each_follows = λ j u e. ⊎_elim (λ t. subst (EachPass (Follows number origin numbers next)) t.1 mine) (λ t. others j u t.0 t.1) (at_set views id j w u e);
     apart = λ i j u x n ne ei ej nu nx.
         ⊎_elim
@@ -77,6 +77,7 @@ module _ {E O : Type 0} (number : E → ℕ) (origin : O) (numbers : ℕ) where
         (λ t'. agreed.apart i j u x n ne t.1 t'.1 nu nx)
         (at_set views id j w x ej))
         (at_set views id i w u ei);
+    apart_within = λ j u e. ⊎_elim (λ t. subst HasNoNumberTwice t.1 within) (λ t. agreed.apart_within j u t.1) (at_set views id j w u e);
     entries_below = below;
   }
 
@@ -86,9 +87,9 @@ module _ {E O : Type 0} (number : E → ℕ) (origin : O) (numbers : ℕ) where
   apart_as_before history views id v w agreed at sub j u n ne ej nw nu = agreed.apart id j v u n (λ h. ne (sym h)) at ej (sub n nw) nu
 
   -- a new seat comes
-  pub agreed_longer : (history : List E) (views : List (Place E O)) (w : Place E O) → Agreed number origin numbers history views → EachPass (Follows number origin numbers history) w
+  pub agreed_longer : (history : List E) (views : List (Place E O)) (w : Place E O) → Agreed number origin numbers history views → EachPass (Follows number origin numbers history) w → HasNoNumberTwice w
       → ((j : ℕ) (u : Place E O) (n : ℕ) → get_elem? views j ≡ some u → IsNumberAt w n → IsNumberAt u n → ⊥) → Agreed number origin numbers history (views ++ w ∷ [])
-  agreed_longer history views w agreed mine apart = record {
+  agreed_longer history views w agreed mine within apart = record {
     each_follows = λ j u e. ⊎_elim (λ t. agreed.each_follows j u t) (λ t. subst (EachPass (Follows number origin numbers history)) t.1 mine) (at_end views w u j e);
     apart = λ i j u x n ne ei ej nu nx.
         ⊎_elim
@@ -101,5 +102,6 @@ module _ {E O : Type 0} (number : E → ℕ) (origin : O) (numbers : ℕ) where
         (λ t'. ne (t.0 ∙ sym t'.0))
         (at_end views w x j ej))
         (at_end views w u i ei);
+    apart_within = λ j u e. ⊎_elim (λ t. agreed.apart_within j u t) (λ t. subst HasNoNumberTwice t.1 within) (at_end views w u j e);
     entries_below = agreed.entries_below;
   }

@@ -7,7 +7,7 @@ use Rattle.atomic_table.proofs.Lists.{at_set, set_else}
 use Rattle.pie_lock.specs.declared.view.Shown.{Shown}
 use Rattle.pie_lock.specs.declared.view.Place.{Place}
 use Rattle.pie_lock.specs.declared.view.Place.TheVariants.{Spent, Waits, Meets}
-use Rattle.pie_lock.specs.declared.view.Lodged.{Lodged}
+use Rattle.pie_lock.specs.declared.view.SlotValue.{SlotValue}
 use Rattle.pie_lock.specs.Rule.{IsNumberAt, EachPass, Follows, Agreed, NoneHolds, OneHolds, WhileFree, WhileHeld, Ruled}
 use Rattle.pie_lock.specs.Steps.{with_numbers, all_but_highest, highest, meeting, made_one, AreAdjacent, merged}
 use Rattle.pie_lock.proofs.Following.{follows_fewer, follows_both, in_either}
@@ -34,7 +34,7 @@ module _ {E O : Type 0} where
 
 module _ {S E O : Type 0} (number : E → ℕ) (origin_of : S → O) (tells : S → List E → Type 0) (origin : O) (numbers : ℕ) where
   abbrev Table : Type 0
-  Table = State (Option (Lodged S E)) (Place E O)
+  Table = State (Option (SlotValue S E)) (Place E O)
 
   abbrev Rule : Table → Type 0
   Rule s = Ruled number origin_of tells origin numbers s
@@ -56,13 +56,13 @@ module _ {S E O : Type 0} (number : E → ℕ) (origin_of : S → O) (tells : S 
       let some_left = f.nonempty in
       let views : List (Place E O) = set s.views id left in
       let cut : Agreed number origin numbers history views =
-      agreed_set number origin numbers history history s.views id left agreed (follows_fewer number origin numbers history p p.first (p.limit - 1) f (omega arith) (omega arith) (omega arith))
+      agreed_set number origin numbers history history s.views id left agreed (follows_fewer number origin numbers history p p.first (p.limit - 1) f (omega arith) (omega arith) (omega arith)) tt
       (apart_as_before number origin numbers history s.views id (Waits p) left agreed at (λ n h. let a = h.0 in let b = h.1 in (omega arith, omega arith)))
       (λ j u ne e. agreed.each_follows j u e) agreed.entries_below in (
         rule.0,
         (
           history,
-          agreed_longer number origin numbers history views right cut (follows_fewer number origin numbers history p (p.limit - 1) p.limit f (omega arith) (omega arith) (omega arith))
+          agreed_longer number origin numbers history views right cut (follows_fewer number origin numbers history p (p.limit - 1) p.limit f (omega arith) (omega arith) (omega arith)) tt
               (λ j u n e nr nu.
               ⊎_elim
               (λ t. let nl : IsNumberAt left n = subst (λ y. IsNumberAt y n) (sym t.1) nu in let a = nl.1 in let b = nr.0 in absurd (omega arith))
@@ -94,7 +94,7 @@ module _ {S E O : Type 0} (number : E → ℕ) (origin_of : S → O) (tells : S 
           rule.0,
           (
             history,
-            agreed_set number origin numbers history history s.views id w agreed facts.0
+            agreed_set number origin numbers history history s.views id w agreed facts.0 tt
                 (apart_as_before number origin numbers history s.views id (Meets p q) w agreed at
                 (λ n h. in_either p.first p.limit q.first q.limit n adjacent both.0.nonempty both.1.nonempty h.0 h.1))
                 (λ j u ne e. agreed.each_follows j u e) agreed.entries_below,
@@ -116,13 +116,14 @@ module _ {S E O : Type 0} (number : E → ℕ) (origin_of : S → O) (tells : S 
       let views : List (Place E O) = set s.views other spent in
       let swap : set views id both ≡ set (set s.views id both) other spent = set_swap s.views other id spent both ne in
       let left : Agreed number origin numbers history views =
-      agreed_set number origin numbers history history s.views other spent agreed tt (λ j u n ne' e h nu. h) (λ j u ne' e. agreed.each_follows j u e) agreed.entries_below in
+      agreed_set number origin numbers history history s.views other spent agreed tt tt (λ j u n ne' e h nu. h) (λ j u ne' e. agreed.each_follows j u e) agreed.entries_below in
       let at' : get_elem? views id ≡ some (Waits p) = set_else s.views other id spent (λ h. ne (sym h)) ∙ at in
       subst (λ l. Rule (record { words = s.words; homes = s.homes; views = l })) swap (
         rule.0,
         (
           history,
           agreed_set number origin numbers history history views id both left (agreed.each_follows id (Waits p) at, agreed.each_follows other (Waits q) its)
+              (λ n mine theirs. agreed.apart id other (Waits p) (Waits q) n (λ h. ne (sym h)) at its mine theirs)
               (λ j u n ne' e h nu.
               ⊎_elim
               (λ t. let none_left : IsNumberAt spent n = subst (λ y. IsNumberAt y n) (sym t.1) nu in none_left)

@@ -8,7 +8,7 @@ use Rattle.atomic_table.specs.Table.{State}
 use Rattle.pie_lock.specs.declared.view.Shown.{Shown}
 use Rattle.pie_lock.specs.declared.view.Place.{Place}
 use Rattle.pie_lock.specs.declared.view.Place.TheVariants.{Spent, Waits, Holds, Meets}
-use Rattle.pie_lock.specs.declared.view.Lodged.{Lodged}
+use Rattle.pie_lock.specs.declared.view.SlotValue.{SlotValue}
 use Rattle.pie_lock.specs.Own.{own}
 
 module _ {E O : Type 0} where
@@ -44,10 +44,19 @@ module _ {E O : Type 0} where
     pub of_all : p.numbers ≡ numbers
     pub of_origin : p.origin ≡ Some origin
 
-  -- the list of the live passes' views against one history
+  -- the two passes that a joining seat has for a moment have no number in common
+  abbrev pub HasNoNumberTwice : Place E O → Type 0
+  HasNoNumberTwice Spent = Unit {0}
+  HasNoNumberTwice (Waits p) = Unit {0}
+  HasNoNumberTwice (Holds p) = Unit {0}
+  HasNoNumberTwice (Meets p q) = (n : ℕ) → IsNumberOf p n → IsNumberOf q n → ⊥
+
+  -- the views of the seats against one history: each pass follows it, no number belongs to two passes, of two
+  -- seats or of one that joins, and each entry stands under a number that the lock has
   pub record Agreed (number : E → ℕ) (origin : O) (numbers : ℕ) (history : List E) (views : List (Place E O)) : Type 0 where
     pub each_follows : (seat : ℕ) (view : Place E O) → get_elem? views seat ≡ some view → EachPass (Follows number origin numbers history) view
     pub apart : (seat other : ℕ) (view w : Place E O) (n : ℕ) → seat ≢ other → get_elem? views seat ≡ some view → get_elem? views other ≡ some w → IsNumberAt view n → IsNumberAt w n → ⊥
+    pub apart_within : (seat : ℕ) (view : Place E O) → get_elem? views seat ≡ some view → HasNoNumberTwice view
     pub entries_below : All (λ e. number e < numbers) history
 
   -- no seat has the state
@@ -62,17 +71,17 @@ module _ {E O : Type 0} where
 
 module _ {S E O : Type 0} (number : E → ℕ) (origin_of : S → O) (tells : S → List E → Type 0) (origin : O) (numbers : ℕ) where
   -- while the word is FREE: the state is in the slot, has the lock's origin and tells the history
-  abbrev pub WhileFree : List E → State (Option (Lodged S E)) (Place E O) → Type 0
+  abbrev pub WhileFree : List E → State (Option (SlotValue S E)) (Place E O) → Type 0
   WhileFree history s =
       (slice_index s.words 0 ≡ 0) × NoneHolds s.views
-      × ((lodged : Lodged S E) × (get_elem? s.homes 0 ≡ some (some (Some lodged))) × (origin_of lodged.state ≡ origin) × tells lodged.state history)
+      × ((stored : SlotValue S E) × (get_elem? s.homes 0 ≡ some (some (Some stored))) × (origin_of stored.state ≡ origin) × tells stored.state history)
 
   -- while it is HELD: the slot is out to one seat, whose front is the history
-  abbrev pub WhileHeld : List E → State (Option (Lodged S E)) (Place E O) → Type 0
+  abbrev pub WhileHeld : List E → State (Option (SlotValue S E)) (Place E O) → Type 0
   WhileHeld history s = (slice_index s.words 0 ≡ 1) × OneHolds history s.views × (get_elem? s.homes 0 ≡ some none)
 
   -- there is one history, which agrees with all live passes
-  abbrev pub Ruled : State (Option (Lodged S E)) (Place E O) → Type 0
+  abbrev pub Ruled : State (Option (SlotValue S E)) (Place E O) → Type 0
   Ruled s =
       (length s.words ≡ 1)
       × ((history : List E) × Agreed number origin numbers history s.views × (WhileFree history s ⊎ WhileHeld history s))

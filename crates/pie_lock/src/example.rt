@@ -1,5 +1,6 @@
 //! A worked caller of the lock, over a state whose origin is more than nothing.
-ghost use Rattle.std.specs.Prelude.{◌≡◌, IfOk, IfErr};
+ghost use Rattle.std.specs.Prelude.{◌≡◌, ℕ, ◌-◌, ◌^◌, ◌⊎◌, List, [], ◌∷◌, ◌++◌, length, IfOk, IfErr};
+ghost use Rattle.pie_lock.specs.Steps.{GoesOn};
 
 use crate::kept::Kept;
 use crate::lock::RuledLock;
@@ -33,10 +34,15 @@ impl Kept for Till {
     ghost one_length = { λ t xs ys a b. a ∙ sym b };
 }
 
-/// Makes a sale, where the lock is free and the till is not full, and hands the pass back with it.
+/// Makes a sale, unless the till is full, and hands the pass back with it; where the lock is not free, hands the pass
+/// back as it was.
 pub(crate) fn try_sell(lock: &RuledLock<Till>, pass: Pass<Till>) -> Result<Pass<Till>, Pass<Till>>
     requires { pass.lock ≡ lock.now }
     ensures lock { IfOk result (λ after. after.lock ≡ pass.lock) }
+    ensures numbers { IfOk result (λ after. (after.first ≡ pass.first) × (after.limit ≡ pass.limit)) }
+
+    // the sale comes after all that the pass was shown and what others sold since; a full till has `2^64 - 1` sales
+    ensures sold { IfOk result (λ after. (before : List ℕ) × GoesOn (λ e. e) pass.first pass.limit pass.front before × ((after.front ≡ before ++ pass.first ∷ []) ⊎ ((after.front ≡ before) × (length before ≡ 2 ^ 64 - 1)))) }
     ensures busy { IfErr result (λ back. back ≡ pass) }
 {
     let seller = pass.first();

@@ -3,9 +3,9 @@ ghost use Rattle.std.specs.Prelude.{◌≡◌, ℕ, List, length};
 
 /// A state that tells a history: a list of entries, each of which stands under a number.
 ///
-/// `number_of` is the number of an entry, `origin_of` the origin of a state, which it is read with, and
-/// `tells state history` says that this state tells this history. One state may tell many histories,
-/// but by the law `one_length` all of them are equally long.
+/// `number_of` is the number of an entry, `origin_of` the origin of a state (plain data that it has from its making on,
+/// such as how it was opened), and `tells state history` says that this state tells this history. One state may tell
+/// many histories, but by the law `one_length` all of them are equally long.
 pub trait Kept: Drop {
     /// What one call adds to the history.
     type Entry: Copy;

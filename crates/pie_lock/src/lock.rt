@@ -4,8 +4,8 @@ ghost use Rattle.std.specs.Prelude.{◌≡◌, ◌≢◌, ◌+◌, ◌<◌, ◌�
 use crate::kept::Kept;
 use crate::pass::{Held, Pass};
 use crate::refusal::{LockRefusal, OneNumber, StillHeld};
-use crate::rule::{Cut, Free, Meet, Merge, Ruling, Take};
-use crate::view::{About, Lodged, Place};
+use crate::rule::{FreeStep, JoinTwo, LockRule, MergeStep, SplitHighest, TakeStep};
+use crate::view::{LockOpening, Place, SlotValue};
 use atomic_table::{Refused, Seat, Table};
 use crossbeam_utils::Backoff;
 use std::alloc::Global;
@@ -29,7 +29,13 @@ const HELD: u64 = 1;
 /// Contracts see it as which lock it is, the origin of the state that it was opened with, and how many numbers it has.
 #[derive(Drop)]
 pub struct RuledLock<S: Kept> {
-    table: Table<Option<Lodged<S, S::Entry>>, Place<S::Entry, S::Origin>, About<S>, Ruling, Global>,
+    table: Table<
+        Option<SlotValue<S, S::Entry>>,
+        Place<S::Entry, S::Origin>,
+        LockOpening<S>,
+        LockRule,
+        Global,
+    >,
 }
 
 impl<S: Kept> Model for RuledLock<S> {
@@ -38,7 +44,7 @@ impl<S: Kept> Model for RuledLock<S> {
 
     ghost Value = { LockView S.Origin };
 
-    ghost view = { λ l. record { id = l.table.shared.table_id; origin = Some (S.origin_of l.table.shared.key.first.value); numbers = l.table.shared.key.numbers } };
+    ghost view = { λ l. record { id = l.table.shared.table_id; origin = Some (S.origin_of l.table.shared.key.state.value); numbers = l.table.shared.key.numbers } };
 
     ghost invariant = { λ l. (l.table.shared.table_id.words ≡ 1) × (l.table.shared.table_id.slots ≡ 1) };
 }
@@ -49,11 +55,14 @@ impl<S: Kept> RuledLock<S> {
     ghost use Rattle.pie_lock.specs.Steps.{GoesOn, pass_at, AreAdjacent};
     ghost use Rattle.pie_lock.specs.Seating.{IsIdle, IsMerged};
     ghost use Rattle.pie_lock.specs.Promises.{first_pass, IsOfPass, pass_after, without_highest, highest_alone, IsBeside, IsBothOf};
-    ghost use Rattle.pie_lock.specs.declared.view.Lodged.{Lodged};
+    ghost use Rattle.pie_lock.specs.declared.view.SlotValue.{SlotValue};
 
     /// A lock over `state`, and a pass with the numbers `0..numbers`.
     ///
-    /// `NoNumbers` comes exactly where `numbers` is 0, and `Memory` where there was none. Either hands the state back.
+    /// # Errors
+    ///
+    /// `NoNumbers` exactly where `numbers` is 0, and else `Memory` where there was no memory for the lock. Either comes
+    /// with the state.
     pub fn new(
         alloc: Global,
         state: S,
@@ -70,15 +79,15 @@ impl<S: Kept> RuledLock<S> {
         if numbers == 0 {
             return Err((state, LockRefusal::NoNumbers));
         }
-        let about = About {
-            first: Snapshot::of(&state),
+        let opening = LockOpening {
+            state: Snapshot::of(&state),
             numbers,
         };
         let Ok(mut slots) = Vec::with_capacity(alloc, 1) else {
             return Err((state, LockRefusal::Memory));
         };
-        slots.push_reserved(Some(Lodged { state, added: None }));
-        match Table::new(alloc, &[FREE], slots, &about) {
+        slots.push_reserved(Some(SlotValue { state, added: None }));
+        match Table::new(alloc, &[FREE], slots, &opening) {
             Ok((table, seat)) => {
                 let pass = Pass {
                     first: 0,
@@ -92,40 +101,47 @@ impl<S: Kept> RuledLock<S> {
     }
 
     // Takes the state out of the slot that the seat has.
-    fn lift(&self, seat: &mut Seat<Option<Lodged<S, S::Entry>>, Place<S::Entry, S::Origin>>) -> S
+    fn take_from_slot(
+        &self,
+        seat: &mut Seat<Option<SlotValue<S, S::Entry>>, Place<S::Entry, S::Origin>>,
+    ) -> S
         requires table { seat.old.table_id ≡ self.now.id }
-        requires slot { (lodged : Lodged S S.Entry) × (seat.old.me.1 ≡ (0, Some lodged) ∷ []) }
+        requires slot { (stored : SlotValue S S.Entry) × (seat.old.me.1 ≡ (0, Some stored) ∷ []) }
         ensures seat { (seat.new.table_id ≡ seat.old.table_id) × (seat.new.id ≡ seat.old.id) × (seat.new.me ≡ (seat.old.me.0, (0, None) ∷ [])) }
-        ensures state { (lodged : Lodged S S.Entry) → seat.old.me.1 ≡ (0, Some lodged) ∷ [] → result ≡ lodged.state }
+        ensures state { (stored : SlotValue S S.Entry) → seat.old.me.1 ≡ (0, Some stored) ∷ [] → result ≡ stored.state }
     {
-        let Some(lodged) = self.table.shared.exchange(seat, SLOT, None) else {
+        let Some(stored) = self.table.shared.exchange(seat, SLOT, None) else {
             unreachable!()
         };
-        lodged.state
+        stored.state
     }
 
     // Puts the state into the slot that the seat has, beside the entry that the seat's front is to gain.
-    fn lay(
+    fn put_into_slot(
         &self,
-        seat: &mut Seat<Option<Lodged<S, S::Entry>>, Place<S::Entry, S::Origin>>,
+        seat: &mut Seat<Option<SlotValue<S, S::Entry>>, Place<S::Entry, S::Origin>>,
         state: S,
         entry: Option<S::Entry>,
     )
         requires table { seat.old.table_id ≡ self.now.id }
         requires slot { seat.old.me.1 ≡ (0, None) ∷ [] }
         ensures seat { (seat.new.table_id ≡ seat.old.table_id) × (seat.new.id ≡ seat.old.id) }
-        ensures slot { (lodged : Lodged S S.Entry) × (lodged.state ≡ state) × (lodged.added ≡ entry) × (seat.new.me ≡ (seat.old.me.0, (0, Some lodged) ∷ [])) }
+        ensures slot { (stored : SlotValue S S.Entry) × (stored.state ≡ state) × (stored.added ≡ entry) × (seat.new.me ≡ (seat.old.me.0, (0, Some stored) ∷ [])) }
     {
-        let lodged = Lodged {
+        let stored = SlotValue {
             state,
             added: entry,
         };
-        let None = self.table.shared.exchange(seat, SLOT, Some(lodged)) else {
+        let None = self.table.shared.exchange(seat, SLOT, Some(stored)) else {
             unreachable!()
         };
     }
 
-    /// Takes the state, or hands the pass back as it was where the state is out. It waits for nobody.
+    /// Takes the state. It waits for nobody.
+    ///
+    /// # Errors
+    ///
+    /// The pass as it was, where another pass has the state. A pass with all numbers always takes it.
     pub fn try_take(&self, pass: Pass<S>) -> Result<Held<S>, Pass<S>>
         requires own { pass.lock ≡ self.now }
         ensures pass { IfOk result (IsOfPass pass) }
@@ -144,11 +160,11 @@ impl<S: Kept> RuledLock<S> {
         let found = self
             .table
             .shared
-            .compare_exchange::<Take>(&mut seat, WORD, FREE, HELD);
+            .compare_exchange::<TakeStep>(&mut seat, WORD, FREE, HELD);
         if found != FREE {
             return Err(Pass { first, limit, seat });
         }
-        let state = self.lift(&mut seat);
+        let state = self.take_from_slot(&mut seat);
         Ok(Held {
             state,
             first,
@@ -192,14 +208,16 @@ impl<S: Kept> RuledLock<S> {
             limit,
             mut seat,
         } = held;
-        self.lay(&mut seat, state, entry);
-        self.table.shared.store::<Free>(&mut seat, WORD, FREE);
+        self.put_into_slot(&mut seat, state, entry);
+        self.table.shared.store::<FreeStep>(&mut seat, WORD, FREE);
         Pass { first, limit, seat }
     }
 
     /// A new pass with the highest number of `pass` alone and the same front.
     ///
-    /// `OneNumber` comes exactly where the pass has one number, and changes nothing.
+    /// # Errors
+    ///
+    /// `OneNumber` exactly where the pass has one number, and then nothing has changed.
     pub fn share(&self, pass: &mut Pass<S>) -> Result<Pass<S>, OneNumber>
         requires own { pass.old.lock ≡ self.now }
         ensures rest { OnOk result (pass.new ≡ without_highest pass.old) }
@@ -211,7 +229,7 @@ impl<S: Kept> RuledLock<S> {
         if pass.first == last {
             return Err(OneNumber);
         }
-        let seat = self.table.shared.split_seat::<Cut>(&mut pass.seat);
+        let seat = self.table.shared.split_seat::<SplitHighest>(&mut pass.seat);
         let new = Pass {
             first: last,
             limit: pass.limit,
@@ -223,7 +241,9 @@ impl<S: Kept> RuledLock<S> {
 
     /// Makes one pass of two, with both ranges and the longer front.
     ///
-    /// Hands `other` back exactly where neither's `limit()` is the other's `first()`; both passes are then as they were.
+    /// # Errors
+    ///
+    /// `other` exactly where neither's `limit()` is the other's `first()`, and then both passes are as they were.
     pub fn gather(&self, pass: &mut Pass<S>, other: Pass<S>) -> Result<(), Pass<S>>
         requires own { (pass.old.lock ≡ self.now) × (other.lock ≡ self.now) }
         ensures both { OnOk result (IsBothOf S.number_of pass.old other pass.new) }
@@ -244,8 +264,8 @@ impl<S: Kept> RuledLock<S> {
     // Makes one seat of two whose passes have adjacent ranges.
     fn join(
         &self,
-        seat: &mut Seat<Option<Lodged<S, S::Entry>>, Place<S::Entry, S::Origin>>,
-        other: Seat<Option<Lodged<S, S::Entry>>, Place<S::Entry, S::Origin>>,
+        seat: &mut Seat<Option<SlotValue<S, S::Entry>>, Place<S::Entry, S::Origin>>,
+        other: Seat<Option<SlotValue<S, S::Entry>>, Place<S::Entry, S::Origin>>,
     )
         requires tables { (seat.old.table_id ≡ self.now.id) × (other.table_id ≡ self.now.id) }
         requires waiting { IsIdle seat.old.me × IsIdle other.me }
@@ -253,13 +273,16 @@ impl<S: Kept> RuledLock<S> {
         ensures seat { (seat.new.table_id ≡ seat.old.table_id) × (seat.new.id ≡ seat.old.id) }
         ensures merged { IsMerged S.number_of seat.old.me other.me seat.new.me }
     {
-        self.table.shared.join_seat::<Meet>(seat, other);
-        self.table.shared.load::<Merge>(seat, WORD);
+        self.table.shared.join_seat::<JoinTwo>(seat, other);
+        self.table.shared.load::<MergeStep>(seat, WORD);
     }
 
-    /// The state, where no pass has it. It waits for nobody.
+    /// Closes the lock and gives the state. It waits for nobody.
     ///
-    /// A pass with all numbers always closes the lock: then no other pass is left that could have the state.
+    /// # Errors
+    ///
+    /// `StillHeld` with the lock and the pass as they were, where another pass has the state. A pass with all numbers
+    /// always closes the lock: then there is no other pass that could have the state.
     pub fn close(self, pass: Pass<S>) -> Result<S, StillHeld<S>>
         requires own { pass.lock ≡ self }
         ensures origin { IfOk result (λ state. pass.lock.origin ≡ Some (S.origin_of state)) }
@@ -284,12 +307,12 @@ impl<S: Kept> RuledLock<S> {
 }
 
 // The state that lies in the one slot.
-fn state_of<S: Drop, E: Drop>(mut slots: Vec<Option<Lodged<S, E>>>) -> S
-    requires { (lodged : Lodged S E) × (slots.items ≡ Some lodged ∷ []) }
-    ensures { (lodged : Lodged S E) → slots.items ≡ Some lodged ∷ [] → result ≡ lodged.state }
+fn state_of<S: Drop, E: Drop>(mut slots: Vec<Option<SlotValue<S, E>>>) -> S
+    requires { (stored : SlotValue S E) × (slots.items ≡ Some stored ∷ []) }
+    ensures { (stored : SlotValue S E) → slots.items ≡ Some stored ∷ [] → result ≡ stored.state }
 {
-    let Some(Some(lodged)) = slots.pop() else {
+    let Some(Some(stored)) = slots.pop() else {
         unreachable!()
     };
-    lodged.state
+    stored.state
 }

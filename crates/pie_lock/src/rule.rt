@@ -3,55 +3,55 @@ ghost use Rattle.pie_lock.specs.Steps.{taken, freed, merged, all_but_highest, hi
 ghost use Rattle.pie_lock.specs.declared.view.Place.TheVariants.{Spent};
 
 use crate::kept::Kept;
-use crate::view::{About, Lodged, Place};
+use crate::view::{LockOpening, Place, SlotValue};
 use atomic_table::{Join, Play, Split, TableRule};
 
 /// The lock's rule.
-pub struct Ruling;
+pub struct LockRule;
 
-impl<S: Kept> TableRule<Option<Lodged<S, S::Entry>>, Place<S::Entry, S::Origin>, About<S>>
-    for Ruling {
+impl<S: Kept> TableRule<Option<SlotValue<S, S::Entry>>, Place<S::Entry, S::Origin>, LockOpening<S>>
+    for LockRule {
     ghost use Rattle.pie_lock.specs.Rule.{Ruled, opened};
 
-    ghost holds = { λ key. Ruled S.number_of S.origin_of S.tells (S.origin_of key.first.value) key.numbers };
+    ghost holds = { λ key. Ruled S.number_of S.origin_of S.tells (S.origin_of key.state.value) key.numbers };
 
-    ghost first = { λ key. opened (S.origin_of key.first.value) key.numbers };
+    ghost first = { λ key. opened (S.origin_of key.state.value) key.numbers };
 }
 
-/// The exchange of FREE for HELD.
-pub(crate) struct Take;
+/// The step that takes the lock: the exchange of FREE for HELD.
+pub(crate) struct TakeStep;
 
-impl<S: Kept> Play<Option<Lodged<S, S::Entry>>, Place<S::Entry, S::Origin>> for Take {
+impl<S: Kept> Play<Option<SlotValue<S, S::Entry>>, Place<S::Entry, S::Origin>> for TakeStep {
     ghost then = { taken S.number_of S.origin_of S.tells };
 }
 
-/// The store of FREE.
-pub(crate) struct Free;
+/// The step that frees the lock: the store of FREE.
+pub(crate) struct FreeStep;
 
-impl<S: Kept> Play<Option<Lodged<S, S::Entry>>, Place<S::Entry, S::Origin>> for Free {
+impl<S: Kept> Play<Option<SlotValue<S, S::Entry>>, Place<S::Entry, S::Origin>> for FreeStep {
     ghost then = { freed };
 }
 
-/// The load that makes one pass of the two that a seat has.
-pub(crate) struct Merge;
+/// The step that makes one pass of the two that a seat has: a load.
+pub(crate) struct MergeStep;
 
-impl<S: Kept> Play<Option<Lodged<S, S::Entry>>, Place<S::Entry, S::Origin>> for Merge {
+impl<S: Kept> Play<Option<SlotValue<S, S::Entry>>, Place<S::Entry, S::Origin>> for MergeStep {
     ghost then = { merged S.number_of };
 }
 
-/// The highest number goes to a new seat.
-pub(crate) struct Cut;
+/// A seat is split: the highest number of its pass goes to a new seat.
+pub(crate) struct SplitHighest;
 
-impl<E, O> Split<Place<E, O>> for Cut {
+impl<E, O> Split<Place<E, O>> for SplitHighest {
     ghost left = { all_but_highest };
 
     ghost right = { highest };
 }
 
-/// Two seats become one.
-pub(crate) struct Meet;
+/// Two seats are joined: one of them has both passes, and the other none.
+pub(crate) struct JoinTwo;
 
-impl<E, O> Join<Place<E, O>> for Meet {
+impl<E, O> Join<Place<E, O>> for JoinTwo {
     ghost both = { meeting };
 
     ghost spent = { Spent };

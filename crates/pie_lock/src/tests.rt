@@ -93,6 +93,60 @@ fn no_numbers_hands_the_state_back(rt: HostRuntime) {
     assert!(rt; back.count() == 0 && refusal == LockRefusal::NoNumbers);
 }
 
+// A refusal that comes only for numbers above some bound would meet the contracts, so the greatest lock is walked through
+// with its uppermost pass: it takes, is refused where the state is out, and closes.
+#[test]
+fn the_uppermost_of_65535_numbers(rt: HostRuntime) -> Result<(), Fail> {
+    let (lock, mut pass) = RuledLock::new(rt.alloc(), Counter::new(), 65535).map_err(|e| e.1)?;
+    assert!(rt; pass.first() == 0 && pass.limit() == 65535);
+    let upper = lock.share(&mut pass)?;
+    assert!(rt; upper.first() == 65534 && upper.limit() == 65535 && pass.limit() == 65534);
+    let upper = add(&rt, &lock, upper, 3);
+    let caller = pass.first();
+    let Ok(held) = lock.try_take(pass) else {
+        panic!(rt; "the lock is free")
+    };
+    let upper = busy(&rt, &lock, upper);
+    let Err(StillHeld { lock, pass: upper }) = lock.close(upper) else {
+        panic!(rt; "the state is out")
+    };
+    assert!(rt; upper.first() == 65534 && upper.limit() == 65535);
+    let pass = add_and_put(&lock, held, caller, 4);
+    assert!(rt; pass.first() == 0 && pass.limit() == 65534);
+    assert!(rt; closed(&rt, lock, upper) == (2, 7));
+    Ok(())
+}
+
+#[test]
+fn all_of_65535_numbers_take_and_close(rt: HostRuntime) -> Result<(), Fail> {
+    let (lock, mut pass) = RuledLock::new(rt.alloc(), Counter::new(), 65535).map_err(|e| e.1)?;
+    let mut upper = lock.share(&mut pass)?;
+    let next = lock.share(&mut pass)?;
+    assert!(rt; next.first() == 65533 && next.limit() == 65534 && pass.limit() == 65533);
+    let next = add(&rt, &lock, next, 1);
+    assert!(rt; lock.gather(&mut upper, next).is_ok());
+    assert!(rt; upper.first() == 65533 && upper.limit() == 65535);
+    assert!(rt; lock.gather(&mut upper, pass).is_ok());
+    assert!(rt; upper.first() == 0 && upper.limit() == 65535);
+    let pass = add(&rt, &lock, upper, 2);
+    assert!(rt; closed(&rt, lock, pass) == (2, 3));
+    Ok(())
+}
+
+#[test]
+fn refusals_say_what_was_lacking(rt: HostRuntime) -> Result<(), Fail> {
+    let no_numbers = format!(in rt.alloc(); "{}", LockRefusal::NoNumbers)?;
+    assert_eq!(rt; no_numbers.as_str(), "a lock needs one number at least");
+    let memory = format!(in rt.alloc(); "{}", LockRefusal::Memory)?;
+    assert_eq!(rt; memory.as_str(), "no memory for the lock");
+    let one_number = format!(in rt.alloc(); "{}", OneNumber)?;
+    assert_eq!(rt;
+        one_number.as_str(),
+        "a pass with one number can't be shared"
+    );
+    Ok(())
+}
+
 #[test]
 fn three_numbers_shared_and_gathered(rt: HostRuntime) -> Result<(), Fail> {
     let (lock, mut pass) = RuledLock::new(rt.alloc(), Counter::new(), 3).map_err(|e| e.1)?;

@@ -2,7 +2,7 @@
 use std::collections::LinkedList;
 use std::snapshot::Snapshot;
 
-/// What one pass was shown. No value of it is made.
+/// What a seat knows of a pass: what its holder was shown, and which numbers it has. No value of it is made.
 pub struct Shown<E, O> {
     pub front: LinkedList<E>,
     pub first: u16,
@@ -23,16 +23,16 @@ pub enum Place<E, O> {
     Meets(Shown<E, O>, Shown<E, O>),
 }
 
-/// What lies in the slot: the state, and the entry that its last put adds.
+/// What lies in the lock's slot: the state, and the entry that its last put adds.
 #[derive(Drop)]
-pub struct Lodged<S, E> {
+pub struct SlotValue<S, E> {
     pub state: S,
     pub added: Option<E>,
 }
 
-/// What the table is told when it is made: the first state and how many numbers there are.
+/// What the lock is opened with: the first state, and how many numbers there are.
 #[derive(Drop)]
-pub struct About<S> {
-    pub first: Snapshot<S>,
+pub struct LockOpening<S> {
+    pub state: Snapshot<S>,
     pub numbers: u16,
 }

@@ -1,10 +1,11 @@
 -- The definitions at examples worked out by hand: each theorem computes.
-use Rattle.std.specs.Prelude.{ℕ, ◌≡◌, List, [], ◌∷◌, true, false, refl, map}
+use Rattle.std.proofs.Common.{ℕ, ◌≡◌, ◌+◌, ◌*◌, ◌^◌, List, [], ◌∷◌, true, false, refl, arith}
+use Rattle.std.specs.Prelude.{map}
 use Rattle.pie_queue.specs.declared.ecn.Ecn.{Ecn}
 use Rattle.pie_queue.specs.declared.ecn.Ecn.TheVariants.{NotEct, Ect1, Ect0, Ce}
 use Rattle.pie_queue.specs.declared.packet.Waiting.{Waiting}
 use Rattle.pie_queue.specs.Ecn.{bits_of, is_capable}
-use Rattle.pie_queue.specs.Queue.{bytes_of}
+use Rattle.pie_queue.specs.Queue.{Queue, IsQueue, IsSize, bytes_of}
 
 -- the codepoints in RFC 3168's order: Not-ECT, ECT(1), ECT(0), CE
 abbrev codepoints : List Ecn
@@ -22,3 +23,24 @@ waiting size = record { packet = record { tag = 0; size = size; ecn = NotEct }; 
 -- no packet has no byte, and the sizes add up
 sums : (bytes_of [] ≡ 0) × (bytes_of (waiting 1500 ∷ []) ≡ 1500) × (bytes_of (waiting 100 ∷ waiting 65535 ∷ waiting 1 ∷ []) ≡ 65636)
 sums = (refl, refl, refl)
+
+-- sizes from 1 to 65535 are taken, and no others
+least_size : IsSize 1
+least_size = (omega arith, omega arith)
+
+greatest_size : IsSize 65_535
+greatest_size = (omega arith, omega arith)
+
+no_size_of_0 : IsSize 0 → ⊥
+no_size_of_0 taken = let least = taken.0 in omega arith
+
+no_size_of_65536 : IsSize 65_536 → ⊥
+no_size_of_65536 taken = let most = taken.1 in omega arith
+
+-- a ring holds 65536 packets at most
+no_ring_of_65537 : (queue : Queue) → queue.packets ≡ 65_537 → IsQueue queue → ⊥
+no_ring_of_65537 queue is kept = let most = kept.ring in omega arith
+
+-- the greatest sum, of 65536 packets of 65535 bytes, lies below 2 ^ 32
+greatest_sum : 65535 * 65536 + 2 ^ 16 ≡ 2 ^ 32
+greatest_sum = refl

@@ -1,6 +1,6 @@
 ghost use Rattle.std.specs.Prelude.{◌≡◌};
 
-use crate::{ByteQueue, Ecn, Packet, Waiting};
+use crate::{ByteQueue, Ecn, Memory, Packet, Waiting};
 use pie_fixed::Nanos;
 use std::test::Fail;
 
@@ -54,6 +54,46 @@ fn a_ring_of_two(rt: HostRuntime) -> Result<(), Fail> {
     );
     assert_eq!(rt; queue.take(), None);
     assert_eq!(rt; queue.bytes(), 0);
+    Ok(())
+}
+
+/// The largest ring, filled to the last place with the largest packets: `new`, `admit` and `take` succeed up there too.
+#[test]
+fn a_ring_of_65536(rt: HostRuntime) -> Result<(), Fail> {
+    let mut queue = ByteQueue::new(rt.alloc(), 65536)?;
+    let since = Nanos::from_units(7).ok_or("a moment in range")?;
+    for tag in 0..65536 {
+        let arriving = packet(tag, 65535, Ecn::Ect0);
+        assert_eq!(rt; queue.admit(arriving, since), Ok(()), "packet {tag}");
+    }
+    let last = packet(65535, 65535, Ecn::Ect0);
+    let one_more = packet(65536, 1, Ecn::Ect0);
+    assert_eq!(rt; queue.admit(one_more, since), Err(one_more));
+    assert_eq!(rt;
+        (queue.bytes(), queue.len(), queue.packets()),
+        (4_294_901_760, 65536, 65536)
+    );
+    assert_eq!(rt;
+        queue.get(65535),
+        Some(Waiting {
+            packet: last,
+            since
+        })
+    );
+    assert_eq!(rt; queue.get(65536), None);
+    for tag in 0..65536 {
+        let left = queue.take().map(|waiting| waiting.packet.tag);
+        assert_eq!(rt; left, Some(tag));
+    }
+    assert_eq!(rt; (queue.bytes(), queue.is_empty()), (0, true));
+    Ok(())
+}
+
+/// What the refusal says to a user.
+#[test]
+fn memory_says_what_was_lacking(rt: HostRuntime) -> Result<(), Fail> {
+    let text = format!(in rt.alloc(); "{}", Memory)?;
+    assert_eq!(rt; text.as_str(), "out of memory");
     Ok(())
 }
 

@@ -1,7 +1,7 @@
 -- The departures that a rate estimate was shown since it was cleared, in order.
 use Rattle.std.specs.Prelude.{ℕ, ◌+◌, ◌-◌, List, sum_by, take, drop, slice_index_or}
 
--- one departure: the packet's size, the bytes that it left in the queue, and its moment in
+-- one departure: the packet's size, the bytes remaining in the queue after it, and its moment in
 -- nanoseconds
 pub record Departure : Type 0 where
   pub size : ℕ
@@ -15,7 +15,7 @@ departure size bytes_left moment = record { size = size; bytes_left = bytes_left
 abbrev pub departure_at : List Departure → ℕ → Departure
 departure_at departures k = slice_index_or departures k (departure 0 0 0)
 
--- how many bytes left in these departures
+-- the bytes of these departed packets
 abbrev pub bytes_of : List Departure → ℕ
 bytes_of departures = sum_by (λ d. d.size) departures
 

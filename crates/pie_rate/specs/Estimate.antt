@@ -5,8 +5,8 @@ use Rattle.pie_rate.specs.Departures.{Departure, departure_at, bytes_after}
 use Rattle.pie_rate.specs.Cycles.{begun}
 use Rattle.pie_rate.specs.Average.{average}
 
--- a cycle that is begun: the moment of the departure that opened it, and the bytes that left after
--- it
+-- a cycle that is begun: the moment of the departure that opened it, and the bytes of the packets
+-- that departed after it
 pub record Begun : Type 0 where
   pub start : ℕ
   pub count : ℕ

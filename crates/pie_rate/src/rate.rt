@@ -68,14 +68,14 @@ impl Rate {
         }
     }
 
-    /// Takes in one departure: the packet's size and the bytes that it leaves in the queue, its
+    /// Takes in one departure: the packet's size and the bytes remaining in the queue after it, its
     /// moment, and the threshold in bytes, at most 65536 and the same for all departures since the
     /// estimate was cleared (RFC 8033, section 5.2; when a cycle opens and closes, and what it counts,
     /// is this project's own).
     ///
     /// A cycle that is begun first counts the packet, and closes once it has counted the threshold.
-    /// Then, where none is begun and at least the threshold is left, one begins here, without this
-    /// packet's bytes. A closed cycle gives a sample, the nanoseconds that it took and at least 1. The
+    /// Then, where none is begun and at least the threshold remains in the queue, one begins here, without
+    /// this packet's bytes. A closed cycle gives a sample, the nanoseconds that it took and at least 1. The
     /// first sample is the average. A later one joins it with the weight of the threshold in 65536
     /// bytes, rounded down.
     pub fn departed(&mut self, size: u32, bytes_left: u64, moment: Nanos, threshold: u64)

@@ -10,7 +10,7 @@ pub split_seat-seat-requires : goal.split_seat-seat-requires
 split_seat-seat-requires g c =
     let k = g.S.Kept in
     let key = c.self.inside.table.shared.key in
-    let origin = k.origin_of key.first.value in
+    let origin = k.origin_of key.state.value in
     let seat = c.pass.inside.seat in
     let p = pass_at seat.me.0 in
     let has = c.pass.invariant.has in

@@ -1,6 +1,6 @@
 use Rattle.std.proofs.Common.{rules, ◌∷◌, Some, ap, sym, ◌∙◌}
 use Rattle.atomic_table.specs.Table.{rest}
-use Rattle.pie_lock.proofs.lock.RuledLock.lift.Goals as goal
+use Rattle.pie_lock.proofs.lock.RuledLock.take_from_slot.Goals as goal
 
 pub exchange-requires : goal.exchange-requires
 exchange-requires g c =

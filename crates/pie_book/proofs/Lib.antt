@@ -10,3 +10,4 @@ pub mod Examples
 pub mod ExamplesRates
 pub mod ExamplesMarks
 pub mod ExamplesBooks
+pub mod ExamplesRuns

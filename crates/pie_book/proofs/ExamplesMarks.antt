@@ -107,7 +107,7 @@ the_control_events : control_events opening fourteen
 unfolding control_events delay_after delay_of departures_after params_after last_or places effective_moment greatest waiting_after departed_count admitted average samples begun cycles first_position first_opening first_closing first_cycle cycles_from
 the_control_events = refl
 
-abbrev parts : ℕ → ℕ → ℕ → ℕ → Parts
+abbrev pub parts : ℕ → ℕ → ℕ → ℕ → Parts
 parts prob old burst last = record { prob = prob; old_delay = old; burst = burst; last = last }
 
 the_parts : map (parts_after opening) (two_departed ∷ updated_thrice ∷ thirteen ∷ fourteen ∷ [])
@@ -198,7 +198,7 @@ the_waiting = refl
 
 -- the statistics: seven arrivals, of which five were queued as they came, one marked and one dropped early; two departures after 1000 and 1001000;
 -- three updates; and at last a reset and new parameters
-abbrev tallied : ℕ → ℕ → Stats
+abbrev pub tallied : ℕ → ℕ → Stats
 tallied resets changes = record {
   arrivals = 7;
   enqueued = 5;

@@ -9,3 +9,5 @@ pub mod RunFacts
 pub mod Examples
 pub mod ExamplesRates
 pub mod ExamplesMarks
+pub mod ExamplesBooks
+pub mod ExamplesRuns

@@ -1,0 +1,275 @@
+-- The definitions on worked histories: each theorem computes. Which histories are legal, which core shows a history, and which book
+-- tells it.
+use Rattle.std.specs.Prelude.{ℕ, ◌≡◌, List, [], ◌∷◌, ◌++◌, take, drop, Option, Some, None, Bool, true, false, map}
+use Rattle.std.proofs.Common.{refl}
+use Rattle.std.proofs.lemmas.List.Elements.{All-cons, All-head, All-nil, All-take}
+use Rattle.pie_queue.specs.declared.ecn.Ecn.TheVariants.{Ce}
+use Rattle.pie_rate.specs.Cycles.{cycles, begun, first_position, first_opening, first_closing, first_cycle, cycles_from}
+use Rattle.pie_rate.specs.Average.{average, samples}
+use Rattle.pie_rate.specs.Estimate.{Estimate}
+use Rattle.pie_control.specs.Delay.{delay_of}
+use Rattle.pie_control.specs.History.{probability, last_delay, last_moment, granted_burst, burst_allowance}
+use Rattle.pie_control.specs.Next.{raw_step, tuning_divisor, tuned_step, decayed, next}
+use Rattle.pie_control.specs.Parts.{Parts}
+use Rattle.pie_early.specs.Decision.{is_considered, is_picked}
+use Rattle.pie_early.specs.History.{accumulated}
+use Rattle.pie_book.specs.declared.command.Answer.{Answer}
+use Rattle.pie_book.specs.declared.command.Command.TheVariants.{Arrive, Depart, Update}
+use Rattle.pie_book.specs.declared.command.Answer.TheVariants.{Enqueued, Marked, DroppedBytes, Empty, Left, Updated}
+use Rattle.pie_book.specs.declared.command.Event.{Event}
+use Rattle.pie_book.specs.declared.opening.Mode.TheVariants.{Bounded, Rolling}
+use Rattle.pie_book.specs.declared.refusal.Refusal.{Refusal}
+use Rattle.pie_book.specs.declared.refusal.Refusal.TheVariants.{Size, TooSoon}
+use Rattle.pie_book.specs.declared.stats.Stats.{Stats}
+use Rattle.pie_book.specs.Deed.{Deed, deed_of, queued, marked, dropped_early, dropped_bytes, dropped_packets, departed, found_none, updated, was_reset, set, nothing}
+use Rattle.pie_book.specs.History.{Place, places, greatest, last_or, effective_moment, params_after, admitted, departed_count, waiting_after}
+use Rattle.pie_book.specs.Estimates.{departures_after, delay_after, control_events, parts_after, early_events, accu_after}
+use Rattle.pie_book.specs.Registers.{registers_after}
+use Rattle.pie_book.specs.Statistics.{largest_queue, largest_delay, waited, stats_after, no_stats}
+use Rattle.pie_book.specs.Decision.{IsLegal, IsLegalAt}
+use Rattle.pie_book.specs.Core.{CoreView, Shows, registers_of, delay_in, refusal_of, counted, with_queue}
+use Rattle.pie_book.specs.Book.{BookView, Tells, last_events, without_last, tail_with}
+use Rattle.pie_book.proofs.Examples.{limits, opened, opened_with, packet, capable, waits, event, place, three, arrival, departure_of_it, late_departure}
+use Rattle.pie_book.proofs.ExamplesMarks.{no_burst, some_burst, opening, two_departed, first_update, second_update, third_update, updated_thrice, mark, drop_of_one, lone, change, restart, twelve, thirteen, fourteen, parts, tallied}
+
+-- at each place the command is taken and has its answer
+
+legal_at_1 : IsLegalAt opening (place (take 0 fourteen) (event 1 (Arrive 0 (packet 1 1024) 0) Enqueued))
+unfolding accu_after early_events accumulated is_considered is_picked parts_after control_events delay_after delay_of departures_after params_after last_or places effective_moment greatest waiting_after departed_count admitted average samples begun cycles first_position first_opening first_closing first_cycle cycles_from probability last_delay last_moment granted_burst burst_allowance raw_step tuning_divisor tuned_step decayed next
+legal_at_1 = record { taken = refl; answered = refl }
+
+legal_at_2 : IsLegalAt opening (place (take 1 fourteen) (event 1 (Arrive 0 (packet 2 1024) 0) Enqueued))
+unfolding accu_after early_events accumulated is_considered is_picked parts_after control_events delay_after delay_of departures_after params_after last_or places effective_moment greatest waiting_after departed_count admitted average samples begun cycles first_position first_opening first_closing first_cycle cycles_from probability last_delay last_moment granted_burst burst_allowance raw_step tuning_divisor tuned_step decayed next
+legal_at_2 = record { taken = refl; answered = refl }
+
+legal_at_3 : IsLegalAt opening (place (take 2 fourteen) (event 1 (Arrive 0 (packet 3 1024) 0) Enqueued))
+unfolding accu_after early_events accumulated is_considered is_picked parts_after control_events delay_after delay_of departures_after params_after last_or places effective_moment greatest waiting_after departed_count admitted average samples begun cycles first_position first_opening first_closing first_cycle cycles_from probability last_delay last_moment granted_burst burst_allowance raw_step tuning_divisor tuned_step decayed next
+legal_at_3 = record { taken = refl; answered = refl }
+
+legal_at_4 : IsLegalAt opening (place (take 3 fourteen) (event 1 (Arrive 0 (packet 4 1024) 0) Enqueued))
+unfolding accu_after early_events accumulated is_considered is_picked parts_after control_events delay_after delay_of departures_after params_after last_or places effective_moment greatest waiting_after departed_count admitted average samples begun cycles first_position first_opening first_closing first_cycle cycles_from probability last_delay last_moment granted_burst burst_allowance raw_step tuning_divisor tuned_step decayed next
+legal_at_4 = record { taken = refl; answered = refl }
+
+legal_at_5 : IsLegalAt opening (place (take 4 fourteen) (event 3 (Depart 1000) (Left (packet 1 1024))))
+unfolding accu_after early_events accumulated is_considered is_picked parts_after control_events delay_after delay_of departures_after params_after last_or places effective_moment greatest waiting_after departed_count admitted average samples begun cycles first_position first_opening first_closing first_cycle cycles_from probability last_delay last_moment granted_burst burst_allowance raw_step tuning_divisor tuned_step decayed next
+legal_at_5 = record { taken = refl; answered = refl }
+
+legal_at_6 : IsLegalAt opening (place (take 5 fourteen) (event 3 (Depart 1001000) (Left (packet 2 1024))))
+unfolding accu_after early_events accumulated is_considered is_picked parts_after control_events delay_after delay_of departures_after params_after last_or places effective_moment greatest waiting_after departed_count admitted average samples begun cycles first_position first_opening first_closing first_cycle cycles_from probability last_delay last_moment granted_burst burst_allowance raw_step tuning_divisor tuned_step decayed next
+legal_at_6 = record { taken = refl; answered = refl }
+
+legal_at_7 : IsLegalAt opening (place (take 6 fourteen) (first_update))
+unfolding accu_after early_events accumulated is_considered is_picked parts_after control_events delay_after delay_of departures_after params_after last_or places effective_moment greatest waiting_after departed_count admitted average samples begun cycles first_position first_opening first_closing first_cycle cycles_from probability last_delay last_moment granted_burst burst_allowance raw_step tuning_divisor tuned_step decayed next
+legal_at_7 = record { taken = refl; answered = refl }
+
+legal_at_8 : IsLegalAt opening (place (take 7 fourteen) (second_update))
+unfolding accu_after early_events accumulated is_considered is_picked parts_after control_events delay_after delay_of departures_after params_after last_or places effective_moment greatest waiting_after departed_count admitted average samples begun cycles first_position first_opening first_closing first_cycle cycles_from probability last_delay last_moment granted_burst burst_allowance raw_step tuning_divisor tuned_step decayed next
+legal_at_8 = record { taken = refl; answered = refl }
+
+legal_at_9 : IsLegalAt opening (place (take 8 fourteen) (third_update))
+unfolding accu_after early_events accumulated is_considered is_picked parts_after control_events delay_after delay_of departures_after params_after last_or places effective_moment greatest waiting_after departed_count admitted average samples begun cycles first_position first_opening first_closing first_cycle cycles_from probability last_delay last_moment granted_burst burst_allowance raw_step tuning_divisor tuned_step decayed next
+legal_at_9 = record { taken = refl; answered = refl }
+
+legal_at_10 : IsLegalAt opening (place (take 9 fourteen) (mark))
+unfolding accu_after early_events accumulated is_considered is_picked parts_after control_events delay_after delay_of departures_after params_after last_or places effective_moment greatest waiting_after departed_count admitted average samples begun cycles first_position first_opening first_closing first_cycle cycles_from probability last_delay last_moment granted_burst burst_allowance raw_step tuning_divisor tuned_step decayed next
+legal_at_10 = record { taken = refl; answered = refl }
+
+legal_at_11 : IsLegalAt opening (place (take 10 fourteen) (drop_of_one))
+unfolding accu_after early_events accumulated is_considered is_picked parts_after control_events delay_after delay_of departures_after params_after last_or places effective_moment greatest waiting_after departed_count admitted average samples begun cycles first_position first_opening first_closing first_cycle cycles_from probability last_delay last_moment granted_burst burst_allowance raw_step tuning_divisor tuned_step decayed next
+legal_at_11 = record { taken = refl; answered = refl }
+
+legal_at_12 : IsLegalAt opening (place (take 11 fourteen) (lone))
+unfolding accu_after early_events accumulated is_considered is_picked parts_after control_events delay_after delay_of departures_after params_after last_or places effective_moment greatest waiting_after departed_count admitted average samples begun cycles first_position first_opening first_closing first_cycle cycles_from probability last_delay last_moment granted_burst burst_allowance raw_step tuning_divisor tuned_step decayed next
+legal_at_12 = record { taken = refl; answered = refl }
+
+legal_at_13 : IsLegalAt opening (place (take 12 fourteen) (change))
+unfolding accu_after early_events accumulated is_considered is_picked parts_after control_events delay_after delay_of departures_after params_after last_or places effective_moment greatest waiting_after departed_count admitted average samples begun cycles first_position first_opening first_closing first_cycle cycles_from probability last_delay last_moment granted_burst burst_allowance raw_step tuning_divisor tuned_step decayed next
+legal_at_13 = record { taken = refl; answered = refl }
+
+legal_at_14 : IsLegalAt opening (place (take 13 fourteen) (restart))
+unfolding accu_after early_events accumulated is_considered is_picked parts_after control_events delay_after delay_of departures_after params_after last_or places effective_moment greatest waiting_after departed_count admitted average samples begun cycles first_position first_opening first_closing first_cycle cycles_from probability last_delay last_moment granted_burst burst_allowance raw_step tuning_divisor tuned_step decayed next
+legal_at_14 = record { taken = refl; answered = refl }
+
+fourteen-legal : IsLegal opening fourteen
+unfolding places
+fourteen-legal =
+    let from_14 = All-cons (IsLegalAt opening) (place (take 13 fourteen) (restart)) (drop 14 (places fourteen)) legal_at_14 (All-nil (IsLegalAt opening)) in
+    let from_13 = All-cons (IsLegalAt opening) (place (take 12 fourteen) (change)) (drop 13 (places fourteen)) legal_at_13 from_14 in
+    let from_12 = All-cons (IsLegalAt opening) (place (take 11 fourteen) (lone)) (drop 12 (places fourteen)) legal_at_12 from_13 in
+    let from_11 = All-cons (IsLegalAt opening) (place (take 10 fourteen) (drop_of_one)) (drop 11 (places fourteen)) legal_at_11 from_12 in
+    let from_10 = All-cons (IsLegalAt opening) (place (take 9 fourteen) (mark)) (drop 10 (places fourteen)) legal_at_10 from_11 in
+    let from_9 = All-cons (IsLegalAt opening) (place (take 8 fourteen) (third_update)) (drop 9 (places fourteen)) legal_at_9 from_10 in
+    let from_8 = All-cons (IsLegalAt opening) (place (take 7 fourteen) (second_update)) (drop 8 (places fourteen)) legal_at_8 from_9 in
+    let from_7 = All-cons (IsLegalAt opening) (place (take 6 fourteen) (first_update)) (drop 7 (places fourteen)) legal_at_7 from_8 in
+    let from_6 = All-cons (IsLegalAt opening) (place (take 5 fourteen) (event 3 (Depart 1001000) (Left (packet 2 1024)))) (drop 6 (places fourteen)) legal_at_6 from_7 in
+    let from_5 = All-cons (IsLegalAt opening) (place (take 4 fourteen) (event 3 (Depart 1000) (Left (packet 1 1024)))) (drop 5 (places fourteen)) legal_at_5 from_6 in
+    let from_4 = All-cons (IsLegalAt opening) (place (take 3 fourteen) (event 1 (Arrive 0 (packet 4 1024) 0) Enqueued)) (drop 4 (places fourteen)) legal_at_4 from_5 in
+    let from_3 = All-cons (IsLegalAt opening) (place (take 2 fourteen) (event 1 (Arrive 0 (packet 3 1024) 0) Enqueued)) (drop 3 (places fourteen)) legal_at_3 from_4 in
+    let from_2 = All-cons (IsLegalAt opening) (place (take 1 fourteen) (event 1 (Arrive 0 (packet 2 1024) 0) Enqueued)) (drop 2 (places fourteen)) legal_at_2 from_3 in
+    All-cons (IsLegalAt opening) (place (take 0 fourteen) (event 1 (Arrive 0 (packet 1 1024) 0) Enqueued)) (drop 1 (places fourteen)) legal_at_1 from_2
+
+twelve-legal : IsLegal opening twelve
+unfolding places
+twelve-legal = All-take (IsLegalAt opening) 12 (places fourteen) fourteen-legal
+
+-- a departure of a packet that never came is not legal, nor is an event whose command would be refused, nor another answer
+
+invented-illegal : IsLegal (opened 4 16 100) (event 2 (Depart 1) (Left (packet 7 1500)) ∷ []) → ⊥
+unfolding accu_after early_events accumulated is_considered is_picked parts_after control_events delay_after delay_of departures_after params_after last_or places effective_moment greatest waiting_after departed_count admitted average samples begun cycles first_position first_opening first_closing first_cycle cycles_from probability last_delay last_moment granted_burst burst_allowance raw_step tuning_divisor tuned_step decayed next
+invented-illegal legal =
+    let first = All-head (IsLegalAt (opened 4 16 100)) (place [] (event 2 (Depart 1) (Left (packet 7 1500)))) [] legal in
+    let answered : Left (packet 7 1500) ≡ Empty = first.answered in cc
+
+too_large-illegal : IsLegal (opened 4 16 100) (event 1 (Arrive 1 (packet 1 65536) 0) Enqueued ∷ []) → ⊥
+unfolding accu_after early_events accumulated is_considered is_picked parts_after control_events delay_after delay_of departures_after params_after last_or places effective_moment greatest waiting_after departed_count admitted average samples begun cycles first_position first_opening first_closing first_cycle cycles_from probability last_delay last_moment granted_burst burst_allowance raw_step tuning_divisor tuned_step decayed next
+too_large-illegal legal =
+    let first = All-head (IsLegalAt (opened 4 16 100)) (place [] (event 1 (Arrive 1 (packet 1 65536) 0) Enqueued)) [] legal in
+    let taken : Some Size ≡ None = first.taken in cc
+
+early_update-illegal : IsLegal (opened 4 16 100) (event 1 (Update 14999999) (Updated 0 0 150000000) ∷ []) → ⊥
+unfolding accu_after early_events accumulated is_considered is_picked parts_after control_events delay_after delay_of departures_after params_after last_or places effective_moment greatest waiting_after departed_count admitted average samples begun cycles first_position first_opening first_closing first_cycle cycles_from probability last_delay last_moment granted_burst burst_allowance raw_step tuning_divisor tuned_step decayed next
+early_update-illegal legal =
+    let first = All-head (IsLegalAt (opened 4 16 100)) (place [] (event 1 (Update 14999999) (Updated 0 0 150000000))) [] legal in
+    let taken : Some (TooSoon 15000000) ≡ None = first.taken in cc
+
+-- the fourth arrival cannot have been marked: the tenth event has the answer of a mark, the fourth not
+wrong_mark-illegal : IsLegalAt opening (place (take 3 fourteen) (event 1 (Arrive 0 (packet 4 1024) 0) Marked)) → ⊥
+unfolding accu_after early_events accumulated is_considered is_picked parts_after control_events delay_after delay_of departures_after params_after last_or places effective_moment greatest waiting_after departed_count admitted average samples begun cycles first_position first_opening first_closing first_cycle cycles_from probability last_delay last_moment granted_burst burst_allowance raw_step tuning_divisor tuned_step decayed next
+wrong_mark-illegal legal = let answered : Marked ≡ Enqueued = legal.answered in cc
+
+-- the core after twelve events: a cycle is begun since the second departure, and has counted nothing yet
+abbrev core_at_twelve : CoreView
+core_at_twelve = record {
+  packets = 8;
+  events = 100;
+  params = no_burst;
+  count = 12;
+  moment = 1001003;
+  waiting = waits (packet 3 1024) 0 ∷ waits (packet 4 1024) 0 ∷ waits (record { tag = 5; size = 500; ecn = Ce }) 1001003 ∷ waits (packet 7 500) 1001003 ∷ [];
+  rate = record { average = 1000000; begun = Some (record { start = 1001000; count = 0 }) };
+  control = parts 903954174169 2000000 0 1001002;
+  accu = 903954174169;
+  stats = tallied 0 0;
+}
+
+-- after all fourteen the estimate, the probability and what was accumulated are gone
+abbrev core_at_fourteen : CoreView
+core_at_fourteen = record core_at_twelve {
+  params = some_burst;
+  count = 14;
+  moment = 1001005;
+  rate = record { average = 0; begun = None };
+  control = parts 0 0 50 1001002;
+  accu = 0;
+  stats = tallied 1 1;
+}
+
+twelve-shown : Shows opening core_at_twelve twelve
+unfolding stats_after largest_queue largest_delay waited accu_after early_events accumulated is_considered is_picked parts_after control_events delay_after delay_of departures_after params_after last_or places effective_moment greatest waiting_after departed_count admitted average samples begun cycles first_position first_opening first_closing first_cycle cycles_from probability last_delay last_moment granted_burst burst_allowance raw_step tuning_divisor tuned_step decayed next
+twelve-shown = record {
+  legal = twelve-legal;
+  packets = refl;
+  events = refl;
+  params = refl;
+  count = refl;
+  moment = refl;
+  waiting = refl;
+  rate = record { average = refl; begun = refl };
+  control = record { prob = refl; old_delay = refl; burst = refl; last = refl };
+  early = record { accu = refl };
+  stats = refl;
+}
+
+fourteen-shown : Shows opening core_at_fourteen fourteen
+unfolding stats_after largest_queue largest_delay waited accu_after early_events accumulated is_considered is_picked parts_after control_events delay_after delay_of departures_after params_after last_or places effective_moment greatest waiting_after departed_count admitted average samples begun cycles first_position first_opening first_closing first_cycle cycles_from probability last_delay last_moment granted_burst burst_allowance raw_step tuning_divisor tuned_step decayed next
+fourteen-shown = record {
+  legal = fourteen-legal;
+  packets = refl;
+  events = refl;
+  params = refl;
+  count = refl;
+  moment = refl;
+  waiting = refl;
+  rate = record { average = refl; begun = refl };
+  control = record { prob = refl; old_delay = refl; burst = refl; last = refl };
+  early = record { accu = refl };
+  stats = refl;
+}
+
+-- what the cores show of themselves is what looking back gives
+cores-registers : (registers_of core_at_twelve ≡ registers_after opening twelve) × (registers_of core_at_fourteen ≡ registers_after opening fourteen)
+unfolding registers_after accu_after early_events accumulated is_considered is_picked parts_after control_events delay_after delay_of departures_after params_after last_or places effective_moment greatest waiting_after departed_count admitted average samples begun cycles first_position first_opening first_closing first_cycle cycles_from probability last_delay last_moment granted_burst burst_allowance raw_step tuning_divisor tuned_step decayed next
+cores-registers = (refl, refl)
+
+cores-delay : (delay_in core_at_twelve ≡ 2976562) × (delay_in core_at_fourteen ≡ 0)
+unfolding delay_of
+cores-delay = (refl, refl)
+
+-- the next update is due at 1001003
+cores-refusal : map (λ moment. refusal_of (record core_at_twelve { moment = moment }) (Update 0)) (1001002 ∷ 1001003 ∷ []) ≡ Some (TooSoon 1001003) ∷ None ∷ []
+cores-refusal = refl
+
+-- after a fold of twelve a book tells the same fourteen events, with the last two in its tail
+abbrev pub folded_book : BookView
+folded_book = record { opening = opening; running = core_at_fourteen; checkpoint = core_at_twelve; tail = change ∷ restart ∷ [] }
+
+folded-told : Tells folded_book fourteen
+folded-told = record { tail = refl; running = fourteen-shown; checkpoint = twelve-shown }
+
+-- .. and with all of them folded, its two cores are one
+emptied-told : Tells (record folded_book { checkpoint = core_at_fourteen; tail = [] }) fourteen
+emptied-told = record { tail = refl; running = fourteen-shown; checkpoint = fourteen-shown }
+
+-- the tail's events are the last ones, in order, and the checkpoint's the others
+tails : (last_events 0 three ≡ []) × (last_events 2 three ≡ departure_of_it ∷ late_departure ∷ []) × (last_events 3 three ≡ three)
+tails = (refl, refl, refl)
+
+fronts : (without_last 0 three ≡ three) × (without_last 2 three ≡ arrival ∷ []) × (without_last 3 three ≡ [])
+fronts = (refl, refl, refl)
+
+-- one event more: a full tail of a rolling book lets its oldest go, and there is no other difference between the two
+tails_with_one : (tail_with (opened_with Rolling (limits 4 2 100) no_burst) (arrival ∷ departure_of_it ∷ []) late_departure ≡ departure_of_it ∷ late_departure ∷ [])
+    × (tail_with (opened_with Rolling (limits 4 3 100) no_burst) (arrival ∷ departure_of_it ∷ []) late_departure ≡ three)
+    × (tail_with (opened_with Bounded (limits 4 3 100) no_burst) (arrival ∷ departure_of_it ∷ []) late_departure ≡ three)
+    × (tail_with (opened_with Rolling (limits 4 1 100) no_burst) (arrival ∷ []) late_departure ≡ late_departure ∷ [])
+tails_with_one = (refl, refl, refl, refl)
+
+-- the statistics with one event more are those of the longer history
+
+counted-mark : with_queue (counted (stats_after opening updated_thrice) (deed_of mark) 0 0) 2548 ≡ stats_after opening (updated_thrice ++ mark ∷ [])
+unfolding stats_after largest_queue largest_delay waited accu_after early_events accumulated is_considered is_picked parts_after control_events delay_after delay_of departures_after params_after last_or places effective_moment greatest waiting_after departed_count admitted average samples begun cycles first_position first_opening first_closing first_cycle cycles_from probability last_delay last_moment granted_burst burst_allowance raw_step tuning_divisor tuned_step decayed next
+counted-mark = refl
+
+counted-update : with_queue (counted (stats_after opening two_departed) (deed_of first_update) 2000000 0) 2048 ≡ stats_after opening (two_departed ++ first_update ∷ [])
+unfolding stats_after largest_queue largest_delay waited accu_after early_events accumulated is_considered is_picked parts_after control_events delay_after delay_of departures_after params_after last_or places effective_moment greatest waiting_after departed_count admitted average samples begun cycles first_position first_opening first_closing first_cycle cycles_from probability last_delay last_moment granted_burst burst_allowance raw_step tuning_divisor tuned_step decayed next
+counted-update = refl
+
+counted-departure : with_queue (counted (stats_after opening (take 5 fourteen)) (departed (packet 2 1024)) 0 1001000) 2048 ≡ stats_after opening two_departed
+unfolding stats_after largest_queue largest_delay waited accu_after early_events accumulated is_considered is_picked parts_after control_events delay_after delay_of departures_after params_after last_or places effective_moment greatest waiting_after departed_count admitted average samples begun cycles first_position first_opening first_closing first_cycle cycles_from probability last_delay last_moment granted_burst burst_allowance raw_step tuning_divisor tuned_step decayed next
+counted-departure = refl
+
+counted-last : with_queue (counted (with_queue (counted (tallied 0 0) (deed_of change) 0 0) 3048) (deed_of restart) 0 0) 3048 ≡ tallied 1 1
+counted-last = refl
+
+-- what each event adds, in one row: arrivals, queued, marked, dropped early, by bytes, by packets, departed, its bytes, none found, updates, resets,
+-- changes, largest delay, waited
+abbrev row : Stats → List ℕ
+row s =
+    s.arrivals ∷ s.enqueued ∷ s.marked ∷ s.early ∷ s.over_bytes ∷ s.over_packets ∷ s.left ∷ s.left_bytes ∷ s.empty ∷ s.updates ∷ s.resets
+    ∷ s.changes ∷ s.largest_delay ∷ s.waited ∷ []
+
+abbrev adds : Deed → List ℕ
+adds d = row (counted no_stats d 7 9)
+
+each_adds : (adds (queued (packet 1 60)) ≡ 1 ∷ 1 ∷ 0 ∷ 0 ∷ 0 ∷ 0 ∷ 0 ∷ 0 ∷ 0 ∷ 0 ∷ 0 ∷ 0 ∷ 0 ∷ 0 ∷ [])
+    × (adds (marked (packet 1 60)) ≡ 1 ∷ 0 ∷ 1 ∷ 0 ∷ 0 ∷ 0 ∷ 0 ∷ 0 ∷ 0 ∷ 0 ∷ 0 ∷ 0 ∷ 0 ∷ 0 ∷ [])
+    × (adds dropped_early ≡ 1 ∷ 0 ∷ 0 ∷ 1 ∷ 0 ∷ 0 ∷ 0 ∷ 0 ∷ 0 ∷ 0 ∷ 0 ∷ 0 ∷ 0 ∷ 0 ∷ [])
+    × (adds dropped_bytes ≡ 1 ∷ 0 ∷ 0 ∷ 0 ∷ 1 ∷ 0 ∷ 0 ∷ 0 ∷ 0 ∷ 0 ∷ 0 ∷ 0 ∷ 0 ∷ 0 ∷ [])
+    × (adds dropped_packets ≡ 1 ∷ 0 ∷ 0 ∷ 0 ∷ 0 ∷ 1 ∷ 0 ∷ 0 ∷ 0 ∷ 0 ∷ 0 ∷ 0 ∷ 0 ∷ 0 ∷ [])
+    × (adds (departed (packet 1 60)) ≡ 0 ∷ 0 ∷ 0 ∷ 0 ∷ 0 ∷ 0 ∷ 1 ∷ 60 ∷ 0 ∷ 0 ∷ 0 ∷ 0 ∷ 0 ∷ 9 ∷ [])
+    × (adds found_none ≡ 0 ∷ 0 ∷ 0 ∷ 0 ∷ 0 ∷ 0 ∷ 0 ∷ 0 ∷ 1 ∷ 0 ∷ 0 ∷ 0 ∷ 0 ∷ 0 ∷ [])
+    × (adds updated ≡ 0 ∷ 0 ∷ 0 ∷ 0 ∷ 0 ∷ 0 ∷ 0 ∷ 0 ∷ 0 ∷ 1 ∷ 0 ∷ 0 ∷ 7 ∷ 0 ∷ [])
+    × (adds was_reset ≡ 0 ∷ 0 ∷ 0 ∷ 0 ∷ 0 ∷ 0 ∷ 0 ∷ 0 ∷ 0 ∷ 0 ∷ 1 ∷ 0 ∷ 0 ∷ 0 ∷ [])
+    × (adds (set no_burst) ≡ 0 ∷ 0 ∷ 0 ∷ 0 ∷ 0 ∷ 0 ∷ 0 ∷ 0 ∷ 0 ∷ 0 ∷ 0 ∷ 1 ∷ 0 ∷ 0 ∷ [])
+    × (adds nothing ≡ 0 ∷ 0 ∷ 0 ∷ 0 ∷ 0 ∷ 0 ∷ 0 ∷ 0 ∷ 0 ∷ 0 ∷ 0 ∷ 0 ∷ 0 ∷ 0 ∷ [])
+each_adds = (refl, refl, refl, refl, refl, refl, refl, refl, refl, refl, refl)

@@ -100,7 +100,8 @@ fn limits() -> Limits {
 
 /// Decides all events; the number is that of the answers.
 #[inline(never)]
-fn decide(core: &mut Core, stream: &mut Stream) -> u64 {
+fn decide(core: &mut Core) -> u64 {
+    let mut stream = Stream::new();
     let mut sum: u64 = 0;
     for _ in 0..EVENTS {
         if let Ok(answer) = core.step(1, stream.next()) {
@@ -110,56 +111,67 @@ fn decide(core: &mut Core, stream: &mut Stream) -> u64 {
     sum
 }
 
-/// Decides and records all events; where the tail is full and `folds` says so, all of it is folded first. The numbers
-/// are that of the answers and how many events were handed out.
+/// Folds all events of a full tail of a bounded book, and says how many.
+fn fold_full(alloc: Global, book: &mut Book) -> u64 {
+    if book.tail_len() < TAIL as usize || book.opening().choices.mode == Mode::Rolling {
+        return 0;
+    }
+    match book.fold(alloc, u64::from(TAIL)) {
+        Ok(events) => events.len() as u64,
+        Err(_) => 0,
+    }
+}
+
+/// Decides and records all events; the number is that of the answers and of the events that were handed out.
 #[inline(never)]
-fn record(alloc: Global, book: &mut Book, stream: &mut Stream, folds: bool) -> (u64, u64) {
+fn record(alloc: Global, book: &mut Book) -> u64 {
+    let mut stream = Stream::new();
     let mut sum: u64 = 0;
-    let mut handed_out: u64 = 0;
     for _ in 0..EVENTS {
-        if folds && book.tail_len() == TAIL as usize {
-            if let Ok(events) = book.fold(alloc, u64::from(TAIL)) {
-                handed_out = handed_out.wrapping_add(events.len() as u64);
-            }
-        }
+        sum = sum.wrapping_add(fold_full(alloc, book));
         if let Ok(answer) = book.apply(1, stream.next()) {
             sum = sum.wrapping_mul(31).wrapping_add(digest(answer));
         }
     }
-    (sum, handed_out)
+    sum
 }
 
-/// Prints the time of one event decided only (`Core::step`), decided and recorded in a bounded book with folds, and in a
-/// rolling one, and the mean wait of a packet.
-pub fn measure<R: Clock + Print>(rt: &R, alloc: Global) -> io::Result<()> {
-    let params = Params::default_profile();
-    let Ok(mut core) = Core::open(alloc, limits(), params, 0) else {
+/// Prints the time of one event that is decided only (`Core::step`), and the mean wait of a packet.
+fn measure_core<R: Clock + Print>(rt: &R, alloc: Global) -> io::Result<()> {
+    let Ok(mut core) = Core::open(alloc, limits(), Params::default_profile(), 0) else {
         return Ok(());
     };
     let start = Instant::now(rt)?;
-    let decided = decide(&mut core, &mut Stream::new());
+    let sum = decide(&mut core);
     nanos(rt, "book_decided", start.elapsed(rt)?, EVENTS)?;
-    let Ok(mut bounded) = Book::open(alloc, limits(), params, 0) else {
-        return Ok(());
-    };
-    let start = Instant::now(rt)?;
-    let (folded, handed_out) = record(alloc, &mut bounded, &mut Stream::new(), true);
-    nanos(rt, "book_recorded_bounded", start.elapsed(rt)?, EVENTS)?;
-    let rolling = Choices {
-        mode: Mode::Rolling,
-    };
-    let Ok(mut rolling) = Book::open_with(alloc, limits(), params, 0, rolling) else {
-        return Ok(());
-    };
-    let start = Instant::now(rt)?;
-    let (rolled, _) = record(alloc, &mut rolling, &mut Stream::new(), false);
-    nanos(rt, "book_recorded_rolling", start.elapsed(rt)?, EVENTS)?;
+    checksum(rt, "book_decided", sum)?;
     let stats = core.stats();
     let wait = stats.waited / u128::from(stats.left).max(1);
     println!(rt; "book_mean_wait {wait} ns")?;
-    println!(rt; "book_early {} packets", stats.early)?;
-    println!(rt; "book_folded {handed_out} events")?;
-    checksum(rt, "book_decided", decided)?;
-    checksum(rt, "book_bounded", folded)?;
-    checksum(rt, "book_rolling", rolled)
+    println!(rt; "book_early {} packets", stats.early)
+}
+
+/// Prints the time of one event that is decided and recorded (`Book::apply`).
+fn measure_book<R: Clock + Print>(
+    rt: &R,
+    alloc: Global,
+    name: &str,
+    mode: Mode,
+) -> io::Result<()> {
+    let params = Params::default_profile();
+    let Ok(mut book) = Book::open_with(alloc, limits(), params, 0, Choices { mode }) else {
+        return Ok(());
+    };
+    let start = Instant::now(rt)?;
+    let sum = record(alloc, &mut book);
+    nanos(rt, name, start.elapsed(rt)?, EVENTS)?;
+    checksum(rt, name, sum)
+}
+
+/// Prints the time of one event decided only, decided and recorded in a bounded book that is folded whenever its tail is
+/// full, and in a rolling one.
+pub fn measure<R: Clock + Print>(rt: &R, alloc: Global) -> io::Result<()> {
+    measure_core(rt, alloc)?;
+    measure_book(rt, alloc, "book_recorded_bounded", Mode::Bounded)?;
+    measure_book(rt, alloc, "book_recorded_rolling", Mode::Rolling)
 }

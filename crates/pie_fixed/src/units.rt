@@ -65,7 +65,7 @@ pub fn bounded(value: i128) -> Prob
 /// A gain times a time in nanoseconds is a probability without rounding.
 #[derive(Clone, Copy, Debug, PartialEq, Eq, PartialOrd, Ord)]
 pub struct Gain {
-    thousandths: u64,
+    thousandths: u32,
 }
 
 impl Model for Gain {
@@ -84,7 +84,9 @@ impl Gain {
         ensures { SomeIff result (units ≤ MAX_GAIN) units }
     {
         if units <= MAX_GAIN {
-            Some(Gain { thousandths: units })
+            Some(Gain {
+                thousandths: units as u32,
+            })
         } else {
             None
         }
@@ -95,7 +97,7 @@ impl Gain {
         ensures value { result ≡ self }
         ensures within { self ≤ MAX_GAIN }
     {
-        self.thousandths
+        u64::from(self.thousandths)
     }
 }
 

@@ -5,18 +5,18 @@ use crate::raw::{BadParam, RawParams};
 use pie_fixed::{Gain, Nanos, Prob};
 use std::marker::Model;
 
-/// Parameters that are all in their ranges.
+/// Parameters that are all in their ranges, in 56 bytes: each field is no wider than its range asks.
 #[derive(Clone, Copy, Debug, PartialEq, Eq)]
 pub struct Params {
     target: Nanos,
     t_update: Nanos,
     max_burst: Nanos,
+    mark_ecnth: Prob,
     alpha: Gain,
     beta: Gain,
-    mean_pkt: u64,
-    limit_bytes: u64,
-    mark_ecnth: Prob,
-    dq_threshold: u64,
+    limit_bytes: u32,
+    dq_threshold: u32,
+    mean_pkt: u16,
 }
 
 impl Model for Params {
@@ -81,10 +81,10 @@ impl Params {
             max_burst: Nanos::from_units(raw.max_burst).unwrap(),
             alpha: Gain::from_units(raw.alpha).unwrap(),
             beta: Gain::from_units(raw.beta).unwrap(),
-            mean_pkt: raw.mean_pkt,
-            limit_bytes: raw.limit_bytes,
+            mean_pkt: raw.mean_pkt as u16,
+            limit_bytes: raw.limit_bytes as u32,
             mark_ecnth: Prob::from_units(raw.mark_ecnth).unwrap(),
-            dq_threshold: raw.dq_threshold,
+            dq_threshold: raw.dq_threshold as u32,
         }
     }
 
@@ -100,10 +100,10 @@ impl Params {
             max_burst: self.max_burst.units(),
             alpha: self.alpha.units(),
             beta: self.beta.units(),
-            mean_pkt: self.mean_pkt,
-            limit_bytes: self.limit_bytes,
+            mean_pkt: u64::from(self.mean_pkt),
+            limit_bytes: u64::from(self.limit_bytes),
             mark_ecnth: self.mark_ecnth.units(),
-            dq_threshold: self.dq_threshold,
+            dq_threshold: u64::from(self.dq_threshold),
         }
     }
 
@@ -156,7 +156,7 @@ impl Params {
         ensures at_least { 1 ≤ self.mean_pkt }
         ensures at_most { self.mean_pkt ≤ 65535 }
     {
-        self.mean_pkt
+        u64::from(self.mean_pkt)
     }
 
     /// The queue's limit, 1 to 2^30 bytes (RFC 8033, section 4.1).
@@ -165,7 +165,7 @@ impl Params {
         ensures at_least { 1 ≤ self.limit_bytes }
         ensures at_most { self.limit_bytes ≤ 2 ^ 30 }
     {
-        self.limit_bytes
+        u64::from(self.limit_bytes)
     }
 
     /// The probability from which a packet is dropped and not marked (RFC 8033, section 5.1).
@@ -184,6 +184,6 @@ impl Params {
         ensures at_least { 1024 ≤ self.dq_threshold }
         ensures at_most { self.dq_threshold ≤ 65536 }
     {
-        self.dq_threshold
+        u64::from(self.dq_threshold)
     }
 }

@@ -1,0 +1,150 @@
+//! The calls on a state.
+ghost use Rattle.std.specs.Prelude.{◌≡◌};
+ghost use Rattle.pie_c.specs.Params.{raw_of};
+ghost use Rattle.pie_c.specs.State.{control_of, is_sound};
+ghost use Rattle.pie_c.specs.Calls.{after_arrival, after_leaving, after_params, after_reset, after_update, arrival_refusal, departure_refusal, ecn_at, kept_if_refused, moment_refusal, now_at, opened, opening_refusal, params_refusal, unless_refused, update_refusal, verdict};
+
+use crate::code::{
+    BAD_ECN, BAD_MOMENT, BAD_PARAMS, BAD_QUEUE, BAD_SIZE, BAD_STATE, DONE, TOO_SOON,
+};
+use crate::controller::{Controller, ecn, is_bad_size};
+use crate::params::PieParams;
+use crate::state::PieState;
+use pie_fixed::Nanos;
+use pie_params::Params;
+
+/// What an update answers.
+#[repr(C)]
+#[derive(Clone, Copy, Debug, PartialEq, Eq)]
+pub struct PieUpdated {
+    /// 0, or why the update is refused.
+    pub code: u64,
+    /// The moment from which the next update isn't too soon, in nanoseconds.
+    pub due: u64,
+    /// The delay that the update took, in nanoseconds.
+    pub delay: u64,
+    /// The probability after it, in units of `10^-12`.
+    pub prob: u64,
+    /// The burst allowance after it, in nanoseconds.
+    pub burst: u64,
+}
+
+/// The most bytes that a queue holds: the greatest byte limit.
+const MAX_QUEUED: u64 = 1 << 30;
+
+/// Opens a controller: probability and delays 0, the whole burst allowance, no sample of the
+/// departure rate (RFC 8033, sections 4.2, 4.4 and 5.2).
+///
+/// What the state held doesn't matter. Refuses parameters out of their ranges, and then a moment
+/// above `2^60 - 1`.
+#[unsafe(no_mangle)]
+#[tactic(auto, unfolding(crate::specs::Calls::opening_refusal, crate::specs::State::are_in_range))]
+pub extern "C" fn pie_open(state: &mut PieState, params: &PieParams, moment: u64) -> u32
+    ensures answer { result ≡ opening_refusal params.now moment }
+    ensures after { state.new ≡ kept_if_refused (opening_refusal params.now moment) state.old (opened params.now moment) }
+{
+    if Params::check(params.raw()).is_err() {
+        return BAD_PARAMS;
+    }
+    if Nanos::from_units(moment).is_none() {
+        return BAD_MOMENT;
+    }
+    *state = PieState {
+        params: *params,
+        moment,
+        prob: 0,
+        old_delay: 0,
+        burst: params.max_burst,
+        last: moment,
+        accu: 0,
+        average: 0,
+        measuring: 0,
+        cycle_start: 0,
+        cycle_count: 0,
+    };
+    DONE
+}
+
+/// Decides on an arriving packet, which the caller then queues, marks and queues, or drops: `queued`
+/// bytes are in the queue without it, `room` is how many more packets the caller's ring has room for,
+/// `bits` is the packet's ECN field, and `word` is random, every number as likely as any other (RFC
+/// 8033, sections 4.1, 5.1 and 5.4; RFC 3168, section 5).
+///
+/// Tail drop by bytes, then by packets, comes before all else.
+#[unsafe(no_mangle)]
+#[tactic(auto, unfolding(crate::specs::Calls::arrival_refusal))]
+pub extern "C" fn pie_arrive(
+    state: &mut PieState,
+    queued: u64,
+    size: u32,
+    room: u32,
+    bits: u32,
+    word: u64,
+    moment: u64,
+) -> u32
+    ensures answer { result ≡ unless_refused (arrival_refusal state.old queued size bits moment) (verdict (raw_of state.old.params) (control_of state.old) state.old.accu queued size room (ecn_at bits) word) }
+    ensures after { state.new ≡ kept_if_refused (arrival_refusal state.old queued size bits moment) state.old (after_arrival state.old queued size room word moment) }
+{
+    let Some(mut controller) = Controller::of(state) else {
+        return BAD_STATE;
+    };
+    if Nanos::from_units(moment).is_none() {
+        return BAD_MOMENT;
+    }
+    if is_bad_size(size) {
+        return BAD_SIZE;
+    }
+    let Some(ecn) = ecn(bits) else {
+        return BAD_ECN;
+    };
+    if queued > MAX_QUEUED {
+        return BAD_QUEUE;
+    }
+    let verdict = controller.arrive(queued, size, room, ecn, word);
+    state.moment = state.moment.max(moment);
+    state.accu = controller.early.accu().units();
+    verdict
+}
+
+/// Takes in a packet that left the queue, with `left` bytes after it (RFC 8033, section 5.2).
+#[unsafe(no_mangle)]
+#[tactic(auto, unfolding(crate::specs::Calls::departure_refusal))]
+pub extern "C" fn pie_depart(state: &mut PieState, size: u32, left: u64, moment: u64) -> u32
+    ensures answer { result ≡ departure_refusal state.old size left moment }
+    ensures after { state.new ≡ kept_if_refused (departure_refusal state.old size left moment) state.old (after_leaving state.old size left moment) }
+{
+    let Some(mut controller) = Controller::of(state) else {
+        return BAD_STATE;
+    };
+    let Some(moment) = Nanos::from_units(moment) else {
+        return BAD_MOMENT;
+    };
+    if is_bad_size(size) {
+        return BAD_SIZE;
+    }
+    if left > MAX_QUEUED {
+        return BAD_QUEUE;
+    }
+    controller.reach(moment);
+    controller.depart(size, left);
+    controller.store_rate(state);
+    state.moment = controller.moment.units();
+    DONE
+}
+
+/// Takes in a departure that found the queue empty: its moment counts, and nothing else.
+#[unsafe(no_mangle)]
+#[tactic(auto, unfolding(crate::specs::Calls::moment_refusal))]
+pub extern "C" fn pie_empty(state: &mut PieState, moment: u64) -> u32
+    ensures answer { result ≡ moment_refusal state.old moment }
+    ensures after { state.new ≡ kept_if_refused (moment_refusal state.old moment) state.old (record state.old { moment = now_at state.old moment }) }
+{
+    if Controller::of(state).is_none() {
+        return BAD_STATE;
+    }
+    if Nanos::from_units(moment).is_none() {
+        return BAD_MOMENT;
+    }
+    state.moment = state.moment.max(moment);
+    DONE
+}

@@ -16,6 +16,7 @@ use Rattle.pie_rate.specs.Estimate.{Begun, Estimate}
 use Rattle.pie_rate.specs.Step.{after_departure}
 use Rattle.pie_c.specs.declared.params.PieParams.{PieParams}
 use Rattle.pie_c.specs.declared.state.PieState.{PieState}
+use Rattle.pie_c.specs.declared.updated.PieUpdated.{PieUpdated}
 use Rattle.pie_c.specs.Params.{raw_of}
 use Rattle.pie_c.specs.State.{are_in_range, control_of, estimate_of, is_sound, last_moment}
 
@@ -142,6 +143,10 @@ with_estimate state estimate = record state {
   cycle_count = count_of estimate.begun;
 }
 
+-- no sample of the departure rate, and no cycle begun
+abbrev pub no_estimate : Estimate
+no_estimate = record { average = 0; begun = None }
+
 -- the state after a departure
 abbrev pub after_leaving : PieState → ℕ → ℕ → ℕ → PieState
 after_leaving state size left moment =
@@ -171,15 +176,51 @@ update_refusal state queued moment =
 abbrev pub delay_in : PieState → ℕ → ℕ
 delay_in state queued = delay_of queued state.average state.params.dq_threshold
 
+-- the controller's registers after an update with this delay at this moment
+abbrev pub control_after : RawParams → Parts → ℕ → ℕ → Parts
+control_after params before delay moment = record {
+  prob = next params before.prob delay before.old_delay;
+  old_delay = delay;
+  burst = burst_after params before delay;
+  last = moment;
+}
+
+-- a state with these registers of the controller
+abbrev pub with_control : PieState → Parts → PieState
+with_control state control = record state {
+  prob = control.prob;
+  old_delay = control.old_delay;
+  burst = control.burst;
+  last = control.last;
+}
+
 -- the state after an update
 abbrev pub after_update : PieState → ℕ → ℕ → PieState
-after_update state queued moment = record state {
-  moment = now_at state moment;
-  prob = next (raw_of state.params) state.prob (delay_in state queued) state.old_delay;
-  old_delay = delay_in state queued;
-  burst = burst_after (raw_of state.params) (control_of state) (delay_in state queued);
-  last = now_at state moment;
+after_update state queued moment =
+    with_control (record state { moment = now_at state moment })
+    (control_after (raw_of state.params) (control_of state) (delay_in state queued) (now_at state moment))
+
+-- what an update answers with this number, from the registers after it
+abbrev pub updated_with : ℕ → RawParams → Parts → PieUpdated
+updated_with code params control = record {
+  code = code;
+  due = control.last + params.t_update;
+  delay = control.old_delay;
+  prob = control.prob;
+  burst = control.burst;
 }
+
+-- what an update answers that is refused for what was handed in
+abbrev pub nothing_updated : ℕ → PieUpdated
+nothing_updated code = record { code = code; due = 0; delay = 0; prob = 0; burst = 0 }
+
+-- what an update answers: one that is made, from the registers after it; one that is too soon, from
+-- those that stay
+abbrev pub updated_by : PieState → ℕ → ℕ → PieUpdated
+updated_by state queued moment =
+    if update_refusal state queued moment == 0 then updated_with 0 (raw_of state.params) (control_of (after_update state queued moment))
+    else if update_refusal state queued moment == 103 then updated_with 103 (raw_of state.params) (control_of state)
+    else nothing_updated (update_refusal state queued moment)
 
 -- RESETS AND NEW PARAMETERS
 

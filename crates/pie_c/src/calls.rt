@@ -2,7 +2,7 @@
 ghost use Rattle.std.specs.Prelude.{◌≡◌};
 ghost use Rattle.pie_c.specs.Params.{raw_of};
 ghost use Rattle.pie_c.specs.State.{control_of, is_sound};
-ghost use Rattle.pie_c.specs.Calls.{after_arrival, after_leaving, after_params, after_reset, after_update, arrival_refusal, departure_refusal, ecn_at, kept_if_refused, moment_refusal, now_at, opened, opening_refusal, params_refusal, unless_refused, update_refusal, verdict};
+ghost use Rattle.pie_c.specs.Calls.{after_arrival, after_leaving, after_params, after_reset, after_update, arrival_refusal, departure_refusal, ecn_at, kept_if_refused, moment_refusal, now_at, opened, opening_refusal, params_refusal, unless_refused, update_refusal, updated_by, verdict};
 
 use crate::code::{
     BAD_ECN, BAD_MOMENT, BAD_PARAMS, BAD_QUEUE, BAD_SIZE, BAD_STATE, DONE, TOO_SOON,
@@ -10,24 +10,10 @@ use crate::code::{
 use crate::controller::{Controller, ecn, is_bad_size};
 use crate::params::PieParams;
 use crate::state::PieState;
+use crate::updated::PieUpdated;
 use pie_fixed::Nanos;
 use pie_params::Params;
-
-/// What an update answers.
-#[repr(C)]
-#[derive(Clone, Copy, Debug, PartialEq, Eq)]
-pub struct PieUpdated {
-    /// 0, or why the update is refused.
-    pub code: u64,
-    /// The moment from which the next update isn't too soon, in nanoseconds.
-    pub due: u64,
-    /// The delay that the update took, in nanoseconds.
-    pub delay: u64,
-    /// The probability after it, in units of `10^-12`.
-    pub prob: u64,
-    /// The burst allowance after it, in nanoseconds.
-    pub burst: u64,
-}
+use pie_rate::Rate;
 
 /// The most bytes that a queue holds: the greatest byte limit.
 const MAX_QUEUED: u64 = 1 << 30;
@@ -146,5 +132,81 @@ pub extern "C" fn pie_empty(state: &mut PieState, moment: u64) -> u32
         return BAD_MOMENT;
     }
     state.moment = state.moment.max(moment);
+    DONE
+}
+
+/// Makes an update where it is due, with `queued` bytes in the queue (RFC 8033, sections 4.2, 4.4 and
+/// 5.5). One before the last update's moment and `t_update` is refused as too soon.
+#[unsafe(no_mangle)]
+#[tactic(auto, unfolding(crate::specs::Calls::update_refusal))]
+pub extern "C" fn pie_update(state: &mut PieState, queued: u64, moment: u64) -> PieUpdated
+    ensures answer { result ≡ updated_by state.old queued moment }
+    ensures after { state.new ≡ kept_if_refused (update_refusal state.old queued moment) state.old (after_update state.old queued moment) }
+{
+    let Some(mut controller) = Controller::of(state) else {
+        return PieUpdated::refused(BAD_STATE);
+    };
+    let Some(moment) = Nanos::from_units(moment) else {
+        return PieUpdated::refused(BAD_MOMENT);
+    };
+    if queued > MAX_QUEUED {
+        return PieUpdated::refused(BAD_QUEUE);
+    }
+    controller.reach(moment);
+    if controller.moment.units() < controller.due() {
+        return controller.updated(TOO_SOON);
+    }
+    controller.update(queued);
+    controller.store_control(state);
+    state.moment = controller.moment.units();
+    controller.updated(DONE)
+}
+
+/// Sets probability, old delay, accumulated probability and rate estimate to 0 and the burst allowance
+/// to `max_burst`, and keeps parameters and last update.
+#[unsafe(no_mangle)]
+#[tactic(auto, unfolding(crate::specs::Calls::moment_refusal))]
+pub extern "C" fn pie_reset(state: &mut PieState, moment: u64) -> u32
+    ensures answer { result ≡ moment_refusal state.old moment }
+    ensures after { state.new ≡ kept_if_refused (moment_refusal state.old moment) state.old (after_reset state.old moment) }
+{
+    let Some(mut controller) = Controller::of(state) else {
+        return BAD_STATE;
+    };
+    let Some(moment) = Nanos::from_units(moment) else {
+        return BAD_MOMENT;
+    };
+    controller.reach(moment);
+    controller.reset();
+    controller.store_control(state);
+    controller.store_rate(state);
+    state.accu = controller.early.accu().units();
+    state.moment = controller.moment.units();
+    DONE
+}
+
+/// Puts new parameters in force, and clears the rate estimate; the other registers stay.
+///
+/// Refuses, of what is wrong, a state first, then parameters, then the moment.
+#[unsafe(no_mangle)]
+#[tactic(auto, unfolding(crate::specs::Calls::params_refusal, crate::specs::State::are_in_range))]
+pub extern "C" fn pie_set_params(state: &mut PieState, params: &PieParams, moment: u64) -> u32
+    ensures answer { result ≡ params_refusal state.old params.now moment }
+    ensures after { state.new ≡ kept_if_refused (params_refusal state.old params.now moment) state.old (after_params state.old params.now moment) }
+{
+    let Some(mut controller) = Controller::of(state) else {
+        return BAD_STATE;
+    };
+    if Params::check(params.raw()).is_err() {
+        return BAD_PARAMS;
+    }
+    let Some(moment) = Nanos::from_units(moment) else {
+        return BAD_MOMENT;
+    };
+    controller.reach(moment);
+    controller.rate = Rate::from_parts(0, None);
+    controller.store_rate(state);
+    state.params = *params;
+    state.moment = controller.moment.units();
     DONE
 }

@@ -1,14 +1,15 @@
 //! A state that was found sound, in the types of the parts.
-ghost use Rattle.std.specs.Prelude.{◌≡◌, ◌^◌, ◌<◌, ◌≤◌, max, nat_le, nat_lt, is_some, IfSome};
+ghost use Rattle.std.specs.Prelude.{◌≡◌, ◌+◌, ◌^◌, ◌<◌, ◌≤◌, max, nat_le, nat_lt, is_some, IfSome};
+ghost use Rattle.pie_control.specs.Delay.{delay_of};
 ghost use Rattle.pie_rate.specs.Departures.{departure};
 ghost use Rattle.pie_rate.specs.Step.{after_departure};
-ghost use Rattle.pie_c.specs.Calls.{accu_left, ecn_at, is_bad_size, verdict, with_estimate};
+ghost use Rattle.pie_c.specs.Calls.{accu_left, ecn_at, is_bad_size, control_after, no_estimate, verdict, with_control, with_estimate};
 ghost use Rattle.pie_c.specs.Params.{raw_of};
 ghost use Rattle.pie_c.specs.State.{control_of, estimate_of, is_control_sound, is_rate_sound, is_sound};
 
 use crate::code::{DONE, EARLY, MARK, OVER_BYTES, OVER_PACKETS};
 use crate::state::PieState;
-use pie_control::{Control, MAX_DELAY};
+use pie_control::{Control, MAX_DELAY, delay};
 use pie_early::{Choice, Early};
 use pie_fixed::{ALWAYS_PICKED, Accu, Nanos, Prob};
 use pie_params::Params;
@@ -95,6 +96,43 @@ impl Controller {
     {
         self.rate
             .departed(size, left, self.moment, self.params.dq_threshold());
+    }
+
+    /// The moment from which an update isn't too soon.
+    pub(crate) fn due(&self) -> u64
+        ensures { result ≡ self.now.control.last + self.now.params.t_update }
+    {
+        self.control.last().units() + self.params.t_update().units()
+    }
+
+    /// Makes an update at the effective moment, with so many bytes in the queue.
+    pub(crate) fn update(&mut self, queued: u64)
+        requires { queued ≤ 2 ^ 30 }
+        ensures { self.new ≡ record self.old { control = control_after self.old.params self.old.control (delay_of queued self.old.rate.average self.old.params.dq_threshold) self.old.moment } }
+    {
+        let threshold = self.params.dq_threshold();
+        let delay = delay(queued, self.rate.average(), threshold);
+        self.control.update(&self.params, delay, self.moment);
+    }
+
+    /// Sets probability, old delay, accumulated probability and rate estimate to 0 and the burst
+    /// allowance to `max_burst`.
+    pub(crate) fn reset(&mut self)
+        ensures { self.new ≡ record self.old { control = record self.old.control { prob = 0; old_delay = 0; burst = self.old.params.max_burst }; early = 0; rate = no_estimate } }
+    {
+        self.control.reset(&self.params);
+        self.early.clear();
+        self.rate = Rate::from_parts(0, None);
+    }
+
+    /// Stores the controller's registers.
+    pub(crate) fn store_control(&self, state: &mut PieState)
+        ensures { state.new ≡ with_control state.old self.now.control }
+    {
+        state.prob = self.control.prob().units();
+        state.old_delay = self.control.old();
+        state.burst = self.control.burst();
+        state.last = self.control.last().units();
     }
 
     /// Stores the estimate of the departure rate.

@@ -9,3 +9,4 @@ mod code;
 mod controller;
 mod params;
 mod state;
+mod updated;

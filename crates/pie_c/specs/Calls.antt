@@ -14,6 +14,7 @@ use Rattle.pie_early.specs.Events.{EarlyEvent, arrival, cleared}
 use Rattle.pie_rate.specs.Departures.{departure}
 use Rattle.pie_rate.specs.Estimate.{Begun, Estimate}
 use Rattle.pie_rate.specs.Step.{after_departure}
+use Rattle.pie_c.specs.declared.controller.Controller.{Controller}
 use Rattle.pie_c.specs.declared.params.PieParams.{PieParams}
 use Rattle.pie_c.specs.declared.state.PieState.{PieState}
 use Rattle.pie_c.specs.declared.updated.PieUpdated.{PieUpdated}
@@ -146,6 +147,32 @@ with_estimate state estimate = record state {
 -- no sample of the departure rate, and no cycle begun
 abbrev pub no_estimate : Estimate
 no_estimate = record { average = 0; begun = None }
+
+-- the controller that is opened with these parameters at this moment
+abbrev pub controller_opened : RawParams → ℕ → Controller
+controller_opened params moment = record {
+  params = params;
+  moment = moment;
+  control = record { prob = 0; old_delay = 0; burst = params.max_burst; last = moment };
+  early = 0;
+  rate = no_estimate;
+}
+
+-- a controller's state, with the parameters as the caller holds them
+abbrev pub state_of : PieParams → Controller → PieState
+state_of params c = record {
+  params = params;
+  moment = c.moment;
+  prob = c.control.prob;
+  old_delay = c.control.old_delay;
+  burst = c.control.burst;
+  last = c.control.last;
+  accu = c.early;
+  average = c.rate.average;
+  measuring = flag_of c.rate.begun;
+  cycle_start = start_of c.rate.begun;
+  cycle_count = count_of c.rate.begun;
+}
 
 -- the state after a departure
 abbrev pub after_leaving : PieState → ℕ → ℕ → ℕ → PieState

@@ -1,19 +1,19 @@
 //! The calls on a state.
-ghost use Rattle.std.specs.Prelude.{◌≡◌};
+ghost use Rattle.std.specs.Prelude.{◌≡◌, true};
 ghost use Rattle.pie_c.specs.Params.{raw_of};
 ghost use Rattle.pie_c.specs.State.{control_of, is_sound};
-ghost use Rattle.pie_c.specs.Calls.{after_arrival, after_leaving, after_params, after_reset, after_update, arrival_refusal, departure_refusal, ecn_at, kept_if_refused, moment_refusal, now_at, opened, opening_refusal, params_refusal, unless_refused, update_refusal, updated_by, verdict};
+ghost use Rattle.pie_c.specs.Calls.{after_arrival, after_leaving, after_params, after_reset, after_update, arrival_refusal, delay_in, departure_refusal, ecn_at, kept_if_refused, moment_refusal, now_at, opened, opening_refusal, params_refusal, shown_by, unless_refused, update_refusal, updated_by, verdict};
+ghost use Rattle.pie_c.specs.History.{Shown, Shows, nothing_shown, with_arrival, with_departure, with_params, with_reset, with_update};
 
 use crate::code::{
     BAD_ECN, BAD_MOMENT, BAD_PARAMS, BAD_QUEUE, BAD_SIZE, BAD_STATE, DONE, TOO_SOON,
 };
-use crate::controller::{Controller, ecn, is_bad_size};
+use crate::controller::{Controller, cleared, ecn, is_bad_size};
 use crate::params::PieParams;
 use crate::state::PieState;
 use crate::updated::PieUpdated;
 use pie_fixed::Nanos;
 use pie_params::Params;
-use pie_rate::Rate;
 
 /// The most bytes that a queue holds: the greatest byte limit.
 const MAX_QUEUED: u64 = 1 << 30;
@@ -24,30 +24,20 @@ const MAX_QUEUED: u64 = 1 << 30;
 /// What the state held doesn't matter. Refuses parameters out of their ranges, and then a moment
 /// above `2^60 - 1`.
 #[unsafe(no_mangle)]
-#[tactic(auto, unfolding(crate::specs::Calls::opening_refusal, crate::specs::State::are_in_range))]
+#[tactic(auto, unfolding(crate::specs::Calls::opening_refusal, crate::specs::State::are_in_range, crate::specs::State::is_sound, crate::specs::State::is_control_sound, crate::specs::State::is_rate_sound))]
 pub extern "C" fn pie_open(state: &mut PieState, params: &PieParams, moment: u64) -> u32
     ensures answer { result ≡ opening_refusal params.now moment }
     ensures after { state.new ≡ kept_if_refused (opening_refusal params.now moment) state.old (opened params.now moment) }
+    ensures sound { opening_refusal params.now moment ≡ 0 → is_sound state.new ≡ true }
+    ensures shows { opening_refusal params.now moment ≡ 0 → Shows (nothing_shown params.now moment) state.new }
 {
-    if Params::check(params.raw()).is_err() {
+    let Ok(checked) = Params::check(params.raw()) else {
         return BAD_PARAMS;
-    }
-    if Nanos::from_units(moment).is_none() {
-        return BAD_MOMENT;
-    }
-    *state = PieState {
-        params: *params,
-        moment,
-        prob: 0,
-        old_delay: 0,
-        burst: params.max_burst,
-        last: moment,
-        accu: 0,
-        average: 0,
-        measuring: 0,
-        cycle_start: 0,
-        cycle_count: 0,
     };
+    let Some(moment) = Nanos::from_units(moment) else {
+        return BAD_MOMENT;
+    };
+    *state = Controller::opened(checked, moment).state(*params);
     DONE
 }
 
@@ -70,13 +60,18 @@ pub extern "C" fn pie_arrive(
 ) -> u32
     ensures answer { result ≡ unless_refused (arrival_refusal state.old queued size bits moment) (verdict (raw_of state.old.params) (control_of state.old) state.old.accu queued size room (ecn_at bits) word) }
     ensures after { state.new ≡ kept_if_refused (arrival_refusal state.old queued size bits moment) state.old (after_arrival state.old queued size room word moment) }
+    ensures sound { is_sound state.old ≡ true → is_sound state.new ≡ true }
+    ensures shows { (shown : Shown) →
+        let event = shown_by (raw_of state.old.params) (control_of state.old) state.old.accu queued size room (ecn_at bits) word in
+        arrival_refusal state.old queued size bits moment ≡ 0 →
+        Shows shown state.old → Shows (with_arrival shown event) state.new }
 {
     let Some(mut controller) = Controller::of(state) else {
         return BAD_STATE;
     };
-    if Nanos::from_units(moment).is_none() {
+    let Some(moment) = Nanos::from_units(moment) else {
         return BAD_MOMENT;
-    }
+    };
     if is_bad_size(size) {
         return BAD_SIZE;
     }
@@ -87,7 +82,7 @@ pub extern "C" fn pie_arrive(
         return BAD_QUEUE;
     }
     let verdict = controller.arrive(queued, size, room, ecn, word);
-    state.moment = state.moment.max(moment);
+    state.moment = state.moment.max(moment.units());
     state.accu = controller.early.accu().units();
     verdict
 }
@@ -98,6 +93,11 @@ pub extern "C" fn pie_arrive(
 pub extern "C" fn pie_depart(state: &mut PieState, size: u32, left: u64, moment: u64) -> u32
     ensures answer { result ≡ departure_refusal state.old size left moment }
     ensures after { state.new ≡ kept_if_refused (departure_refusal state.old size left moment) state.old (after_leaving state.old size left moment) }
+    ensures sound { is_sound state.old ≡ true → is_sound state.new ≡ true }
+    ensures shows { (shown : Shown) →
+        departure_refusal state.old size left moment ≡ 0 →
+        Shows shown state.old →
+        Shows (with_departure shown size left (now_at state.old moment)) state.new }
 {
     let Some(mut controller) = Controller::of(state) else {
         return BAD_STATE;
@@ -124,14 +124,17 @@ pub extern "C" fn pie_depart(state: &mut PieState, size: u32, left: u64, moment:
 pub extern "C" fn pie_empty(state: &mut PieState, moment: u64) -> u32
     ensures answer { result ≡ moment_refusal state.old moment }
     ensures after { state.new ≡ kept_if_refused (moment_refusal state.old moment) state.old (record state.old { moment = now_at state.old moment }) }
+    ensures sound { is_sound state.old ≡ true → is_sound state.new ≡ true }
+    ensures shows { (shown : Shown) → Shows shown state.old → Shows shown state.new }
 {
-    if Controller::of(state).is_none() {
+    let Some(mut controller) = Controller::of(state) else {
         return BAD_STATE;
-    }
-    if Nanos::from_units(moment).is_none() {
+    };
+    let Some(moment) = Nanos::from_units(moment) else {
         return BAD_MOMENT;
-    }
-    state.moment = state.moment.max(moment);
+    };
+    controller.reach(moment);
+    state.moment = controller.moment.units();
     DONE
 }
 
@@ -142,6 +145,11 @@ pub extern "C" fn pie_empty(state: &mut PieState, moment: u64) -> u32
 pub extern "C" fn pie_update(state: &mut PieState, queued: u64, moment: u64) -> PieUpdated
     ensures answer { result ≡ updated_by state.old queued moment }
     ensures after { state.new ≡ kept_if_refused (update_refusal state.old queued moment) state.old (after_update state.old queued moment) }
+    ensures sound { is_sound state.old ≡ true → is_sound state.new ≡ true }
+    ensures shows { (shown : Shown) →
+        update_refusal state.old queued moment ≡ 0 →
+        Shows shown state.old →
+        Shows (with_update shown (raw_of state.old.params) (delay_in state.old queued) (now_at state.old moment)) state.new }
 {
     let Some(mut controller) = Controller::of(state) else {
         return PieUpdated::refused(BAD_STATE);
@@ -169,6 +177,10 @@ pub extern "C" fn pie_update(state: &mut PieState, queued: u64, moment: u64) -> 
 pub extern "C" fn pie_reset(state: &mut PieState, moment: u64) -> u32
     ensures answer { result ≡ moment_refusal state.old moment }
     ensures after { state.new ≡ kept_if_refused (moment_refusal state.old moment) state.old (after_reset state.old moment) }
+    ensures sound { is_sound state.old ≡ true → is_sound state.new ≡ true }
+    ensures shows { (shown : Shown) →
+        moment_refusal state.old moment ≡ 0 →
+        Shows shown state.old → Shows (with_reset shown (raw_of state.old.params)) state.new }
 {
     let Some(mut controller) = Controller::of(state) else {
         return BAD_STATE;
@@ -193,18 +205,22 @@ pub extern "C" fn pie_reset(state: &mut PieState, moment: u64) -> u32
 pub extern "C" fn pie_set_params(state: &mut PieState, params: &PieParams, moment: u64) -> u32
     ensures answer { result ≡ params_refusal state.old params.now moment }
     ensures after { state.new ≡ kept_if_refused (params_refusal state.old params.now moment) state.old (after_params state.old params.now moment) }
+    ensures sound { is_sound state.old ≡ true → is_sound state.new ≡ true }
+    ensures shows { (shown : Shown) →
+        params_refusal state.old params.now moment ≡ 0 →
+        Shows shown state.old → Shows (with_params shown) state.new }
 {
     let Some(mut controller) = Controller::of(state) else {
         return BAD_STATE;
     };
-    if Params::check(params.raw()).is_err() {
+    let Ok(_) = Params::check(params.raw()) else {
         return BAD_PARAMS;
-    }
+    };
     let Some(moment) = Nanos::from_units(moment) else {
         return BAD_MOMENT;
     };
     controller.reach(moment);
-    controller.rate = Rate::from_parts(0, None);
+    controller.rate = cleared();
     controller.store_rate(state);
     state.params = *params;
     state.moment = controller.moment.units();

@@ -1,13 +1,20 @@
 //! A state that was found sound, in the types of the parts.
-ghost use Rattle.std.specs.Prelude.{◌≡◌, ◌+◌, ◌^◌, ◌<◌, ◌≤◌, max, nat_le, nat_lt, is_some, IfSome};
+ghost use Rattle.std.specs.Prelude.{◌≡◌, ℕ, ◌+◌, List, [], ◌∷◌, ◌++◌, ◌^◌, ◌<◌, ◌≤◌, max, nat_le, nat_lt, is_some, IfSome};
 ghost use Rattle.pie_control.specs.Delay.{delay_of};
-ghost use Rattle.pie_rate.specs.Departures.{departure};
+ghost use Rattle.pie_params.specs.declared.raw.RawParams.{RawParams};
+ghost use Rattle.pie_control.specs.Events.{ControlEvent, reset, update_at};
+ghost use Rattle.pie_control.specs.History.{Shows as ShowsControl};
+ghost use Rattle.pie_early.specs.Events.{EarlyEvent, cleared};
+ghost use Rattle.pie_early.specs.History.{Shows as ShowsEarly};
+ghost use Rattle.pie_rate.specs.Estimate.{Shows as ShowsRate};
+ghost use Rattle.pie_rate.specs.Departures.{Departure, departure};
 ghost use Rattle.pie_rate.specs.Step.{after_departure};
-ghost use Rattle.pie_c.specs.Calls.{accu_left, ecn_at, is_bad_size, control_after, no_estimate, verdict, with_control, with_estimate};
+ghost use Rattle.pie_c.specs.Calls.{accu_left, ecn_at, is_bad_size, control_after, controller_opened, no_estimate, shown_by, state_of, verdict, with_control, with_estimate};
 ghost use Rattle.pie_c.specs.Params.{raw_of};
 ghost use Rattle.pie_c.specs.State.{control_of, estimate_of, is_control_sound, is_rate_sound, is_sound};
 
 use crate::code::{DONE, EARLY, MARK, OVER_BYTES, OVER_PACKETS};
+use crate::params::PieParams;
 use crate::state::PieState;
 use pie_control::{Control, MAX_DELAY, delay};
 use pie_early::{Choice, Early};
@@ -57,6 +64,45 @@ impl Controller {
         })
     }
 
+    /// The controller that is opened with these parameters at this moment.
+    pub(crate) fn opened(params: Params, moment: Nanos) -> Self
+        ensures value { result ≡ controller_opened params moment }
+        ensures control { ShowsControl params moment [] result.control }
+        ensures early { ShowsEarly [] result.early }
+        ensures rate { (threshold : ℕ) → ShowsRate threshold [] result.rate }
+        ensures burst { result.control.burst ≤ 10 ^ 12 }
+    {
+        Controller {
+            params,
+            moment,
+            control: Control::opened(&params, moment),
+            early: Early::opened(),
+            rate: cleared(),
+        }
+    }
+
+    /// The state of this controller, with its parameters as the caller holds them.
+    pub(crate) fn state(&self, params: PieParams) -> PieState
+        ensures { result ≡ state_of params self.now }
+    {
+        let mut state = PieState {
+            params,
+            moment: self.moment.units(),
+            prob: 0,
+            old_delay: 0,
+            burst: 0,
+            last: 0,
+            accu: self.early.accu().units(),
+            average: 0,
+            measuring: 0,
+            cycle_start: 0,
+            cycle_count: 0,
+        };
+        self.store_control(&mut state);
+        self.store_rate(&mut state);
+        state
+    }
+
     /// Moves the effective moment to this one, where it is later.
     pub(crate) fn reach(&mut self, moment: Nanos)
         ensures { self.new ≡ record self.old { moment = max self.old.moment moment } }
@@ -66,11 +112,14 @@ impl Controller {
 
     /// What becomes of an arriving packet: tail drop by bytes, then by packets, and else early drop
     /// chooses.
-    #[tactic(auto, unfolding(crate::specs::Calls::verdict, crate::specs::Calls::accu_left))]
+    #[tactic(auto, unfolding(crate::specs::Calls::verdict, crate::specs::Calls::accu_left, crate::specs::Calls::shown_by))]
     pub(crate) fn arrive(&mut self, queued: u64, size: u32, room: u32, ecn: Ecn, word: u64) -> u32
         requires { queued ≤ 2 ^ 30 }
         ensures verdict { result ≡ verdict self.old.params self.old.control self.old.early queued size room ecn word }
         ensures accu { self.new.early ≡ accu_left self.old.params self.old.control self.old.early queued size room word }
+        ensures shows { (events : List EarlyEvent) →
+            ShowsEarly events self.old.early →
+            ShowsEarly (events ++ shown_by self.old.params self.old.control self.old.early queued size room ecn word ∷ []) self.new.early }
     {
         let tail_drop = if queued + u64::from(size) > self.params.limit_bytes() {
             OVER_BYTES
@@ -92,7 +141,11 @@ impl Controller {
 
     /// Takes in a packet that left, with `left` bytes after it.
     pub(crate) fn depart(&mut self, size: u32, left: u64)
-        ensures { self.new ≡ record self.old { rate = after_departure self.old.params.dq_threshold self.old.rate (departure size left self.old.moment) } }
+        ensures step { self.new ≡ record self.old { rate = after_departure self.old.params.dq_threshold self.old.rate (departure size left self.old.moment) } }
+        ensures threshold { 1024 ≤ self.old.params.dq_threshold }
+        ensures shows { (departures : List Departure) →
+            ShowsRate self.old.params.dq_threshold departures self.old.rate →
+            ShowsRate self.old.params.dq_threshold (departures ++ departure size left self.old.moment ∷ []) self.new.rate }
     {
         self.rate
             .departed(size, left, self.moment, self.params.dq_threshold());
@@ -108,7 +161,11 @@ impl Controller {
     /// Makes an update at the effective moment, with so many bytes in the queue.
     pub(crate) fn update(&mut self, queued: u64)
         requires { queued ≤ 2 ^ 30 }
-        ensures { self.new ≡ record self.old { control = control_after self.old.params self.old.control (delay_of queued self.old.rate.average self.old.params.dq_threshold) self.old.moment } }
+        ensures step { self.new ≡ record self.old { control = control_after self.old.params self.old.control (delay_of queued self.old.rate.average self.old.params.dq_threshold) self.old.moment } }
+        ensures shows { (opening : RawParams) (start : ℕ) (events : List ControlEvent) →
+            let delay = delay_of queued self.old.rate.average self.old.params.dq_threshold in
+            ShowsControl opening start events self.old.control →
+            ShowsControl opening start (events ++ update_at self.old.params delay self.old.moment ∷ []) self.new.control }
     {
         let threshold = self.params.dq_threshold();
         let delay = delay(queued, self.rate.average(), threshold);
@@ -118,16 +175,25 @@ impl Controller {
     /// Sets probability, old delay, accumulated probability and rate estimate to 0 and the burst
     /// allowance to `max_burst`.
     pub(crate) fn reset(&mut self)
-        ensures { self.new ≡ record self.old { control = record self.old.control { prob = 0; old_delay = 0; burst = self.old.params.max_burst }; early = 0; rate = no_estimate } }
+        ensures step { self.new ≡ record self.old { control = record self.old.control { prob = 0; old_delay = 0; burst = self.old.params.max_burst }; early = 0; rate = no_estimate } }
+        ensures control { (opening : RawParams) (start : ℕ) (events : List ControlEvent) →
+            ShowsControl opening start events self.old.control →
+            ShowsControl opening start (events ++ reset self.old.params ∷ []) self.new.control }
+        ensures early { (events : List EarlyEvent) →
+            ShowsEarly events self.old.early → ShowsEarly (events ++ cleared ∷ []) self.new.early }
+        ensures rate { (threshold : ℕ) → ShowsRate threshold [] self.new.rate }
     {
         self.control.reset(&self.params);
         self.early.clear();
-        self.rate = Rate::from_parts(0, None);
+        self.rate = cleared();
     }
 
     /// Stores the controller's registers.
     pub(crate) fn store_control(&self, state: &mut PieState)
-        ensures { state.new ≡ with_control state.old self.now.control }
+        ensures after { state.new ≡ with_control state.old self.now.control }
+        ensures prob { self.now.control.prob ≤ 10 ^ 12 }
+        ensures old { self.now.control.old_delay ≤ 2 ^ 40 }
+        ensures burst { self.now.control.burst ≤ 10 ^ 12 }
     {
         state.prob = self.control.prob().units();
         state.old_delay = self.control.old();
@@ -137,7 +203,8 @@ impl Controller {
 
     /// Stores the estimate of the departure rate.
     pub(crate) fn store_rate(&self, state: &mut PieState)
-        ensures { state.new ≡ with_estimate state.old self.now.rate }
+        ensures after { state.new ≡ with_estimate state.old self.now.rate }
+        ensures average { self.now.rate.average < 2 ^ 60 }
     {
         state.average = self.rate.average();
         (state.measuring, state.cycle_start, state.cycle_count) = match self.rate.begun() {
@@ -145,6 +212,15 @@ impl Controller {
             None => (0, 0, 0),
         };
     }
+}
+
+/// No sample of the departure rate, and no cycle begun.
+#[tactic(auto, unfolding(pie_rate::specs::Average::average, pie_rate::specs::Average::samples, pie_rate::specs::Cycles::cycles, pie_rate::specs::Cycles::cycles_from, pie_rate::specs::Cycles::begun, pie_rate::specs::Cycles::first_opening, pie_rate::specs::Cycles::first_position))]
+pub(crate) fn cleared() -> Rate
+    ensures value { result ≡ no_estimate }
+    ensures shows { (threshold : ℕ) → ShowsRate threshold [] result }
+{
+    Rate::cleared()
 }
 
 /// The ECN field of these two bits, `None` above 3 (RFC 3168, section 5).

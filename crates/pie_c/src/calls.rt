@@ -127,14 +127,14 @@ pub extern "C" fn pie_empty(state: &mut PieState, moment: u64) -> u32
     ensures sound { is_sound state.old ≡ true → is_sound state.new ≡ true }
     ensures shows { (shown : Shown) → Shows shown state.old → Shows shown state.new }
 {
-    let Some(mut controller) = Controller::of(state) else {
+    let Some(mut reached) = Controller::of(state) else {
         return BAD_STATE;
     };
     let Some(moment) = Nanos::from_units(moment) else {
         return BAD_MOMENT;
     };
-    controller.reach(moment);
-    state.moment = controller.moment.units();
+    reached.reach(moment);
+    state.moment = reached.moment.units();
     DONE
 }
 

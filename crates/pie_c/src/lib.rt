@@ -9,4 +9,6 @@ mod code;
 mod controller;
 mod params;
 mod state;
+#[cfg(test)]
+mod tests;
 mod updated;

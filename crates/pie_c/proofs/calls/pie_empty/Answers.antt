@@ -6,7 +6,7 @@ pub returns-clause-sound : goal.returns-clause-sound
 returns-clause-sound c = λ sound.
     let state = c.args.state.now in
     let before = Sound-from state sound in
-    let now : c.units-state.result ≡ max c.in-Some.controller.moment c.in-Some-from_units.moment = c.units-state.ensures.value ∙ ap (λ x. x.moment) c.reach.ensures in
+    let now : c.units-state.result ≡ max c.in-Some.reached.moment c.in-Some-from_units.moment = c.units-state.ensures.value ∙ ap (λ x. x.moment) c.reach.ensures in
     let later : state.moment ≤ c.units-state.result = omega (arith, now, c.in-Some.ensures.moment) in
     Sound-to _ (record {
       params = before.params;

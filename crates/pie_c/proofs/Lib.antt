@@ -1,1 +1,2 @@
 pub mod Sound
+mod Examples

@@ -41,6 +41,7 @@ const AVERAGES: u64 = 1 << 60;
 
 impl Controller {
     /// The controller of a state, `None` where it isn't sound.
+    #[inline(always)]
     #[tactic(auto, unfolding(crate::specs::State::is_sound, crate::specs::State::are_in_range))]
     pub(crate) fn of(state: &PieState) -> Option<Self>
         ensures sound { is_some result ≡ is_sound state.now }
@@ -245,6 +246,7 @@ pub(crate) fn is_bad_size(size: u32) -> bool
 }
 
 /// The controller's registers, `None` where they are out of their ranges.
+#[inline(always)]
 #[tactic(auto, unfolding(crate::specs::State::is_control_sound))]
 fn control(state: &PieState) -> Option<Control>
     requires { state.now.moment < 2 ^ 60 }
@@ -271,6 +273,7 @@ fn early(state: &PieState) -> Option<Early>
 }
 
 /// The estimate of the departure rate, `None` where it is out of its range.
+#[inline(always)]
 #[tactic(auto, unfolding(crate::specs::State::is_rate_sound))]
 fn rate(state: &PieState) -> Option<Rate>
     requires moment { state.now.moment < 2 ^ 60 }

@@ -1,12 +1,12 @@
 -- The definitions on worked rows: each theorem computes.
 use Rattle.std.proofs.Common.{◌≡◌, ℕ, ◌+◌, ◌^◌, ◌-◌, true, false, refl}
-use Rattle.pie_queue.specs.declared.ecn.Ecn.TheVariants.{NotEct, Ect0}
+use Rattle.pie_queue.specs.declared.ecn.Ecn.TheVariants.{Ect0}
 use Rattle.pie_control.specs.Delay.{delay_of}
 use Rattle.pie_control.specs.Next.{raw_step, tuning_divisor, tuned_step, decayed, next}
 use Rattle.pie_early.specs.Decision.{is_considered, is_picked}
 use Rattle.pie_c.specs.declared.params.PieParams.{PieParams}
 use Rattle.pie_c.specs.declared.state.PieState.{PieState}
-use Rattle.pie_c.specs.Calls.{accu_left, after_arrival, after_leaving, after_update, arrival_refusal, departure_refusal, opened, params_refusal, update_refusal, verdict}
+use Rattle.pie_c.specs.Calls.{accu_left, after_arrival, after_leaving, after_update, arrival_refusal, opened, update_refusal, verdict}
 use Rattle.pie_c.specs.Params.{raw_of}
 use Rattle.pie_c.specs.State.{are_in_range, control_of, is_control_sound, is_rate_sound, is_sound}
 

@@ -72,6 +72,55 @@ __attribute__((noinline)) static uint32_t arrived(struct plain *plain, const str
     return consider(&plain->accu, p, &plain->control, queued, (int)ecn, random);
 }
 
+/* Whether a state is one that the library takes: the same ranges, one comparison after another. */
+static inline int is_sound(const struct pie_state *s) {
+    const struct pie_params *p = &s->params;
+    uint64_t t = p->dq_threshold;
+    if (p->target < 2 || p->target > 10000000000 || p->t_update < 1 || p->t_update > 10000000000)
+        return 0;
+    if (p->max_burst > ONE || p->alpha > 1000000 || p->beta > 1000000 || p->mean_pkt < 1 || p->mean_pkt > 65535)
+        return 0;
+    if (p->limit_bytes < 1 || p->limit_bytes > 1 << 30 || p->mark_ecnth > ONE || t < 1024 || t > 65536 || (t & (t - 1)))
+        return 0;
+    if (s->moment >> 60 || s->prob > ONE || s->old_delay > (uint64_t)1 << 40 || s->burst > ONE || s->last > s->moment)
+        return 0;
+    if (s->accu >= 8500000000000 || s->average >> 60)
+        return 0;
+    if (s->measuring == 1)
+        return s->cycle_start <= s->moment && s->cycle_count < t;
+    return s->measuring == 0 && s->cycle_start == 0 && s->cycle_count == 0;
+}
+
+/* An arrival in plain C with the library's checks. */
+__attribute__((noinline)) static uint32_t checked(struct pie_state *s, uint64_t queued, uint32_t size, uint32_t room,
+                                                  uint32_t ecn, uint64_t random, uint64_t moment) {
+    if (!is_sound(s))
+        return PIE_BAD_STATE;
+    if (moment >> 60 || size == 0 || size > 65535 || ecn > 3 || queued > 1 << 30)
+        return PIE_BAD_MOMENT;
+    if (moment > s->moment)
+        s->moment = moment;
+    if (queued + size > s->params.limit_bytes || room == 0) {
+        s->accu = 0;
+        return queued + size > s->params.limit_bytes ? PIE_BYTES : PIE_PACKETS;
+    }
+    if (s->burst != 0 || queued <= 2 * s->params.mean_pkt ||
+        (2 * s->old_delay < s->params.target && s->prob < 200000000000))
+        return PIE_ENQUEUE;
+    uint64_t prob = s->prob, sum = s->accu + prob;
+    if (prob == 0) {
+        s->accu = 0;
+        return PIE_ENQUEUE;
+    }
+    if (sum < 850000000000 ||
+        (sum < 8500000000000 && !((unsigned __int128)random * ONE < (unsigned __int128)prob << 64))) {
+        s->accu = sum;
+        return PIE_ENQUEUE;
+    }
+    s->accu = 0;
+    return ecn != 0 && prob < s->params.mark_ecnth ? PIE_MARK : PIE_EARLY;
+}
+
 struct waiting {
     uint32_t size;
     uint64_t since;
@@ -165,7 +214,7 @@ static struct outcome run(enum which which) {
 }
 
 /* The time of one call, over the same inputs as pie_step's. */
-static void calls(double least[6]) {
+static void calls(double least[7]) {
     static struct arrival arrivals[INPUTS];
     static struct departure departures[INPUTS];
     struct params p = plain_params;
@@ -188,7 +237,7 @@ static void calls(double least[6]) {
     struct pie_state opened = state;
     struct plain plain = {0, 0, {state.prob, state.old_delay, 0, 0}, {0, 0, 0, 0}};
     uint64_t a = 0, b = 0;
-    double times[6], begin = nanos();
+    double times[7], begin = nanos();
     for (int i = 0; i < INPUTS; i++)
         a += pie_arrive(&state, arrivals[i].bytes, 1000, 1, (uint32_t)arrivals[i].ecn, arrivals[i].word, (uint64_t)i);
     times[0] = nanos() - begin;
@@ -197,6 +246,13 @@ static void calls(double least[6]) {
         b += arrived(&plain, &p, arrivals[i].bytes, 1000, 1, (uint32_t)arrivals[i].ecn, arrivals[i].word, (uint64_t)i);
     times[1] = nanos() - begin;
     if (a != b || state.accu != plain.accu)
+        exit(2);
+    state = opened;
+    begin = nanos();
+    for (int i = 0; i < INPUTS; i++)
+        a -= checked(&state, arrivals[i].bytes, 1000, 1, (uint32_t)arrivals[i].ecn, arrivals[i].word, (uint64_t)i);
+    times[6] = nanos() - begin;
+    if (a != 0 || state.accu != plain.accu)
         exit(2);
     state = opened;
     begin = nanos();
@@ -219,18 +275,19 @@ static void calls(double least[6]) {
     times[5] = nanos() - begin;
     if (state.prob != plain.control.prob || state.burst != plain.control.burst)
         exit(4);
-    for (int k = 0; k < 6; k++)
+    for (int k = 0; k < 7; k++)
         if (least[k] == 0 || times[k] / INPUTS < least[k])
             least[k] = times[k] / INPUTS;
 }
 
 int main(void) {
-    double least[6] = {0};
+    double least[7] = {0};
     for (int k = 0; k < RUNS * 3; k++)
         calls(least);
     static const char *const which[] = {"arrive", "depart", "update"};
     for (int k = 0; k < 3; k++)
         printf("%s_library %.1f ns\n%s_c %.1f ns\n", which[k], least[2 * k], which[k], least[2 * k + 1]);
+    printf("arrive_c_with_the_checks %.1f ns\n", least[6]);
 
     stream = malloc(PACKETS * sizeof *stream);
     if (!stream)

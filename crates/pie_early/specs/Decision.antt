@@ -46,6 +46,14 @@ choice_of params control bytes ecn word accu =
     then picked_choice params control.prob ecn
     else Enqueue
 
+-- the accumulated probability after such an arrival: as it was where it isn't considered, 0 where it
+-- is considered at probability 0 or picked, and else grown by the probability
+abbrev pub accu_after : RawParams → Parts → ℕ → ℕ → ℕ → ℕ
+accu_after params control bytes word accu =
+    if not (is_considered params control bytes) then accu
+    else if (control.prob == 0) || is_picked control.prob (accu + control.prob) word then 0
+    else accu + control.prob
+
 -- the same in facts: the arrival is considered and picked
 pub record IsPicked (params : RawParams) (control : Parts) (bytes word accu : ℕ) : Type 0 where
   pub no_burst : control.burst ≡ 0

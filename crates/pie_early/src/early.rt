@@ -1,6 +1,6 @@
 ghost use Rattle.std.specs.Prelude.{◌≡◌, ℕ, ◌+◌, ◌*◌, ◌<◌, ◌↔◌, List, [], ◌∷◌, ◌++◌, true, replicate, IsTrue};
 ghost use Rattle.pie_fixed.specs.declared.TheConstants.{ALWAYS_PICKED};
-ghost use Rattle.pie_early.specs.Decision.{choice_of, is_considered, is_pick, is_picked, picked_choice, IsPicked};
+ghost use Rattle.pie_early.specs.Decision.{accu_after, choice_of, is_considered, is_pick, is_picked, picked_choice, IsPicked};
 ghost use Rattle.pie_early.specs.Events.{EarlyEvent, arrival, cleared, is_clearing};
 ghost use Rattle.pie_early.specs.History.{Shows, accumulated};
 
@@ -61,6 +61,14 @@ impl Early {
         Early { accu: Accu::zero() }
     }
 
+    /// Early drop with an accumulated probability, which is below 8.5.
+    pub fn from_parts(accu: Accu) -> Self
+        requires { accu < ALWAYS_PICKED }
+        ensures { result ≡ accu }
+    {
+        Early { accu }
+    }
+
     /// Decides on an arriving packet that is no tail drop: `bytes` are in the queue without it, `ecn`
     /// is its ECN field, and `word` is a random word, every `u64` as likely as any other (RFC 8033,
     /// sections 4.1, 5.1 and 5.4; the comparison by a random word of 64 bits is this project's own).
@@ -84,6 +92,9 @@ impl Early {
     ) -> Choice
         ensures choice { result ≡ choice_of params.now control.now bytes ecn word self.old }
         ensures picked { IsTrue (is_pick result) ↔ IsPicked params.now control.now bytes word self.old }
+
+        // told from the accumulated probability before it, whichever arrivals that shows
+        ensures accu { self.new ≡ accu_after params.now control.now bytes word self.old }
 
         // looking back over all that it was shown
         ensures look_back { (events : List EarlyEvent) →

@@ -1,8 +1,9 @@
 use crate::{Choice, Early};
 use pie_control::{Control, MAX_DELAY};
-use pie_fixed::{Nanos, ONE, Prob};
+use pie_fixed::{Accu, Nanos, ONE, Prob};
 use pie_params::Params;
 use pie_queue::Ecn;
+use std::test::Fail;
 
 /// A tenth, in units of `10^-12`.
 const TENTH: u64 = 100_000_000_000;
@@ -100,4 +101,14 @@ fn a_clear_and_a_considered_arrival_at_probability_0_leave_nothing_accumulated(r
     let answer = choice(&mut early, 0, 15_000_000, Ecn::NotEct, 0);
     assert_eq!(rt; answer, Choice::Enqueue);
     assert_eq!(rt; early.accu().units(), 0);
+}
+
+#[test]
+fn early_drop_goes_on_from_its_parts(rt: HostRuntime) -> Result<(), Fail> {
+    let eight_tenths = Accu::from_units(800_000_000_000).ok_or("above 9.5")?;
+    let mut early = Early::from_parts(eight_tenths);
+    assert_eq!(rt; early.accu().units(), 800_000_000_000);
+    let ninth = choice(&mut early, TENTH, 15_000_000, Ecn::NotEct, 0);
+    assert_eq!(rt; ninth, Choice::Drop);
+    Ok(())
 }

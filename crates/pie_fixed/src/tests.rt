@@ -55,5 +55,8 @@ fn the_accumulated_probability_adds_up(rt: HostRuntime) -> Result<(), Fail> {
     let accu = Accu::zero();
     assert_eq!(rt; accu.units(), 0);
     assert_eq!(rt; accu.plus(prob(100_000_000_000)?).units(), 100_000_000_000);
+    let greatest = Accu::from_units(9_500_000_000_000).map(|a| a.units());
+    assert_eq!(rt; greatest, Some(9_500_000_000_000));
+    assert_eq!(rt; Accu::from_units(9_500_000_000_001), None);
     Ok(())
 }

@@ -3,7 +3,7 @@ ghost use Rattle.std.specs.Option.{SomeIff};
 ghost use Rattle.pie_fixed.specs.declared.TheConstants.{ALWAYS_PICKED, MAX_ACCU, MAX_GAIN, MAX_NANOS, ONE};
 ghost use Rattle.pie_fixed.specs.Fixed.{bounded_of};
 
-use crate::{MAX_GAIN, MAX_NANOS, ONE};
+use crate::{MAX_ACCU, MAX_GAIN, MAX_NANOS, ONE};
 use std::marker::Model;
 
 /// A probability of drop or mark, 0 to [`ONE`], in units of `10^-12` (RFC 8033, section 4.2; the
@@ -161,6 +161,18 @@ impl Accu {
         ensures { result ≡ 0 }
     {
         Accu { sum: 0 }
+    }
+
+    /// The accumulated probability of that many units of `10^-12`, `None` above
+    /// 9_500_000_000_000.
+    pub fn from_units(units: u64) -> Option<Self>
+        ensures { SomeIff result (units ≤ MAX_ACCU) units }
+    {
+        if units <= MAX_ACCU {
+            Some(Accu { sum: units })
+        } else {
+            None
+        }
     }
 
     /// The sum with one more probability, for an accumulated probability below 8.5.

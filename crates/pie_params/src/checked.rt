@@ -58,6 +58,7 @@ impl Params {
     /// # Errors
     ///
     /// `BadParam` with the first field that is out of its range.
+    #[inline(always)]
     pub fn check(raw: RawParams) -> Result<Self, BadParam>
         ensures accepts { IsOk result ↔ IsInRange raw }
         ensures same { IfOk result (λ params. params ≡ raw) }
@@ -71,6 +72,7 @@ impl Params {
     }
 
     /// The parameters of a record that is in its ranges.
+    #[inline(always)]
     fn in_range(raw: RawParams) -> Self
         requires { IsInRange raw }
         ensures { result ≡ raw }

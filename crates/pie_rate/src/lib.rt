@@ -4,7 +4,7 @@
 
 mod rate;
 
-pub use rate::Rate;
+pub use rate::{OpenCycle, Rate};
 
 #[cfg(test)]
 mod tests;

@@ -3,7 +3,10 @@ ghost use Rattle.std.specs.Prelude.{◌≡◌, ◌+◌, ◌-◌, ◌^◌, ◌<�
 ghost use Rattle.pie_rate.specs.Average.{average, with_sample};
 ghost use Rattle.pie_rate.specs.Cycles.{cycles, begun, first_closing};
 ghost use Rattle.pie_rate.specs.Departures.{Departure, departure};
+ghost use Rattle.std.specs.Prelude.{option_map};
+ghost use Rattle.std.specs.Option.{ForSome};
 ghost use Rattle.pie_rate.specs.Estimate.{Shows};
+ghost use Rattle.pie_rate.specs.Step.{after_departure, begun_of};
 
 use pie_fixed::Nanos;
 use std::marker::Model;
@@ -12,13 +15,13 @@ use std::marker::Model;
 /// the largest threshold (this project's own).
 const WEIGHTS: u64 = 65_536;
 
-/// A measurement cycle that no departure has closed yet.
+/// A measurement cycle that no departure has closed yet (RFC 8033, section 5.2).
 #[derive(Clone, Copy, Debug, PartialEq, Eq)]
-struct OpenCycle {
+pub struct OpenCycle {
     /// The moment of the departure that opened it.
-    start: Nanos,
-    /// The bytes of the departures after that one.
-    count: u64,
+    pub start: Nanos,
+    /// The bytes of the departures after that one, below 65536.
+    pub count: u64,
 }
 
 /// How long the queue takes to let a threshold of bytes depart, estimated from measurement cycles
@@ -68,6 +71,17 @@ impl Rate {
         }
     }
 
+    /// An estimate in any state: the average is below `2^60`, and a cycle that is begun has counted
+    /// less than 65536 bytes.
+    pub fn from_parts(average: u64, begun: Option<OpenCycle>) -> Rate
+        requires average { average < 2 ^ 60 }
+        requires count { ForSome begun (λ cycle. cycle.count < 65536) }
+        ensures average { result.average ≡ average }
+        ensures begun { result.begun ≡ option_map begun_of begun }
+    {
+        Rate { average, begun }
+    }
+
     /// Takes in one departure: the packet's size and the bytes remaining in the queue after it, its
     /// moment, and the threshold in bytes, at most 65536 and the same for all departures since the
     /// estimate was cleared (RFC 8033, section 5.2; when a cycle opens and closes, and what it counts,
@@ -80,9 +94,12 @@ impl Rate {
     /// bytes, rounded down.
     pub fn departed(&mut self, size: u32, bytes_left: u64, moment: Nanos, threshold: u64)
         requires { threshold ≤ 65536 }
-        ensures { (departures : List Departure) →
+        ensures shows { (departures : List Departure) →
             Shows threshold departures self.old →
             Shows threshold (departures ++ departure size bytes_left moment ∷ []) self.new }
+
+        // told from the estimate before it, whichever departures that shows
+        ensures step { self.new ≡ after_departure threshold self.old (departure size bytes_left moment) }
     {
         if let Some(cycle) = self.begun {
             let count = cycle.count + u64::from(size);
@@ -137,6 +154,14 @@ impl Rate {
             IfSome (begun threshold departures) (λ i. first_closing threshold departures i ≡ None) }
     {
         self.begun.is_some()
+    }
+
+    /// The cycle that is begun, if there is one (RFC 8033, section 5.2).
+    pub fn begun(&self) -> Option<OpenCycle>
+        ensures value { option_map begun_of result ≡ self.now.begun }
+        ensures bound { ForSome result (λ cycle. cycle.count < 65536) }
+    {
+        self.begun
     }
 }
 

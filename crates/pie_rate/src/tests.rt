@@ -1,4 +1,4 @@
-use crate::Rate;
+use crate::{OpenCycle, Rate};
 use pie_fixed::{MAX_NANOS, Nanos};
 
 /// The moment of so many nanoseconds, at most the last.
@@ -65,4 +65,25 @@ fn the_longest_cycle_at_the_largest_threshold(rt: HostRuntime) {
     rate.departed(65_536, 65_535, at(end), 65_536);
     assert_eq!(rt; rate.average(), 1);
     assert!(rt; !rate.is_measuring());
+}
+
+/// The start and the count of the cycle that is begun.
+fn begun(rate: &Rate) -> Option<(u64, u64)> {
+    rate.begun().map(|cycle| (cycle.start.units(), cycle.count))
+}
+
+#[test]
+fn an_estimate_goes_on_from_its_parts(rt: HostRuntime) {
+    let cycle = OpenCycle {
+        start: at(12_001_000),
+        count: 16_383,
+    };
+    let mut rate = Rate::from_parts(12_000_000, Some(cycle));
+    assert_eq!(rt; rate.average(), 12_000_000);
+    assert_eq!(rt; begun(&rate), Some((12_001_000, 16_383)));
+
+    rate.departed(1, 16_384, at(32_001_000), 16_384);
+    assert_eq!(rt; rate.average(), 14_000_000);
+    assert_eq!(rt; begun(&rate), Some((32_001_000, 0)));
+    assert_eq!(rt; begun(&Rate::from_parts(5, None)), None);
 }

@@ -11,8 +11,8 @@ use Rattle.pie_rate.proofs.Steps.{opened, idle, counts, closes}
 use Rattle.pie_rate.proofs.rate.Rate.departed.Goals as goal
 use Rattle.pie_rate.proofs.rate.Rate.departed.Goals.{in-Some+else-count-threshold, in_default, then-bytes_left-threshold, else-bytes_left-threshold}
 
-pub returns-then-count-threshold : goal.returns-then-count-threshold
-returns-then-count-threshold c = λ departures shown.
+pub returns-then-count-threshold-clause-shows : goal.returns-then-count-threshold-clause-shows
+returns-then-count-threshold-clause-shows c = λ departures shown.
     let before = rw (← c.self.view_is) at shown in
     let less : c.in-Some.cycle.count + c.args.size < c.args.threshold = omega (arith, c.from.ensures) in
     rw c.from.ensures (counts c.args.threshold departures (record { size = c.args.size; bytes_left = c.args.bytes_left; moment = c.args.moment })
@@ -21,8 +21,8 @@ returns-then-count-threshold c = λ departures shown.
 abbrev seen : OpenCycle → Begun
 seen cycle = record { start = cycle.start; count = cycle.count }
 
-pub returns : goal.returns
-returns c = λ departures shown.
+pub returns-clause-shows : goal.returns-clause-shows
+returns-clause-shows c = λ departures shown.
     let before = rw (← c.self.view_is) at shown in
     let d : Departure = record { size = c.args.size; bytes_left = c.args.bytes_left; moment = c.args.moment } in
     let after : option_map seen c.if-bytes_left-threshold.self ≡ opened c.args.threshold departures d = elim c.if-bytes_left-threshold.branch [

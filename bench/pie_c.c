@@ -1,0 +1,322 @@
+/* The static library beside the same steps in plain C (pie_step.c) and, where its header is there, beside DPDK's rte_pie.h:
+ * the time of a call, and over one stream under 8 per cent overload the time a packet and the mean wait.
+ *
+ * usage: bench/pie_c.sh
+ */
+#define main pie_step_main
+#include "pie_step.c"
+#undef main
+
+#include "pie.h"
+
+#include <string.h>
+
+#ifdef WITH_DPDK
+#include <rte_pie.h>
+#endif
+
+#define RUNS 7
+#define LINK 80                   /* nanoseconds a byte: 100 Mbit/s */
+#define PACKETS 1500000           /* of the stream: about two minutes */
+#define WARM 20000000000ull       /* waits are counted after 20 seconds */
+#define RING 4096
+#define LIMIT (1u << 20)
+
+/* The controllers: each decides on an arrival and takes in a departure. */
+enum which { NONE, LIBRARY, PLAIN, DPDK };
+static const char *const names[] = {"none", "library", "c", "dpdk"};
+
+static struct params plain_params = {15000000, 15000000, 150000000, 125, 1250, 1024, LIMIT, 100000000000ull, 16384};
+
+struct plain {
+    uint64_t accu, moment;
+    struct control control;
+    struct rate rate;
+};
+
+static uint64_t bounded(__int128 units) {
+    return units < 0 ? 0 : units > (__int128)ONE ? ONE : (uint64_t)units;
+}
+
+/* An update, by the same steps as pie_control. */
+__attribute__((noinline)) static void updated(struct plain *plain, const struct params *p, uint64_t queued,
+                                              uint64_t moment) {
+    unsigned __int128 estimate = (unsigned __int128)queued * plain->rate.average / p->dq_threshold;
+    uint64_t delay = estimate > (uint64_t)1 << 40 ? (uint64_t)1 << 40 : (uint64_t)estimate;
+    uint64_t prob = plain->control.prob, old = plain->control.old_delay;
+    __int128 step = (__int128)p->alpha * ((__int128)delay - p->target) + (__int128)p->beta * ((__int128)delay - old);
+    step /= prob < 1000000 ? 2048 : prob < 10000000 ? 512 : prob < 100000000 ? 128 : prob < 1000000000 ? 32
+            : prob < 10000000000 ? 8 : prob < 100000000000 ? 2 : 1;
+    if (prob >= 100000000000 && step > 20000000000)
+        step = 20000000000;
+    step += prob;
+    if (delay == 0 && old == 0)
+        step = step * 98 / 100;
+    prob = bounded(step);
+    uint64_t burst = plain->control.burst > p->t_update ? plain->control.burst - p->t_update : 0;
+    if (prob == 0 && 2 * delay < p->target && 2 * old < p->target)
+        burst = p->max_burst;
+    plain->control = (struct control){prob, delay, burst, moment};
+}
+
+/* An arrival of the library's scope in plain C: tail drop by bytes, then by packets, and then early drop. */
+__attribute__((noinline)) static uint32_t arrived(struct plain *plain, const struct params *p, uint64_t queued,
+                                                  uint32_t size, uint32_t room, uint32_t ecn, uint64_t random,
+                                                  uint64_t moment) {
+    if (moment > plain->moment)
+        plain->moment = moment;
+    if (queued + size > p->limit_bytes || room == 0) {
+        plain->accu = 0;
+        return queued + size > p->limit_bytes ? PIE_BYTES : PIE_PACKETS;
+    }
+    return consider(&plain->accu, p, &plain->control, queued, (int)ecn, random);
+}
+
+/* Whether a state is one that the library takes: the same ranges, one comparison after another. */
+static inline int is_sound(const struct pie_state *s) {
+    const struct pie_params *p = &s->params;
+    uint64_t t = p->dq_threshold;
+    if (p->target < 2 || p->target > 10000000000 || p->t_update < 1 || p->t_update > 10000000000)
+        return 0;
+    if (p->max_burst > ONE || p->alpha > 1000000 || p->beta > 1000000 || p->mean_pkt < 1 || p->mean_pkt > 65535)
+        return 0;
+    if (p->limit_bytes < 1 || p->limit_bytes > 1 << 30 || p->mark_ecnth > ONE || t < 1024 || t > 65536 || (t & (t - 1)))
+        return 0;
+    if (s->moment >> 60 || s->prob > ONE || s->old_delay > (uint64_t)1 << 40 || s->burst > ONE || s->last > s->moment)
+        return 0;
+    if (s->accu >= 8500000000000 || s->average >> 60)
+        return 0;
+    if (s->measuring == 1)
+        return s->cycle_start <= s->moment && s->cycle_count < t;
+    return s->measuring == 0 && s->cycle_start == 0 && s->cycle_count == 0;
+}
+
+/* An arrival in plain C with the library's checks. */
+__attribute__((noinline)) static uint32_t checked(struct pie_state *s, uint64_t queued, uint32_t size, uint32_t room,
+                                                  uint32_t ecn, uint64_t random, uint64_t moment) {
+    if (!is_sound(s))
+        return PIE_BAD_STATE;
+    if (moment >> 60 || size == 0 || size > 65535 || ecn > 3 || queued > 1 << 30)
+        return PIE_BAD_MOMENT;
+    if (moment > s->moment)
+        s->moment = moment;
+    if (queued + size > s->params.limit_bytes || room == 0) {
+        s->accu = 0;
+        return queued + size > s->params.limit_bytes ? PIE_BYTES : PIE_PACKETS;
+    }
+    if (s->burst != 0 || queued <= 2 * s->params.mean_pkt ||
+        (2 * s->old_delay < s->params.target && s->prob < 200000000000))
+        return PIE_ENQUEUE;
+    uint64_t prob = s->prob, sum = s->accu + prob;
+    if (prob == 0) {
+        s->accu = 0;
+        return PIE_ENQUEUE;
+    }
+    if (sum < 850000000000 ||
+        (sum < 8500000000000 && !((unsigned __int128)random * ONE < (unsigned __int128)prob << 64))) {
+        s->accu = sum;
+        return PIE_ENQUEUE;
+    }
+    s->accu = 0;
+    return ecn != 0 && prob < s->params.mark_ecnth ? PIE_MARK : PIE_EARLY;
+}
+
+struct waiting {
+    uint32_t size;
+    uint64_t since;
+};
+
+static struct {
+    uint64_t moment, random;
+    uint32_t size;
+} *stream;
+
+static struct waiting ring[RING];
+
+struct outcome {
+    double nanos, wait;
+    uint64_t dropped;
+};
+
+/* The stream through one controller in front of the link. */
+static struct outcome run(enum which which) {
+    struct pie_state state;
+    struct pie_params params;
+    struct plain plain = {0, 0, {0, 0, plain_params.max_burst, 0}, {0, 0, 0, 0}};
+    pie_default_params(&params);
+    params.limit_bytes = LIMIT;
+    pie_open(&state, &params, 0);
+#ifdef WITH_DPDK
+    struct rte_pie_config config = {15000000, 15000000, 150000000, LIMIT / 782};
+    struct rte_pie dpdk;
+    memset(&dpdk, 0, sizeof dpdk);
+#endif
+    uint64_t queued = 0, next_free = 0, due = 15000000, waited = 0, left = 0, dropped = 0;
+    uint32_t first = 0, packets = 0;
+    double begin = nanos();
+    for (int i = 0; i < PACKETS; i++) {
+        uint64_t now = stream[i].moment;
+        uint32_t size = stream[i].size, verdict = 0;
+        while (packets != 0 && next_free <= now) {
+            struct waiting oldest = ring[first];
+            first = (first + 1) % RING;
+            packets--;
+            queued -= oldest.size;
+            if (which == LIBRARY)
+                pie_depart(&state, oldest.size, queued, next_free);
+            else if (which == PLAIN)
+                departed(&plain.rate, oldest.size, queued, next_free, plain_params.dq_threshold);
+#ifdef WITH_DPDK
+            else if (which == DPDK) {
+                dpdk.qlen--;
+                dpdk.qlen_bytes -= oldest.size;
+                rte_pie_dequeue(&dpdk, oldest.size, next_free);
+            }
+#endif
+            if (next_free > WARM) {
+                waited += next_free - oldest.since;
+                left++;
+            }
+            next_free += (uint64_t)oldest.size * LINK;
+        }
+        if (packets == 0 && next_free < now)
+            next_free = now;
+        if (now >= due && (which == LIBRARY || which == PLAIN)) {
+            if (which == LIBRARY)
+                due = pie_update(&state, queued, now).due;
+            else {
+                updated(&plain, &plain_params, queued, now);
+                due = now + plain_params.t_update;
+            }
+        }
+        if (which == LIBRARY)
+            verdict = pie_arrive(&state, queued, size, RING - packets, PIE_NOT_ECT, stream[i].random, now);
+        else if (which == PLAIN)
+            verdict = arrived(&plain, &plain_params, queued, size, RING - packets, 0, stream[i].random, now);
+#ifdef WITH_DPDK
+        else if (which == DPDK)
+            verdict = (uint32_t)rte_pie_enqueue(&config, &dpdk, packets, size, now);
+#endif
+        if (verdict == 0 && queued + size <= LIMIT && packets < RING) {
+            ring[(first + packets++) % RING] = (struct waiting){size, now};
+            queued += size;
+        } else {
+            dropped++;
+#ifdef WITH_DPDK
+            if (which == DPDK && verdict == 0) {
+                dpdk.qlen--;
+                dpdk.qlen_bytes -= size;
+            }
+#endif
+        }
+    }
+    return (struct outcome){(nanos() - begin) / PACKETS, left == 0 ? 0 : (double)waited / (double)left, dropped};
+}
+
+/* The time of one call, over the same inputs as pie_step's. */
+static void calls(double least[7]) {
+    static struct arrival arrivals[INPUTS];
+    static struct departure departures[INPUTS];
+    struct params p = plain_params;
+    last = 1;
+    for (int i = 0; i < INPUTS; i++) {
+        arrivals[i].bytes = 4096 + word() % 200000;
+        arrivals[i].ecn = (int)(word() % 4);
+        arrivals[i].word = word();
+        departures[i].size = 64 + word() % 1437;
+        departures[i].moment = i * 2000ull + word() % 2000;
+    }
+    struct pie_params params;
+    struct pie_state state;
+    pie_default_params(&params);
+    params.limit_bytes = LIMIT;
+    pie_open(&state, &params, 0);
+    state.prob = 50000000000;
+    state.old_delay = 15000000;
+    state.burst = 0;
+    struct pie_state opened = state;
+    struct plain plain = {0, 0, {state.prob, state.old_delay, 0, 0}, {0, 0, 0, 0}};
+    uint64_t a = 0, b = 0;
+    double times[7], begin = nanos();
+    for (int i = 0; i < INPUTS; i++)
+        a += pie_arrive(&state, arrivals[i].bytes, 1000, 1, (uint32_t)arrivals[i].ecn, arrivals[i].word, (uint64_t)i);
+    times[0] = nanos() - begin;
+    begin = nanos();
+    for (int i = 0; i < INPUTS; i++)
+        b += arrived(&plain, &p, arrivals[i].bytes, 1000, 1, (uint32_t)arrivals[i].ecn, arrivals[i].word, (uint64_t)i);
+    times[1] = nanos() - begin;
+    if (a != b || state.accu != plain.accu)
+        exit(2);
+    state = opened;
+    begin = nanos();
+    for (int i = 0; i < INPUTS; i++)
+        a -= checked(&state, arrivals[i].bytes, 1000, 1, (uint32_t)arrivals[i].ecn, arrivals[i].word, (uint64_t)i);
+    times[6] = nanos() - begin;
+    if (a != 0 || state.accu != plain.accu)
+        exit(2);
+    state = opened;
+    begin = nanos();
+    for (int i = 0; i < INPUTS; i++)
+        pie_depart(&state, departures[i].size, 100000, departures[i].moment);
+    times[2] = nanos() - begin;
+    begin = nanos();
+    for (int i = 0; i < INPUTS; i++)
+        departed(&plain.rate, departures[i].size, 100000, departures[i].moment, p.dq_threshold);
+    times[3] = nanos() - begin;
+    if (state.average != plain.rate.average)
+        exit(3);
+    begin = nanos();
+    for (uint64_t i = 1; i <= INPUTS; i++)
+        pie_update(&state, arrivals[i % INPUTS].bytes, (i + 10) * 15000000);
+    times[4] = nanos() - begin;
+    begin = nanos();
+    for (uint64_t i = 1; i <= INPUTS; i++)
+        updated(&plain, &p, arrivals[i % INPUTS].bytes, (i + 10) * 15000000);
+    times[5] = nanos() - begin;
+    if (state.prob != plain.control.prob || state.burst != plain.control.burst)
+        exit(4);
+    for (int k = 0; k < 7; k++)
+        if (least[k] == 0 || times[k] / INPUTS < least[k])
+            least[k] = times[k] / INPUTS;
+}
+
+int main(void) {
+    double least[7] = {0};
+    for (int k = 0; k < RUNS * 3; k++)
+        calls(least);
+    static const char *const which[] = {"arrive", "depart", "update"};
+    for (int k = 0; k < 3; k++)
+        printf("%s_library %.1f ns\n%s_c %.1f ns\n", which[k], least[2 * k], which[k], least[2 * k + 1]);
+    printf("arrive_c_with_the_checks %.1f ns\n", least[6]);
+
+    stream = malloc(PACKETS * sizeof *stream);
+    if (!stream)
+        return 1;
+    uint64_t now = 0;
+    last = 7;
+    for (int i = 0; i < PACKETS; i++) {
+        stream[i].size = 64 + (uint32_t)(word() % 1437);
+        stream[i].random = word();
+        stream[i].moment = now;
+        /* 8 per cent more than the link takes, in gaps of half to one and a half of the mean */
+        now += stream[i].size * (uint64_t)LINK * (50 + word() % 101) / 108;
+    }
+#ifdef WITH_DPDK
+    int count = 4;
+#else
+    int count = 3;
+#endif
+    struct outcome best[4];
+    for (int k = 0; k < RUNS; k++)
+        for (int which = 0; which < count; which++) {
+            struct outcome one = run((enum which)which);
+            if (k == 0 || one.nanos < best[which].nanos)
+                best[which] = one;
+        }
+    if (best[LIBRARY].dropped != best[PLAIN].dropped || best[LIBRARY].wait != best[PLAIN].wait)
+        return 5;
+    for (int which = 0; which < count; which++)
+        printf("stream_%s %.1f ns a packet, mean wait %.2f ms, dropped %.2f per cent\n", names[which], best[which].nanos,
+               best[which].wait / 1e6, 100.0 * (double)best[which].dropped / PACKETS);
+    return 0;
+}

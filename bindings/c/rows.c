@@ -1,0 +1,294 @@
+/* The worked rows of the parts of the controller, through the library. Exits with the number of the line whose check
+ * fails first, or 0. */
+#include "pie.h"
+
+#include <stdio.h>
+#include <string.h>
+
+#define CHECK(condition)                                                       \
+    do {                                                                       \
+        if (!(condition)) {                                                    \
+            fprintf(stderr, "rows.c:%d: %s\n", __LINE__, #condition);          \
+            return 1;                                                          \
+        }                                                                      \
+    } while (0)
+
+#define TENTH 100000000000u
+#define ONE 1000000000000u
+#define LATEST 1152921504606846975u /* 2^60 - 1 */
+
+/* A controller with the defaults, opened at 0. */
+static struct pie_state opened(void) {
+    struct pie_params params;
+    struct pie_state state;
+    pie_default_params(&params);
+    pie_open(&state, &params, 0);
+    return state;
+}
+
+/* The same with this probability and old delay, and no burst allowance. */
+static struct pie_state at(uint64_t prob, uint64_t old_delay) {
+    struct pie_state state = opened();
+    state.prob = prob;
+    state.old_delay = old_delay;
+    state.burst = 0;
+    return state;
+}
+
+/* The probability after an update with this delay. */
+static uint64_t next(uint64_t prob, uint64_t old_delay, uint64_t delay) {
+    struct pie_state state = at(prob, old_delay);
+    state.average = delay;
+    return pie_update(&state, 16384, 15000000).prob;
+}
+
+static int same(const struct pie_state *a, const struct pie_state *b) {
+    return memcmp(a, b, sizeof *a) == 0;
+}
+
+static int parameters(void) {
+    struct pie_params params;
+    pie_default_params(&params);
+    CHECK(params.target == 15000000 && params.t_update == 15000000 && params.max_burst == 150000000);
+    CHECK(params.alpha == 125 && params.beta == 1250 && params.mean_pkt == 1024);
+    CHECK(params.limit_bytes == 262144 && params.mark_ecnth == TENTH && params.dq_threshold == 16384);
+    CHECK(pie_check_params(&params) == 0);
+    params.dq_threshold = 3000;
+    CHECK(pie_check_params(&params) == 9);
+    params.target = 1;
+    CHECK(pie_check_params(&params) == 1);
+    params.dq_threshold = 16384;
+    CHECK(pie_check_params(&params) == 1);
+    struct pie_state state = opened(), before = state;
+    CHECK(pie_open(&state, &params, LATEST + 1) == PIE_BAD_PARAMS && same(&state, &before));
+    params.target = 2;
+    CHECK(pie_open(&state, &params, LATEST + 1) == PIE_BAD_MOMENT && same(&state, &before));
+    CHECK(pie_open(&state, &params, LATEST) == PIE_DONE && state.moment == LATEST && state.last == LATEST);
+    CHECK(state.burst == 150000000 && state.params.target == 2);
+    return 0;
+}
+
+static int departure_rate(void) {
+    struct pie_state state = opened();
+    CHECK(pie_depart(&state, 1500, 20000, 1000) == PIE_DONE && state.measuring == 1);
+    CHECK(pie_depart(&state, 16384, 16384, 12001000) == PIE_DONE);
+    CHECK(state.average == 12000000 && state.measuring == 1);
+    CHECK(pie_depart(&state, 16384, 0, 32001000) == PIE_DONE);
+    CHECK(state.average == 14000000 && state.measuring == 0);
+    state = opened();
+    pie_depart(&state, 1500, 20000, 5);
+    pie_depart(&state, 16384, 0, 5);
+    CHECK(state.average == 1);
+    /* the departure that opens a cycle isn't counted in it */
+    state = opened();
+    pie_depart(&state, 1500, 40000, 0);
+    for (uint64_t k = 1; k <= 10; k++)
+        pie_depart(&state, 1500, 20000, 1000000 * k);
+    CHECK(state.average == 0 && state.cycle_count == 15000);
+    pie_depart(&state, 1500, 16384, 11000000);
+    CHECK(state.average == 11000000 && state.measuring == 1 && state.cycle_start == 11000000);
+    return 0;
+}
+
+static int delays(void) {
+    struct pie_state state = opened();
+    state.average = 14000000;
+    CHECK(pie_update(&state, 49152, 15000000).delay == 42000000);
+    CHECK(state.old_delay == 42000000 && state.last == 15000000);
+    state = opened();
+    CHECK(pie_update(&state, 49152, 15000000).delay == 0);
+    state = opened();
+    state.average = (uint64_t)1 << 59;
+    state.params.dq_threshold = 1024;
+    CHECK(pie_update(&state, (uint64_t)1 << 30, 15000000).delay == 1099511627776);
+    return 0;
+}
+
+static int probabilities(void) {
+    CHECK(next(0, 0, 30000000) == 19226074);
+    CHECK(next(19226074, 30000000, 30000000) == 33874511);
+    CHECK(next(TENTH, 15000000, 60000000) == 120000000000);
+    CHECK(next(99999999999, 15000000, 60000000) == 130937499999);
+    CHECK(next(ONE, 0, 0) == 978162500000);
+    CHECK(next(50, 0, 0) == 0);
+    return 0;
+}
+
+static int early_drop(void) {
+    struct pie_state state = at(TENTH, 15000000);
+    for (uint64_t k = 1; k <= 84; k++) {
+        CHECK(pie_arrive(&state, 3000, 1500, 1, PIE_NOT_ECT, UINT64_MAX, 0) == PIE_ENQUEUE);
+        CHECK(state.accu == k * TENTH);
+    }
+    CHECK(pie_arrive(&state, 3000, 1500, 1, PIE_NOT_ECT, UINT64_MAX, 0) == PIE_EARLY && state.accu == 0);
+    struct { uint32_t ecn; uint64_t prob; uint32_t verdict; } picked[] = {
+        {PIE_NOT_ECT, TENTH, PIE_EARLY}, {PIE_ECT0, TENTH, PIE_EARLY},    {PIE_NOT_ECT, TENTH - 1, PIE_EARLY},
+        {PIE_ECT0, TENTH - 1, PIE_MARK}, {PIE_ECT1, TENTH - 1, PIE_MARK}, {PIE_CE, TENTH - 1, PIE_MARK},
+    };
+    for (int k = 0; k < 6; k++) {
+        state = at(picked[k].prob, 15000000);
+        state.accu = 800000000000;
+        CHECK(pie_arrive(&state, 3000, 1500, 1, picked[k].ecn, 0, 0) == picked[k].verdict && state.accu == 0);
+    }
+    /* a word at the probability itself isn't below it */
+    state = at(TENTH, 15000000);
+    state.accu = 800000000000;
+    CHECK(pie_arrive(&state, 3000, 1500, 1, PIE_NOT_ECT, 1844674407370955162u, 0) == PIE_ENQUEUE);
+    state.accu = 800000000000;
+    CHECK(pie_arrive(&state, 3000, 1500, 1, PIE_NOT_ECT, 1844674407370955161u, 0) == PIE_EARLY);
+    return 0;
+}
+
+static int considered(void) {
+    struct { uint64_t prob, old_delay, queued, accu; } cases[] = {
+        {TENTH, 15000000, 2048, 0},     {TENTH, 15000000, 2049, TENTH}, {TENTH, 7499999, 3000, 0},
+        {TENTH, 7500000, 3000, TENTH},  {199999999999, 0, 3000, 0},     {200000000000, 0, 3000, 200000000000},
+    };
+    for (int k = 0; k < 6; k++) {
+        struct pie_state state = at(cases[k].prob, cases[k].old_delay);
+        CHECK(pie_arrive(&state, cases[k].queued, 1500, 1, PIE_NOT_ECT, UINT64_MAX, 0) == PIE_ENQUEUE);
+        CHECK(state.accu == cases[k].accu);
+    }
+    struct pie_state state = at(TENTH, 15000000);
+    state.burst = 1;
+    CHECK(pie_arrive(&state, 3000, 1500, 1, PIE_NOT_ECT, 0, 0) == PIE_ENQUEUE && state.accu == 0);
+    state = at(0, 15000000);
+    state.accu = TENTH;
+    CHECK(pie_arrive(&state, 3000, 1500, 1, PIE_NOT_ECT, 0, 0) == PIE_ENQUEUE && state.accu == 0);
+    return 0;
+}
+
+static int tail_drop(void) {
+    struct pie_state state = at(TENTH, 15000000);
+    state.accu = TENTH;
+    CHECK(pie_arrive(&state, 262140, 5, 0, PIE_ECT0, 0, 0) == PIE_BYTES && state.accu == 0);
+    state.accu = TENTH;
+    CHECK(pie_arrive(&state, 262140, 4, 0, PIE_ECT0, 0, 0) == PIE_PACKETS && state.accu == 0);
+    CHECK(pie_arrive(&state, 262140, 4, 1, PIE_ECT0, 0, 0) == PIE_ENQUEUE && state.accu == TENTH);
+    return 0;
+}
+
+static int burst_allowance(void) {
+    struct pie_state state = opened();
+    state.average = 30000000;
+    for (uint64_t k = 1; k <= 10; k++)
+        CHECK(pie_update(&state, 16384, 15000000 * k).burst == 150000000 - 15000000 * k);
+    CHECK(pie_update(&state, 16384, 15000000 * 11).burst == 0);
+    /* a calm update refills it */
+    state = at(50, 7499999);
+    state.burst = 20000000;
+    state.average = 7500000;
+    CHECK(pie_update(&state, 16384, 15000000).burst == 5000000);
+    state.average = 7499999;
+    CHECK(pie_update(&state, 16384, 30000000).burst == 0);
+    CHECK(pie_update(&state, 16384, 45000000).burst == 150000000);
+    return 0;
+}
+
+static int moments(void) {
+    struct pie_state state = opened();
+    CHECK(pie_empty(&state, 9) == PIE_DONE && state.moment == 9);
+    CHECK(pie_empty(&state, 5) == PIE_DONE && state.moment == 9);
+    struct pie_state before = state;
+    struct pie_updated updated = pie_update(&state, 0, 14999999);
+    CHECK(updated.code == PIE_TOO_SOON && updated.due == 15000000 && updated.burst == 150000000);
+    CHECK(same(&state, &before));
+    updated = pie_update(&state, 0, 15000000);
+    CHECK(updated.code == PIE_DONE && updated.due == 30000000 && updated.delay == 0 && updated.prob == 0);
+    CHECK(updated.burst == 150000000 && state.moment == 15000000);
+    before = state;
+    CHECK(pie_empty(&state, LATEST + 1) == PIE_BAD_MOMENT && same(&state, &before));
+    CHECK(pie_empty(&state, LATEST) == PIE_DONE && state.moment == LATEST);
+    /* the update's moment is the effective one */
+    CHECK(pie_update(&state, 0, 0).code == PIE_DONE && state.last == LATEST);
+    return 0;
+}
+
+/* Marks, drops and a lone enqueue; then new parameters and a reset. */
+static int marks_and_drops(void) {
+    struct pie_params params = {2, 1, 0, 850000, 0, 1, 100000, ONE, 1024};
+    struct pie_state state;
+    CHECK(pie_open(&state, &params, 0) == PIE_DONE);
+    for (uint32_t k = 0; k < 4; k++)
+        CHECK(pie_arrive(&state, 1024 * k, 1024, 8 - k, PIE_NOT_ECT, 0, 0) == PIE_ENQUEUE);
+    CHECK(pie_depart(&state, 1024, 3072, 1000) == PIE_DONE);
+    CHECK(pie_depart(&state, 1024, 2048, 1001000) == PIE_DONE);
+    uint64_t probs[] = {830077294, 53955024169, 903954174169};
+    for (uint32_t k = 0; k < 3; k++) {
+        struct pie_updated updated = pie_update(&state, 2048, 1001000 + k);
+        CHECK(updated.code == PIE_DONE && updated.delay == 2000000 && updated.prob == probs[k] && updated.burst == 0);
+    }
+    CHECK(pie_arrive(&state, 2048, 500, 6, PIE_ECT0, 0, 1001003) == PIE_MARK);
+    CHECK(pie_arrive(&state, 2548, 500, 5, PIE_NOT_ECT, 0, 1001003) == PIE_EARLY);
+    CHECK(pie_arrive(&state, 2548, 500, 5, PIE_NOT_ECT, UINT64_MAX, 1001003) == PIE_ENQUEUE);
+    CHECK(state.moment == 1001003 && state.prob == 903954174169 && state.old_delay == 2000000);
+    CHECK(state.accu == 903954174169 && state.burst == 0 && state.last == 1001002);
+    CHECK(state.average == 1000000 && state.measuring == 1);
+    params.max_burst = 50;
+    CHECK(pie_set_params(&state, &params, 1001004) == PIE_DONE);
+    CHECK(state.moment == 1001004 && state.prob == 903954174169 && state.accu == 903954174169 && state.burst == 0);
+    CHECK(state.average == 0 && state.measuring == 0 && state.cycle_start == 0 && state.cycle_count == 0);
+    CHECK(pie_reset(&state, 1001005) == PIE_DONE);
+    CHECK(state.moment == 1001005 && state.prob == 0 && state.old_delay == 0 && state.accu == 0);
+    CHECK(state.burst == 50 && state.last == 1001002 && state.average == 0 && state.measuring == 0);
+    params.target = 1;
+    struct pie_state before = state;
+    CHECK(pie_set_params(&state, &params, LATEST + 1) == PIE_BAD_PARAMS && same(&state, &before));
+    params.target = 2;
+    CHECK(pie_set_params(&state, &params, LATEST + 1) == PIE_BAD_MOMENT && same(&state, &before));
+    return 0;
+}
+
+/* What comes in is looked at in one order, and a refused call changes nothing. */
+static int refusals(void) {
+    struct pie_state state = opened(), before = state;
+    CHECK(pie_arrive(&state, UINT64_MAX, 0, 0, 4, 0, LATEST + 1) == PIE_BAD_MOMENT);
+    CHECK(pie_arrive(&state, UINT64_MAX, 0, 0, 4, 0, LATEST) == PIE_BAD_SIZE);
+    CHECK(pie_arrive(&state, UINT64_MAX, 65536, 0, 4, 0, LATEST) == PIE_BAD_SIZE);
+    CHECK(pie_arrive(&state, UINT64_MAX, 65535, 0, 4, 0, LATEST) == PIE_BAD_ECN);
+    CHECK(pie_arrive(&state, UINT64_MAX, 65535, 0, 3, 0, LATEST) == PIE_BAD_QUEUE);
+    CHECK(pie_depart(&state, 0, UINT64_MAX, LATEST + 1) == PIE_BAD_MOMENT);
+    CHECK(pie_depart(&state, 0, UINT64_MAX, LATEST) == PIE_BAD_SIZE);
+    CHECK(pie_depart(&state, 1, ((uint64_t)1 << 30) + 1, LATEST) == PIE_BAD_QUEUE);
+    CHECK(pie_update(&state, UINT64_MAX, LATEST + 1).code == PIE_BAD_MOMENT);
+    CHECK(pie_update(&state, UINT64_MAX, 0).code == PIE_BAD_QUEUE && pie_update(&state, UINT64_MAX, 0).due == 0);
+    CHECK(pie_reset(&state, LATEST + 1) == PIE_BAD_MOMENT && same(&state, &before));
+    /* each field of the state, out of its range */
+    for (int field = 0; field < 18; field++) {
+        state = opened();
+        struct pie_params params = state.params;
+        switch (field) {
+        case 0: state.params.target = 1; break;
+        case 1: state.params.dq_threshold = 3000; break;
+        case 2: state.moment = LATEST + 1; break;
+        case 3: state.prob = ONE + 1; break;
+        case 4: state.old_delay = ((uint64_t)1 << 40) + 1; break;
+        case 5: state.burst = ONE + 1; break;
+        case 6: state.last = 1; break;
+        case 7: state.accu = 8500000000000; break;
+        case 8: state.average = LATEST + 1; break;
+        case 9: state.measuring = 2; break;
+        case 10: state.cycle_start = 1; break;
+        case 11: state.cycle_count = 1; break;
+        case 12: state.measuring = 1, state.cycle_start = 1; break;
+        case 13: state.measuring = 1, state.cycle_count = 16384; break;
+        case 14: state.params.limit_bytes = 0; break;
+        case 15: state.last = UINT64_MAX; break;
+        case 16: state.params.max_burst = UINT64_MAX; break;
+        case 17: memset(&state, 255, sizeof state); break;
+        }
+        before = state;
+        CHECK(pie_arrive(&state, UINT64_MAX, 0, 0, 4, 0, UINT64_MAX) == PIE_BAD_STATE);
+        CHECK(pie_depart(&state, 0, UINT64_MAX, UINT64_MAX) == PIE_BAD_STATE);
+        CHECK(pie_empty(&state, UINT64_MAX) == PIE_BAD_STATE);
+        CHECK(pie_update(&state, UINT64_MAX, UINT64_MAX).code == PIE_BAD_STATE);
+        CHECK(pie_reset(&state, UINT64_MAX) == PIE_BAD_STATE);
+        CHECK(pie_set_params(&state, &params, UINT64_MAX) == PIE_BAD_STATE && same(&state, &before));
+    }
+    return 0;
+}
+
+int main(void) {
+    return parameters() || departure_rate() || delays() || probabilities() || early_drop() || considered() ||
+           tail_drop() || burst_allowance() || moments() || marks_and_drops() || refusals();
+}

@@ -1,0 +1,180 @@
+//! The worked rows of the parts of the controller, as in `bindings/c/rows.c`.
+
+use pie::{Ecn, Params, Refusal, State, Verdict};
+
+const TENTH: u64 = 100_000_000_000;
+const ONE: u64 = 1_000_000_000_000;
+const LATEST: u64 = (1 << 60) - 1;
+
+fn opened() -> State {
+    State::open(&Params::default(), 0).unwrap()
+}
+
+fn at(prob: u64, old_delay: u64) -> State {
+    State { prob, old_delay, burst: 0, ..opened() }
+}
+
+fn next(prob: u64, old_delay: u64, delay: u64) -> u64 {
+    let mut state = State { average: delay, ..at(prob, old_delay) };
+    state.update(16_384, 15_000_000).unwrap().prob
+}
+
+#[test]
+fn parameters() {
+    let defaults = Params::default();
+    assert_eq!(defaults.first_bad(), 0);
+    assert_eq!((defaults.target, defaults.alpha, defaults.dq_threshold), (15_000_000, 125, 16_384));
+    let odd = Params { dq_threshold: 3000, ..defaults };
+    assert_eq!(odd.first_bad(), 9);
+    let both = Params { target: 1, ..odd };
+    assert_eq!(both.first_bad(), 1);
+    assert_eq!(State::open(&both, LATEST + 1), Err(Refusal::Params));
+    assert_eq!(State::open(&defaults, LATEST + 1), Err(Refusal::Moment));
+    assert_eq!(State::open(&defaults, LATEST).map(|state| state.burst), Ok(150_000_000));
+}
+
+#[test]
+fn departure_rate() {
+    let mut state = opened();
+    state.depart(1500, 20_000, 1000).unwrap();
+    state.depart(16_384, 16_384, 12_001_000).unwrap();
+    assert_eq!((state.average, state.measuring), (12_000_000, 1));
+    state.depart(16_384, 0, 32_001_000).unwrap();
+    assert_eq!((state.average, state.measuring), (14_000_000, 0));
+    let mut state = opened();
+    state.depart(1500, 20_000, 5).unwrap();
+    state.depart(16_384, 0, 5).unwrap();
+    assert_eq!(state.average, 1);
+    let mut state = opened();
+    state.depart(1500, 40_000, 0).unwrap();
+    for k in 1..=10 {
+        state.depart(1500, 20_000, 1_000_000 * k).unwrap();
+    }
+    assert_eq!((state.average, state.cycle_count), (0, 15_000));
+    state.depart(1500, 16_384, 11_000_000).unwrap();
+    assert_eq!((state.average, state.cycle_start), (11_000_000, 11_000_000));
+}
+
+#[test]
+fn delays_and_probabilities() {
+    let mut state = State { average: 14_000_000, ..opened() };
+    assert_eq!(state.update(49_152, 15_000_000).unwrap().delay, 42_000_000);
+    let params = Params { dq_threshold: 1024, ..Params::default() };
+    let mut state = State { average: 1 << 59, ..State::open(&params, 0).unwrap() };
+    assert_eq!(state.update(1 << 30, 15_000_000).unwrap().delay, 1 << 40);
+    assert_eq!(next(0, 0, 30_000_000), 19_226_074);
+    assert_eq!(next(19_226_074, 30_000_000, 30_000_000), 33_874_511);
+    assert_eq!(next(TENTH, 15_000_000, 60_000_000), 120_000_000_000);
+    assert_eq!(next(99_999_999_999, 15_000_000, 60_000_000), 130_937_499_999);
+    assert_eq!(next(ONE, 0, 0), 978_162_500_000);
+    assert_eq!(next(50, 0, 0), 0);
+}
+
+#[test]
+fn early_drop() {
+    let mut state = at(TENTH, 15_000_000);
+    for k in 1..=84 {
+        let verdict = state.arrive(3000, 1500, 1, Ecn::NotEct, u64::MAX, 0);
+        assert_eq!((verdict, state.accu), (Ok(Verdict::Enqueue), k * TENTH));
+    }
+    let verdict = state.arrive(3000, 1500, 1, Ecn::NotEct, u64::MAX, 0);
+    assert_eq!((verdict, state.accu), (Ok(Verdict::Early), 0));
+    for (ecn, prob, picked) in [
+        (Ecn::NotEct, TENTH, Verdict::Early),
+        (Ecn::Ect0, TENTH, Verdict::Early),
+        (Ecn::NotEct, TENTH - 1, Verdict::Early),
+        (Ecn::Ect0, TENTH - 1, Verdict::Mark),
+        (Ecn::Ect1, TENTH - 1, Verdict::Mark),
+        (Ecn::Ce, TENTH - 1, Verdict::Mark),
+    ] {
+        let mut state = State { accu: 800_000_000_000, ..at(prob, 15_000_000) };
+        assert_eq!(state.arrive(3000, 1500, 1, ecn, 0, 0), Ok(picked));
+    }
+    for (prob, old_delay, queued, accu) in [
+        (TENTH, 15_000_000, 2048, 0),
+        (TENTH, 15_000_000, 2049, TENTH),
+        (TENTH, 7_499_999, 3000, 0),
+        (TENTH, 7_500_000, 3000, TENTH),
+        (199_999_999_999, 0, 3000, 0),
+        (200_000_000_000, 0, 3000, 200_000_000_000),
+    ] {
+        let mut state = at(prob, old_delay);
+        state.arrive(queued, 1500, 1, Ecn::NotEct, u64::MAX, 0).unwrap();
+        assert_eq!(state.accu, accu);
+    }
+}
+
+#[test]
+fn tail_drop_by_bytes_then_by_packets() {
+    let mut state = State { accu: TENTH, ..at(TENTH, 15_000_000) };
+    assert_eq!(state.arrive(262_140, 5, 0, Ecn::Ect0, 0, 0), Ok(Verdict::Bytes));
+    assert_eq!(state.accu, 0);
+    assert_eq!(state.arrive(262_140, 4, 0, Ecn::Ect0, 0, 0), Ok(Verdict::Packets));
+    assert_eq!(state.arrive(262_140, 4, 1, Ecn::Ect0, 0, 0), Ok(Verdict::Enqueue));
+}
+
+#[test]
+fn burst_allowance() {
+    let mut state = State { average: 30_000_000, ..opened() };
+    for k in 1..=10 {
+        let updated = state.update(16_384, 15_000_000 * k).unwrap();
+        assert_eq!(updated.burst, 150_000_000 - 15_000_000 * k);
+    }
+    assert_eq!(state.update(16_384, 165_000_000).unwrap().burst, 0);
+}
+
+#[test]
+fn moments_and_refusals() {
+    let mut state = opened();
+    state.empty(9).unwrap();
+    state.empty(5).unwrap();
+    assert_eq!(state.moment, 9);
+    let before = state;
+    assert_eq!(state.update(0, 14_999_999), Err(Refusal::TooSoon { due: 15_000_000 }));
+    assert_eq!(state.empty(LATEST + 1), Err(Refusal::Moment));
+    assert_eq!(state.arrive(0, 0, 1, Ecn::NotEct, 0, 0), Err(Refusal::Size));
+    assert_eq!(state.depart(65_536, 0, 0), Err(Refusal::Size));
+    assert_eq!(state.depart(1, (1 << 30) + 1, 0), Err(Refusal::Queue));
+    assert_eq!(state, before);
+    let updated = state.update(0, 15_000_000).unwrap();
+    assert_eq!((updated.due, updated.delay, updated.prob, updated.burst), (30_000_000, 0, 0, 150_000_000));
+    let mut bad = State { measuring: 2, ..state };
+    assert_eq!(bad.reset(0), Err(Refusal::State));
+}
+
+#[test]
+fn marks_drops_and_a_lone_enqueue() {
+    let mut params = Params {
+        target: 2,
+        t_update: 1,
+        max_burst: 0,
+        alpha: 850_000,
+        beta: 0,
+        mean_pkt: 1,
+        limit_bytes: 100_000,
+        mark_ecnth: ONE,
+        dq_threshold: 1024,
+    };
+    let mut state = State::open(&params, 0).unwrap();
+    for k in 0..4 {
+        assert_eq!(state.arrive(1024 * k, 1024, 8, Ecn::NotEct, 0, 0), Ok(Verdict::Enqueue));
+    }
+    state.depart(1024, 3072, 1000).unwrap();
+    state.depart(1024, 2048, 1_001_000).unwrap();
+    for (k, prob) in [(0, 830_077_294), (1, 53_955_024_169), (2, 903_954_174_169)] {
+        let updated = state.update(2048, 1_001_000 + k).unwrap();
+        assert_eq!((updated.delay, updated.prob, updated.burst), (2_000_000, prob, 0));
+    }
+    assert_eq!(state.arrive(2048, 500, 6, Ecn::Ect0, 0, 1_001_003), Ok(Verdict::Mark));
+    assert_eq!(state.arrive(2548, 500, 5, Ecn::NotEct, 0, 1_001_003), Ok(Verdict::Early));
+    assert_eq!(state.arrive(2548, 500, 5, Ecn::NotEct, u64::MAX, 1_001_003), Ok(Verdict::Enqueue));
+    assert_eq!((state.accu, state.average, state.measuring), (903_954_174_169, 1_000_000, 1));
+    params.max_burst = 50;
+    state.set_params(&params, 1_001_004).unwrap();
+    assert_eq!((state.accu, state.average, state.measuring, state.burst), (903_954_174_169, 0, 0, 0));
+    state.reset(1_001_005).unwrap();
+    assert_eq!((state.prob, state.old_delay, state.accu, state.burst), (0, 0, 0, 50));
+    assert_eq!((state.moment, state.last), (1_001_005, 1_001_002));
+    params.target = 1;
+    assert_eq!(state.set_params(&params, 1_001_006), Err(Refusal::Params));
+}

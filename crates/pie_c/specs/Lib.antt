@@ -1,0 +1,4 @@
+pub mod Params
+pub mod State
+pub mod Calls
+pub mod History

@@ -1,0 +1,37 @@
+-- The parameters as a C caller holds them, and the numbers of their fields.
+use Rattle.std.specs.Prelude.{ℕ, Option, Some, None}
+use Rattle.pie_params.specs.declared.raw.Field.{Field}
+use Rattle.pie_params.specs.declared.raw.Field.TheVariants.{Target, TUpdate, MaxBurst, Alpha, Beta, MeanPkt, LimitBytes, MarkEcnth, DqThreshold}
+use Rattle.pie_params.specs.declared.raw.RawParams.{RawParams}
+use Rattle.pie_c.specs.declared.params.PieParams.{PieParams}
+
+-- the same fields, as the record whose ranges are checked
+abbrev pub raw_of : PieParams → RawParams
+raw_of p = record {
+  target = p.target;
+  t_update = p.t_update;
+  max_burst = p.max_burst;
+  alpha = p.alpha;
+  beta = p.beta;
+  mean_pkt = p.mean_pkt;
+  limit_bytes = p.limit_bytes;
+  mark_ecnth = p.mark_ecnth;
+  dq_threshold = p.dq_threshold;
+}
+
+-- the number of a field, counted from 1 in the order in which the fields are checked
+abbrev pub field_number : Field → ℕ
+field_number Target = 1
+field_number TUpdate = 2
+field_number MaxBurst = 3
+field_number Alpha = 4
+field_number Beta = 5
+field_number MeanPkt = 6
+field_number LimitBytes = 7
+field_number MarkEcnth = 8
+field_number DqThreshold = 9
+
+-- the number of a field that is out of its range, and 0 with none
+abbrev pub bad_number : Option Field → ℕ
+bad_number None = 0
+bad_number (Some field) = field_number field

@@ -1,0 +1,37 @@
+//! What a call answers, as `include/pie.h` numbers it.
+
+/// The call is done. Of an arrival: the packet is to be queued as it is.
+pub(crate) const DONE: u32 = 0;
+
+/// The packet is to be queued with its ECN field set to CE.
+pub(crate) const MARK: u32 = 1;
+
+/// The packet is to be dropped: early drop picked it.
+pub(crate) const EARLY: u32 = 2;
+
+/// The packet is to be dropped: the queue would exceed the byte limit.
+pub(crate) const OVER_BYTES: u32 = 3;
+
+/// The packet is to be dropped: the caller's ring is full.
+pub(crate) const OVER_PACKETS: u32 = 4;
+
+/// Refused: a moment above `2^60 - 1`.
+pub(crate) const BAD_MOMENT: u32 = 101;
+
+/// Refused: a size outside 1 to 65535.
+pub(crate) const BAD_SIZE: u32 = 102;
+
+/// Refused: an update before it is due.
+pub(crate) const TOO_SOON: u32 = 103;
+
+/// Refused: parameters of which one is out of its range.
+pub(crate) const BAD_PARAMS: u32 = 107;
+
+/// Refused: the state has a field out of its range, or its fields do not fit one another.
+pub(crate) const BAD_STATE: u32 = 110;
+
+/// Refused: an ECN field above 3.
+pub(crate) const BAD_ECN: u32 = 111;
+
+/// Refused: more than 2^30 bytes in the queue.
+pub(crate) const BAD_QUEUE: u32 = 112;

@@ -1,0 +1,50 @@
+ghost use Rattle.std.specs.Prelude.{◌≡◌};
+ghost use Rattle.pie_c.specs.Calls.{nothing_updated, updated_with};
+
+use crate::controller::Controller;
+
+/// What an update answers.
+#[repr(C)]
+#[derive(Clone, Copy, Debug, PartialEq, Eq)]
+pub struct PieUpdated {
+    /// 0, or why the update is refused.
+    pub code: u64,
+    /// The moment from which the next update isn't too soon, in nanoseconds.
+    pub due: u64,
+    /// The delay that the update took, in nanoseconds.
+    pub delay: u64,
+    /// The probability after it, in units of `10^-12`.
+    pub prob: u64,
+    /// The burst allowance after it, in nanoseconds.
+    pub burst: u64,
+}
+
+impl PieUpdated {
+    /// An update that is refused for what was handed in.
+    pub(crate) fn refused(code: u32) -> PieUpdated
+        ensures { result ≡ nothing_updated code }
+    {
+        PieUpdated {
+            code: u64::from(code),
+            due: 0,
+            delay: 0,
+            prob: 0,
+            burst: 0,
+        }
+    }
+}
+
+impl Controller {
+    /// What an update answers with this number, from the registers.
+    pub(crate) fn updated(&self, code: u32) -> PieUpdated
+        ensures { result ≡ updated_with code self.now.params self.now.control }
+    {
+        PieUpdated {
+            code: u64::from(code),
+            due: self.due(),
+            delay: self.control.old(),
+            prob: self.control.prob().units(),
+            burst: self.control.burst(),
+        }
+    }
+}

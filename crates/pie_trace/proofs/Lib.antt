@@ -6,4 +6,3 @@ pub mod ReadFacts
 pub mod StepFacts
 pub mod RunFacts
 pub mod EndFacts
-pub mod Examples

@@ -1,0 +1,11 @@
+pub mod Places
+pub mod HistoryFacts
+pub mod EstimateFacts
+pub mod StatisticsFacts
+pub mod LookFacts
+pub mod CoreFacts
+pub mod BookFacts
+pub mod RunFacts
+pub mod Examples
+pub mod ExamplesRates
+pub mod ExamplesMarks

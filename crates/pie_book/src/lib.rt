@@ -7,18 +7,21 @@
 
 pub mod book;
 pub mod command;
+pub mod law;
 pub mod opening;
 mod queue_core;
 pub mod refusal;
 pub mod registers;
 pub mod stats;
 mod tally;
+#[cfg(test)]
+mod tests;
 
 pub use book::Book;
 pub use command::{Answer, Command, Event};
+pub use law::folds_change_no_answer;
 pub use opening::{Choices, Limits, Mode, Opening};
 pub use queue_core::Core;
 pub use refusal::{FoldRefusal, OpenRefusal, Refusal};
 pub use registers::Registers;
 pub use stats::Stats;
-

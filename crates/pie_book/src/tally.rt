@@ -58,7 +58,8 @@ impl Tally {
     /// One more arrival, with its verdict.
     pub(crate) fn arrived(&mut self, verdict: Answer)
         requires { self.old.count < 2 ^ 40 }
-        ensures { (packet : Packet) → self.new ≡ record { count = self.old.count + 1; stats = counted self.old.stats (arrival_deed packet verdict) 0 0 } }
+        ensures count { self.new.count ≡ self.old.count + 1 }
+        ensures stats { (packet : Packet) → self.new.stats ≡ counted self.old.stats (arrival_deed packet verdict) 0 0 }
     {
         self.count += 1;
         match verdict {
@@ -130,7 +131,8 @@ impl Tally {
     /// One more change of the parameters.
     pub(crate) fn changed(&mut self)
         requires { self.old.count < 2 ^ 40 }
-        ensures { (params : RawParams) → self.new ≡ record { count = self.old.count + 1; stats = counted self.old.stats (set params) 0 0 } }
+        ensures count { self.new.count ≡ self.old.count + 1 }
+        ensures stats { (params : RawParams) → self.new.stats ≡ counted self.old.stats (set params) 0 0 }
     {
         self.count += 1;
         self.stats.changes += 1;

@@ -1,5 +1,5 @@
 //! The queue of packets: a ring, and the running sum of the sizes.
-ghost use Rattle.std.specs.Prelude.{◌≡◌, ◌≤◌, ◌*◌, ◌↔◌, [], ◌∷◌, ◌++◌, length, drop, slice_get, IsErr, IsTrue, IfOk, IfErr, OnOk};
+ghost use Rattle.std.specs.Prelude.{◌≡◌, ◌≤◌, ◌*◌, ◌↔◌, [], ◌∷◌, ◌++◌, length, drop, slice_get, IsErr, IsTrue, IfOk, IfErr, IfSome, OnOk};
 ghost use Rattle.pie_queue.specs.Queue.{IsSize, bytes_of};
 
 use crate::{Packet, Waiting};
@@ -74,6 +74,7 @@ impl ByteQueue {
     pub fn take(&mut self) -> Option<Waiting>
         ensures oldest { result ≡ slice_get self.old.waiting 0 }
         ensures rest { self.new ≡ record self.old { waiting = drop 1 self.old.waiting } }
+        ensures size { IfSome result (λ oldest. IsSize oldest.packet.size) }
     {
         let oldest = self.ring.pop_front()?;
         self.bytes -= u64::from(oldest.packet.size);

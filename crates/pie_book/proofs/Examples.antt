@@ -1,0 +1,213 @@
+-- The definitions on worked histories: each theorem computes. What an event did, and what looking back finds of moments,
+-- parameters and packets.
+use Rattle.std.specs.Prelude.{ℕ, ◌≡◌, List, [], ◌∷◌, Option, Some, None, Bool, true, false, map}
+use Rattle.std.proofs.Common.{refl}
+use Rattle.pie_params.specs.Profile.{default_profile}
+use Rattle.pie_params.specs.declared.raw.RawParams.{RawParams}
+use Rattle.pie_queue.specs.declared.ecn.Ecn.TheVariants.{NotEct, Ect0, Ce}
+use Rattle.pie_queue.specs.declared.packet.Packet.{Packet}
+use Rattle.pie_queue.specs.declared.packet.Waiting.{Waiting}
+use Rattle.pie_book.specs.declared.command.Command.{Command}
+use Rattle.pie_book.specs.declared.command.Command.TheVariants.{Arrive, Depart, Update, Reset, SetParams}
+use Rattle.pie_book.specs.declared.command.Answer.{Answer}
+use Rattle.pie_book.specs.declared.command.Answer.TheVariants.{Enqueued, Marked, DroppedEarly, DroppedBytes, DroppedPackets, Empty, Left, Updated, Done}
+use Rattle.pie_book.specs.declared.command.Event.{Event}
+use Rattle.pie_book.specs.declared.opening.Limits.{Limits}
+use Rattle.pie_book.specs.declared.opening.Mode.{Mode}
+use Rattle.pie_book.specs.declared.opening.Mode.TheVariants.{Bounded, Rolling}
+use Rattle.pie_book.specs.declared.opening.Opening.{Opening}
+use Rattle.pie_book.specs.declared.refusal.OpenRefusal.TheVariants as open_refusal
+use Rattle.pie_book.specs.Opening.{are_in_range, opening_refusal}
+use Rattle.pie_book.specs.Deed.{Deed, deed, deed_of, fits, handed_in, admission, departure, params_set, is_update, counts_as_reset, sets_params, clears_rate, queued, marked, dropped_early, dropped_bytes, dropped_packets, departed, found_none, updated, was_reset, set, nothing}
+use Rattle.pie_book.specs.History.{Place, places, up_to, greatest, last_or, effective_moment, params_after, admitted, departed_count, waiting_after, bytes_after}
+
+abbrev pub limits : ℕ → ℕ → ℕ → Limits
+limits packets tail events = record { packets = packets; tail = tail; events = events }
+
+-- an opening at moment 0
+abbrev pub opened_with : Mode → Limits → RawParams → Opening
+opened_with mode limits params = record { moment = 0; limits = limits; params = params; choices = record { mode = mode } }
+
+-- .. of a bounded book with the default parameters
+abbrev pub opened : ℕ → ℕ → ℕ → Opening
+opened packets tail events = opened_with Bounded (limits packets tail events) default_profile
+
+-- parameters by their nine numbers
+abbrev pub nine : ℕ → ℕ → ℕ → ℕ → ℕ → ℕ → ℕ → ℕ → ℕ → RawParams
+nine target t_update max_burst alpha beta mean_pkt limit_bytes mark_ecnth dq_threshold = record {
+  target = target;
+  t_update = t_update;
+  max_burst = max_burst;
+  alpha = alpha;
+  beta = beta;
+  mean_pkt = mean_pkt;
+  limit_bytes = limit_bytes;
+  mark_ecnth = mark_ecnth;
+  dq_threshold = dq_threshold;
+}
+
+abbrev pub packet : ℕ → ℕ → Packet
+packet tag size = record { tag = tag; size = size; ecn = NotEct }
+
+abbrev pub capable : ℕ → ℕ → Packet
+capable tag size = record { tag = tag; size = size; ecn = Ect0 }
+
+abbrev pub waits : Packet → ℕ → Waiting
+waits one since = record { packet = one; since = since }
+
+abbrev pub event : ℕ → Command → Answer → Event
+event caller command answer = record { caller = caller; command = command; answer = answer }
+
+-- what an event did
+
+arrivals : map (deed (Arrive 1 (packet 7 60) 0)) (Enqueued ∷ Marked ∷ DroppedEarly ∷ DroppedBytes ∷ DroppedPackets ∷ [])
+    ≡ queued (packet 7 60) ∷ marked (packet 7 60) ∷ dropped_early ∷ dropped_bytes ∷ dropped_packets ∷ []
+arrivals = refl
+
+departures : map (deed (Depart 1)) (Left (packet 7 60) ∷ Empty ∷ []) ≡ departed (packet 7 60) ∷ found_none ∷ []
+departures = refl
+
+others : (deed (Update 1) (Updated 2 3 4) ≡ updated) × (deed (Reset 1) Done ≡ was_reset) × (deed (SetParams 1 default_profile) Done ≡ set default_profile)
+others = (refl, refl, refl)
+
+-- an answer that the command cannot have: of an arrival and a departure such an event did nothing
+misfits : (map (deed (Arrive 1 (packet 7 60) 0)) (Empty ∷ Left (packet 7 60) ∷ Updated 2 3 4 ∷ Done ∷ []) ≡ nothing ∷ nothing ∷ nothing ∷ nothing ∷ [])
+    × (map (deed (Depart 1)) (Enqueued ∷ Marked ∷ DroppedEarly ∷ Updated 2 3 4 ∷ Done ∷ []) ≡ nothing ∷ nothing ∷ nothing ∷ nothing ∷ nothing ∷ [])
+misfits = (refl, refl)
+
+all_answers : List Answer
+all_answers = Enqueued ∷ Marked ∷ DroppedEarly ∷ DroppedBytes ∷ DroppedPackets ∷ Empty ∷ Left (packet 7 60) ∷ Updated 2 3 4 ∷ Done ∷ []
+
+-- which of all answers each command can have
+fitting : (map (fits (Arrive 1 (packet 7 60) 0)) all_answers ≡ true ∷ true ∷ true ∷ true ∷ true ∷ false ∷ false ∷ false ∷ false ∷ [])
+    × (map (fits (Depart 1)) all_answers ≡ false ∷ false ∷ false ∷ false ∷ false ∷ true ∷ true ∷ false ∷ false ∷ [])
+    × (map (fits (Update 1)) all_answers ≡ false ∷ false ∷ false ∷ false ∷ false ∷ false ∷ false ∷ true ∷ false ∷ [])
+    × (map (fits (Reset 1)) all_answers ≡ false ∷ false ∷ false ∷ false ∷ false ∷ false ∷ false ∷ false ∷ true ∷ [])
+    × (map (fits (SetParams 1 default_profile)) all_answers ≡ false ∷ false ∷ false ∷ false ∷ false ∷ false ∷ false ∷ false ∷ true ∷ [])
+unfolding all_answers
+fitting = (refl, refl, refl, refl, refl)
+
+moments_handed_in : map handed_in (Arrive 1 (packet 7 60) 0 ∷ Depart 2 ∷ Update 3 ∷ Reset 4 ∷ SetParams 5 default_profile ∷ []) ≡ 1 ∷ 2 ∷ 3 ∷ 4 ∷ 5 ∷ []
+moments_handed_in = refl
+
+abbrev all_deeds : List Deed
+all_deeds = queued (packet 7 60) ∷ marked (capable 7 60) ∷ dropped_early ∷ dropped_bytes ∷ dropped_packets ∷ departed (packet 7 60) ∷ found_none ∷ updated ∷ was_reset
+    ∷ set default_profile ∷ nothing ∷ []
+
+-- a marked packet waits with CE
+admissions : map (admission 9) all_deeds
+    ≡ Some (waits (packet 7 60) 9) ∷ Some (waits (record { tag = 7; size = 60; ecn = Ce }) 9) ∷ None ∷ None ∷ None ∷ None ∷ None ∷ None ∷ None ∷ None ∷ None ∷ []
+admissions = refl
+
+departing : map departure all_deeds ≡ None ∷ None ∷ None ∷ None ∷ None ∷ Some (packet 7 60) ∷ None ∷ None ∷ None ∷ None ∷ None ∷ []
+departing = refl
+
+setting : map params_set all_deeds ≡ None ∷ None ∷ None ∷ None ∷ None ∷ None ∷ None ∷ None ∷ None ∷ Some default_profile ∷ None ∷ []
+setting = refl
+
+updating : map is_update all_deeds ≡ false ∷ false ∷ false ∷ false ∷ false ∷ false ∷ false ∷ true ∷ false ∷ false ∷ false ∷ []
+updating = refl
+
+resetting : map counts_as_reset all_deeds ≡ false ∷ false ∷ false ∷ false ∷ false ∷ false ∷ false ∷ false ∷ true ∷ false ∷ false ∷ []
+resetting = refl
+
+-- a reset clears the rate estimate, and so do new parameters
+clearing_rate : map clears_rate all_deeds ≡ false ∷ false ∷ false ∷ false ∷ false ∷ false ∷ false ∷ false ∷ true ∷ true ∷ false ∷ []
+clearing_rate = refl
+
+-- one arrival and two departures, the second of an empty queue
+
+abbrev pub arrival : Event
+arrival = event 1 (Arrive 10 (packet 7 1500) 0) Enqueued
+
+abbrev pub departure_of_it : Event
+departure_of_it = event 2 (Depart 25) (Left (packet 7 1500))
+
+abbrev pub late_departure : Event
+late_departure = event 2 (Depart 30) Empty
+
+abbrev pub three : List Event
+three = arrival ∷ departure_of_it ∷ late_departure ∷ []
+
+abbrev pub place : List Event → Event → Place
+place before event = record { before = before; event = event }
+
+three-places : places three ≡ place [] arrival ∷ place (arrival ∷ []) departure_of_it ∷ place (arrival ∷ departure_of_it ∷ []) late_departure ∷ []
+unfolding places
+three-places = refl
+
+three-places-up_to : map up_to (places three) ≡ (arrival ∷ []) ∷ (arrival ∷ departure_of_it ∷ []) ∷ three ∷ []
+unfolding places
+three-places-up_to = refl
+
+-- the packet stays among those that were queued, and waits only until it departs
+three-admitted : admitted (opened 4 16 100) three ≡ waits (packet 7 1500) 10 ∷ []
+unfolding admitted places effective_moment greatest
+three-admitted = refl
+
+three-departed : (departed_count (arrival ∷ []) ≡ 0) × (departed_count three ≡ 1)
+unfolding departed_count
+three-departed = (refl, refl)
+
+three-waiting : (waiting_after (opened 4 16 100) (arrival ∷ []) ≡ waits (packet 7 1500) 10 ∷ []) × (waiting_after (opened 4 16 100) three ≡ [])
+unfolding waiting_after departed_count admitted places effective_moment greatest
+three-waiting = (refl, refl)
+
+-- a moment that falls back counts as the greatest before it, from the opening moment on
+
+abbrev falling : List Event
+falling = event 1 (Depart 9) Empty ∷ event 1 (Arrive 5 (packet 1 100) 0) Enqueued ∷ []
+
+falling-moments : (map (λ place. effective_moment (opened 4 16 100) (up_to place)) (places falling) ≡ 9 ∷ 9 ∷ [])
+    × (effective_moment (record (opened 4 16 100) { moment = 20 }) falling ≡ 20)
+    × (effective_moment (record (opened 4 16 100) { moment = 20 }) [] ≡ 20)
+unfolding places effective_moment greatest
+falling-moments = (refl, refl, refl)
+
+-- the packet waits since the effective moment of its arrival
+falling-waiting : waiting_after (opened 4 16 100) falling ≡ waits (packet 1 100) 9 ∷ []
+unfolding waiting_after departed_count admitted places effective_moment greatest
+falling-waiting = refl
+
+-- the first packet in is the first out; what was dropped never waits, and what was marked waits with CE
+
+abbrev mixed : List Event
+mixed = event 1 (Arrive 1 (packet 1 100) 0) Enqueued ∷ event 1 (Arrive 2 (capable 2 200) 0) Marked ∷ event 1 (Arrive 3 (packet 3 300) 0) DroppedPackets
+    ∷ event 1 (Arrive 3 (packet 4 300) 0) DroppedEarly ∷ event 2 (Depart 4) (Left (packet 1 100)) ∷ event 1 (Arrive 5 (packet 5 400) 0) Enqueued ∷ []
+
+mixed-waiting : waiting_after (opened 2 16 100) mixed ≡ waits (record { tag = 2; size = 200; ecn = Ce }) 2 ∷ waits (packet 5 400) 5 ∷ []
+unfolding waiting_after departed_count admitted places effective_moment greatest
+mixed-waiting = refl
+
+mixed-bytes : bytes_after (opened 2 16 100) mixed ≡ 600
+unfolding waiting_after departed_count admitted places effective_moment greatest
+mixed-bytes = refl
+
+-- the parameters that were set last are in force, and the opening's before
+
+abbrev other_params : RawParams
+other_params = nine 2 1 50 850000 0 1 100000 (1000000000000) 1024
+
+abbrev changing : List Event
+changing = event 1 (SetParams 1 other_params) Done ∷ event 1 (Depart 2) Empty ∷ event 1 (SetParams 3 default_profile) Done ∷ []
+
+changing-params : map (λ place. params_after (opened 4 16 100) place.before) (places changing) ≡ default_profile ∷ other_params ∷ other_params ∷ []
+unfolding places params_after last_or
+changing-params = refl
+
+changed-params : params_after (opened_with Bounded (limits 4 16 100) other_params) changing ≡ default_profile
+unfolding places params_after last_or
+changed-params = refl
+
+-- each limit at both ends of its range
+ranges : (map are_in_range (limits 1 1 1 ∷ limits 65536 1048576 1099511627776 ∷ []) ≡ true ∷ true ∷ [])
+    × (map are_in_range (limits 0 1 1 ∷ limits 65537 1 1 ∷ []) ≡ false ∷ false ∷ [])
+    × (map are_in_range (limits 1 0 1 ∷ limits 1 1048577 1 ∷ []) ≡ false ∷ false ∷ [])
+    × (map are_in_range (limits 1 1 0 ∷ limits 1 1 1099511627777 ∷ []) ≡ false ∷ false ∷ [])
+ranges = (refl, refl, refl, refl)
+
+-- bad limits are told before a moment above 2^60 - 1
+openings : (opening_refusal (limits 0 1 1) 1152921504606846976 ≡ Some open_refusal.BadLimits)
+    × (opening_refusal (limits 1 1 1) 1152921504606846976 ≡ Some open_refusal.Moment)
+    × (opening_refusal (limits 1 1 1) 1152921504606846975 ≡ None)
+openings = (refl, refl, refl)

@@ -1,0 +1,104 @@
+-- The definitions on worked histories: each theorem computes. The rate estimate, and the delay by it.
+use Rattle.std.specs.Prelude.{ℕ, ◌≡◌, List, [], ◌∷◌, ◌++◌, Some, None, Bool, true, false, map}
+use Rattle.std.proofs.Common.{refl}
+use Rattle.pie_params.specs.Profile.{default_profile}
+use Rattle.pie_params.specs.declared.raw.RawParams.{RawParams}
+use Rattle.pie_rate.specs.Departures.{Departure, departure}
+use Rattle.pie_rate.specs.Cycles.{cycles, begun, first_position, first_opening, first_closing, first_cycle, cycles_from}
+use Rattle.pie_rate.specs.Average.{average, samples}
+use Rattle.pie_rate.specs.Estimate.{Shows as ShowsRate}
+use Rattle.pie_control.specs.Delay.{delay_of}
+use Rattle.pie_book.specs.declared.command.Command.TheVariants.{Arrive, Depart, Reset, SetParams}
+use Rattle.pie_book.specs.declared.command.Answer.TheVariants.{Enqueued, Empty, Left, Done}
+use Rattle.pie_book.specs.declared.command.Event.{Event}
+use Rattle.pie_book.specs.declared.opening.Mode.TheVariants.{Bounded}
+use Rattle.pie_book.specs.declared.opening.Opening.{Opening}
+use Rattle.pie_book.specs.Deed.{departed, found_none}
+use Rattle.pie_book.specs.History.{places, greatest, last_or, effective_moment, params_after, admitted, departed_count, waiting_after}
+use Rattle.pie_book.specs.Estimates.{since_cleared, departure_shown, departures_after, average_after, measuring_after, delay_after}
+use Rattle.pie_book.proofs.Examples.{limits, opened_with, nine, packet, event, place}
+
+-- the default parameters, at a threshold of 1024 bytes
+abbrev pub small_threshold : RawParams
+small_threshold = nine 15000000 15000000 150000000 125 1250 1024 262144 100000000000 1024
+
+abbrev pub small : Opening
+small = opened_with Bounded (limits 8 16 100) small_threshold
+
+abbrev queues : ℕ → Event
+queues tag = event 1 (Arrive 0 (packet tag 1024) 0) Enqueued
+
+abbrev leaves : ℕ → ℕ → Event
+leaves tag moment = event 1 (Depart moment) (Left (packet tag 1024))
+
+-- four packets of 1024 bytes, of which one, two and three depart
+abbrev four : List Event
+four = queues 1 ∷ queues 2 ∷ queues 3 ∷ queues 4 ∷ []
+
+abbrev one_departed : List Event
+one_departed = four ++ leaves 1 100 ∷ []
+
+abbrev two_departed : List Event
+two_departed = one_departed ++ leaves 2 400 ∷ []
+
+abbrev three_departed : List Event
+three_departed = two_departed ++ leaves 3 500 ∷ []
+
+-- the same parameters, set again
+abbrev set_again : List Event
+set_again = three_departed ++ event 1 (SetParams 600 small_threshold) Done ∷ []
+
+-- a departure is shown with what it left; one that found no packet is not
+shown : (departure_shown (departed (packet 1 1024)) 3072 100 ≡ Some (departure 1024 3072 100)) × (departure_shown found_none 0 100 ≡ None)
+shown = (refl, refl)
+
+three-departures : departures_after small three_departed ≡ departure 1024 3072 100 ∷ departure 1024 2048 400 ∷ departure 1024 1024 500 ∷ []
+unfolding departures_after places effective_moment greatest waiting_after departed_count admitted
+three-departures = refl
+
+-- the estimate after each: a first sample of 300, and a second of 100 with the weight 1024 in 65536
+estimates : (map (average_after small) (four ∷ one_departed ∷ two_departed ∷ three_departed ∷ []) ≡ 0 ∷ 0 ∷ 300 ∷ 296 ∷ [])
+    × (map (measuring_after small) (four ∷ one_departed ∷ two_departed ∷ three_departed ∷ []) ≡ false ∷ true ∷ true ∷ true ∷ [])
+unfolding departures_after params_after last_or places effective_moment greatest waiting_after departed_count admitted average samples begun cycles first_position first_opening first_closing first_cycle cycles_from
+estimates = (refl, refl)
+
+-- 2048 bytes at 300 for each 1024, and 1024 at 296
+delays : map (delay_after small) (one_departed ∷ two_departed ∷ three_departed ∷ set_again ∷ []) ≡ 0 ∷ 600 ∷ 296 ∷ 0 ∷ []
+unfolding delay_after delay_of departures_after params_after last_or places effective_moment greatest waiting_after departed_count admitted average samples begun cycles first_position first_opening first_closing first_cycle cycles_from
+delays = refl
+
+-- new parameters clear the estimate, the same ones too, and so does a reset; a begun cycle is gone
+cleared : (departures_after small set_again ≡ []) × (average_after small set_again ≡ 0) × (measuring_after small set_again ≡ false)
+    × (departures_after small (three_departed ++ event 1 (Reset 600) Done ∷ []) ≡ [])
+unfolding departures_after params_after last_or places effective_moment greatest waiting_after departed_count admitted average samples begun cycles first_position first_opening first_closing first_cycle cycles_from
+cleared = (refl, refl, refl, refl)
+
+-- the next departure is the first, and opens no cycle, since it leaves too little
+after_clearing : (departures_after small (set_again ++ leaves 4 700 ∷ []) ≡ departure 1024 0 700 ∷ [])
+    × (measuring_after small (set_again ++ leaves 4 700 ∷ []) ≡ false)
+unfolding departures_after params_after last_or places effective_moment greatest waiting_after departed_count admitted average samples begun cycles first_position first_opening first_closing first_cycle cycles_from
+after_clearing = (refl, refl)
+
+-- a departure that found no packet is none, and a departure's moment is the effective one
+abbrev behind : List Event
+behind = four ++ leaves 1 100 ∷ leaves 2 40 ∷ []
+
+behind-departures : departures_after small behind ≡ departure 1024 3072 100 ∷ departure 1024 2048 100 ∷ []
+unfolding departures_after places effective_moment greatest waiting_after departed_count admitted
+behind-departures = refl
+
+-- a cycle within one nanosecond has the sample 1
+behind-average : average_after small behind ≡ 1
+unfolding departures_after params_after last_or places effective_moment greatest waiting_after departed_count admitted average samples begun cycles first_position first_opening first_closing first_cycle cycles_from
+behind-average = refl
+
+none-departures : departures_after small (event 1 (Depart 5) Empty ∷ []) ≡ []
+unfolding departures_after places effective_moment greatest waiting_after departed_count admitted
+none-departures = refl
+
+-- the places since the last clearing event
+since : (since_cleared (event 1 (Reset 1) Done ∷ event 1 (Depart 2) Empty ∷ []) ≡ place (event 1 (Reset 1) Done ∷ []) (event 1 (Depart 2) Empty) ∷ [])
+    × (since_cleared (event 1 (Depart 2) Empty ∷ []) ≡ place [] (event 1 (Depart 2) Empty) ∷ [])
+    × (since_cleared (event 1 (Depart 2) Empty ∷ event 1 (SetParams 3 small_threshold) Done ∷ []) ≡ [])
+unfolding places
+since = (refl, refl, refl)

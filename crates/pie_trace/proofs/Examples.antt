@@ -71,7 +71,7 @@ nine_params = record {
 
 -- what each kind asks
 requests : map request_of (arrive_row ∷ depart_row ∷ (codes "update" ∷ codes "3" ∷ codes "4" ∷ []) ∷ (codes "reset" ∷ codes "5" ∷ codes "6" ∷ [])
-  ∷ (codes "params" ∷ codes "7" ∷ codes "8" ∷ nine) ∷ (codes "fold" ∷ codes "9" ∷ []) ∷ (codes "show" ∷ []) ∷ (codes "tally" ∷ []) ∷ [])
+    ∷ (codes "params" ∷ codes "7" ∷ codes "8" ∷ nine) ∷ (codes "fold" ∷ codes "9" ∷ []) ∷ (codes "show" ∷ []) ∷ (codes "tally" ∷ []) ∷ [])
     ≡ Ok (Ask 1 (Arrive 10 (record { tag = 7; size = 1500; ecn = ecn.Ect0 }) 0)) ∷ Ok (Ask 2 (Depart 25)) ∷ Ok (Ask 3 (Update 4)) ∷ Ok (Ask 5 (Reset 6))
     ∷ Ok (Ask 7 (SetParams 8 nine_params)) ∷ Ok (Fold 9) ∷ Ok Show ∷ Ok Tally ∷ []
 unfolding number ecn_of params_at mode_of limits_at opening_fields arrive_fields call_fields params_fields fold_fields request_of field_at
@@ -79,9 +79,9 @@ requests = refl
 
 -- a parameter out of its range is no flaw, but a number that is no number is
 bad_params : map request_of (
-  (codes "params" ∷ codes "7" ∷ codes "8" ∷ codes "1" ∷ codes "1" ∷ codes "0" ∷ codes "1" ∷ codes "1" ∷ codes "1" ∷ codes "1" ∷ codes "0" ∷ codes "1024" ∷ [])
-  ∷ (codes "params" ∷ codes "7" ∷ codes "8" ∷ codes "1" ∷ codes "1" ∷ codes "0" ∷ codes "1" ∷ codes "1" ∷ codes "1" ∷ codes "1" ∷ codes "0" ∷ codes "x" ∷ [])
-  ∷ [])
+    (codes "params" ∷ codes "7" ∷ codes "8" ∷ codes "1" ∷ codes "1" ∷ codes "0" ∷ codes "1" ∷ codes "1" ∷ codes "1" ∷ codes "1" ∷ codes "0" ∷ codes "1024" ∷ [])
+    ∷ (codes "params" ∷ codes "7" ∷ codes "8" ∷ codes "1" ∷ codes "1" ∷ codes "0" ∷ codes "1" ∷ codes "1" ∷ codes "1" ∷ codes "1" ∷ codes "0" ∷ codes "x" ∷ [])
+    ∷ [])
     ≡ Ok BadParams ∷ Err flaw.Number ∷ []
 unfolding number ecn_of params_at mode_of limits_at opening_fields arrive_fields call_fields params_fields fold_fields request_of field_at
 bad_params = refl

@@ -340,17 +340,17 @@ full_tail-runs = refl
 
 -- the faults of a first record, in their order: its kind, its fields, its first bad parameter, its limits, its moment
 first_record_faults : map first_fault_of (
-  codes ""
-  ∷ codes "show\n"
-  ∷ codes "open,0,4,16,100,1\n"
-  ∷ codes "rolling,0,4,16\n"
-  ∷ codes "open,0,4,016,100\n"
-  ∷ codes "open,1152921504606846976,0,16,100,1,1,0,0,0,1,1,0,3000\n"
-  ∷ codes "rolling,1152921504606846976,0,16,100,2,1,0,0,0,1,1,0,3000\n"
-  ∷ codes "open,1152921504606846976,0,16,100,2,1,0,0,0,1,1,0,1024\n"
-  ∷ codes "rolling,1152921504606846976,4,16,100,2,1,0,0,0,1,1,0,1024\n"
-  ∷ codes "open,1152921504606846975,4,16,100,2,1,0,0,0,1,1,0,1024\n"
-  ∷ [])
+    codes ""
+    ∷ codes "show\n"
+    ∷ codes "open,0,4,16,100,1\n"
+    ∷ codes "rolling,0,4,16\n"
+    ∷ codes "open,0,4,016,100\n"
+    ∷ codes "open,1152921504606846976,0,16,100,1,1,0,0,0,1,1,0,3000\n"
+    ∷ codes "rolling,1152921504606846976,0,16,100,2,1,0,0,0,1,1,0,3000\n"
+    ∷ codes "open,1152921504606846976,0,16,100,2,1,0,0,0,1,1,0,1024\n"
+    ∷ codes "rolling,1152921504606846976,4,16,100,2,1,0,0,0,1,1,0,1024\n"
+    ∷ codes "open,1152921504606846975,4,16,100,2,1,0,0,0,1,1,0,1024\n"
+    ∷ [])
     ≡ Some fault.NoOpen ∷ Some fault.NoOpen ∷ Some (fault.Fields 1) ∷ Some (fault.Fields 1) ∷ Some (fault.Number 1)
     ∷ Some (fault.Opening (open_fault.Param Target)) ∷ Some (fault.Opening (open_fault.Param DqThreshold))
     ∷ Some (fault.Opening open_fault.Limits) ∷ Some (fault.Opening open_fault.Moment) ∷ None ∷ []
@@ -360,19 +360,19 @@ first_record_faults = refl
 
 -- the faults of a later record: its kind, the number of its fields, its first bad field
 later_record_faults : map (λ line. first_fault_of (codes "open,0,4,16,100\n" ++ line)) (
-  codes "dep,1,1\n"
-  ∷ codes "rolling,0,4,16,100\n"
-  ∷ codes "show,1\n"
-  ∷ codes "tally,0\n"
-  ∷ codes "fold\n"
-  ∷ codes "fold,01\n"
-  ∷ codes "update,65536,1\n"
-  ∷ codes "reset,1\n"
-  ∷ codes "params,1,1,1,1,1,1,1,1,1,1\n"
-  ∷ codes "params,1,1,1,1,1,1,1,1,1,1,x\n"
-  ∷ codes "arrive,1,10,7,1500,ect2,-1\n"
-  ∷ codes "params,1,1,1,1,1,1,1,1,1,1,1\n"
-  ∷ [])
+    codes "dep,1,1\n"
+    ∷ codes "rolling,0,4,16,100\n"
+    ∷ codes "show,1\n"
+    ∷ codes "tally,0\n"
+    ∷ codes "fold\n"
+    ∷ codes "fold,01\n"
+    ∷ codes "update,65536,1\n"
+    ∷ codes "reset,1\n"
+    ∷ codes "params,1,1,1,1,1,1,1,1,1,1\n"
+    ∷ codes "params,1,1,1,1,1,1,1,1,1,1,x\n"
+    ∷ codes "arrive,1,10,7,1500,ect2,-1\n"
+    ∷ codes "params,1,1,1,1,1,1,1,1,1,1,1\n"
+    ∷ [])
     ≡ Some (fault.Kind 2) ∷ Some (fault.Kind 2) ∷ Some (fault.Fields 2) ∷ Some (fault.Fields 2) ∷ Some (fault.Fields 2) ∷ Some (fault.Number 2)
     ∷ Some (fault.Number 2) ∷ Some (fault.Fields 2) ∷ Some (fault.Fields 2) ∷ Some (fault.Number 2) ∷ Some (fault.Word 2) ∷ None ∷ []
 unfolding fault_of first_fault record_fault number ecn_of params_at mode_of limits_at opening_fields arrive_fields call_fields params_fields

@@ -89,10 +89,7 @@ fn faulty_records(rt: HostRuntime) -> Result<(), Fail> {
         ("update,1,1.5", number),
         ("reset,65536,1", number),
         ("params,1,1,1,1,1,1,1,1,1,1,0x400", number),
-        (
-            "params,1,1,18446744073709551616,1,1,1,1,1,1,1,1",
-            number,
-        ),
+        ("params,1,1,18446744073709551616,1,1,1,1,1,1,1,1", number),
         ("depart,01,1", number),
         ("depart,1,", number),
         ("depart,65536,1", number),

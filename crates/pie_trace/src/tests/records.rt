@@ -1,6 +1,7 @@
 //! Every kind of record, on traces that were worked out by hand.
 
 use super::{EMPTY, run};
+use crate::TraceFault;
 use pie_book::Stats;
 use std::alloc::Global;
 use std::test::Fail;
@@ -71,7 +72,8 @@ pub(super) const EVERY_KIND: &str = "open,0,8,32,100,2,1,0,850000,0,1,100000,100
     fold,14\n\
     fold,1\n";
 
-pub(super) const EVERY_KIND_HISTORY: &str = "open,0,8,32,100,2,1,0,850000,0,1,100000,1000000000000,1024\n\
+pub(super) const EVERY_KIND_HISTORY: &str =
+    "open,0,8,32,100,2,1,0,850000,0,1,100000,1000000000000,1024\n\
     arrive,1,0,1,1024,not,0,enqueue\n\
     arrive,1,0,2,1024,not,0,enqueue\n\
     arrive,1,0,3,1024,not,0,enqueue\n\
@@ -94,11 +96,10 @@ pub(super) const EVERY_KIND_HISTORY: &str = "open,0,8,32,100,2,1,0,850000,0,1,10
     folded,14\n\
     refused,22,6\n";
 
-/// Runs a trace, and compares its history, how many events there were, and how many refusals.
-fn gives(alloc: Global, rt: &HostRuntime, trace: &str, history: &str, ended: (u64, u64)) {
+/// Runs a trace: how many events and refusals there were, and its history.
+fn ends(alloc: Global, trace: &str) -> (Result<(u64, u64), TraceFault>, Vec<u8>) {
     let (result, out) = run(alloc, trace);
-    assert_eq!(rt; result.map(|end| (end.events, end.refused)), Ok(ended), "{trace}");
-    assert_eq!(rt; out.as_slice(), history.as_bytes(), "{trace}");
+    (result.map(|end| (end.events, end.refused)), out)
 }
 
 /// The effective moment is shown, and the moment as handed in is written; an update comes too soon.
@@ -118,7 +119,9 @@ fn moments_that_fall(rt: HostRuntime) {
         refused,5,3\n\
         update,2,15000000,0,0,150000000\n\
         refused,7,1\n";
-    gives(rt.alloc(), &rt, trace, history, (3, 2));
+    let (ended, out) = ends(rt.alloc(), trace);
+    assert_eq!(rt; ended, Ok((3, 2)));
+    assert_eq!(rt; out.as_slice(), history.as_bytes());
 }
 
 /// A limit of 1000 bytes; a bad parameter is looked for before the moment.
@@ -138,13 +141,16 @@ fn parameters_and_a_reset(rt: HostRuntime) {
         reset,1,8,done\n\
         shown,3,8,0,0,0,0,0,20,5,0,0\n\
         refused,7,7\n";
-    gives(rt.alloc(), &rt, trace, history, (3, 1));
+    let (ended, out) = ends(rt.alloc(), trace);
+    assert_eq!(rt; ended, Ok((3, 1)));
+    assert_eq!(rt; out.as_slice(), history.as_bytes());
 }
 
 /// The average after each departure, and after new parameters.
 #[test]
 fn cycles_of_the_departure_rate(rt: HostRuntime) {
-    let trace = "open,0,8,16,100,15000000,15000000,150000000,125,1250,1024,262144,100000000000,1024\n\
+    let trace =
+        "open,0,8,16,100,15000000,15000000,150000000,125,1250,1024,262144,100000000000,1024\n\
         arrive,1,0,1,1024,not,0\n\
         arrive,1,0,2,1024,not,0\n\
         arrive,1,0,3,1024,not,0\n\
@@ -157,7 +163,8 @@ fn cycles_of_the_departure_rate(rt: HostRuntime) {
         show\n\
         params,1,600,15000000,15000000,150000000,125,1250,1024,262144,100000000000,1024\n\
         show\n";
-    let history = "open,0,8,16,100,15000000,15000000,150000000,125,1250,1024,262144,100000000000,1024\n\
+    let history =
+        "open,0,8,16,100,15000000,15000000,150000000,125,1250,1024,262144,100000000000,1024\n\
         arrive,1,0,1,1024,not,0,enqueue\n\
         arrive,1,0,2,1024,not,0,enqueue\n\
         arrive,1,0,3,1024,not,0,enqueue\n\
@@ -170,7 +177,9 @@ fn cycles_of_the_departure_rate(rt: HostRuntime) {
         shown,7,500,1,1024,0,0,0,150000000,0,296,1\n\
         params,1,600,15000000,15000000,150000000,125,1250,1024,262144,100000000000,1024,done\n\
         shown,8,600,1,1024,0,0,0,150000000,0,0,0\n";
-    gives(rt.alloc(), &rt, trace, history, (8, 0));
+    let (ended, out) = ends(rt.alloc(), trace);
+    assert_eq!(rt; ended, Ok((8, 0)));
+    assert_eq!(rt; out.as_slice(), history.as_bytes());
 }
 
 /// A full tail refuses until a fold makes room.
@@ -190,7 +199,9 @@ fn a_full_tail_and_folds(rt: HostRuntime) {
         refused,5,6\n\
         folded,1\n\
         arrive,1,3,3,100,not,0,enqueue\n";
-    gives(rt.alloc(), &rt, trace, history, (3, 2));
+    let (ended, out) = ends(rt.alloc(), trace);
+    assert_eq!(rt; ended, Ok((3, 2)));
+    assert_eq!(rt; out.as_slice(), history.as_bytes());
 }
 
 /// A rolling book lets its oldest event go, and holds as many as its tail.
@@ -208,7 +219,9 @@ fn a_rolling_book(rt: HostRuntime) {
         arrive,1,3,3,100,not,0,enqueue\n\
         refused,5,6\n\
         folded,2\n";
-    gives(rt.alloc(), &rt, trace, history, (3, 1));
+    let (ended, out) = ends(rt.alloc(), trace);
+    assert_eq!(rt; ended, Ok((3, 1)));
+    assert_eq!(rt; out.as_slice(), history.as_bytes());
 }
 
 /// The limit of all events holds for a rolling book too.
@@ -222,7 +235,9 @@ fn a_rolling_book_is_exhausted(rt: HostRuntime) {
         depart,1,1,empty\n\
         depart,1,1,empty\n\
         refused,4,4\n";
-    gives(rt.alloc(), &rt, trace, history, (2, 1));
+    let (ended, out) = ends(rt.alloc(), trace);
+    assert_eq!(rt; ended, Ok((2, 1)));
+    assert_eq!(rt; out.as_slice(), history.as_bytes());
 }
 
 /// A fold of none is one at any time.
@@ -242,7 +257,9 @@ fn a_fold_of_none(rt: HostRuntime) {
         refused,5,6\n\
         folded,1\n\
         refused,7,6\n";
-    gives(rt.alloc(), &rt, trace, history, (1, 2));
+    let (ended, out) = ends(rt.alloc(), trace);
+    assert_eq!(rt; ended, Ok((1, 2)));
+    assert_eq!(rt; out.as_slice(), history.as_bytes());
 }
 
 /// The same trace in a bounded and in a rolling book, and with a fold after each event.
@@ -255,7 +272,9 @@ fn marks_drops_and_a_lone_enqueue(rt: HostRuntime) -> Result<(), Fail> {
     ] {
         let trace = format!(in alloc; "{first}\n{MARKS}")?;
         let history = format!(in alloc; "{first}\n{MARKS_HISTORY}")?;
-        gives(alloc, &rt, trace.as_str(), history.as_str(), (14, 1));
+        let (ended, out) = ends(alloc, trace.as_str());
+        assert_eq!(rt; ended, Ok((14, 1)), "{trace}");
+        assert_eq!(rt; out.as_slice(), history.as_bytes(), "{trace}");
     }
     Ok(())
 }
@@ -264,7 +283,10 @@ fn marks_drops_and_a_lone_enqueue(rt: HostRuntime) -> Result<(), Fail> {
 #[test]
 fn a_fold_after_each_event(rt: HostRuntime) -> Result<(), Fail> {
     let alloc = rt.alloc();
-    let mut trace = String::from_str(alloc, "open,0,8,1,100,2,1,0,850000,0,1,100000,1000000000000,1024\n")?;
+    let mut trace = String::from_str(
+        alloc,
+        "open,0,8,1,100,2,1,0,850000,0,1,100000,1000000000000,1024\n",
+    )?;
     let mut history = String::from_str(alloc, trace.as_str())?;
     let mut given = MARKS_HISTORY.lines();
     for record in MARKS.lines() {
@@ -276,19 +298,26 @@ fn a_fold_after_each_event(rt: HostRuntime) -> Result<(), Fail> {
         } else {
             writeln!(history, "{said}")?;
         }
-        if !(record.starts_with("show") || record.starts_with("tally") || said.starts_with("refused")) {
+        if !(record.starts_with("show")
+            || record.starts_with("tally")
+            || said.starts_with("refused"))
+        {
             writeln!(trace, "fold,1")?;
             writeln!(history, "folded,1")?;
         }
     }
-    gives(alloc, &rt, trace.as_str(), history.as_str(), (14, 1));
+    let (ended, out) = ends(alloc, trace.as_str());
+    assert_eq!(rt; ended, Ok((14, 1)), "{trace}");
+    assert_eq!(rt; out.as_slice(), history.as_bytes(), "{trace}");
     Ok(())
 }
 
 /// The end of a run has the refused records of every code, and the statistics.
 #[test]
 fn the_end_of_every_kind(rt: HostRuntime) {
-    gives(rt.alloc(), &rt, EVERY_KIND, EVERY_KIND_HISTORY, (14, 2));
+    let (ended, out) = ends(rt.alloc(), EVERY_KIND);
+    assert_eq!(rt; ended, Ok((14, 2)));
+    assert_eq!(rt; out.as_slice(), EVERY_KIND_HISTORY.as_bytes());
     let (result, _) = run(rt.alloc(), EVERY_KIND);
     let stats = Stats {
         arrivals: 7,

@@ -240,6 +240,21 @@ fn history_of_departures(alloc: Global, count: u64) -> Result<String, Fail> {
     Ok(history)
 }
 
+/// Runs so many departures from a tail of sixteen events: what was written, and how many bytes by each write.
+fn departures(alloc: Global, count: u64) -> Result<(Vec<u8>, Vec<usize>), Fail> {
+    let mut trace = String::from_str(alloc, "open,0,4,16,100\n")?;
+    for _ in 0..count {
+        writeln!(trace, "depart,1,1")?;
+    }
+    let mut writer = CountingWriter {
+        taken: Vec::new(alloc),
+        parts: Vec::new(alloc),
+    };
+    let _ = run_trace(alloc, trace.as_bytes(), &mut writer);
+    let CountingWriter { taken, parts } = writer;
+    Ok((taken, parts))
+}
+
 /// The run ends where no further record may be read, and its history goes to the writer in parts.
 #[test]
 fn a_reader_without_an_end(rt: HostRuntime) -> Result<(), Fail> {
@@ -277,29 +292,23 @@ fn a_reader_without_an_end(rt: HostRuntime) -> Result<(), Fail> {
     Ok(())
 }
 
-/// Runs whose last record fills a part exactly, and those around them.
+/// Runs whose last record is the last of a part, and the one before and after it.
 #[test]
 fn a_history_that_is_a_whole_part(rt: HostRuntime) -> Result<(), Fail> {
     let alloc = rt.alloc();
-    let mut whole: u32 = 0;
-    for count in 2100..2250 {
+    let (_, parts) = departures(alloc, 3000)?;
+    let first = parts.first().copied().unwrap_or(0);
+    let lines = history_of_departures(alloc, 3000)?.as_bytes()[..first]
+        .iter()
+        .filter(|byte| **byte == b'\n')
+        .count() as u64;
+    assert!(rt; first >= CHUNK);
+    // The first line is the opening's.
+    for (count, most) in [(lines - 2, 1), (lines - 1, 1), (lines, 2)] {
+        let (taken, parts) = departures(alloc, count)?;
         let history = history_of_departures(alloc, count)?;
-        let mut trace = String::from_str(alloc, "open,0,4,16,100\n")?;
-        for _ in 0..count {
-            writeln!(trace, "depart,1,1")?;
-        }
-        let mut writer = CountingWriter {
-            taken: Vec::new(alloc),
-            parts: Vec::new(alloc),
-        };
-        let result = run_trace(alloc, trace.as_bytes(), &mut writer);
-        assert_eq!(rt; result.map(|end| end.refused), Ok(count - 16), "{count}");
-        assert_eq!(rt; writer.taken.as_slice(), history.as_bytes(), "{count}");
-        if writer.parts.len() == 1 && writer.taken.len() >= CHUNK + 66 {
-            whole = whole.saturating_add(1);
-        }
+        assert_eq!(rt; taken.as_slice(), history.as_bytes(), "{count}");
+        assert_eq!(rt; parts.len(), most, "{count}");
     }
-    // Of these runs one at least ended with the record that filled the part: all was written by then.
-    assert!(rt; whole >= 1);
     Ok(())
 }

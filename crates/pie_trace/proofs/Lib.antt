@@ -7,3 +7,4 @@ pub mod StepFacts
 pub mod RunFacts
 pub mod EndFacts
 pub mod Examples
+pub mod ExamplesRuns

@@ -1,21 +1,23 @@
 -- How far the run of a trace has come: what was done so far and what the records that are left will do make up what all
 -- of them do.
-use Rattle.std.specs.Prelude.{ℕ, ◌≡◌, ◌+◌, List, ◌++◌, length, true, false, Option, Some, None, Result, Ok, Err, is_err, ⊤, IsErrAnd}
+use Rattle.std.specs.Prelude.{ℕ, ◌≡◌, ◌+◌, List, ◌++◌, length, false, Option, Some, None, Result, Ok, Err, ⊤, cond, if◌then◌else◌}
 use Rattle.std.specs.Io.KnownBytes.{Appends}
-use Rattle.std.specs.Prelude.{cond}
 use Rattle.pie_book.specs.declared.opening.Opening.{Opening}
 use Rattle.pie_book.specs.Book.{BookView, Tells}
-use Rattle.pie_book.specs.Run.{Progress, start, next, outcome, outcomes, progress_after}
+use Rattle.pie_book.specs.Opening.{opening_refusal}
+use Rattle.pie_book.specs.Run.{Progress, start, progress_after}
 use Rattle.pie_trace.specs.declared.fault.TraceFault.{TraceFault}
 use Rattle.pie_trace.specs.declared.fields.Request.{Request}
 use Rattle.pie_trace.specs.declared.run.RunEnd.{RunEnd}
 use Rattle.pie_trace.specs.Fault.{is_device}
 use Rattle.pie_trace.specs.Text.{Row, text_of}
-use Rattle.pie_trace.specs.History.{answered_row, end_of, fault_of, first_fault, history_text, refused_count, step_of, steps_of, text_left}
+use Rattle.pie_trace.specs.History.{end_of, fault_of, first_fault, history_text, progress_at_end, refused_count, replies, requests_of, steps_of, text_left}
+use Rattle.pie_trace.specs.Reply.{Reply, after, history_row, is_refused, reply}
 
 -- a book stands where a run from its opening stands
 pub record IsAt (book : BookView) (opening : Opening) (progress : Progress) : Type 0 where
   pub opened : book.opening ≡ opening
+  pub accepted : opening_refusal opening.limits opening.moment ≡ None
   pub tells : Tells book progress.history
   pub held : length book.tail ≡ progress.held
 
@@ -24,15 +26,30 @@ pub record IsAt (book : BookView) (opening : Opening) (progress : Progress) : Ty
 pub record HasCome (most : ℕ) (opening : Opening) (all : List Row) (number : ℕ) (progress : Progress) (rows : List Row) (text : List ℕ) (refused : ℕ) : Type 0 where
   pub fault : first_fault most 2 all ≡ first_fault most number rows
   pub written : text_left most opening 2 start all ≡ text ++ text_left most opening number progress rows
-  pub ended : progress_after opening start (steps_of all) ≡ progress_after opening progress (steps_of rows)
-  pub refusals : refused_count (outcomes opening start (steps_of all)) ≡ refused + refused_count (outcomes opening progress (steps_of rows))
+  pub ended : progress_at_end opening (requests_of all) ≡ progress_after opening progress (steps_of (requests_of rows))
+  pub refusals : refused_count (replies opening start (requests_of all)) ≡ refused + refused_count (replies opening progress (requests_of rows))
 
--- what a record after the first did, where it reads well: its command is answered after the run so far, and its history
+-- how many refusals a reply is
+abbrev pub refusals_in : Reply → ℕ
+refusals_in given = cond (is_refused given) 1 0
+
+-- what a request did: the book stands where the run stands after it, a refusal is counted, and the row is its history record
+pub record IsReplied (number : ℕ) (row : Row) (request : Request) (opening : Opening) (new : BookView) (refused refused_then : ℕ) (row_then : Row) (progress : Progress) : Type 0 where
+  pub stands : IsAt new opening (after opening progress request)
+  pub refusals : refused_then ≡ refused + refusals_in (reply opening progress request)
+  pub made : row_then ≡ history_row number row (reply opening progress request)
+
+-- .. wherever the run stood
+abbrev pub Replies : ℕ → Row → Request → BookView → BookView → ℕ → ℕ → Row → Type 0
+Replies number row request old new refused refused_then row_then =
+    (progress : Progress) → IsAt old old.opening progress → IsReplied number row request old.opening new refused refused_then row_then progress
+
+-- what a record after the first did, where it reads well: its request is answered after the run so far, and its history
 -- record joins the text
 pub record IsAnswered (number : ℕ) (row : Row) (request : Request) (opening : Opening) (new : BookView) (refused refused_then : ℕ) (text text_then : List ℕ) (progress : Progress) : Type 0 where
-  pub stands : IsAt new opening (next opening progress (step_of request))
-  pub refusals : refused_then ≡ refused + cond (is_err (outcome opening progress request.command)) 1 0
-  pub written : text_then ≡ text ++ text_of (answered_row number row (outcome opening progress request.command))
+  pub stands : IsAt new opening (after opening progress request)
+  pub refusals : refused_then ≡ refused + refusals_in (reply opening progress request)
+  pub written : text_then ≡ text ++ text_of (history_row number row (reply opening progress request))
 
 -- where a run stands among all records after the first: some are left, and the text of the others was written
 pub record Stands (most : ℕ) (opening : Opening) (all : List Row) (number : ℕ) (book : BookView) (refused : ℕ) (left : Option (List Row)) (before now : Option (List ℕ)) : Type 0 where
@@ -47,8 +64,8 @@ pub record Stands (most : ℕ) (opening : Opening) (all : List Row) (number : �
 -- the steps of a trace ended with their last record, with no fault
 pub record AreDone (most : ℕ) (opening : Opening) (all : List Row) (book : BookView) (refused : ℕ) (before now : Option (List ℕ)) : Type 0 where
   pub sound : first_fault most 2 all ≡ None
-  pub stands : IsAt book opening (progress_after opening start (steps_of all))
-  pub refusals : refused ≡ refused_count (outcomes opening start (steps_of all))
+  pub stands : IsAt book opening (progress_at_end opening (requests_of all))
+  pub refusals : refused ≡ refused_count (replies opening start (requests_of all))
   pub written : Appends before now (text_left most opening 2 start all)
 
 -- they ended at the first fault
@@ -66,7 +83,9 @@ abbrev pub IsTold : Result RunEnd TraceFault → Type 0
 IsTold (Ok end) = ⊤
 IsTold (Err why) = is_device why ≡ false
 
--- the last rows were written out and the answer stays, or the answer is that something failed
-abbrev pub Closes : Result RunEnd TraceFault → Result (Unit {0}) TraceFault → Result RunEnd TraceFault → Type 0
-Closes result (Ok written) answer = answer ≡ result
-Closes result (Err why) answer = IsErrAnd answer (λ failed. is_device failed ≡ true)
+-- what the answer is where the last rows were written out, or could not be: a device or memory that failed before stays the
+-- answer, and any other answer gives way to what failed now
+abbrev pub closed : Result RunEnd TraceFault → Result (Unit {0}) TraceFault → Result RunEnd TraceFault
+closed result (Ok written) = result
+closed (Ok end) (Err why) = Err why
+closed (Err first) (Err why) = if is_device first then Err first else Err why

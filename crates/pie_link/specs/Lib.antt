@@ -1,0 +1,4 @@
+pub mod Kept
+pub mod Views
+pub mod Opening
+pub mod Commands

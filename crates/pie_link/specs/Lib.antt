@@ -2,3 +2,5 @@ pub mod Kept
 pub mod Views
 pub mod Opening
 pub mod Commands
+pub mod Folds
+pub mod Readings

@@ -4,14 +4,18 @@
 //! the lock that decides which comes first.
 ghost use Rattle.std.specs.Prelude.{◌≡◌};
 ghost use Rattle.pie_book.specs.declared.command.Command.TheVariants.{Arrive, Depart, Update, Reset, SetParams};
+ghost use Rattle.pie_book.specs.Registers.{registers_after};
+ghost use Rattle.pie_book.specs.Statistics.{stats_after};
 ghost use Rattle.pie_link.specs.Commands.{Answers, TriesToAnswer};
+ghost use Rattle.pie_link.specs.Folds.{Folds, TriesToFold};
+ghost use Rattle.pie_link.specs.Readings.{Reads, TriesToRead};
 
 use crate::caller::Caller;
 use crate::link::Link;
 use crate::told::{Told, Tried};
 use crate::turn;
 use core::mem::replace_with;
-use pie_book::{Answer, Command, Refusal};
+use pie_book::{Answer, Command, Event, FoldRefusal, Refusal, Registers, Stats};
 use pie_params::Params;
 use pie_queue::Packet;
 use std::sync::Wait;
@@ -209,5 +213,81 @@ impl Link {
     {
         let command = Command::SetParams { moment, params };
         replace_with(&mut caller.pass, (self, rt, &command), turn::wait_and_apply)
+    }
+
+    /// Hands out the oldest `n` events of the book's tail, oldest first, which makes room for as many. The history stays as
+    /// it was, and so do all later answers. It waits for nobody.
+    ///
+    /// # Errors
+    ///
+    /// `Busy` where another caller has the book; `Refused` with `TooMany` where the tail holds fewer events, or with
+    /// `Memory`, which doesn't come where `n` is 0. Nothing is folded then.
+    pub fn try_fold(
+        &self,
+        caller: &mut Caller,
+        n: u64,
+    ) -> Result<Told<Vec<Event>>, Tried<FoldRefusal>>
+        requires own { caller.old.lock ≡ self.now }
+        ensures { TriesToFold self.now caller.old n result caller.new }
+    {
+        replace_with(&mut caller.pass, (self, n), turn::try_fold)
+    }
+
+    /// Hands out the oldest `n` events of the book's tail, oldest first, which makes room for as many. The history stays as
+    /// it was, and so do all later answers. It waits while another caller has the book.
+    ///
+    /// # Errors
+    ///
+    /// `TooMany` where the tail holds fewer events; `Memory`, which doesn't come where `n` is 0. Nothing is folded then.
+    pub fn fold<R: Wait>(
+        &self,
+        rt: &R,
+        caller: &mut Caller,
+        n: u64,
+    ) -> Result<Told<Vec<Event>>, FoldRefusal>
+        requires own { caller.old.lock ≡ self.now }
+        ensures { Folds self.now caller.old n result caller.new }
+    {
+        replace_with(&mut caller.pass, (self, rt, n), turn::wait_and_fold)
+    }
+
+    /// What the book holds. It waits for nobody.
+    ///
+    /// # Errors
+    ///
+    /// `Busy` alone, where another caller has the book.
+    pub fn try_registers(&self, caller: &mut Caller) -> Result<Told<Registers>, Tried<Refusal>>
+        requires own { caller.old.lock ≡ self.now }
+        ensures { TriesToRead registers_after self.now caller.old result caller.new }
+    {
+        replace_with(&mut caller.pass, self, turn::try_registers)
+    }
+
+    /// What the book holds. It waits while another caller has the book.
+    pub fn registers<R: Wait>(&self, rt: &R, caller: &mut Caller) -> Told<Registers>
+        requires own { caller.old.lock ≡ self.now }
+        ensures { Reads registers_after self.now caller.old result caller.new }
+    {
+        replace_with(&mut caller.pass, (self, rt), turn::wait_and_read_registers)
+    }
+
+    /// The statistics of all events. It waits for nobody.
+    ///
+    /// # Errors
+    ///
+    /// `Busy` alone, where another caller has the book.
+    pub fn try_stats(&self, caller: &mut Caller) -> Result<Told<Stats>, Tried<Refusal>>
+        requires own { caller.old.lock ≡ self.now }
+        ensures { TriesToRead stats_after self.now caller.old result caller.new }
+    {
+        replace_with(&mut caller.pass, self, turn::try_stats)
+    }
+
+    /// The statistics of all events. It waits while another caller has the book.
+    pub fn stats<R: Wait>(&self, rt: &R, caller: &mut Caller) -> Told<Stats>
+        requires own { caller.old.lock ≡ self.now }
+        ensures { Reads stats_after self.now caller.old result caller.new }
+    {
+        replace_with(&mut caller.pass, (self, rt), turn::wait_and_read_stats)
     }
 }

@@ -4,3 +4,4 @@ pub mod Opening
 pub mod Commands
 pub mod Folds
 pub mod Readings
+pub mod Headline

@@ -32,6 +32,7 @@ impl Link {
     ghost use Rattle.pie_lock.specs.Views.{HoldsAll};
     ghost use Rattle.pie_lock.specs.Promises.{first_pass, without_highest, highest_alone, IsBeside, IsBothOf};
     ghost use Rattle.pie_link.specs.Views.{IsHistoryFor, number_of};
+    ghost use Rattle.pie_link.specs.Headline.{KeepsOneHistory};
     ghost use Rattle.pie_link.specs.Opening.{link_refusal, IsRefusedFor};
 
     /// Opens a link over a bounded book: `open_with` at `Mode::Bounded`.
@@ -51,6 +52,7 @@ impl Link {
         ensures opening { IfOk result (λ opened. opened.0.origin ≡ Some (record { moment = moment; limits = limits; params = params; choices = record { mode = Bounded } })) }
         ensures callers { IfOk result (λ opened. opened.0.numbers ≡ callers) }
         ensures caller { IfOk result (λ opened. opened.1 ≡ first_pass opened.0 callers) }
+        ensures headline { IfOk result (λ opened. KeepsOneHistory opened.0) }
     {
         let choices = Choices {
             mode: Mode::Bounded,
@@ -78,6 +80,7 @@ impl Link {
         ensures opening { IfOk result (λ opened. opened.0.origin ≡ Some (record { moment = moment; limits = limits; params = params; choices = choices })) }
         ensures callers { IfOk result (λ opened. opened.0.numbers ≡ callers) }
         ensures caller { IfOk result (λ opened. opened.1 ≡ first_pass opened.0 callers) }
+        ensures headline { IfOk result (λ opened. KeepsOneHistory opened.0) }
     {
         let book = match Book::open_with(alloc, limits, params, moment, choices) {
             Ok(book) => book,

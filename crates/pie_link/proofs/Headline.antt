@@ -1,0 +1,68 @@
+-- The headline, from the rule of the lock.
+use Rattle.std.proofs.Common.{◌≡◌, ℕ, suc, List, [], ◌∷◌, refl, subst, ⊎_elim, arith}
+use Rattle.std.specs.List.{All}
+use Rattle.std.proofs.lemmas.List.Elements.{All-nil, All-cons, All-append}
+use mathlib.Core.Option.{some}
+use lib.ListN.{get_elem?}
+use Rattle.pie_lock.specs.declared.view.Shown.{Shown}
+use Rattle.pie_lock.specs.declared.view.Place.{Place}
+use Rattle.pie_lock.specs.declared.view.Place.TheVariants.{Spent, Waits, Holds, Meets}
+use Rattle.pie_lock.specs.Rule.{EachPass, Follows, Agreed, WhileFree}
+use Rattle.pie_book.specs.declared.command.Event.{Event}
+use Rattle.pie_book.specs.declared.opening.Opening.{Opening}
+use Rattle.pie_book.specs.Book.{BookView, Tells}
+use Rattle.pie_book.specs.Core.{registers_of}
+use Rattle.pie_book.specs.History.{waiting_after}
+use Rattle.pie_book.specs.Registers.{registers_after}
+use Rattle.pie_book.specs.Statistics.{stats_after}
+use Rattle.pie_book.proofs.LookFacts.{registers-is}
+use Rattle.pie_book.specs.Decision.{IsLegal}
+use Rattle.pie_link.specs.Views.{LinkView, number_of}
+use Rattle.pie_link.specs.Headline.{Informed, BeginsWith, HasCallsOf, informed, callers_at, callers_of, LockState, LiesIn, IsOneHistory, KeepsOneHistory}
+
+module _ (P : Shown Event Opening → Type 0) (Q : Informed → Type 0) (follows : (p : Shown Event Opening) → P p → Q (informed p)) where
+  -- what holds of each pass at a seat holds of each of its callers
+  at_seat : (seat : Place Event Opening) → EachPass P seat → All Q (callers_at seat)
+  at_seat Spent each = All-nil Q
+  at_seat (Waits p) each = All-cons Q (informed p) [] (follows p each) (All-nil Q)
+  at_seat (Holds p) each = All-cons Q (informed p) [] (follows p each) (All-nil Q)
+  at_seat (Meets p q) each = All-cons Q (informed p) (informed q ∷ []) (follows p each.0) (All-cons Q (informed q) [] (follows q each.1) (All-nil Q))
+
+  -- .. and so of all callers
+  pub at_all : (seats : List (Place Event Opening)) → ((seat : ℕ) (view : Place Event Opening) → get_elem? seats seat ≡ some view → EachPass P view) → All Q (callers_of seats)
+  at_all [] each = All-nil Q
+  at_all (seat ∷ seats) each = All-append Q (callers_at seat) (callers_of seats) (at_seat seat (each 0 seat refl)) (at_all seats (λ k view at. each (suc k) view at))
+
+-- what the rule says while the lock is free
+pub while_free : (opening : Opening) (numbers : ℕ) (lock : LockState) (history : List Event)
+    → Agreed number_of opening numbers history lock.views
+    → WhileFree number_of (λ (book : BookView). book.opening) Tells opening numbers history lock
+    → (book : BookView) × LiesIn lock book × ((h : List Event) × IsOneHistory opening book (callers_of lock.views) h)
+while_free opening numbers lock history agreed free =
+    let lodged = free.2.0 in
+    let book = lodged.state in
+    let opened = free.2.2 in
+    let told = free.2.3 in (
+      book,
+      (lodged, free.2.1, refl),
+      (
+        history,
+        record {
+          opened = opened;
+          told = told;
+          legal = subst (λ (o : Opening). IsLegal o history) opened told.running.legal;
+          begins = at_all (Follows number_of opening numbers history) (BeginsWith history) (λ p f. f.shown) lock.views agreed.each_follows;
+          calls = at_all (Follows number_of opening numbers history) (HasCallsOf history) (λ p f. f.owned) lock.views agreed.each_follows;
+          ends = told.tail;
+          queue = subst (λ (o : Opening). book.running.waiting ≡ waiting_after o history) opened told.running.waiting;
+          registers = subst (λ (o : Opening). registers_of book.running ≡ registers_after o history) opened (registers-is book.opening book.running history told.running);
+          stats = subst (λ (o : Opening). book.running.stats ≡ stats_after o history) opened told.running.stats;
+        },
+      ),
+    )
+
+-- whenever the lock is free there is one history
+pub keeps_one_history : (link : LinkView) → KeepsOneHistory link
+keeps_one_history link opening from lock ruled free =
+    let history = ruled.1.0 in
+    ⊎_elim (while_free opening link.numbers lock history ruled.1.1) (λ held. absurd (omega (arith, held.0, free))) ruled.1.2

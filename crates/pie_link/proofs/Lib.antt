@@ -1,0 +1,3 @@
+pub mod Outcomes
+pub mod Headline
+pub mod Folding

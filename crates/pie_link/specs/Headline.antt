@@ -1,0 +1,96 @@
+-- The headline: whenever the lock is free there is one history of one thread that begins with everything any caller has been
+-- shown, contains each caller's calls once and in its order, and ends with the stored tail; every recorded verdict is the
+-- rules' at its place, and looking back over the whole history gives what the book now holds.
+use Rattle.std.specs.Prelude.{◌≡◌, ℕ, List, [], ◌∷◌, ◌++◌, length, slice_index, Option, Some, All}
+use mathlib.Core.List.{IsPrefix}
+use mathlib.Core.Option.{some}
+use lib.ListN.{get_elem?}
+use Rattle.atomic_table.specs.Table.{State}
+use Rattle.pie_lock.specs.declared.view.Shown.{Shown}
+use Rattle.pie_lock.specs.declared.view.Place.{Place}
+use Rattle.pie_lock.specs.declared.view.Place.TheVariants.{Spent, Waits, Holds, Meets}
+use Rattle.pie_lock.specs.declared.view.Lodged.{Lodged}
+use Rattle.pie_lock.specs.Own.{own}
+use Rattle.pie_lock.specs.Rule.{Ruled}
+use Rattle.pie_book.specs.declared.command.Event.{Event}
+use Rattle.pie_book.specs.declared.opening.Opening.{Opening}
+use Rattle.pie_book.specs.Book.{BookView, Tells, last_events}
+use Rattle.pie_book.specs.Decision.{IsLegal}
+use Rattle.pie_book.specs.Core.{registers_of}
+use Rattle.pie_book.specs.History.{waiting_after}
+use Rattle.pie_book.specs.Registers.{registers_after}
+use Rattle.pie_book.specs.Statistics.{stats_after}
+use Rattle.pie_link.specs.Views.{LinkView, number_of}
+
+-- a caller: the events that it has been shown, and its numbers first..limit
+pub record Informed : Type 0 where
+  pub front : List Event
+  pub first : ℕ
+  pub limit : ℕ
+
+-- the calls of a caller: the events that stand under its numbers, in order
+abbrev pub calls_of : Informed → List Event → List Event
+calls_of caller history = own number_of caller.first caller.limit history
+
+-- the history begins with everything that the caller has been shown
+abbrev pub BeginsWith : List Event → Informed → Type 0
+BeginsWith history caller = IsPrefix caller.front history
+
+-- the history has the calls that the caller was shown of its own, and no others of it
+abbrev pub HasCallsOf : List Event → Informed → Type 0
+HasCallsOf history caller = calls_of caller history ≡ calls_of caller caller.front
+
+-- there is one history behind a free book and all callers
+pub record IsOneHistory (opening : Opening) (book : BookView) (callers : List Informed) (history : List Event) : Type 0 where
+  -- of one thread: the book, opened as the link was, tells it, and each command was taken at its place and has the answer
+  -- that the rules give there
+  pub opened : book.opening ≡ opening
+  pub told : Tells book history
+  pub legal : IsLegal opening history
+  -- it begins with everything that any caller has been shown
+  pub begins : All (BeginsWith history) callers
+  -- it contains each caller's calls once and in its order: under a caller's numbers it has what that caller was shown
+  pub calls : All (HasCallsOf history) callers
+  -- it ends with the stored tail
+  pub ends : last_events (length book.tail) history ≡ book.tail
+  -- looking back over all of it gives what the book holds
+  pub queue : book.running.waiting ≡ waiting_after opening history
+  pub registers : registers_of book.running ≡ registers_after opening history
+  pub stats : book.running.stats ≡ stats_after opening history
+
+-- the callers of which a seat at the lock knows; one that was gathered into another knows of none
+abbrev pub informed : Shown Event Opening → Informed
+informed p = record { front = p.front; first = p.first; limit = p.limit }
+
+abbrev pub callers_at : Place Event Opening → List Informed
+callers_at Spent = []
+callers_at (Waits p) = informed p ∷ []
+callers_at (Holds p) = informed p ∷ []
+callers_at (Meets p q) = informed p ∷ informed q ∷ []
+
+abbrev pub callers_of : List (Place Event Opening) → List Informed
+callers_of [] = []
+callers_of (seat ∷ seats) = callers_at seat ++ callers_of seats
+
+-- what a lock over a book consists of: its word, its slot, and what its callers have been shown
+abbrev pub LockState : Type 0
+LockState = State (Option (Lodged BookView Event)) (Place Event Opening)
+
+-- the rule of the lock, over a book with this opening and so many numbers: each step of each caller keeps it
+abbrev pub IsRuled : Opening → ℕ → LockState → Type 0
+IsRuled opening numbers lock = Ruled number_of (λ book. book.opening) Tells opening numbers lock
+
+-- the lock is free: its word shows FREE
+abbrev pub IsFree : LockState → Type 0
+IsFree lock = slice_index lock.words 0 ≡ 0
+
+-- the book lies in the lock's slot
+abbrev pub LiesIn : LockState → BookView → Type 0
+LiesIn lock book = (lodged : Lodged BookView Event) × (get_elem? lock.homes 0 ≡ some (some (Some lodged))) × (lodged.state ≡ book)
+
+-- whenever the lock is free there is one history
+abbrev pub KeepsOneHistory : LinkView → Type 0
+KeepsOneHistory link =
+    (opening : Opening) → link.origin ≡ Some opening
+    → (lock : LockState) → IsRuled opening link.numbers lock → IsFree lock
+    → (book : BookView) × LiesIn lock book × ((history : List Event) × IsOneHistory opening book (callers_of lock.views) history)

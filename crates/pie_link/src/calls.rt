@@ -1,0 +1,293 @@
+//! What a caller of a link can ask: each call takes the lock once, and puts the book back.
+//!
+//! Moments are nanoseconds from a start of the callers' choosing, at most `2^60 - 1`. Between calls of two callers it is
+//! the lock that decides which comes first.
+ghost use Rattle.std.specs.Prelude.{◌≡◌};
+ghost use Rattle.pie_book.specs.declared.command.Command.TheVariants.{Arrive, Depart, Update, Reset, SetParams};
+ghost use Rattle.pie_book.specs.Registers.{registers_after};
+ghost use Rattle.pie_book.specs.Statistics.{stats_after};
+ghost use Rattle.pie_link.specs.Commands.{Answers, TriesToAnswer};
+ghost use Rattle.pie_link.specs.Folds.{Folds, TriesToFold};
+ghost use Rattle.pie_link.specs.Readings.{Reads, TriesToRead};
+
+use crate::caller::Caller;
+use crate::link::Link;
+use crate::told::{Told, Tried};
+use crate::turn;
+use core::mem::replace_with;
+use pie_book::{Answer, Command, Event, FoldRefusal, Refusal, Registers, Stats};
+use pie_params::Params;
+use pie_queue::Packet;
+use std::sync::Wait;
+
+impl Link {
+    /// A packet arrives, with a random word of the caller's (see `Command::Arrive`). It waits for nobody.
+    ///
+    /// # Errors
+    ///
+    /// `Busy` where another caller has the book; `Refused` with those of `Book::apply`, in its order. There is no event
+    /// then.
+    pub fn try_arrive(
+        &self,
+        caller: &mut Caller,
+        moment: u64,
+        packet: Packet,
+        word: u64,
+    ) -> Result<Told<Answer>, Tried<Refusal>>
+        requires own { caller.old.lock ≡ self.now }
+        ensures { TriesToAnswer self.now caller.old (Arrive moment packet word) result caller.new }
+    {
+        let command = Command::Arrive {
+            moment,
+            packet,
+            word,
+        };
+        replace_with(&mut caller.pass, (self, &command), turn::try_apply)
+    }
+
+    /// The link asks for the next packet (see `Command::Depart`). It waits for nobody.
+    ///
+    /// # Errors
+    ///
+    /// `Busy` where another caller has the book; `Refused` with those of `Book::apply`, in its order. There is no event
+    /// then.
+    pub fn try_depart(
+        &self,
+        caller: &mut Caller,
+        moment: u64,
+    ) -> Result<Told<Answer>, Tried<Refusal>>
+        requires own { caller.old.lock ≡ self.now }
+        ensures { TriesToAnswer self.now caller.old (Depart moment) result caller.new }
+    {
+        let command = Command::Depart { moment };
+        replace_with(&mut caller.pass, (self, &command), turn::try_apply)
+    }
+
+    /// The probability is to be computed anew (see `Command::Update`). It waits for nobody.
+    ///
+    /// # Errors
+    ///
+    /// `Busy` where another caller has the book; `Refused` with those of `Book::apply`, in its order. There is no event
+    /// then.
+    pub fn try_update(
+        &self,
+        caller: &mut Caller,
+        moment: u64,
+    ) -> Result<Told<Answer>, Tried<Refusal>>
+        requires own { caller.old.lock ≡ self.now }
+        ensures { TriesToAnswer self.now caller.old (Update moment) result caller.new }
+    {
+        let command = Command::Update { moment };
+        replace_with(&mut caller.pass, (self, &command), turn::try_apply)
+    }
+
+    /// The probability, the delays and the rate estimate are to start anew (see `Command::Reset`). It waits for nobody.
+    ///
+    /// # Errors
+    ///
+    /// `Busy` where another caller has the book; `Refused` with those of `Book::apply`, in its order. There is no event
+    /// then.
+    pub fn try_reset(
+        &self,
+        caller: &mut Caller,
+        moment: u64,
+    ) -> Result<Told<Answer>, Tried<Refusal>>
+        requires own { caller.old.lock ≡ self.now }
+        ensures { TriesToAnswer self.now caller.old (Reset moment) result caller.new }
+    {
+        let command = Command::Reset { moment };
+        replace_with(&mut caller.pass, (self, &command), turn::try_apply)
+    }
+
+    /// New parameters are to hold from the next event on (see `Command::SetParams`). It waits for nobody.
+    ///
+    /// # Errors
+    ///
+    /// `Busy` where another caller has the book; `Refused` with those of `Book::apply`, in its order. There is no event
+    /// then.
+    pub fn try_set_params(
+        &self,
+        caller: &mut Caller,
+        moment: u64,
+        params: Params,
+    ) -> Result<Told<Answer>, Tried<Refusal>>
+        requires own { caller.old.lock ≡ self.now }
+        ensures { TriesToAnswer self.now caller.old (SetParams moment params) result caller.new }
+    {
+        let command = Command::SetParams { moment, params };
+        replace_with(&mut caller.pass, (self, &command), turn::try_apply)
+    }
+
+    /// A packet arrives, with a random word of the caller's (see `Command::Arrive`). It waits while another caller has the book.
+    ///
+    /// # Errors
+    ///
+    /// Those of `Book::apply`, in its order; there is no event then.
+    pub fn arrive<R: Wait>(
+        &self,
+        rt: &R,
+        caller: &mut Caller,
+        moment: u64,
+        packet: Packet,
+        word: u64,
+    ) -> Result<Told<Answer>, Refusal>
+        requires own { caller.old.lock ≡ self.now }
+        ensures { Answers self.now caller.old (Arrive moment packet word) result caller.new }
+    {
+        let command = Command::Arrive {
+            moment,
+            packet,
+            word,
+        };
+        replace_with(&mut caller.pass, (self, rt, &command), turn::wait_and_apply)
+    }
+
+    /// The link asks for the next packet (see `Command::Depart`). It waits while another caller has the book.
+    ///
+    /// # Errors
+    ///
+    /// Those of `Book::apply`, in its order; there is no event then.
+    pub fn depart<R: Wait>(
+        &self,
+        rt: &R,
+        caller: &mut Caller,
+        moment: u64,
+    ) -> Result<Told<Answer>, Refusal>
+        requires own { caller.old.lock ≡ self.now }
+        ensures { Answers self.now caller.old (Depart moment) result caller.new }
+    {
+        let command = Command::Depart { moment };
+        replace_with(&mut caller.pass, (self, rt, &command), turn::wait_and_apply)
+    }
+
+    /// The probability is to be computed anew (see `Command::Update`). It waits while another caller has the book.
+    ///
+    /// # Errors
+    ///
+    /// Those of `Book::apply`, in its order; there is no event then.
+    pub fn update<R: Wait>(
+        &self,
+        rt: &R,
+        caller: &mut Caller,
+        moment: u64,
+    ) -> Result<Told<Answer>, Refusal>
+        requires own { caller.old.lock ≡ self.now }
+        ensures { Answers self.now caller.old (Update moment) result caller.new }
+    {
+        let command = Command::Update { moment };
+        replace_with(&mut caller.pass, (self, rt, &command), turn::wait_and_apply)
+    }
+
+    /// The probability, the delays and the rate estimate are to start anew (see `Command::Reset`). It waits while another caller has the book.
+    ///
+    /// # Errors
+    ///
+    /// Those of `Book::apply`, in its order; there is no event then.
+    pub fn reset<R: Wait>(
+        &self,
+        rt: &R,
+        caller: &mut Caller,
+        moment: u64,
+    ) -> Result<Told<Answer>, Refusal>
+        requires own { caller.old.lock ≡ self.now }
+        ensures { Answers self.now caller.old (Reset moment) result caller.new }
+    {
+        let command = Command::Reset { moment };
+        replace_with(&mut caller.pass, (self, rt, &command), turn::wait_and_apply)
+    }
+
+    /// New parameters are to hold from the next event on (see `Command::SetParams`). It waits while another caller has the book.
+    ///
+    /// # Errors
+    ///
+    /// Those of `Book::apply`, in its order; there is no event then.
+    pub fn set_params<R: Wait>(
+        &self,
+        rt: &R,
+        caller: &mut Caller,
+        moment: u64,
+        params: Params,
+    ) -> Result<Told<Answer>, Refusal>
+        requires own { caller.old.lock ≡ self.now }
+        ensures { Answers self.now caller.old (SetParams moment params) result caller.new }
+    {
+        let command = Command::SetParams { moment, params };
+        replace_with(&mut caller.pass, (self, rt, &command), turn::wait_and_apply)
+    }
+
+    /// Hands out the oldest `n` events of the book's tail, oldest first, which makes room for as many. The history stays as
+    /// it was, and so do all later answers. It waits for nobody.
+    ///
+    /// # Errors
+    ///
+    /// `Busy` where another caller has the book; `Refused` with `TooMany` where the tail holds fewer events, or with
+    /// `Memory`, which doesn't come where `n` is 0. Nothing is folded then.
+    pub fn try_fold(
+        &self,
+        caller: &mut Caller,
+        n: u64,
+    ) -> Result<Told<Vec<Event>>, Tried<FoldRefusal>>
+        requires own { caller.old.lock ≡ self.now }
+        ensures { TriesToFold self.now caller.old n result caller.new }
+    {
+        replace_with(&mut caller.pass, (self, n), turn::try_fold)
+    }
+
+    /// Hands out the oldest `n` events of the book's tail, oldest first, which makes room for as many. The history stays as
+    /// it was, and so do all later answers. It waits while another caller has the book.
+    ///
+    /// # Errors
+    ///
+    /// `TooMany` where the tail holds fewer events; `Memory`, which doesn't come where `n` is 0. Nothing is folded then.
+    pub fn fold<R: Wait>(
+        &self,
+        rt: &R,
+        caller: &mut Caller,
+        n: u64,
+    ) -> Result<Told<Vec<Event>>, FoldRefusal>
+        requires own { caller.old.lock ≡ self.now }
+        ensures { Folds self.now caller.old n result caller.new }
+    {
+        replace_with(&mut caller.pass, (self, rt, n), turn::wait_and_fold)
+    }
+
+    /// What the book holds. It waits for nobody.
+    ///
+    /// # Errors
+    ///
+    /// `Busy` alone, where another caller has the book.
+    pub fn try_registers(&self, caller: &mut Caller) -> Result<Told<Registers>, Tried<Refusal>>
+        requires own { caller.old.lock ≡ self.now }
+        ensures { TriesToRead registers_after self.now caller.old result caller.new }
+    {
+        replace_with(&mut caller.pass, self, turn::try_registers)
+    }
+
+    /// What the book holds. It waits while another caller has the book.
+    pub fn registers<R: Wait>(&self, rt: &R, caller: &mut Caller) -> Told<Registers>
+        requires own { caller.old.lock ≡ self.now }
+        ensures { Reads registers_after self.now caller.old result caller.new }
+    {
+        replace_with(&mut caller.pass, (self, rt), turn::wait_and_read_registers)
+    }
+
+    /// The statistics of all events. It waits for nobody.
+    ///
+    /// # Errors
+    ///
+    /// `Busy` alone, where another caller has the book.
+    pub fn try_stats(&self, caller: &mut Caller) -> Result<Told<Stats>, Tried<Refusal>>
+        requires own { caller.old.lock ≡ self.now }
+        ensures { TriesToRead stats_after self.now caller.old result caller.new }
+    {
+        replace_with(&mut caller.pass, self, turn::try_stats)
+    }
+
+    /// The statistics of all events. It waits while another caller has the book.
+    pub fn stats<R: Wait>(&self, rt: &R, caller: &mut Caller) -> Told<Stats>
+        requires own { caller.old.lock ≡ self.now }
+        ensures { Reads stats_after self.now caller.old result caller.new }
+    {
+        replace_with(&mut caller.pass, (self, rt), turn::wait_and_read_stats)
+    }
+}

@@ -1,0 +1,157 @@
+//! The link: how it is opened, shared and closed.
+ghost use Rattle.std.specs.Prelude.{◌≡◌, ◌+◌, ◌↔◌, Some, None, IsOk, IsErr, IfOk, IfErr, OnOk, OnErr, List};
+ghost use Rattle.pie_book.specs.declared.command.Event.{Event};
+ghost use Rattle.pie_book.specs.declared.opening.Mode.TheVariants.{Bounded};
+ghost use Rattle.pie_book.specs.Book.{Tells};
+
+use crate::caller::Caller;
+use crate::kept_book::KeptBook;
+use crate::refusal::LinkRefusal;
+use pie_book::{Book, Choices, Limits, Mode, OpenRefusal};
+use pie_lock::{OneNumber, RuledLock, StillHeld};
+use pie_params::Params;
+use std::alloc::Global;
+use std::marker::Model;
+
+/// A book that several callers share.
+#[derive(Drop)]
+pub struct Link {
+    pub(crate) lock: RuledLock<KeptBook>,
+    pub(crate) alloc: Global,
+}
+
+impl Model for Link {
+    ghost use Rattle.pie_link.specs.Views.{LinkView};
+
+    ghost Value = { LinkView };
+
+    ghost view = { λ l. l.lock };
+}
+
+impl Link {
+    ghost use Rattle.pie_lock.specs.Views.{HoldsAll};
+    ghost use Rattle.pie_lock.specs.Promises.{first_pass, without_highest, highest_alone, IsBeside, IsBothOf};
+    ghost use Rattle.pie_link.specs.Views.{IsHistoryFor, number_of};
+    ghost use Rattle.pie_link.specs.Headline.{KeepsOneHistory};
+    ghost use Rattle.pie_link.specs.Opening.{link_refusal, IsRefusedFor};
+
+    /// Opens a link over a bounded book: `open_with` at `Mode::Bounded`.
+    ///
+    /// # Errors
+    ///
+    /// As `open_with`.
+    pub fn open(
+        alloc: Global,
+        limits: Limits,
+        params: Params,
+        moment: u64,
+        callers: u16,
+    ) -> Result<(Link, Caller), LinkRefusal>
+        ensures refused { IfErr result (IsRefusedFor (link_refusal limits moment callers)) }
+        ensures allowed { OnOk result (link_refusal limits moment callers ≡ None) }
+        ensures opening { IfOk result (λ opened. opened.0.origin ≡ Some (record { moment = moment; limits = limits; params = params; choices = record { mode = Bounded } })) }
+        ensures callers { IfOk result (λ opened. opened.0.numbers ≡ callers) }
+        ensures caller { IfOk result (λ opened. opened.1 ≡ first_pass opened.0 callers) }
+        ensures headline { IfOk result (λ opened. KeepsOneHistory opened.0) }
+    {
+        let choices = Choices {
+            mode: Mode::Bounded,
+        };
+        Link::open_with(alloc, limits, params, moment, callers, choices)
+    }
+
+    /// Opens a link over a book with an empty queue at a moment in nanoseconds, and a caller with the numbers
+    /// `0..callers`, which has been shown nothing. No later call but a fold takes memory.
+    ///
+    /// # Errors
+    ///
+    /// In this order: `Book` with `BadLimits`, where a limit is out of its range, or with `Moment`, above `2^60 - 1`;
+    /// `NoCallers` where `callers` is 0; `Book` with `Memory`, or `Memory`.
+    pub fn open_with(
+        alloc: Global,
+        limits: Limits,
+        params: Params,
+        moment: u64,
+        callers: u16,
+        choices: Choices,
+    ) -> Result<(Link, Caller), LinkRefusal>
+        ensures refused { IfErr result (IsRefusedFor (link_refusal limits moment callers)) }
+        ensures allowed { OnOk result (link_refusal limits moment callers ≡ None) }
+        ensures opening { IfOk result (λ opened. opened.0.origin ≡ Some (record { moment = moment; limits = limits; params = params; choices = choices })) }
+        ensures callers { IfOk result (λ opened. opened.0.numbers ≡ callers) }
+        ensures caller { IfOk result (λ opened. opened.1 ≡ first_pass opened.0 callers) }
+        ensures headline { IfOk result (λ opened. KeepsOneHistory opened.0) }
+    {
+        let book = match Book::open_with(alloc, limits, params, moment, choices) {
+            Ok(book) => book,
+            Err(OpenRefusal::Memory) if callers == 0 => return Err(LinkRefusal::NoCallers),
+            Err(why) => return Err(LinkRefusal::Book(why)),
+        };
+        if callers == 0 {
+            return Err(LinkRefusal::NoCallers);
+        }
+        let Ok(book) = Box::new(alloc, book) else {
+            return Err(LinkRefusal::Memory);
+        };
+        match RuledLock::new(alloc, KeptBook { book }, callers) {
+            Ok((lock, pass)) => Ok((Link { lock, alloc }, Caller { pass })),
+            Err(_) => Err(LinkRefusal::Memory),
+        }
+    }
+
+    /// A new caller with the highest number of `caller` alone, which has been shown the same.
+    ///
+    /// # Errors
+    ///
+    /// `OneNumber` exactly where `caller` has one number; it is as it was.
+    pub fn share(&self, caller: &mut Caller) -> Result<Caller, OneNumber>
+        requires own { caller.old.lock ≡ self.now }
+        ensures rest { OnOk result (caller.new ≡ without_highest caller.old) }
+        ensures shared { IfOk result (λ new. new ≡ highest_alone caller.old) }
+        ensures one_number { IsErr result ↔ (caller.old.limit ≡ caller.old.first + 1) }
+        ensures unchanged { OnErr result (caller.new ≡ caller.old) }
+    {
+        match self.lock.share(&mut caller.pass) {
+            Ok(pass) => Ok(Caller { pass }),
+            Err(one) => Err(one),
+        }
+    }
+
+    /// Makes one caller of two, with both ranges and the longer front, which the shorter begins.
+    ///
+    /// # Errors
+    ///
+    /// Hands `other` back exactly where neither's `limit()` is the other's `first()`; both are as they were.
+    pub fn gather(&self, caller: &mut Caller, other: Caller) -> Result<(), Caller>
+        requires own { (caller.old.lock ≡ self.now) × (other.lock ≡ self.now) }
+        ensures both { OnOk result (IsBothOf number_of caller.old other caller.new) }
+        ensures beside { IsOk result ↔ IsBeside caller.old other }
+        ensures back { IfErr result (λ back. back ≡ other) }
+        ensures unchanged { OnErr result (caller.new ≡ caller.old) }
+    {
+        match self.lock.gather(&mut caller.pass, other.pass) {
+            Ok(()) => Ok(()),
+            Err(pass) => Err(Caller { pass }),
+        }
+    }
+
+    /// The book, where no caller has it. It waits for nobody. A caller with all numbers always closes the link.
+    ///
+    /// # Errors
+    ///
+    /// Hands link and caller back as they were where another caller has the book.
+    pub fn close(self, caller: Caller) -> Result<Book, (Link, Caller)>
+        requires own { caller.lock ≡ self }
+        ensures opening { IfOk result (λ book. caller.lock.origin ≡ Some book.opening) }
+        ensures told { IfOk result (λ book. (history : List Event) × IsHistoryFor book.opening caller history × Tells book history) }
+        ensures alone { HoldsAll caller → IsOk result }
+        ensures same { HoldsAll caller → IfOk result (λ book. Tells book caller.front) }
+        ensures still_held { IfErr result (λ back. (back.0 ≡ self) × (back.1 ≡ caller)) }
+    {
+        let alloc = self.alloc;
+        match self.lock.close(caller.pass) {
+            Ok(kept) => Ok(Box::into_inner(kept.book)),
+            Err(StillHeld { lock, pass }) => Err((Link { lock, alloc }, Caller { pass })),
+        }
+    }
+}

@@ -152,12 +152,7 @@ fn measure_core<R: Clock + Print>(rt: &R, alloc: Global) -> io::Result<()> {
 }
 
 /// Prints the time of one event that is decided and recorded (`Book::apply`).
-fn measure_book<R: Clock + Print>(
-    rt: &R,
-    alloc: Global,
-    name: &str,
-    mode: Mode,
-) -> io::Result<()> {
+fn measure_book<R: Clock + Print>(rt: &R, alloc: Global, name: &str, mode: Mode) -> io::Result<()> {
     let params = Params::default_profile();
     let Ok(mut book) = Book::open_with(alloc, limits(), params, 0, Choices { mode }) else {
         return Ok(());

@@ -102,11 +102,11 @@ pub record Follows (before next : CoreView) (d : Deed) (now : ℕ) : Type 0 wher
   pub moment : next.moment ≡ now
   pub waiting : next.waiting ≡ waiting_next before.waiting now d
   pub rate : (departures : List Departure) → RateShows.Shows before.params.dq_threshold departures before.rate
-    → RateShows.Shows next.params.dq_threshold (departures_next departures d (bytes_of next.waiting) now) next.rate
+      → RateShows.Shows next.params.dq_threshold (departures_next departures d (bytes_of next.waiting) now) next.rate
   pub control : (opening : RawParams) (start : ℕ) (events : List ControlEvent) → ControlShows.Shows opening start events before.control
-    → ControlShows.Shows opening start (events ++ option_to_list (control_shown d before.params (delay_in before) now)) next.control
+      → ControlShows.Shows opening start (events ++ option_to_list (control_shown d before.params (delay_in before) now)) next.control
   pub early : (events : List EarlyEvent) → EarlyShows.Shows events before.accu
-    → EarlyShows.Shows (events ++ option_to_list (early_shown d (is_considered before.params before.control (bytes_of before.waiting)) before.control.prob)) next.accu
+      → EarlyShows.Shows (events ++ option_to_list (early_shown d (is_considered before.params before.control (bytes_of before.waiting)) before.control.prob)) next.accu
   pub stats : next.stats ≡ with_queue (counted before.stats d (delay_in before) (age_of_oldest now before.waiting)) (bytes_of next.waiting)
 
 -- a core that shows a history shows it with one more event, decided there
@@ -187,7 +187,7 @@ pub follows-arrive : (before arrived : CoreView) (now : ℕ) (packet : Packet) (
       stats = counted before.stats (arrival_deed packet answer) 0 0;
     }
     → ((events : List EarlyEvent) → EarlyShows.Shows events before.accu
-      → EarlyShows.Shows (events ++ option_to_list (early_shown (arrival_deed packet answer) (is_considered before.params before.control (bytes_of before.waiting)) before.control.prob)) arrived.accu)
+    → EarlyShows.Shows (events ++ option_to_list (early_shown (arrival_deed packet answer) (is_considered before.params before.control (bytes_of before.waiting)) before.control.prob)) arrived.accu)
     → Follows before (closed arrived) (arrival_deed packet answer) now
 follows-arrive before arrived now packet answer is early =
     let facts = arrival-facts packet answer in
@@ -224,7 +224,7 @@ pub follows-depart : (before left : CoreView) (now : ℕ) (answer : Answer) → 
       stats = counted before.stats (departure_deed answer) 0 (age_of_oldest now before.waiting);
     }
     → ((departures : List Departure) → RateShows.Shows before.params.dq_threshold departures before.rate
-      → RateShows.Shows before.params.dq_threshold (departures ++ option_to_list (departure_shown (departure_deed answer) (bytes_of left.waiting) now)) left.rate)
+    → RateShows.Shows before.params.dq_threshold (departures ++ option_to_list (departure_shown (departure_deed answer) (bytes_of left.waiting) now)) left.rate)
     → Follows before (closed left) (departure_deed answer) now
 follows-depart before left now answer answered is rate =
     let facts = departure-facts answer in
@@ -254,7 +254,7 @@ pub follows-update : (before made : CoreView) (now : ℕ)
       stats = counted before.stats updated (delay_in before) 0;
     }
     → ((opening : RawParams) (start : ℕ) (events : List ControlEvent) → ControlShows.Shows opening start events before.control
-      → ControlShows.Shows opening start (events ++ update_at before.params (delay_in before) now ∷ []) made.control)
+    → ControlShows.Shows opening start (events ++ update_at before.params (delay_in before) now ∷ []) made.control)
     → Follows before (closed made) updated now
 follows-update before made now is control =
     let params : made.params ≡ before.params = ap (λ (core : CoreView). core.params) is in
@@ -286,7 +286,7 @@ pub follows-reset : (before made : CoreView) (now : ℕ)
     }
     → ((threshold : ℕ) → RateShows.Shows threshold [] made.rate)
     → ((opening : RawParams) (start : ℕ) (events : List ControlEvent) → ControlShows.Shows opening start events before.control
-      → ControlShows.Shows opening start (events ++ reset before.params ∷ []) made.control)
+    → ControlShows.Shows opening start (events ++ reset before.params ∷ []) made.control)
     → ((events : List EarlyEvent) → EarlyShows.Shows events before.accu → EarlyShows.Shows (events ++ cleared ∷ []) made.accu)
     → Follows before (closed made) was_reset now
 follows-reset before made now is rate control early =
@@ -345,11 +345,11 @@ module _ (opening : Opening) (core : CoreView) (history : List Event) (shows : S
 
   pub decides-update : (moment : ℕ) (parts : Parts)
       → ((params : RawParams) (start : ℕ) (events : List ControlEvent) → ControlShows.Shows params start events core.control
-        → ControlShows.Shows params start (events ++ update_at core.params (delay_in core) (max core.moment moment) ∷ []) parts)
+      → ControlShows.Shows params start (events ++ update_at core.params (delay_in core) (max core.moment moment) ∷ []) parts)
       → answer_to_update (delay_in core) parts ≡ decision opening history (Update moment)
   decides-update moment parts shown =
       let is = parts-shown opening (control_events opening history ++ update_at core.params (delay_in core) (max core.moment moment) ∷ []) parts
-          (shown opening.params opening.moment (control_events opening history) shows.control) in
+      (shown opening.params opening.moment (control_events opening history) shows.control) in
       rw (is, delay-is opening core history shows, shows.params, shows.moment) refl
 
 -- a core with no packet and no event shows the empty history

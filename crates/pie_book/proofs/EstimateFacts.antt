@@ -31,7 +31,7 @@ departures_after-push opening history event =
     by : (b : Bool) → clears_rate (deed_of event) ≡ b
         → filter_map (departure_at opening) (after_last clearing (places history ++ place_of history event ∷ []))
         ≡ (if b then [] else (filter_map (departure_at opening) (after_last clearing (places history))
-          ++ option_to_list (departure_shown (deed_of event) (bytes_after opening (history ++ event ∷ [])) (effective_moment opening (history ++ event ∷ [])))))
+        ++ option_to_list (departure_shown (deed_of event) (bytes_after opening (history ++ event ∷ [])) (effective_moment opening (history ++ event ∷ [])))))
     by true e = ap (λ xs. filter_map (departure_at opening) xs) (after_last-push_yes clearing (places history) (place_of history event) e)
     by false e =
         ap (λ xs. filter_map (departure_at opening) xs) (after_last-push_no clearing (places history) (place_of history event) e)

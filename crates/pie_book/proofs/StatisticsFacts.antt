@@ -38,7 +38,7 @@ some_bytes (Some packet) n = refl
 bytes-push : (history : List Event) (event : Event)
     → sum_by (λ (e : Event). bytes_departed (deed_of e)) (history ++ event ∷ [])
     ≡ (if is_departure (deed_of event) then sum_by (λ (e : Event). bytes_departed (deed_of e)) history + bytes_departed (deed_of event)
-      else sum_by (λ (e : Event). bytes_departed (deed_of e)) history)
+    else sum_by (λ (e : Event). bytes_departed (deed_of e)) history)
 bytes-push history event =
     sum_by_push (λ (e : Event). bytes_departed (deed_of e)) history event
     ∙ some_bytes (departure (deed_of event)) (sum_by (λ (e : Event). bytes_departed (deed_of e)) history)
@@ -62,7 +62,7 @@ largest_delay-push opening history event =
 waited-push : (opening : Opening) (history : List Event) (event : Event)
     → waited opening (history ++ event ∷ [])
     ≡ (if is_departure (deed_of event) then waited opening history + age_of_oldest (effective_moment opening (history ++ event ∷ [])) (waiting_after opening history)
-      else waited opening history)
+    else waited opening history)
 unfolding waited
 waited-push opening history event =
     ap (λ xs. sum_by (wait_at opening) xs) (places-push history event)
@@ -73,9 +73,9 @@ waited-push opening history event =
 pub stats_after-push : (opening : Opening) (history : List Event) (event : Event)
     → stats_after opening (history ++ event ∷ [])
     ≡ with_queue
-      (counted (stats_after opening history) (deed_of event) (delay_after opening history)
-      (age_of_oldest (effective_moment opening (history ++ event ∷ [])) (waiting_after opening history)))
-      (bytes_after opening (history ++ event ∷ []))
+    (counted (stats_after opening history) (deed_of event) (delay_after opening history)
+    (age_of_oldest (effective_moment opening (history ++ event ∷ [])) (waiting_after opening history)))
+    (bytes_after opening (history ++ event ∷ []))
 unfolding stats_after
 stats_after-push opening history event =
     rw (

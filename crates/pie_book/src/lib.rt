@@ -3,6 +3,14 @@
 //!
 //! The definitions that the contracts cite stand in `specs/`: they look back over the list of all events and hold no
 //! register. `Shows` says that a core stands for a history, `Tells` that a book does.
+//!
+//! `Core::step` and `Book::apply`: for every history that the core shows or the book tells, the answer is the decision after
+//! that history, or exactly its refusal (clause `decides`); the history with this event is shown or told afterwards (`shows`,
+//! `recorded`); a refusal leaves all as it was (`refused`). `Book::fold` refuses exactly where the tail holds fewer events or for
+//! want of memory, hands out the oldest ones, and the book tells the same history (`too_many`, `refused`, `folded`, `told`).
+//! `open` and `open_with` refuse in order and exactly in their cases, memory aside. The readers are what the definitions say:
+//! `registers`, `stats`, `count` and `waiting` of the whole history, `checkpoint` and `checkpoint_stats` of the history without
+//! the tail. `folds_change_no_answer` is the law over runs. `apply` and `step` take no memory.
 #![tactic(auto)]
 
 pub mod book;

@@ -2,6 +2,12 @@
 //!
 //! The caller owns the state, a plain struct of numbers, and the queue of packets. Each call checks
 //! whole what comes in, and refuses by a code with nothing changed.
+//!
+//! For each call, whatever is handed in: what it answers (clause `answer`), with the refusals in their order, and what it
+//! leaves of every field of the state (`after`). Tail drop by bytes, then by packets, comes before all; then early drop as
+//! in pie_early, departures as in pie_rate, updates as in pie_control. A sound state stays sound (`sound`), so a state that
+//! `pie_open` made is never refused. If a state summarizes what the parts were shown since the opening, it does so with this
+//! call added (`shows`). There is no law yet that ties these calls to `pie_book::Core`, history by history.
 #![tactic(auto)]
 
 mod calls;

@@ -3,6 +3,9 @@
 //!
 //! RFC 8033 leaves arithmetic to the implementer. The scales and the roundings here are this
 //! project's own. There is no floating point.
+//!
+//! Each type keeps its range: `from_units` answers a value exactly within it. `chosen` is exactly
+//! `word * 10^12 < prob * 2^64`; `toward_zero`, `bounded` and `Accu::plus` are their formulas.
 #![tactic(auto)]
 
 ghost use Rattle.std.specs.Prelude.{◌≡◌, ◌<◌, ◌↔◌, IsTrue, int_div, pos};

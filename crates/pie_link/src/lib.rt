@@ -3,6 +3,14 @@
 //! A `Link` keeps a book under the ruled lock. Each `Caller` has a range of numbers and a front, the events that it has
 //! been shown. Contracts see a link as its lock (which one it is, the opening of its book, and how many numbers it has),
 //! and a caller as a pass of it (the lock, the front, and the numbers `first..limit`).
+//!
+//! Each event call that is not answered `Busy` was decided after one history that begins with the caller's front and has no
+//! further event of this caller: at Ok the answer is the decision there, and the caller has been shown that history with its
+//! event; a refusal is the rules' there, or `HistoryFull` where the history is at least as long as a bounded book's tail may be.
+//! `registers` and `stats` are the look-back over such a history, and a fold's events are a stretch of it. `Link::open` and
+//! `open_with` promise the headline (clause `headline`, `specs/Headline.antt`): whenever the lock is free there is one
+//! history of one thread that begins with everything any caller has been shown, contains each caller's calls once and in its
+//! order, and ends with the stored tail, and looking back over it gives all that the book holds.
 #![tactic(auto)]
 
 pub mod caller;

@@ -2,6 +2,11 @@
 //!
 //! The definitions that the contracts cite stand in `specs/`: the records of a text, its first fault, and its history
 //! text.
+//!
+//! `run_trace_within` and `run_trace`, over any reader and writer that tell their bytes, where the answer is not `Read`,
+//! `Write` or `Memory`: Ok exactly where the text has no fault (clause `ends`, with the numbers, registers and statistics of the
+//! run), and else its first fault (`faults`); what was written is the history text (`writes`). They end over a reader that
+//! never ends.
 #![tactic(auto)]
 
 mod answer;

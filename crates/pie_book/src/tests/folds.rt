@@ -1,37 +1,46 @@
 //! Folds, a full tail, and rolling books.
 
 use super::{ROLLING, arrive, depart, event, limits, opened, packet};
-use crate::{Answer, Book, Core, FoldRefusal, Refusal};
+use crate::{Answer, Book, Command, Core, Event, FoldRefusal, Refusal};
 use pie_params::Params;
 use std::test::Fail;
+
+/// An arrival of 100 bytes at the moment of its tag.
+fn arrival(tag: u64) -> Command {
+    arrive(tag, packet(tag, 100))
+}
+
+/// .. as an event of caller 1.
+fn enqueued(tag: u64) -> Event {
+    event(1, arrival(tag), Answer::Enqueued)
+}
+
+/// A departure that found no packet.
+fn found_none(moment: u64) -> Event {
+    event(1, depart(moment), Answer::Empty)
+}
 
 /// The tail holds two events: a third waits for a fold, and a fold of three is one too many.
 #[test]
 fn a_full_tail_waits_for_a_fold(rt: HostRuntime) -> Result<(), Fail> {
     let mut book = opened(rt.alloc(), 4, 2, 100)?;
-    let first = arrive(1, packet(1, 100));
-    let second = arrive(2, packet(2, 100));
-    let third = arrive(3, packet(3, 100));
-    assert_eq!(rt; book.apply(1, first), Ok(Answer::Enqueued));
-    assert_eq!(rt; book.apply(1, second), Ok(Answer::Enqueued));
+    assert_eq!(rt; book.apply(1, arrival(1)), Ok(Answer::Enqueued));
+    assert_eq!(rt; book.apply(1, arrival(2)), Ok(Answer::Enqueued));
     let before = (book.registers(), book.stats());
-    assert_eq!(rt; book.apply(1, third), Err(Refusal::HistoryFull));
+    assert_eq!(rt; book.apply(1, arrival(3)), Err(Refusal::HistoryFull));
     let too_many = book.fold(rt.alloc(), 3).err();
     assert_eq!(rt; too_many, Some(FoldRefusal::TooMany { held: 2 }));
     assert_eq!(rt; (book.registers(), book.stats()), before);
     assert_eq!(rt; (book.tail_len(), book.checkpoint().count), (2, 0));
 
     let folded = book.fold(rt.alloc(), 1)?;
-    assert_eq!(rt;
-        folded.as_slice(),
-        [event(1, first, Answer::Enqueued)].as_slice()
-    );
+    assert_eq!(rt; folded.as_slice(), [enqueued(1)].as_slice());
     assert_eq!(rt; (book.registers(), book.stats()), before);
     assert_eq!(rt; (book.tail_len(), book.checkpoint().count), (1, 1));
     assert_eq!(rt; book.checkpoint().bytes, 100);
-    assert_eq!(rt; book.event(0), Some(event(1, second, Answer::Enqueued)));
-    assert_eq!(rt; book.apply(1, third), Ok(Answer::Enqueued));
-    assert_eq!(rt; book.event(1), Some(event(1, third, Answer::Enqueued)));
+    assert_eq!(rt; book.event(0), Some(enqueued(2)));
+    assert_eq!(rt; book.apply(1, arrival(3)), Ok(Answer::Enqueued));
+    assert_eq!(rt; book.event(1), Some(enqueued(3)));
     assert_eq!(rt; (book.count(), book.tail_len()), (3, 2));
     assert_eq!(rt; book.registers().bytes, 300);
     Ok(())
@@ -62,22 +71,16 @@ fn folds_hand_out_the_oldest_events_in_order(rt: HostRuntime) -> Result<(), Fail
         assert_eq!(rt; book.apply(1, depart(moment)), Ok(Answer::Empty));
     }
     let folded = book.fold(rt.alloc(), 2)?;
-    let first = [
-        event(1, depart(1), Answer::Empty),
-        event(1, depart(2), Answer::Empty),
-    ];
+    let first = [found_none(1), found_none(2)];
     assert_eq!(rt; folded.as_slice(), first.as_slice());
     for moment in 4..6 {
         assert_eq!(rt; book.apply(1, depart(moment)), Ok(Answer::Empty));
     }
     assert_eq!(rt; book.apply(1, depart(6)), Err(Refusal::HistoryFull));
     let folded = book.fold(rt.alloc(), 2)?;
-    let second = [
-        event(1, depart(3), Answer::Empty),
-        event(1, depart(4), Answer::Empty),
-    ];
+    let second = [found_none(3), found_none(4)];
     assert_eq!(rt; folded.as_slice(), second.as_slice());
-    assert_eq!(rt; book.event(0), Some(event(1, depart(5), Answer::Empty)));
+    assert_eq!(rt; book.event(0), Some(found_none(5)));
     assert_eq!(rt; (book.checkpoint().count, book.checkpoint().moment), (4, 4));
     assert_eq!(rt; book.checkpoint_stats().empty, 4);
     assert_eq!(rt; book.stats().empty, 5);
@@ -90,8 +93,7 @@ fn a_rolling_book_is_never_full(rt: HostRuntime) -> Result<(), Fail> {
     let params = Params::default_profile();
     let mut book = Book::open_with(rt.alloc(), limits(4, 2, 100), params, 0, ROLLING)?;
     for tag in 1..4 {
-        let arrival = arrive(tag, packet(tag, 100));
-        assert_eq!(rt; book.apply(1, arrival), Ok(Answer::Enqueued));
+        assert_eq!(rt; book.apply(1, arrival(tag)), Ok(Answer::Enqueued));
     }
     assert_eq!(rt; (book.count(), book.tail_len()), (3, 2));
     assert_eq!(rt;
@@ -101,10 +103,7 @@ fn a_rolling_book_is_never_full(rt: HostRuntime) -> Result<(), Fail> {
     let too_many = book.fold(rt.alloc(), 3).err();
     assert_eq!(rt; too_many, Some(FoldRefusal::TooMany { held: 2 }));
     let folded = book.fold(rt.alloc(), 2)?;
-    let last = [
-        event(1, arrive(2, packet(2, 100)), Answer::Enqueued),
-        event(1, arrive(3, packet(3, 100)), Answer::Enqueued),
-    ];
+    let last = [enqueued(2), enqueued(3)];
     assert_eq!(rt; folded.as_slice(), last.as_slice());
     assert_eq!(rt; book.checkpoint(), book.registers());
     Ok(())
@@ -133,10 +132,7 @@ fn a_refused_command_leaves_a_rolling_tail_alone(rt: HostRuntime) -> Result<(), 
     assert_eq!(rt; refused, Err(Refusal::Size));
     assert_eq!(rt; (book.tail_len(), book.checkpoint().count), (2, 1));
     let folded = book.fold(rt.alloc(), 2)?;
-    let last = [
-        event(1, depart(2), Answer::Empty),
-        event(1, depart(3), Answer::Empty),
-    ];
+    let last = [found_none(2), found_none(3)];
     assert_eq!(rt; folded.as_slice(), last.as_slice());
     Ok(())
 }
@@ -148,10 +144,10 @@ fn a_thousand_events_roll_through(rt: HostRuntime) -> Result<(), Fail> {
     let mut core = Core::open(rt.alloc(), limits(3, 1, 1000), params, 0)?;
     let mut book = Book::open_with(rt.alloc(), limits(3, 1, 1000), params, 0, ROLLING)?;
     for moment in 0..500 {
-        let arrival = arrive(moment, packet(moment, 700));
-        assert_eq!(rt; book.apply(1, arrival), core.step(1, arrival));
-        let departure = depart(moment / 2);
-        assert_eq!(rt; book.apply(2, departure), core.step(2, departure));
+        let answer = core.step(1, arrival(moment));
+        assert_eq!(rt; book.apply(1, arrival(moment)), answer);
+        let answer = core.step(2, depart(moment / 2));
+        assert_eq!(rt; book.apply(2, depart(moment / 2)), answer);
     }
     assert_eq!(rt; book.registers(), core.registers());
     assert_eq!(rt; book.stats(), core.stats());

@@ -5,6 +5,8 @@ use Rattle.std.specs.List.{range_with_len}
 use Rattle.pie_rate.specs.Departures.{Departure, departure}
 use Rattle.pie_rate.specs.Cycles.{Cycle, cycles, begun, first_position, first_opening, first_closing, first_cycle, cycles_from}
 use Rattle.pie_rate.specs.Average.{average, samples}
+use Rattle.pie_rate.specs.Estimate.{Estimate}
+use Rattle.pie_rate.specs.Step.{after_departure}
 
 abbrev cycle : ℕ → ℕ → Cycle
 cycle opened closed = record { opened = opened; closed = closed }
@@ -80,3 +82,13 @@ drain-average = refl
 none-begun : begun 1024 (departure 1024 1023 100 ∷ []) ≡ None
 unfolding average samples cycles begun first_position first_opening first_closing first_cycle cycles_from
 none-begun = refl
+
+-- told from the estimate before it: a departure that a cycle counts, one that closes it and opens the
+-- next, and one that closes that
+abbrev at_two : Estimate
+at_two = record { average = 12_000_000; begun = Some (record { start = 1000; count = 16_000 }) }
+
+steps : (after_departure 16384 at_two (departure 383 0 5000) ≡ record { average = 12_000_000; begun = Some (record { start = 1000; count = 16_383 }) })
+    × (after_departure 16384 at_two (departure 384 16384 20_001_000) ≡ record { average = 14_000_000; begun = Some (record { start = 20_001_000; count = 0 }) })
+    × (after_departure 16384 at_two (departure 384 16383 20_001_000) ≡ record { average = 14_000_000; begun = None })
+steps = (refl, refl, refl)

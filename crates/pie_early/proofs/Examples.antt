@@ -7,7 +7,7 @@ use Rattle.pie_queue.specs.declared.ecn.Ecn.TheVariants.{NotEct, Ect0}
 use Rattle.pie_early.specs.declared.early.TheConstants.{LOW_PROB, NEVER_PICKED}
 use Rattle.pie_early.specs.declared.early.Choice.{Choice}
 use Rattle.pie_early.specs.declared.early.Choice.TheVariants.{Enqueue, Mark, Drop}
-use Rattle.pie_early.specs.Decision.{a_fifth, always_picked, choice_of, is_considered, is_picked, never_picked}
+use Rattle.pie_early.specs.Decision.{a_fifth, accu_after, always_picked, choice_of, is_considered, is_picked, never_picked}
 use Rattle.pie_early.specs.Events.{EarlyEvent, arrival, cleared}
 use Rattle.pie_early.specs.History.{accumulated}
 
@@ -123,3 +123,10 @@ fifth-considered = refl
 burst-considered : is_considered default_profile (record { prob = 10 ^ 11; old_delay = 15000000; burst = 1; last = 0 }) 3000 ≡ false
 unfolding is_considered
 burst-considered = refl
+
+-- the accumulated probability after an arrival that isn't considered, one that is queued, one that is
+-- picked, and one that is considered at probability 0
+accus : (accu_after default_profile (control (10 ^ 11) 15000000) 2048 0 5 ≡ 5) × (accu_after default_profile (control (10 ^ 11) 15000000) 3000 0 5 ≡ 100_000_000_005)
+    × (accu_after default_profile (control (10 ^ 11) 15000000) 3000 0 750_000_000_000 ≡ 0) × (accu_after default_profile (control 0 15000000) 3000 0 5 ≡ 0)
+unfolding is_considered is_picked
+accus = (refl, refl, refl, refl)

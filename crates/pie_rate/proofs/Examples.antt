@@ -6,6 +6,8 @@ use Rattle.pie_rate.specs.declared.rate.TheConstants.{WEIGHTS}
 use Rattle.pie_rate.specs.Departures.{Departure, departure}
 use Rattle.pie_rate.specs.Cycles.{Cycle, cycles, begun, first_position, first_opening, first_closing, first_cycle, cycles_from}
 use Rattle.pie_rate.specs.Average.{average, averaged, samples}
+use Rattle.pie_rate.specs.Estimate.{Estimate}
+use Rattle.pie_rate.specs.Step.{after_departure}
 
 -- the weights of a sample and of the average before it are parts of 65536: the greatest threshold gives
 -- the sample alone, half of it the middle, the smallest one part in 64
@@ -89,3 +91,13 @@ drain-average = refl
 none-begun : begun 1024 (departure 1024 1023 100 ∷ []) ≡ None
 unfolding average samples cycles begun first_position first_opening first_closing first_cycle cycles_from
 none-begun = refl
+
+-- told from the estimate before it: a departure that a cycle counts, one that closes it and opens the
+-- next, and one that closes that
+abbrev at_two : Estimate
+at_two = record { average = 12_000_000; begun = Some (record { start = 1000; count = 16_000 }) }
+
+steps : (after_departure 16384 at_two (departure 383 0 5000) ≡ record { average = 12_000_000; begun = Some (record { start = 1000; count = 16_383 }) })
+    × (after_departure 16384 at_two (departure 384 16384 20_001_000) ≡ record { average = 14_000_000; begun = Some (record { start = 20_001_000; count = 0 }) })
+    × (after_departure 16384 at_two (departure 384 16383 20_001_000) ≡ record { average = 14_000_000; begun = None })
+steps = (refl, refl, refl)

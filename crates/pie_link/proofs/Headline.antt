@@ -63,6 +63,7 @@ while_free opening numbers lock history agreed free =
 
 -- whenever the lock is free there is one history
 pub keeps_one_history : (link : LinkView) → KeepsOneHistory link
+unfolding KeepsOneHistory
 keeps_one_history link opening from lock ruled free =
     let history = ruled.1.0 in
     ⊎_elim (while_free opening link.numbers lock history ruled.1.1) (λ held. absurd (omega (arith, held.0, free))) ruled.1.2

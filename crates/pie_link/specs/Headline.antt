@@ -89,7 +89,7 @@ abbrev pub LiesIn : LockState → BookView → Type 0
 LiesIn lock book = (lodged : SlotValue BookView Event) × (get_elem? lock.homes 0 ≡ some (some (Some lodged))) × (lodged.state ≡ book)
 
 -- whenever the lock is free there is one history
-abbrev pub KeepsOneHistory : LinkView → Type 0
+unfoldable pub KeepsOneHistory : LinkView → Type 0
 KeepsOneHistory link =
     (opening : Opening) → link.origin ≡ Some opening
     → (lock : LockState) → IsRuled opening link.numbers lock → IsFree lock

@@ -20,10 +20,10 @@ module _ {A : Type 0} (value_after : Opening → List Event → A) where
     pub read : IsReading (value_after opening history) history told
     pub seen : after ≡ shown before history
 
-  abbrev pub Reads : LinkView → CallerView → Told A → CallerView → Type 0
+  unfoldable pub Reads : LinkView → CallerView → Told A → CallerView → Type 0
   Reads link before told after = (opening : Opening) → link.origin ≡ Some opening → (history : List Event) × IsRead opening before told after history
 
   -- the same, or the link is busy, and then the caller is as it was
-  abbrev pub TriesToRead : LinkView → CallerView → Result (Told A) (Tried Refusal) → CallerView → Type 0
+  unfoldable pub TriesToRead : LinkView → CallerView → Result (Told A) (Tried Refusal) → CallerView → Type 0
   TriesToRead link before (Ok told) after = Reads link before told after
   TriesToRead link before (Err why) after = (why ≡ Busy) × (after ≡ before)

@@ -1,5 +1,5 @@
 -- What contracts see of a link and of its callers.
-use Rattle.std.specs.Prelude.{ℕ, List}
+use Rattle.std.specs.Prelude.{◌≡◌, ℕ, List}
 use Rattle.pie_lock.specs.Views.{LockView, PassView}
 use Rattle.pie_lock.specs.Steps.{GoesOn}
 use Rattle.pie_book.specs.declared.command.Event.{Event}
@@ -21,6 +21,10 @@ number_of event = event.caller
 -- the caller, now shown this history
 abbrev pub shown : CallerView → List Event → CallerView
 shown caller history = record { lock = caller.lock; front = history; first = caller.first; limit = caller.limit }
+
+-- the caller is still of its link, and has the numbers that it had
+abbrev pub StaysOne : CallerView → CallerView → Type 0
+StaysOne before after = (after.lock ≡ before.lock) × (after.first ≡ before.first) × (after.limit ≡ before.limit)
 
 -- a history of one thread for a caller of a link with this opening: each command was taken at its place and has the answer
 -- that the rules give there; it begins with all that the caller has been shown, and has nothing more under its numbers

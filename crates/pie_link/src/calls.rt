@@ -9,6 +9,7 @@ ghost use Rattle.pie_book.specs.Statistics.{stats_after};
 ghost use Rattle.pie_link.specs.Commands.{Answers, TriesToAnswer};
 ghost use Rattle.pie_link.specs.Folds.{Folds, TriesToFold};
 ghost use Rattle.pie_link.specs.Readings.{Reads, TriesToRead};
+ghost use Rattle.pie_link.specs.Views.{StaysOne};
 
 use crate::caller::Caller;
 use crate::link::Link;
@@ -35,7 +36,8 @@ impl Link {
         word: u64,
     ) -> Result<Told<Answer>, Tried<Refusal>>
         requires own { caller.old.lock ≡ self.now }
-        ensures { TriesToAnswer self.now caller.old (Arrive moment packet word) result caller.new }
+        ensures answered { TriesToAnswer self.now caller.old (Arrive moment packet word) result caller.new }
+        ensures stays { StaysOne caller.old caller.new }
     {
         let command = Command::Arrive {
             moment,
@@ -57,7 +59,8 @@ impl Link {
         moment: u64,
     ) -> Result<Told<Answer>, Tried<Refusal>>
         requires own { caller.old.lock ≡ self.now }
-        ensures { TriesToAnswer self.now caller.old (Depart moment) result caller.new }
+        ensures answered { TriesToAnswer self.now caller.old (Depart moment) result caller.new }
+        ensures stays { StaysOne caller.old caller.new }
     {
         let command = Command::Depart { moment };
         replace_with(&mut caller.pass, (self, &command), turn::try_apply)
@@ -75,7 +78,8 @@ impl Link {
         moment: u64,
     ) -> Result<Told<Answer>, Tried<Refusal>>
         requires own { caller.old.lock ≡ self.now }
-        ensures { TriesToAnswer self.now caller.old (Update moment) result caller.new }
+        ensures answered { TriesToAnswer self.now caller.old (Update moment) result caller.new }
+        ensures stays { StaysOne caller.old caller.new }
     {
         let command = Command::Update { moment };
         replace_with(&mut caller.pass, (self, &command), turn::try_apply)
@@ -93,7 +97,8 @@ impl Link {
         moment: u64,
     ) -> Result<Told<Answer>, Tried<Refusal>>
         requires own { caller.old.lock ≡ self.now }
-        ensures { TriesToAnswer self.now caller.old (Reset moment) result caller.new }
+        ensures answered { TriesToAnswer self.now caller.old (Reset moment) result caller.new }
+        ensures stays { StaysOne caller.old caller.new }
     {
         let command = Command::Reset { moment };
         replace_with(&mut caller.pass, (self, &command), turn::try_apply)
@@ -112,7 +117,8 @@ impl Link {
         params: Params,
     ) -> Result<Told<Answer>, Tried<Refusal>>
         requires own { caller.old.lock ≡ self.now }
-        ensures { TriesToAnswer self.now caller.old (SetParams moment params) result caller.new }
+        ensures answered { TriesToAnswer self.now caller.old (SetParams moment params) result caller.new }
+        ensures stays { StaysOne caller.old caller.new }
     {
         let command = Command::SetParams { moment, params };
         replace_with(&mut caller.pass, (self, &command), turn::try_apply)
@@ -132,7 +138,8 @@ impl Link {
         word: u64,
     ) -> Result<Told<Answer>, Refusal>
         requires own { caller.old.lock ≡ self.now }
-        ensures { Answers self.now caller.old (Arrive moment packet word) result caller.new }
+        ensures answered { Answers self.now caller.old (Arrive moment packet word) result caller.new }
+        ensures stays { StaysOne caller.old caller.new }
     {
         let command = Command::Arrive {
             moment,
@@ -154,7 +161,8 @@ impl Link {
         moment: u64,
     ) -> Result<Told<Answer>, Refusal>
         requires own { caller.old.lock ≡ self.now }
-        ensures { Answers self.now caller.old (Depart moment) result caller.new }
+        ensures answered { Answers self.now caller.old (Depart moment) result caller.new }
+        ensures stays { StaysOne caller.old caller.new }
     {
         let command = Command::Depart { moment };
         replace_with(&mut caller.pass, (self, rt, &command), turn::wait_and_apply)
@@ -172,7 +180,8 @@ impl Link {
         moment: u64,
     ) -> Result<Told<Answer>, Refusal>
         requires own { caller.old.lock ≡ self.now }
-        ensures { Answers self.now caller.old (Update moment) result caller.new }
+        ensures answered { Answers self.now caller.old (Update moment) result caller.new }
+        ensures stays { StaysOne caller.old caller.new }
     {
         let command = Command::Update { moment };
         replace_with(&mut caller.pass, (self, rt, &command), turn::wait_and_apply)
@@ -190,7 +199,8 @@ impl Link {
         moment: u64,
     ) -> Result<Told<Answer>, Refusal>
         requires own { caller.old.lock ≡ self.now }
-        ensures { Answers self.now caller.old (Reset moment) result caller.new }
+        ensures answered { Answers self.now caller.old (Reset moment) result caller.new }
+        ensures stays { StaysOne caller.old caller.new }
     {
         let command = Command::Reset { moment };
         replace_with(&mut caller.pass, (self, rt, &command), turn::wait_and_apply)
@@ -209,7 +219,8 @@ impl Link {
         params: Params,
     ) -> Result<Told<Answer>, Refusal>
         requires own { caller.old.lock ≡ self.now }
-        ensures { Answers self.now caller.old (SetParams moment params) result caller.new }
+        ensures answered { Answers self.now caller.old (SetParams moment params) result caller.new }
+        ensures stays { StaysOne caller.old caller.new }
     {
         let command = Command::SetParams { moment, params };
         replace_with(&mut caller.pass, (self, rt, &command), turn::wait_and_apply)
@@ -228,7 +239,8 @@ impl Link {
         n: u64,
     ) -> Result<Told<Vec<Event>>, Tried<FoldRefusal>>
         requires own { caller.old.lock ≡ self.now }
-        ensures { TriesToFold self.now caller.old n result caller.new }
+        ensures folded { TriesToFold self.now caller.old n result caller.new }
+        ensures stays { StaysOne caller.old caller.new }
     {
         replace_with(&mut caller.pass, (self, n), turn::try_fold)
     }
@@ -246,7 +258,8 @@ impl Link {
         n: u64,
     ) -> Result<Told<Vec<Event>>, FoldRefusal>
         requires own { caller.old.lock ≡ self.now }
-        ensures { Folds self.now caller.old n result caller.new }
+        ensures folded { Folds self.now caller.old n result caller.new }
+        ensures stays { StaysOne caller.old caller.new }
     {
         replace_with(&mut caller.pass, (self, rt, n), turn::wait_and_fold)
     }
@@ -258,7 +271,8 @@ impl Link {
     /// `Busy` alone, where another caller has the book.
     pub fn try_registers(&self, caller: &mut Caller) -> Result<Told<Registers>, Tried<Refusal>>
         requires own { caller.old.lock ≡ self.now }
-        ensures { TriesToRead registers_after self.now caller.old result caller.new }
+        ensures read { TriesToRead registers_after self.now caller.old result caller.new }
+        ensures stays { StaysOne caller.old caller.new }
     {
         replace_with(&mut caller.pass, self, turn::try_registers)
     }
@@ -266,7 +280,8 @@ impl Link {
     /// What the book holds. It waits while another caller has the book.
     pub fn registers<R: Wait>(&self, rt: &R, caller: &mut Caller) -> Told<Registers>
         requires own { caller.old.lock ≡ self.now }
-        ensures { Reads registers_after self.now caller.old result caller.new }
+        ensures read { Reads registers_after self.now caller.old result caller.new }
+        ensures stays { StaysOne caller.old caller.new }
     {
         replace_with(&mut caller.pass, (self, rt), turn::wait_and_read_registers)
     }
@@ -278,7 +293,8 @@ impl Link {
     /// `Busy` alone, where another caller has the book.
     pub fn try_stats(&self, caller: &mut Caller) -> Result<Told<Stats>, Tried<Refusal>>
         requires own { caller.old.lock ≡ self.now }
-        ensures { TriesToRead stats_after self.now caller.old result caller.new }
+        ensures read { TriesToRead stats_after self.now caller.old result caller.new }
+        ensures stays { StaysOne caller.old caller.new }
     {
         replace_with(&mut caller.pass, self, turn::try_stats)
     }
@@ -286,7 +302,8 @@ impl Link {
     /// The statistics of all events. It waits while another caller has the book.
     pub fn stats<R: Wait>(&self, rt: &R, caller: &mut Caller) -> Told<Stats>
         requires own { caller.old.lock ≡ self.now }
-        ensures { Reads stats_after self.now caller.old result caller.new }
+        ensures read { Reads stats_after self.now caller.old result caller.new }
+        ensures stays { StaysOne caller.old caller.new }
     {
         replace_with(&mut caller.pass, (self, rt), turn::wait_and_read_stats)
     }

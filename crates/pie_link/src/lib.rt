@@ -25,3 +25,6 @@ pub use caller::Caller;
 pub use link::Link;
 pub use refusal::LinkRefusal;
 pub use told::{Told, Tried};
+
+#[cfg(test)]
+mod tests;

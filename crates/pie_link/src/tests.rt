@@ -1,0 +1,40 @@
+//! Worked rows, and arrangements of threads that end by themselves.
+ghost use Rattle.std.specs.Prelude.{◌≡◌, IfOk};
+
+mod one_thread;
+mod threads;
+
+use crate::{Caller, Link, LinkRefusal};
+use pie_book::{Choices, Limits, Mode};
+use pie_params::Params;
+use pie_queue::{Ecn, Packet};
+use std::alloc::Global;
+
+// A packet of 100 bytes.
+fn packet(tag: u64) -> Packet {
+    Packet {
+        tag,
+        size: 100,
+        ecn: Ecn::NotEct,
+    }
+}
+
+// A link at moment 0 with the default parameters and rings of four packets, and a caller with all numbers.
+fn opened(alloc: Global, tail: u32, callers: u16, mode: Mode) -> Result<(Link, Caller), LinkRefusal>
+    ensures { IfOk result (λ made. made.1.lock ≡ made.0) }
+{
+    let limits = Limits {
+        packets: 4,
+        tail,
+        events: 100,
+    };
+    let choices = Choices { mode };
+    Link::open_with(
+        alloc,
+        limits,
+        Params::default_profile(),
+        0,
+        callers,
+        choices,
+    )
+}

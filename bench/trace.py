@@ -16,7 +16,7 @@ import sys
 
 NINE = (15000000, 15000000, 150000000, 125, 1250, 1024, 262144, 100000000000, 16384)
 TAIL = 65536
-BUSY, CALM = 40000000, 15000000
+BUSY, CALM = 2000000000, 200000000
 
 
 def plain(records, words):
@@ -40,8 +40,8 @@ def mixed(records, words):
     yield f"open,0,1024,{TAIL},{records},{','.join(map(str, NINE))}\n"
     moment, due, tag, held = 0, NINE[1], 0, 0
     for number in range(records):
-        # About 780 bytes every 20 microseconds, that is 300 million bits a second, and while busy a quarter more.
-        moment += words.randrange(20000)
+        # A packet of about 780 bytes departs every hundred microseconds: some 60 million bits a second.
+        moment += words.randrange(100000)
         busy = moment // (BUSY + CALM) * (BUSY + CALM) + BUSY > moment
         if held + 1 >= TAIL:
             yield f"fold,{held}\n"
@@ -60,7 +60,7 @@ def mixed(records, words):
             yield "show\n"
         elif number % 100003 == 100002:
             yield "tally\n"
-        elif words.random() < (0.55 if busy else 0.35):
+        elif words.random() < (0.52 if busy else 0.35):
             tag, held = tag + 1, held + 1
             yield arrival(words, moment, tag)
         else:

@@ -77,7 +77,7 @@ fn fault<E: Write, D: Display + Drop>(errors: &mut E, text: D) -> u8
 }
 
 /// What `clap` says of the words: help, or a mistake.
-fn mistake<W: Write, E: Write>(error: Error, output: &mut W, errors: &mut E) -> u8
+pub(crate) fn mistake<W: Write, E: Write>(error: Error, output: &mut W, errors: &mut E) -> u8
     ensures status { result ≤ 1 }
     ensures memory { kind_of error ≡ ErrorKind.OutOfMemory → result ≡ 1 }
 {

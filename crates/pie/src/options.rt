@@ -1,46 +1,84 @@
 //! The command line of `pie`.
+ghost use Rattle.std.specs.Prelude.{◌≡◌, IfOk};
+ghost use Rattle.clap.specs.Words.{app_of};
+ghost use Rattle.pie.specs.Words.{pie_app};
 
 use clap::Command;
 use std::alloc::{AllocError, Global};
+
+/// What `pie --version` prints after the name.
+const VERSION: &str = "0.1.0";
 
 /// What `pie --help` says below its subcommands.
 const PIE_EXAMPLE: &str =
     "Example: run a trace of one arrival and one departure, and see what was decided:\n\n  printf 'open,0,4,16,100\\narrive,1,10,7,1500,ect0,0\\ndepart,2,25\\n' | pie run";
 
 /// What `pie run --help` says below its options.
-const RUN_EXAMPLE: &str =
-    "A trace is a text of CSV records, one a line. The first opens the controller; moments are whole nanoseconds:
+const RUN_HELP: &str =
+    "A trace is a text of CSV records, one a line. Each is written again with what it was answered. Moments and times are
+whole nanoseconds, from a start of your choosing and at most 2^60 - 1; probabilities are in units of 10^-12.
 
-  open,<moment>,<packets>,<tail>,<events>
+The first record opens the controller:
+  open,<moment>,<packets>,<tail>,<events>[,<nine>]
       how many packets the ring holds (1 to 65536), how many events the tail holds (1 to 1048576), and how
       many events there may be in all (1 to 1099511627776)
+  rolling,..  the same; where its tail is full, the oldest event leaves it, and no command is refused for it
+
+<nine> is target,t_update,max_burst,alpha,beta,mean_pkt,limit_bytes,mark_ecnth,dq_threshold (RFC 8033):
+  target        the wanted queueing delay in ns, 2 to 10^10                      (default 15000000)
+  t_update      the time between two updates in ns, 1 to 10^10                   (15000000)
+  max_burst     the burst allowance in ns, 0 to 10^12                            (150000000)
+  alpha, beta   gains in thousandths per second, each 0 to 10^6                  (125, 1250)
+  mean_pkt      the mean packet size in bytes, 1 to 65535                        (1024)
+  limit_bytes   the queue's limit in bytes, 1 to 2^30                            (262144)
+  mark_ecnth    the probability from which ECN packets are dropped, 0 to 10^12   (100000000000)
+  dq_threshold  bytes of a cycle of the departure rate, a power of two, 1024 to 65536  (16384)
+
+Then, in any order:
   arrive,<caller>,<moment>,<tag>,<size>,<ecn>,<word>
-      a packet of 1 to 65535 bytes; its ECN field is not, ect1, ect0 or ce; <word> is a random number
-      below 2^64
-  depart,<caller>,<moment>
-      the link takes the oldest packet
+      a packet of 1 to 65535 bytes; <ecn> is not, ect1, ect0 or ce; <word> is a random number below 2^64.
+      Answered enqueue, mark, early (early drop), bytes or packets (tail drop by either limit)
+  depart,<caller>,<moment>      the link takes the oldest packet: left,<tag>,<size>,<ecn>, or empty
+  update,<caller>,<moment>      the probability is computed anew: <delay>,<prob>,<burst>
+  reset,<caller>,<moment>       probability, delays and rate estimate start anew: done
+  params,<caller>,<moment>,<nine>   new parameters: done
+  fold,<n>                      the oldest <n> events leave the tail: folded,<n>
+  show    shown,<count>,<moment>,<packets>,<bytes>,<prob>,<old delay>,<accumulated prob>,<burst>,<last update>,
+          <average>,<measuring>
+  tally   tallied,<arrivals>,<enqueued>,<marked>,<early>,<over bytes>,<over packets>,<left>,<left bytes>,<empty>,
+          <updates>,<resets>,<parameter changes>,<largest queue>,<largest delay>,<time waited>
 
-Each record is written again with what it was answered. A command that is refused gives refused,<record>,<code>
-(1 moment, 2 size, 4 no more events, 5 the tail is full), and the run goes on. A record that cannot be read ends
-the run with status 1; what was decided before it stands written.
+A record that is refused gives refused,<record>,<code>, and the run goes on:
+  1 the moment is above 2^60 - 1     2 the size is out of range     3 the update comes too soon
+  4 no more events                   5 the tail is full             6 the tail holds fewer events to fold
+  7 a parameter is out of its range
+A record that cannot be read ends the run with status 1; the results of earlier records have been written.
 
-Example:
+Example, in which three updates raise the probability until one packet is marked and one is dropped early:
 
-  printf 'open,0,4,16,100\\narrive,1,10,7,1500,ect0,0\\ndepart,2,25\\n' | pie run
+  printf '%s\\n' open,0,8,32,100,2,1,0,850000,0,1,100000,1000000000000,1024 \\
+    arrive,1,0,1,1024,not,0 arrive,1,0,2,1024,not,0 arrive,1,0,3,1024,not,0 arrive,1,0,4,1024,not,0 \\
+    depart,3,1000 depart,3,1001000 update,4,1001000 update,4,1001001 update,4,1001002 \\
+    arrive,1,1001003,5,500,ect0,0 arrive,2,1001003,6,500,not,0 | pie run
 
-writes
+ends with
 
-  open,0,4,16,100
-  arrive,1,10,7,1500,ect0,0,enqueue
-  depart,2,25,left,7,1500,ect0";
+  update,4,1001000,2000000,830077294,0
+  update,4,1001001,2000000,53955024169,0
+  update,4,1001002,2000000,903954174169,0
+  arrive,1,1001003,5,500,ect0,0,mark
+  arrive,2,1001003,6,500,not,0,early";
 
 /// `pie` and its subcommands.
-pub(crate) fn options<'a>(alloc: Global) -> Result<Command<'a>, AllocError> {
+pub(crate) fn options<'a>(alloc: Global) -> Result<Command<'a>, AllocError>
+    ensures { IfOk result (λ options. app_of options ≡ pie_app) }
+{
     let run = Command::new(alloc, "run")
         .about("Reads a trace from standard input and writes its history to standard output")
-        .after_help(RUN_EXAMPLE);
+        .after_help(RUN_HELP);
     Command::new(alloc, "pie")
         .about("A PIE queue controller (RFC 8033) whose every decision is recorded")
+        .version(VERSION)
         .after_help(PIE_EXAMPLE)
         .subcommand_required(true)
         .subcommand(run)

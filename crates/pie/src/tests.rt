@@ -1,5 +1,8 @@
-use crate::command::command;
+use crate::command::{command, mistake};
+use clap::Error;
 use std::alloc::AllocError;
+use std::io;
+use std::io::{ErrorKind, Write};
 use std::test::Fail;
 
 /// What a run of the program answered: its status, its output and its error stream.
@@ -94,4 +97,98 @@ fn gives_help(rt: HostRuntime) -> Result<(), Fail> {
         );
     }
     Ok(())
+}
+
+/// Takes nothing.
+#[derive(Drop)]
+struct Full;
+
+impl Write for Full {
+    fn write(&mut self, _buf: &[u8]) -> io::Result<usize> {
+        Err(io::Error::from(ErrorKind::StorageFull))
+    }
+
+    fn flush(&mut self) -> io::Result<()> {
+        Ok(())
+    }
+}
+
+/// Runs the program over an output that takes nothing, and answers its status and its error stream.
+fn pie_on_a_full_output(
+    rt: &HostRuntime,
+    words: &[&str],
+    input: &[u8],
+) -> Result<(u8, Vec<u8>), AllocError> {
+    let alloc = rt.alloc();
+    let mut owned = Vec::new(alloc);
+    for word in words {
+        owned.push(String::from_str(alloc, word)?)?;
+    }
+    let mut errors = Vec::new(alloc);
+    let status = command(rt, alloc, owned.as_slice(), input, &mut Full, &mut errors);
+    Ok((status, errors))
+}
+
+/// Help, a version and a history that cannot be written end with 1 and their text.
+#[test]
+fn tells_an_output_that_fails(rt: HostRuntime) -> Result<(), Fail> {
+    let text = b"pie: cannot write the output\n".as_slice();
+    let lists: [&[&str]; 4] = [
+        &["pie", "--help"],
+        &["pie", "run", "--help"],
+        &["pie", "--version"],
+        &["pie", "run"],
+    ];
+    for words in lists {
+        let (status, errors) = pie_on_a_full_output(&rt, words, b"open,0,4,16,100\n")?;
+        assert_eq!(rt; (status, errors.as_slice()), (1, text));
+    }
+    // Where the error stream takes nothing either, the status is the same.
+    let mut owned = Vec::new(rt.alloc());
+    for word in ["pie", "run"] {
+        owned.push(String::from_str(rt.alloc(), word)?)?;
+    }
+    let status = command(
+        &rt,
+        rt.alloc(),
+        owned.as_slice(),
+        b"".as_slice(),
+        &mut Full,
+        &mut Full,
+    );
+    assert_eq!(rt; status, 1);
+    Ok(())
+}
+
+/// A record that is refused is no fault.
+#[test]
+fn ends_well_after_a_refusal(rt: HostRuntime) -> Result<(), Fail> {
+    let trace = b"open,0,4,1,100\ndepart,1,1\ndepart,1,1\nupdate,1,1\nfold,2\n";
+    let history = b"open,0,4,1,100\ndepart,1,1,empty\nrefused,3,5\nrefused,4,3\nrefused,5,6\n";
+    let outcome = pie(&rt, &["pie", "run"], trace)?;
+    assert_eq!(rt; outcome.status, 0);
+    assert_eq!(rt; outcome.output.as_slice(), history.as_slice());
+    assert!(rt; outcome.errors.is_empty());
+    Ok(())
+}
+
+/// The name and the version.
+#[test]
+fn gives_its_version(rt: HostRuntime) -> Result<(), Fail> {
+    let outcome = pie(&rt, &["pie", "--version"], b"")?;
+    assert_eq!(rt; outcome.status, 0);
+    assert_eq!(rt; outcome.output.as_slice(), b"pie 0.1.0\n".as_slice());
+    assert!(rt; outcome.errors.is_empty());
+    Ok(())
+}
+
+/// Where `clap` finds no memory.
+#[test]
+fn tells_want_of_memory(rt: HostRuntime) {
+    let mut output = Vec::new(rt.alloc());
+    let mut errors = Vec::new(rt.alloc());
+    let status = mistake(Error::from(AllocError), &mut output, &mut errors);
+    let text = b"pie: out of memory\n".as_slice();
+    assert_eq!(rt; (status, errors.as_slice()), (1, text));
+    assert!(rt; output.is_empty());
 }

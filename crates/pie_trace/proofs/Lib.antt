@@ -8,3 +8,5 @@ pub mod RunFacts
 pub mod EndFacts
 pub mod LineFacts
 pub mod LinesFacts
+pub mod Examples
+pub mod ExamplesRuns

@@ -1,10 +1,13 @@
 //! Runs of whole traces over memory, with the histories and the answers that they have to have.
 
 mod devices;
+mod faults;
 mod parts;
+mod records;
 
-use crate::{Flaw, OpenFault, RunEnd, TraceFault, run_trace, run_trace_within};
-use pie_book::Registers;
+use crate::{RunEnd, TraceFault, run_trace, run_trace_within};
+use pie_book::{Registers, Stats};
+use pie_params::Params;
 use std::alloc::Global;
 use std::test::Fail;
 
@@ -36,6 +39,43 @@ const FOUR_LARGE_HISTORY: &str = "arrive,1,1,1,65535,not,0,enqueue\n\
     arrive,1,3,3,65535,not,0,enqueue\n\
     arrive,1,4,4,65535,not,0,enqueue\n";
 
+/// No event, and no packet.
+const EMPTY: Stats = Stats {
+    arrivals: 0,
+    enqueued: 0,
+    marked: 0,
+    early: 0,
+    over_bytes: 0,
+    over_packets: 0,
+    left: 0,
+    left_bytes: 0,
+    empty: 0,
+    updates: 0,
+    resets: 0,
+    changes: 0,
+    largest_queue: 0,
+    largest_delay: 0,
+    waited: 0,
+};
+
+/// The registers of a book with the default parameters and no event, at moment 0.
+fn fresh() -> Registers {
+    Registers {
+        count: 0,
+        moment: 0,
+        packets: 0,
+        bytes: 0,
+        prob: 0,
+        old: 0,
+        accu: 0,
+        burst: 150_000_000,
+        last: 0,
+        average: 0,
+        measuring: false,
+        params: Params::default_profile(),
+    }
+}
+
 fn run(alloc: Global, text: &str) -> (Result<RunEnd, TraceFault>, Vec<u8>) {
     let mut out = Vec::new(alloc);
     let result = run_trace(alloc, text.as_bytes(), &mut out);
@@ -58,8 +98,17 @@ fn one_arrival_and_two_departures(rt: HostRuntime) {
         registers: Registers {
             count: 3,
             moment: 30,
-            packets: 0,
-            bytes: 0,
+            ..fresh()
+        },
+        stats: Stats {
+            arrivals: 1,
+            enqueued: 1,
+            left: 1,
+            left_bytes: 1500,
+            empty: 1,
+            largest_queue: 1500,
+            waited: 15,
+            ..EMPTY
         },
     };
     for text in [ONE_ARRIVAL, crlf, quoted] {
@@ -75,12 +124,8 @@ fn an_opening_alone(rt: HostRuntime) {
     let end = RunEnd {
         events: 0,
         refused: 0,
-        registers: Registers {
-            count: 0,
-            moment: 0,
-            packets: 0,
-            bytes: 0,
-        },
+        registers: fresh(),
+        stats: EMPTY,
     };
     assert_eq!(rt; result, Ok(end));
     assert_eq!(rt; out.as_slice(), b"open,0,4,16,100\n".as_slice());
@@ -150,66 +195,6 @@ fn refusals_and_answers(rt: HostRuntime) {
 }
 
 #[test]
-fn faulty_openings(rt: HostRuntime) {
-    let cases = [
-        ("", TraceFault::NoOpen),
-        ("depart,1,5", TraceFault::NoOpen),
-        ("open,0,4,16,100,1\n", TraceFault::Fields { row: 1 }),
-        ("open,0,4,16\n", TraceFault::Fields { row: 1 }),
-        ("open,0,4,016,100\n", TraceFault::Number { row: 1 }),
-        ("open,0,4294967296,16,100\n", TraceFault::Number { row: 1 }),
-        (
-            "open,1152921504606846976,0,4,2\n",
-            TraceFault::Opening(OpenFault::Limits),
-        ),
-        ("open,0,0,4,2\n", TraceFault::Opening(OpenFault::Limits)),
-        (
-            "open,1152921504606846976,4,4,2\n",
-            TraceFault::Opening(OpenFault::Moment),
-        ),
-    ];
-    for (text, fault) in cases {
-        let (result, out) = run(rt.alloc(), text);
-        assert_eq!(rt; result, Err(fault), "{text}");
-        assert!(rt; out.is_empty(), "{text}");
-    }
-}
-
-#[test]
-fn faulty_records(rt: HostRuntime) -> Result<(), Fail> {
-    let alloc = rt.alloc();
-    let number = TraceFault::Number { row: 3 };
-    let cases = [
-        ("dep,1,1", TraceFault::Kind { row: 3 }),
-        ("open,0,4,16,100", TraceFault::Kind { row: 3 }),
-        ("depart,1", TraceFault::Fields { row: 3 }),
-        ("depart,1,1,empty", TraceFault::Fields { row: 3 }),
-        ("arrive,1,10,7,1500,ect0", TraceFault::Fields { row: 3 }),
-        ("depart,01,1", number),
-        ("depart,1,", number),
-        ("depart,65536,1", number),
-        ("depart,1,18446744073709551616", number),
-        ("arrive,1,10,7,4294967296,ect0,0", number),
-        ("arrive,1,10,7,1500,ect0,18446744073709551616", number),
-        ("arrive,1,10,7,1500,ECT0,0", TraceFault::Word { row: 3 }),
-        // The first bad field counts.
-        ("arrive,1,10,7,-1,ect2,0", number),
-        ("arrive,1,10,7,1500,ect2,-1", TraceFault::Word { row: 3 }),
-    ];
-    for (record, fault) in cases {
-        let text = format!(in alloc; "open,0,4,16,100\ndepart,1,1\n{record}\ndepart,1,2\n")?;
-        let (result, out) = run(alloc, text.as_str());
-        assert_eq!(rt; result, Err(fault), "{record}");
-        assert_eq!(rt;
-            out.as_slice(),
-            b"open,0,4,16,100\ndepart,1,1,empty\n".as_slice(),
-            "{record}"
-        );
-    }
-    Ok(())
-}
-
-#[test]
 fn a_run_reads_no_more_records_than_it_may(rt: HostRuntime) {
     let history = "open,0,4,4,2\ndepart,1,1,empty\ndepart,1,1,empty\nrefused,4,4\n";
     let cases = [
@@ -230,32 +215,4 @@ fn a_run_reads_no_more_records_than_it_may(rt: HostRuntime) {
     }
     let (result, _) = run_within(rt.alloc(), "", 0);
     assert_eq!(rt; result, Err(TraceFault::NoOpen));
-}
-
-#[test]
-fn faults_say_what_is_wrong(rt: HostRuntime) -> Result<(), Fail> {
-    let cases = [
-        (TraceFault::Read, "cannot read the input"),
-        (TraceFault::Write, "cannot write the output"),
-        (TraceFault::Memory, "out of memory"),
-        (TraceFault::NoOpen, "the first record is not an open record"),
-        (Flaw::Kind.at(3), "record 3: unknown kind"),
-        (Flaw::Fields.at(4), "record 4: wrong number of fields"),
-        (Flaw::Number.at(5), "record 5: not a number in range"),
-        (Flaw::Word.at(6), "record 6: unknown word"),
-        (TraceFault::TooLong, "too many records"),
-        (
-            TraceFault::Opening(OpenFault::Limits),
-            "record 1: limits out of range",
-        ),
-        (
-            TraceFault::Opening(OpenFault::Moment),
-            "record 1: moment out of range",
-        ),
-    ];
-    for (fault, want) in cases {
-        let text = format!(in rt.alloc(); "{fault}")?;
-        assert_eq!(rt; text.as_str(), want);
-    }
-    Ok(())
 }

@@ -1,49 +1,55 @@
-//! Readers and writers that fail, or that never end.
+//! Readers and writers that fail, once or for good, or that never end.
 
-use super::{ONE_ARRIVAL, ONE_ARRIVAL_HISTORY};
+use super::records::{EVERY_KIND, EVERY_KIND_HISTORY};
+use crate::rows::CHUNK;
 use crate::{TraceFault, run_trace, run_trace_within};
 use std::alloc::Global;
 use std::io;
 use std::io::{ErrorKind, Read, Write};
+use std::test::Fail;
 
 /// How many bytes a failing reader gives, and a failing writer takes, at a time.
 const STEP: usize = 7;
 
-/// Gives a few bytes at a time, and fails after so many reads.
+/// Gives a few bytes at a time. After so many bytes it fails once, and then goes on.
 #[derive(Drop)]
 struct FailingReader<'a> {
     rest: &'a [u8],
-    reads: u32,
+    good: Option<usize>,
 }
 
 impl Read for FailingReader<'_> {
     fn read(&mut self, buf: &mut [u8]) -> io::Result<usize> {
-        let Some(left) = self.reads.checked_sub(1) else {
-            return Err(io::Error::from(ErrorKind::ConnectionReset));
-        };
-        self.reads = left;
-        let count = self.rest.len().min(buf.len()).min(STEP);
+        let mut count = self.rest.len().min(buf.len()).min(STEP);
+        if let Some(good) = self.good {
+            if good == 0 {
+                self.good = None;
+                return Err(io::Error::from(ErrorKind::ConnectionReset));
+            }
+            count = count.min(good);
+            self.good = Some(good - count);
+        }
         buf[..count].copy_from_slice(&self.rest[..count]);
         self.rest = &self.rest[count..];
         Ok(count)
     }
 }
 
-/// Takes a few bytes at a time, and fails after so many writes, or at a flush.
+/// Takes a few bytes at a time. After so many bytes it fails once, and then goes on; or it fails at each flush.
 #[derive(Drop)]
 struct FailingWriter {
     taken: Vec<u8>,
     step: usize,
-    writes: u32,
+    good: Option<usize>,
     flushes: bool,
 }
 
 impl FailingWriter {
-    fn new(alloc: Global, step: usize, writes: u32) -> FailingWriter {
+    fn new(alloc: Global, step: usize, good: Option<usize>) -> FailingWriter {
         FailingWriter {
             taken: Vec::new(alloc),
             step,
-            writes,
+            good,
             flushes: true,
         }
     }
@@ -51,11 +57,15 @@ impl FailingWriter {
 
 impl Write for FailingWriter {
     fn write(&mut self, buf: &[u8]) -> io::Result<usize> {
-        let Some(left) = self.writes.checked_sub(1) else {
-            return Err(io::Error::from(ErrorKind::BrokenPipe));
-        };
-        self.writes = left;
-        let count = buf.len().min(self.step);
+        let mut count = buf.len().min(self.step);
+        if let Some(good) = self.good {
+            if good == 0 {
+                self.good = None;
+                return Err(io::Error::from(ErrorKind::BrokenPipe));
+            }
+            count = count.min(good);
+            self.good = Some(good - count);
+        }
         match self.taken.extend_from_slice(&buf[..count]) {
             Ok(()) => Ok(count),
             Err(_) => Err(io::Error::from(ErrorKind::OutOfMemory)),
@@ -89,58 +99,102 @@ impl Read for Endless {
     }
 }
 
+/// Keeps what it takes, and how many bytes came by each write.
+#[derive(Drop)]
+struct CountingWriter {
+    taken: Vec<u8>,
+    parts: Vec<usize>,
+}
+
+impl Write for CountingWriter {
+    fn write(&mut self, buf: &[u8]) -> io::Result<usize> {
+        let kept = self.taken.extend_from_slice(buf).is_ok() && self.parts.push(buf.len()).is_ok();
+        if kept {
+            Ok(buf.len())
+        } else {
+            Err(io::Error::from(ErrorKind::OutOfMemory))
+        }
+    }
+
+    fn flush(&mut self) -> io::Result<()> {
+        Ok(())
+    }
+}
+
+/// The first lines of a text.
+fn first_lines(text: &str, count: usize) -> &[u8] {
+    let mut left = count;
+    for (i, byte) in text.as_bytes().iter().enumerate() {
+        if left == 0 {
+            return &text.as_bytes()[..i];
+        }
+        if *byte == b'\n' {
+            left -= 1;
+        }
+    }
+    text.as_bytes()
+}
+
+/// Whatever byte a reader fails after, the history of the whole lines before it is written, and nothing after it is read.
 #[test]
-fn a_failing_reader(rt: HostRuntime) {
-    let all = ONE_ARRIVAL.len().div_ceil(STEP) as u32;
-    for reads in 0..all + 1 {
+fn a_reader_that_fails_once(rt: HostRuntime) {
+    for good in 0..EVERY_KIND.len() {
         let reader = FailingReader {
-            rest: ONE_ARRIVAL.as_bytes(),
-            reads,
+            rest: EVERY_KIND.as_bytes(),
+            good: Some(good),
         };
         let mut out = Vec::new(rt.alloc());
         let result = run_trace(rt.alloc(), reader, &mut out);
-        assert_eq!(rt; result, Err(TraceFault::Read), "after {reads} reads");
-        assert!(rt;
-            ONE_ARRIVAL_HISTORY.as_bytes().starts_with(&out),
-            "after {reads} reads"
+        assert_eq!(rt; result, Err(TraceFault::Read), "after {good} bytes");
+        let lines = EVERY_KIND.as_bytes()[..good]
+            .iter()
+            .filter(|byte| **byte == b'\n')
+            .count();
+        assert_eq!(rt;
+            out.as_slice(),
+            first_lines(EVERY_KIND_HISTORY, lines),
+            "after {good} bytes"
         );
     }
     let reader = FailingReader {
-        rest: ONE_ARRIVAL.as_bytes(),
-        reads: 2 * all,
+        rest: EVERY_KIND.as_bytes(),
+        good: None,
     };
     let mut out = Vec::new(rt.alloc());
     assert!(rt; run_trace(rt.alloc(), reader, &mut out).is_ok());
-    assert_eq!(rt; out.as_slice(), ONE_ARRIVAL_HISTORY.as_bytes());
+    assert_eq!(rt; out.as_slice(), EVERY_KIND_HISTORY.as_bytes());
 }
 
+/// Whatever byte a writer fails after, those before it are the first of the history, and nothing comes after them.
 #[test]
-fn a_failing_writer(rt: HostRuntime) {
-    let all = ONE_ARRIVAL_HISTORY.len().div_ceil(STEP) as u32;
-    for writes in 0..all {
-        let mut writer = FailingWriter::new(rt.alloc(), STEP, writes);
-        let result = run_trace(rt.alloc(), ONE_ARRIVAL.as_bytes(), &mut writer);
-        assert_eq!(rt; result, Err(TraceFault::Write), "after {writes} writes");
-        assert_eq!(rt; writer.taken.len(), STEP * writes as usize);
-        assert!(rt;
-            ONE_ARRIVAL_HISTORY.as_bytes().starts_with(&writer.taken),
-            "after {writes} writes"
+fn a_writer_that_fails_once(rt: HostRuntime) {
+    let history = EVERY_KIND_HISTORY.as_bytes();
+    for good in 0..history.len() {
+        let mut writer = FailingWriter::new(rt.alloc(), STEP, Some(good));
+        let result = run_trace(rt.alloc(), EVERY_KIND.as_bytes(), &mut writer);
+        assert_eq!(rt; result, Err(TraceFault::Write), "after {good} bytes");
+        assert_eq!(rt;
+            writer.taken.as_slice(),
+            &history[..good],
+            "after {good} bytes"
         );
     }
-    let mut writer = FailingWriter::new(rt.alloc(), STEP, all);
-    assert!(rt; run_trace(rt.alloc(), ONE_ARRIVAL.as_bytes(), &mut writer).is_ok());
-    assert_eq!(rt; writer.taken.as_slice(), ONE_ARRIVAL_HISTORY.as_bytes());
+    let mut writer = FailingWriter::new(rt.alloc(), STEP, Some(history.len()));
+    assert!(rt; run_trace(rt.alloc(), EVERY_KIND.as_bytes(), &mut writer).is_ok());
+    assert_eq!(rt; writer.taken.as_slice(), history);
 }
 
+/// A flush that fails takes the place of any other answer.
 #[test]
 fn a_failing_flush(rt: HostRuntime) {
     let cases = [
         ("", ""),
         ("open,0,4,16,100\n", "open,0,4,16,100\n"),
         ("open,0,4,16,100\ndep\n", "open,0,4,16,100\n"),
+        (EVERY_KIND, EVERY_KIND_HISTORY),
     ];
     for (text, history) in cases {
-        let mut writer = FailingWriter::new(rt.alloc(), STEP, 100);
+        let mut writer = FailingWriter::new(rt.alloc(), STEP, None);
         writer.flushes = false;
         let result = run_trace(rt.alloc(), text.as_bytes(), &mut writer);
         assert_eq!(rt; result, Err(TraceFault::Write), "{text}");
@@ -148,31 +202,113 @@ fn a_failing_flush(rt: HostRuntime) {
     }
 }
 
+/// Where the reader failed, a writer that fails as well does not change the answer.
 #[test]
-fn a_reader_without_an_end(rt: HostRuntime) {
-    let mut whole = Vec::new(rt.alloc());
-    let reader = Endless {
-        rest: b"open,0,4,16,100\n",
+fn what_failed_first_is_answered(rt: HostRuntime) {
+    let reader = FailingReader {
+        rest: EVERY_KIND.as_bytes(),
+        good: Some(200),
     };
-    let result = run_trace_within(rt.alloc(), reader, &mut whole, 1000);
-    assert_eq!(rt; result, Err(TraceFault::TooLong));
-    assert_eq!(rt; whole.iter().filter(|byte| **byte == b'\n').count(), 1000);
-    // The tail holds sixteen events, and every later departure is refused.
-    let full = 16 + 16 * b"depart,1,1,empty\n".len();
-    assert!(rt;
-        whole
-            .get(full..)
-            .is_some_and(|rest| rest.starts_with(b"refused,18,5\n"))
+    let mut writer = FailingWriter::new(rt.alloc(), STEP, Some(20));
+    let result = run_trace(rt.alloc(), reader, &mut writer);
+    assert_eq!(rt; result, Err(TraceFault::Read));
+    assert_eq!(rt;
+        writer.taken.as_slice(),
+        &EVERY_KIND_HISTORY.as_bytes()[..20]
     );
-    assert!(rt; whole.ends_with(b"refused,999,5\nrefused,1000,5\n"));
-    // The history goes to the writer in four parts.
-    for writes in 0..4 {
-        let mut writer = FailingWriter::new(rt.alloc(), usize::MAX, writes);
-        let reader = Endless {
-            rest: b"open,0,4,16,100\n",
-        };
-        let result = run_trace_within(rt.alloc(), reader, &mut writer, 1000);
-        assert_eq!(rt; result, Err(TraceFault::Write), "after {writes} writes");
-        assert!(rt; whole.starts_with(&writer.taken), "after {writes} writes");
+    let reader = FailingReader {
+        rest: EVERY_KIND.as_bytes(),
+        good: Some(0),
+    };
+    let mut writer = FailingWriter::new(rt.alloc(), STEP, None);
+    writer.flushes = false;
+    let result = run_trace(rt.alloc(), reader, &mut writer);
+    assert_eq!(rt; result, Err(TraceFault::Read));
+    assert!(rt; writer.taken.is_empty());
+}
+
+/// The history of `count` departures from a tail of sixteen events.
+fn history_of_departures(alloc: Global, count: u64) -> Result<String, Fail> {
+    let mut history = String::from_str(alloc, "open,0,4,16,100\n")?;
+    for number in 2..count + 2 {
+        if number < 18 {
+            writeln!(history, "depart,1,1,empty")?;
+        } else {
+            writeln!(history, "refused,{number},5")?;
+        }
     }
+    Ok(history)
+}
+
+/// Runs so many departures from a tail of sixteen events: what was written, and how many bytes by each write.
+fn departures(alloc: Global, count: u64) -> Result<(Vec<u8>, Vec<usize>), Fail> {
+    let mut trace = String::from_str(alloc, "open,0,4,16,100\n")?;
+    for _ in 0..count {
+        writeln!(trace, "depart,1,1")?;
+    }
+    let mut writer = CountingWriter {
+        taken: Vec::new(alloc),
+        parts: Vec::new(alloc),
+    };
+    let _ = run_trace(alloc, trace.as_bytes(), &mut writer);
+    let CountingWriter { taken, parts } = writer;
+    Ok((taken, parts))
+}
+
+/// The run ends where no further record may be read, and its history goes to the writer in parts.
+#[test]
+fn a_reader_without_an_end(rt: HostRuntime) -> Result<(), Fail> {
+    let alloc = rt.alloc();
+    let first = b"open,0,4,16,100\n".as_slice();
+    let whole = history_of_departures(alloc, 9999)?;
+    let mut writer = CountingWriter {
+        taken: Vec::new(alloc),
+        parts: Vec::new(alloc),
+    };
+    let result = run_trace_within(alloc, Endless { rest: first }, &mut writer, 10000);
+    assert_eq!(rt; result, Err(TraceFault::TooLong));
+    assert_eq!(rt; writer.taken.as_slice(), whole.as_bytes());
+    assert_eq!(rt; writer.parts.len(), 5);
+    // A writer that fails within any part, or between two, and then works, gets nothing more.
+    let mut ends: Vec<usize> = Vec::new(alloc);
+    let mut end: usize = 0;
+    for part in writer.parts.iter() {
+        ends.push(end + 1)?;
+        end += *part;
+        ends.push(end - 1)?;
+        ends.push(end)?;
+    }
+    for good in ends.iter() {
+        let good = (*good).min(whole.len() - 1);
+        let mut writer = FailingWriter::new(alloc, usize::MAX, Some(good));
+        let result = run_trace_within(alloc, Endless { rest: first }, &mut writer, 10000);
+        assert_eq!(rt; result, Err(TraceFault::Write), "after {good} bytes");
+        assert_eq!(rt;
+            writer.taken.as_slice(),
+            &whole.as_bytes()[..good],
+            "after {good} bytes"
+        );
+    }
+    Ok(())
+}
+
+/// Runs whose last record is the last of a part, and the one before and after it.
+#[test]
+fn a_history_that_is_a_whole_part(rt: HostRuntime) -> Result<(), Fail> {
+    let alloc = rt.alloc();
+    let (_, parts) = departures(alloc, 3000)?;
+    let first = parts.first().copied().unwrap_or(0);
+    let lines = history_of_departures(alloc, 3000)?.as_bytes()[..first]
+        .iter()
+        .filter(|byte| **byte == b'\n')
+        .count() as u64;
+    assert!(rt; first >= CHUNK);
+    // The first line is the opening's.
+    for (count, most) in [(lines - 2, 1), (lines - 1, 1), (lines, 2)] {
+        let (taken, parts) = departures(alloc, count)?;
+        let history = history_of_departures(alloc, count)?;
+        assert_eq!(rt; taken.as_slice(), history.as_bytes(), "{count}");
+        assert_eq!(rt; parts.len(), most, "{count}");
+    }
+    Ok(())
 }

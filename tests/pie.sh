@@ -1,0 +1,89 @@
+#!/usr/bin/env bash
+# Runs the built program, and compares its status, its output and its error stream: what `main` does with the status of
+# `command` is seen only here.
+# usage: tests/pie.sh PROGRAM      PROGRAM: crates/pie/out/pie, as `rt run` builds it there
+set -u
+program=$1
+work=$(mktemp -d)
+trap 'rm -rf "$work"' EXIT
+failed=0
+
+# expect NAME STATUS OUTPUT ERRORS INPUT WORDS..: texts as printf reads them
+expect() {
+    local name=$1 status=$2
+    printf "$3" > "$work/output.want"
+    printf "$4" > "$work/errors.want"
+    printf "$5" > "$work/input"
+    shift 5
+    "$program" "$@" < "$work/input" > "$work/output" 2> "$work/errors"
+    local got=$?
+    if [ "$got" != "$status" ] || ! cmp -s "$work/output" "$work/output.want" || ! cmp -s "$work/errors" "$work/errors.want"; then
+        echo "tests/pie.sh: $name: status $got and not $status, or another output:"
+        diff "$work/output.want" "$work/output"
+        diff "$work/errors.want" "$work/errors"
+        failed=1
+    fi
+}
+
+expect 'a run' 0 'open,0,4,16,100\ndepart,1,9,empty\n' '' 'open,0,4,16,100\ndepart,1,9\n' run
+expect 'a refused record is no fault' 0 'open,0,4,1,100\ndepart,1,1,empty\nrefused,3,5\n' '' \
+    'open,0,4,1,100\ndepart,1,1\ndepart,1,1\n' run
+# The first session of the README, which is the example of `pie run --help` too.
+trace='open,0,8,32,100,2,1,0,850000,0,1,100000,1000000000000,1024
+arrive,1,0,1,1024,not,0
+arrive,1,0,2,1024,not,0
+arrive,1,0,3,1024,not,0
+arrive,1,0,4,1024,not,0
+depart,3,1000
+depart,3,1001000
+update,4,1001000
+update,4,1001001
+update,4,1001002
+arrive,1,1001003,5,500,ect0,0
+arrive,2,1001003,6,500,not,0
+show
+tally
+'
+history='open,0,8,32,100,2,1,0,850000,0,1,100000,1000000000000,1024
+arrive,1,0,1,1024,not,0,enqueue
+arrive,1,0,2,1024,not,0,enqueue
+arrive,1,0,3,1024,not,0,enqueue
+arrive,1,0,4,1024,not,0,enqueue
+depart,3,1000,left,1,1024,not
+depart,3,1001000,left,2,1024,not
+update,4,1001000,2000000,830077294,0
+update,4,1001001,2000000,53955024169,0
+update,4,1001002,2000000,903954174169,0
+arrive,1,1001003,5,500,ect0,0,mark
+arrive,2,1001003,6,500,not,0,early
+shown,11,1001003,3,2548,903954174169,2000000,0,0,1001002,1000000,1
+tallied,6,4,1,1,0,0,2,2048,0,3,0,0,4096,2000000,1002000
+'
+
+expect 'a mark and an early drop' 0 "$history" '' "$trace" run
+expect 'no record' 1 '' 'pie: the first record is not an open record\n' '' run
+expect 'a fault' 1 'open,0,4,16,100\ndepart,1,9,empty\n' 'pie: record 3: unknown kind\n' \
+    'open,0,4,16,100\ndepart,1,9\ndep,1,10\ndepart,1,11\n' run
+expect 'a bad parameter' 1 '' 'pie: record 1: target out of range\n' 'open,0,4,16,100,1,1,0,0,0,1,1,0,1024\n' run
+expect 'a version' 0 'pie 0.1.0\n' '' '' --version
+
+"$program" > "$work/output" 2> "$work/errors" < /dev/null
+got=$?
+if [ "$got" != 1 ] || [ -s "$work/output" ] || ! [ -s "$work/errors" ]; then
+    echo "tests/pie.sh: without a subcommand: status $got"
+    failed=1
+fi
+# An output that cannot be written.
+printf 'open,0,4,16,100\n' | "$program" run > /dev/full 2> "$work/errors"
+got=$?
+if [ "$got" != 1 ] || [ "$(cat "$work/errors")" != 'pie: cannot write the output' ]; then
+    echo "tests/pie.sh: a full device: status $got, $(cat "$work/errors")"
+    failed=1
+fi
+"$program" run --help > /dev/full 2> "$work/errors"
+got=$?
+if [ "$got" != 1 ] || [ "$(cat "$work/errors")" != 'pie: cannot write the output' ]; then
+    echo "tests/pie.sh: help on a full device: status $got, $(cat "$work/errors")"
+    failed=1
+fi
+exit "$failed"

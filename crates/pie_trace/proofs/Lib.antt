@@ -6,5 +6,7 @@ pub mod ReadFacts
 pub mod StepFacts
 pub mod RunFacts
 pub mod EndFacts
+pub mod LineFacts
+pub mod LinesFacts
 pub mod Examples
 pub mod ExamplesRuns

@@ -2,8 +2,10 @@ pub mod Number
 pub mod Fault
 pub mod Text
 pub mod Record
+pub mod Line
 pub mod Reply
 pub mod History
 pub mod Steps
 pub mod Rows
 pub mod Records
+pub mod Lines

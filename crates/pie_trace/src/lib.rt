@@ -12,6 +12,8 @@
 mod answer;
 pub mod fault;
 mod fields;
+pub mod history;
+pub mod lines;
 mod number;
 mod records;
 mod rows;
@@ -19,6 +21,8 @@ pub mod run;
 mod session;
 
 pub use fault::{Flaw, OpenFault, TraceFault};
+pub use history::Line;
+pub use lines::HistoryLines;
 pub use run::{RunEnd, run_trace, run_trace_within};
 
 #[cfg(test)]

@@ -1,0 +1,3 @@
+pub mod FindingFacts
+pub mod AuditorFacts
+pub mod AuditFacts

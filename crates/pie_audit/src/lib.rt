@@ -1,0 +1,13 @@
+//! The audit of a history: each recorded event is decided again, and the first that the rules do not give is named.
+//!
+//! The definitions that the contracts cite stand in `specs/`: `finding` looks at each event with all lines before it.
+#![tactic(auto)]
+
+pub mod auditor;
+pub mod text;
+
+pub use auditor::{Auditor, Finding};
+pub use text::audit;
+
+#[cfg(test)]
+mod tests;

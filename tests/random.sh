@@ -1,0 +1,25 @@
+#!/usr/bin/env bash
+# Runs the built program on random traces, and compares each history with that of bench/reference.py, which looks back over the
+# whole list of events and shares no code with it.
+# usage: tests/random.sh PROGRAM [FIRST_SEED] [RUNS] [STEPS]
+set -u
+program=$1
+first=${2:-1}
+runs=${3:-12}
+steps=${4:-120}
+if ! command -v python3 > /dev/null; then
+    echo "tests/random.sh: no python3 here, so no random traces were compared"
+    exit 0
+fi
+here=$(dirname "$0")
+work=$(mktemp -d)
+trap 'rm -rf "$work"' EXIT
+for seed in $(seq "$first" $((first + runs - 1))); do
+    python3 "$here/../bench/reference.py" "$work/trace" "$work/want" "$seed" "$steps" || exit 1
+    if ! "$program" run < "$work/trace" > "$work/history" || ! cmp -s "$work/history" "$work/want"; then
+        echo "tests/random.sh: seed $seed: another history, or no status 0:"
+        diff "$work/want" "$work/history" | head -10
+        exit 1
+    fi
+done
+echo "tests/random.sh: $runs random traces of $steps steps: the histories are those of the reference"

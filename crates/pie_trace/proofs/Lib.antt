@@ -1,5 +1,6 @@
 pub mod RecordFacts
 pub mod HistoryFacts
+pub mod RunOfSteps
 pub mod NumberFacts
 pub mod RowFacts
 pub mod ReadFacts

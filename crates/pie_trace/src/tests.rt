@@ -88,11 +88,9 @@ fn run_within(alloc: Global, text: &str, most: u64) -> (Result<RunEnd, TraceFaul
     (result, out)
 }
 
-#[test]
-fn one_arrival_and_two_departures(rt: HostRuntime) {
-    let crlf = "open,0,4,16,100\r\narrive,1,10,7,1500,ect0,0\r\ndepart,2,25\r\ndepart,2,30\r\n";
-    let quoted = "open,0,4,16,100\narrive,1,10,7,1500,ect0,0\n\"depart\",2,25\ndepart,2,30";
-    let end = RunEnd {
+/// What the run of `ONE_ARRIVAL` ends with.
+fn end_of_one_arrival() -> RunEnd {
+    RunEnd {
         events: 3,
         refused: 0,
         registers: Registers {
@@ -110,10 +108,16 @@ fn one_arrival_and_two_departures(rt: HostRuntime) {
             waited: 15,
             ..EMPTY
         },
-    };
+    }
+}
+
+#[test]
+fn one_arrival_and_two_departures(rt: HostRuntime) {
+    let crlf = "open,0,4,16,100\r\narrive,1,10,7,1500,ect0,0\r\ndepart,2,25\r\ndepart,2,30\r\n";
+    let quoted = "open,0,4,16,100\narrive,1,10,7,1500,ect0,0\n\"depart\",2,25\ndepart,2,30";
     for text in [ONE_ARRIVAL, crlf, quoted] {
         let (result, out) = run(rt.alloc(), text);
-        assert_eq!(rt; result, Ok(end), "{text}");
+        assert_eq!(rt; result, Ok(end_of_one_arrival()), "{text}");
         assert_eq!(rt; out.as_slice(), ONE_ARRIVAL_HISTORY.as_bytes(), "{text}");
     }
 }

@@ -9,5 +9,6 @@ pub mod RunFacts
 pub mod EndFacts
 pub mod LineFacts
 pub mod LinesFacts
+pub mod WriteFacts
 pub mod Examples
 pub mod ExamplesRuns

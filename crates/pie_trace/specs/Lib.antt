@@ -9,3 +9,4 @@ pub mod Steps
 pub mod Rows
 pub mod Records
 pub mod Lines
+pub mod Write

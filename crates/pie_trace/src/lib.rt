@@ -19,11 +19,13 @@ mod records;
 mod rows;
 pub mod run;
 mod session;
+pub mod write;
 
 pub use fault::{Flaw, OpenFault, TraceFault};
 pub use history::Line;
 pub use lines::HistoryLines;
 pub use run::{RunEnd, run_trace, run_trace_within};
+pub use write::write_history;
 
 #[cfg(test)]
 mod tests;

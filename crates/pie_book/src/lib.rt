@@ -8,7 +8,7 @@
 //! that history, or exactly its refusal (clause `decides`); the history with this event is shown or told afterwards (`shows`,
 //! `recorded`); a refusal leaves all as it was (`refused`). `Book::fold` refuses exactly where the tail holds fewer events or for
 //! want of memory, hands out the oldest ones, and the book tells the same history (`too_many`, `refused`, `folded`, `told`).
-//! `open` and `open_with` refuse in order and exactly in their cases, memory aside. The readers are what the definitions say:
+//! `open` and `open_with` refuse only for the listed reasons, in that order, or for lack of memory. The readers are what the definitions say:
 //! `registers`, `stats`, `count` and `waiting` of the whole history, `checkpoint` and `checkpoint_stats` of the history without
 //! the tail. `folds_change_no_answer` is the law over runs. `apply` and `step` take no memory.
 #![tactic(auto)]

@@ -22,7 +22,7 @@ use pie_queue::Packet;
 use std::sync::Wait;
 
 impl Link {
-    /// A packet arrives, with a random word of the caller's (see `Command::Arrive`). It waits for nobody.
+    /// A packet arrives, with a random word of the caller's (see `Command::Arrive`). It never blocks.
     ///
     /// # Errors
     ///
@@ -47,7 +47,7 @@ impl Link {
         replace_with(&mut caller.pass, (self, &command), turn::try_apply)
     }
 
-    /// The link asks for the next packet (see `Command::Depart`). It waits for nobody.
+    /// The link asks for the next packet (see `Command::Depart`). It never blocks.
     ///
     /// # Errors
     ///
@@ -66,7 +66,7 @@ impl Link {
         replace_with(&mut caller.pass, asked, turn::try_apply)
     }
 
-    /// The probability is to be computed anew (see `Command::Update`). It waits for nobody.
+    /// The probability is to be computed anew (see `Command::Update`). It never blocks.
     ///
     /// # Errors
     ///
@@ -85,7 +85,7 @@ impl Link {
         replace_with(&mut caller.pass, asked, turn::try_apply)
     }
 
-    /// The probability, the delays and the rate estimate are to start anew (see `Command::Reset`). It waits for nobody.
+    /// The probability, the delays and the rate estimate are to start anew (see `Command::Reset`). It never blocks.
     ///
     /// # Errors
     ///
@@ -104,7 +104,7 @@ impl Link {
         replace_with(&mut caller.pass, asked, turn::try_apply)
     }
 
-    /// New parameters are to hold from the next event on (see `Command::SetParams`). It waits for nobody.
+    /// New parameters are to hold from the next event on (see `Command::SetParams`). It never blocks.
     ///
     /// # Errors
     ///
@@ -227,7 +227,7 @@ impl Link {
     }
 
     /// Hands out the oldest `n` events of the book's tail, oldest first, which makes room for as many. The history stays as
-    /// it was, and so do all later answers. It waits for nobody.
+    /// it was, and so do all later answers. It never blocks.
     ///
     /// # Errors
     ///
@@ -264,7 +264,7 @@ impl Link {
         replace_with(&mut caller.pass, (self, rt, n), turn::wait_and_fold)
     }
 
-    /// What the book holds. It waits for nobody.
+    /// What the book holds. It never blocks.
     ///
     /// # Errors
     ///
@@ -286,7 +286,7 @@ impl Link {
         replace_with(&mut caller.pass, (self, rt), turn::wait_and_read_registers)
     }
 
-    /// The statistics of all events. It waits for nobody.
+    /// The statistics of all events. It never blocks.
     ///
     /// # Errors
     ///

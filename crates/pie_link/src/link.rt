@@ -135,7 +135,7 @@ impl Link {
         }
     }
 
-    /// The book, where no caller has it. It waits for nobody. A caller with all numbers always closes the link.
+    /// The book, where no caller has it. It never blocks. A caller with all numbers always closes the link.
     ///
     /// # Errors
     ///

@@ -10,7 +10,7 @@ pub struct Told<T> {
     pub number: u64,
 }
 
-/// Why a call that waits for nobody has no answer.
+/// Why a call that never blocks has no answer.
 #[derive(Clone, Copy, Debug, PartialEq, Eq)]
 pub enum Tried<R> {
     /// Another caller had the book. Nothing was done.

@@ -137,7 +137,7 @@ impl<S: Kept> RuledLock<S> {
         };
     }
 
-    /// Takes the state. It waits for nobody.
+    /// Takes the state. It never blocks.
     ///
     /// # Errors
     ///
@@ -173,7 +173,7 @@ impl<S: Kept> RuledLock<S> {
         })
     }
 
-    /// Takes the state. It waits while the state is out, and nothing is claimed of how long.
+    /// Takes the state. It waits while another pass has the state, and nothing is claimed of how long.
     pub fn take<R: Wait>(&self, rt: &R, pass: Pass<S>) -> Held<S>
         requires own { pass.lock ≡ self.now }
         ensures pass { IsOfPass pass result }
@@ -194,7 +194,7 @@ impl<S: Kept> RuledLock<S> {
         unreachable!()
     }
 
-    /// Gives the state back, with the entry that this call adds to the history, if it adds one. It waits for nobody.
+    /// Gives the state back, with the entry that this call adds to the history, if it adds one. It never blocks.
     pub fn put(&self, held: Held<S>, entry: Option<S::Entry>) -> Pass<S>
         requires own { held.lock ≡ self.now }
         requires number { IfSome entry (λ e. S.number_of e ≡ held.first) }
@@ -277,7 +277,7 @@ impl<S: Kept> RuledLock<S> {
         self.table.shared.load::<MergeStep>(seat, WORD);
     }
 
-    /// Closes the lock and gives the state. It waits for nobody.
+    /// Closes the lock and gives the state. It never blocks.
     ///
     /// # Errors
     ///

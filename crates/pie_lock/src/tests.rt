@@ -94,7 +94,7 @@ fn no_numbers_hands_the_state_back(rt: HostRuntime) {
 }
 
 // A refusal that comes only for numbers above some bound would meet the contracts, so the greatest lock is walked through
-// with its uppermost pass: it takes, is refused where the state is out, and closes.
+// with its uppermost pass: it takes, is refused where another pass has the state, and closes.
 #[test]
 fn the_uppermost_of_65535_numbers(rt: HostRuntime) -> Result<(), Fail> {
     let (lock, mut pass) = RuledLock::new(rt.alloc(), Counter::new(), 65535).map_err(|e| e.1)?;
@@ -108,7 +108,7 @@ fn the_uppermost_of_65535_numbers(rt: HostRuntime) -> Result<(), Fail> {
     };
     let upper = busy(&rt, &lock, upper);
     let Err(StillHeld { lock, pass: upper }) = lock.close(upper) else {
-        panic!(rt; "the state is out")
+        panic!(rt; "another pass has the state")
     };
     assert!(rt; upper.first() == 65534 && upper.limit() == 65535);
     let pass = add_and_put(&lock, held, caller, 4);
@@ -167,7 +167,7 @@ fn three_numbers_shared_and_gathered(rt: HostRuntime) -> Result<(), Fail> {
     let middle = busy(&rt, &lock, middle);
     assert!(rt; middle.first() == 1 && middle.limit() == 2);
     let Err(StillHeld { lock, pass: middle }) = lock.close(middle) else {
-        panic!(rt; "the state is out")
+        panic!(rt; "another pass has the state")
     };
     assert!(rt; middle.first() == 1 && middle.limit() == 2);
     let mut pass = add_and_put(&lock, held, caller, 5);

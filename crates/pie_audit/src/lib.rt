@@ -8,6 +8,3 @@ pub mod text;
 
 pub use auditor::{Auditor, Finding};
 pub use text::audit;
-
-#[cfg(test)]
-mod tests;

@@ -1,3 +1,4 @@
 pub mod Outcomes
 pub mod Headline
 pub mod Folding
+pub mod Examples

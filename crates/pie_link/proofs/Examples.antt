@@ -1,0 +1,59 @@
+-- The link's definitions at small values that were worked out by hand.
+use Rattle.std.specs.Prelude.{ℕ, ◌≡◌, ◌-◌, List, [], ◌∷◌, Option, Some, None, take, drop}
+use Rattle.std.proofs.Common.{refl}
+use Rattle.pie_lock.specs.declared.view.Shown.{Shown}
+use Rattle.pie_lock.specs.declared.view.Place.{Place}
+use Rattle.pie_lock.specs.declared.view.Place.TheVariants.{Spent, Waits, Meets}
+use Rattle.pie_book.specs.declared.command.Command.TheVariants.{Depart}
+use Rattle.pie_book.specs.declared.command.Answer.TheVariants.{Empty}
+use Rattle.pie_book.specs.declared.command.Event.{Event}
+use Rattle.pie_book.specs.declared.opening.Limits.{Limits}
+use Rattle.pie_book.specs.declared.opening.Opening.{Opening}
+use Rattle.pie_book.specs.declared.refusal.OpenRefusal.TheVariants as of_book
+use Rattle.pie_link.specs.declared.refusal.LinkRefusal.TheVariants.{Book, NoCallers}
+use Rattle.pie_link.specs.Opening.{link_refusal}
+use Rattle.pie_link.specs.Headline.{Informed, calls_of, callers_of}
+
+abbrev limits : ℕ → Limits
+limits packets = record { packets = packets; tail = 8; events = 100 }
+
+-- bad limits come first, then the moment, and then that there are no callers
+bad_limits : link_refusal (limits 0) 1152921504606846976 0 ≡ Some (Book of_book.BadLimits)
+bad_limits = refl
+
+late : link_refusal (limits 4) 1152921504606846976 0 ≡ Some (Book of_book.Moment)
+late = refl
+
+no_callers : link_refusal (limits 4) 0 0 ≡ Some NoCallers
+no_callers = refl
+
+allowed : link_refusal (limits 4) 0 3 ≡ None
+allowed = refl
+
+-- a departure that a caller asked for where no packet waited
+abbrev asked : ℕ → Event
+asked caller = record { caller = caller; command = Depart 1; answer = Empty }
+
+-- callers 0 to 2 were told of five events in this order
+abbrev history : List Event
+history = asked 0 ∷ asked 1 ∷ asked 2 ∷ asked 1 ∷ asked 0 ∷ []
+
+abbrev one_and_two : Informed
+one_and_two = record { front = []; first = 1; limit = 3 }
+
+calls_of_one_and_two : calls_of one_and_two history ≡ asked 1 ∷ asked 2 ∷ asked 1 ∷ []
+calls_of_one_and_two = refl
+
+-- a fold of two events that ends at number 3 hands out events 2 and 3
+events_two_and_three : take 2 (drop (3 - 2) history) ≡ asked 1 ∷ asked 2 ∷ []
+events_two_and_three = refl
+
+abbrev pass : ℕ → Shown Event Opening
+pass first = record { front = []; first = first; limit = first; numbers = 4; origin = None }
+
+abbrev caller : ℕ → Informed
+caller first = record { front = []; first = first; limit = first }
+
+-- a spent seat knows of no caller, one with two passes of two
+callers_of_seats : callers_of (Waits (pass 1) ∷ Spent ∷ Meets (pass 2) (pass 3) ∷ []) ≡ caller 1 ∷ caller 2 ∷ caller 3 ∷ []
+callers_of_seats = refl

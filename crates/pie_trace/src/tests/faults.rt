@@ -1,4 +1,4 @@
-//! Faults: in which order they are looked for, what stands written before them, and their texts.
+//! Faults: in which order they are looked for, what has been written before them, and their texts.
 
 use super::run;
 use crate::{Flaw, OpenFault, TraceFault};

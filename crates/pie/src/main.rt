@@ -6,6 +6,7 @@ mod options;
 
 use command::command;
 use std::env;
+use std::io::ErrorKind;
 use std::process::ExitCode;
 
 fn main(rt: HostRuntime) -> ExitCode {
@@ -28,8 +29,11 @@ fn main(rt: HostRuntime) -> ExitCode {
 fn words(rt: &HostRuntime) -> Option<Vec<String>> {
     let args = match env::args(rt) {
         Ok(args) => args,
-        Err(_) => {
-            let _ = eprintln!(rt; "pie: out of memory");
+        Err(error) => {
+            let _ = match error.kind() {
+                ErrorKind::OutOfMemory => eprintln!(rt; "pie: out of memory"),
+                _ => eprintln!(rt; "pie: a word of the command line is not UTF-8"),
+            };
             return None;
         }
     };

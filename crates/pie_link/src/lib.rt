@@ -15,14 +15,20 @@
 
 pub mod caller;
 mod calls;
+pub mod ending;
+pub mod gate;
 mod kept_book;
 pub mod link;
+pub mod plan;
 pub mod refusal;
 pub mod told;
 mod turn;
 
 pub use caller::Caller;
+pub use ending::{StormEnd, StormFault};
+pub use gate::{Gate, NoGate};
 pub use link::Link;
+pub use plan::{Arrival, Change, Plan};
 pub use refusal::LinkRefusal;
 pub use told::{Told, Tried};
 

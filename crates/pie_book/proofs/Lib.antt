@@ -4,10 +4,12 @@ pub mod EstimateFacts
 pub mod StatisticsFacts
 pub mod LookFacts
 pub mod CoreFacts
+pub mod CauseFacts
 pub mod BookFacts
 pub mod RunFacts
 pub mod Examples
 pub mod ExamplesRates
 pub mod ExamplesMarks
+pub mod ExamplesCauses
 pub mod ExamplesBooks
 pub mod ExamplesRuns

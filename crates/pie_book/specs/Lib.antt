@@ -5,6 +5,7 @@ pub mod Estimates
 pub mod Registers
 pub mod Statistics
 pub mod Decision
+pub mod Cause
 pub mod Core
 pub mod Tally
 pub mod Book

@@ -14,6 +14,7 @@
 #![tactic(auto)]
 
 pub mod book;
+pub mod cause;
 pub mod command;
 pub mod law;
 pub mod opening;
@@ -26,6 +27,7 @@ mod tally;
 mod tests;
 
 pub use book::Book;
+pub use cause::{Cause, Fate};
 pub use command::{Answer, Command, Event};
 pub use law::folds_change_no_answer;
 pub use opening::{Choices, Limits, Mode, Opening};

@@ -1,0 +1,128 @@
+-- What decides an arrival, on worked histories and at single numbers: each theorem computes, and each cause is met.
+use Rattle.std.specs.Prelude.{ℕ, ◌≡◌, List, [], ◌∷◌, ◌++◌, map, Some, None}
+use Rattle.std.proofs.Common.{refl}
+use Rattle.pie_params.specs.Profile.{default_profile}
+use Rattle.pie_rate.specs.Cycles.{cycles, begun, first_position, first_opening, first_closing, first_cycle, cycles_from}
+use Rattle.pie_rate.specs.Average.{average, samples}
+use Rattle.pie_control.specs.Delay.{delay_of}
+use Rattle.pie_control.specs.History.{probability, last_delay, last_moment, granted_burst, burst_allowance}
+use Rattle.pie_control.specs.Next.{raw_step, tuning_divisor, tuned_step, decayed, next}
+use Rattle.pie_early.specs.Decision.{is_considered, is_picked}
+use Rattle.pie_early.specs.History.{accumulated}
+use Rattle.pie_queue.specs.declared.ecn.Ecn.{Ecn}
+use Rattle.pie_queue.specs.declared.ecn.Ecn.TheVariants.{NotEct, Ect0, Ce}
+use Rattle.pie_book.specs.declared.cause.Cause.{Cause}
+use Rattle.pie_book.specs.declared.cause.Cause.TheVariants.{NoRoomInBytes, NoRoomInPackets, BurstAllowed, LowDelay, ShortQueue, NoProbability, LittleAccumulated, PickedBySum, PickedByWord, WordNotBelow}
+use Rattle.pie_book.specs.declared.cause.Fate.TheVariants.{Marked, NotCapable, NotBelow}
+use Rattle.pie_book.specs.declared.command.Command.TheVariants.{Arrive, Depart, Update, Reset, SetParams}
+use Rattle.pie_book.specs.declared.command.Answer.TheVariants as answer
+use Rattle.pie_book.specs.declared.command.Event.{Event}
+use Rattle.pie_book.specs.declared.opening.Mode.TheVariants.{Bounded}
+use Rattle.pie_book.specs.declared.opening.Opening.{Opening}
+use Rattle.pie_book.specs.History.{places, greatest, last_or, effective_moment, params_after, admitted, departed_count, waiting_after}
+use Rattle.pie_book.specs.Estimates.{departures_after, delay_after, control_events, parts_after, early_events, accu_after}
+use Rattle.pie_book.specs.Cause.{verdict_of, considered_cause, early_cause, cause, cause_after}
+use Rattle.pie_book.proofs.Examples.{limits, opened_with, packet, event}
+use Rattle.pie_book.proofs.ExamplesMarks.{opening, parts, two_departed, updated_thrice, mark, drop_of_one, lone}
+
+-- ---- at single numbers: the default parameters, 3000 bytes that wait, an old delay of 15 ms, no burst allowance
+
+-- an arrival at this probability, with this much accumulated
+abbrev at : ℕ → ℕ → Ecn → ℕ → Cause
+at prob accu ecn word = early_cause default_profile (parts prob 15000000 0 0) 3000 accu ecn word
+
+abbrev greatest_word : ℕ
+greatest_word = 18446744073709551615
+
+-- at a probability of 0.1: up to 0.8 the packet is let through, then by its word, and at 8.5 none is
+the_greatest_word : map (λ accu. at 100000000000 accu NotEct greatest_word) (0 ∷ 700000000000 ∷ 800000000000 ∷ 8300000000000 ∷ 8400000000000 ∷ [])
+    ≡ LittleAccumulated 0 100000000000 ∷ LittleAccumulated 700000000000 100000000000 ∷ WordNotBelow 800000000000 100000000000 greatest_word
+    ∷ WordNotBelow 8300000000000 100000000000 greatest_word ∷ PickedBySum 8400000000000 100000000000 NotCapable ∷ []
+unfolding early_cause considered_cause
+the_greatest_word = refl
+
+-- from 8.5 on the word has no part in it, not even the least
+the_least_word_at_the_end : at 100000000000 8400000000000 NotEct 0 ≡ PickedBySum 8400000000000 100000000000 NotCapable
+unfolding early_cause considered_cause
+the_least_word_at_the_end = refl
+
+-- the least word picks at 0.9; a packet is marked where it may be and the probability is below 0.1
+the_least_word : (at 100000000000 800000000000 NotEct 0 ≡ PickedByWord 800000000000 100000000000 0 NotCapable)
+    × (at 100000000000 800000000000 Ect0 0 ≡ PickedByWord 800000000000 100000000000 0 (NotBelow 100000000000))
+    × (at 99999999999 800000000000 Ect0 0 ≡ PickedByWord 800000000000 99999999999 0 (Marked 100000000000))
+    × (at 99999999999 800000000000 NotEct 0 ≡ PickedByWord 800000000000 99999999999 0 NotCapable)
+    × (at 99999999999 8400000000001 Ce 7 ≡ PickedBySum 8400000000001 99999999999 (Marked 100000000000))
+unfolding early_cause considered_cause
+the_least_word = (refl, refl, refl, refl, refl)
+
+-- the greatest word that picks at a probability of 0.1, and the least that does not
+the_words : (at 100000000000 800000000000 NotEct 1844674407370955161 ≡ PickedByWord 800000000000 100000000000 1844674407370955161 NotCapable)
+    × (at 100000000000 800000000000 NotEct 1844674407370955162 ≡ WordNotBelow 800000000000 100000000000 1844674407370955162)
+unfolding early_cause considered_cause
+the_words = (refl, refl)
+
+-- two packets of the mean size are a short queue, one byte more is not
+short_queues : map (λ bytes. early_cause default_profile (parts 100000000000 15000000 0 0) bytes 0 NotEct 0) (2048 ∷ 2049 ∷ [])
+    ≡ ShortQueue 2048 2048 ∷ LittleAccumulated 0 100000000000 ∷ []
+unfolding early_cause considered_cause
+short_queues = refl
+
+-- half the target, and a fifth
+low_delays : map (λ old. early_cause default_profile (parts 100000000000 old 0 0) 3000 0 NotEct 0) (7499999 ∷ 7500000 ∷ [])
+    ≡ LowDelay 7499999 15000000 100000000000 ∷ LittleAccumulated 0 100000000000 ∷ []
+unfolding early_cause considered_cause
+low_delays = refl
+
+low_probabilities : map (λ prob. early_cause default_profile (parts prob 0 0 0) 3000 0 NotEct 0) (199999999999 ∷ 200000000000 ∷ [])
+    ≡ LowDelay 0 15000000 199999999999 ∷ LittleAccumulated 0 200000000000 ∷ []
+unfolding early_cause considered_cause
+low_probabilities = refl
+
+-- a burst is looked at first, then the delay, then the queue; and probability 0 before what is accumulated
+the_order : (early_cause default_profile (parts 0 0 1 0) 0 0 NotEct 0 ≡ BurstAllowed 1)
+    × (early_cause default_profile (parts 0 0 0 0) 0 0 NotEct 0 ≡ LowDelay 0 15000000 0)
+    × (early_cause default_profile (parts 0 15000000 0 0) 0 0 NotEct 0 ≡ ShortQueue 0 2048)
+    × (at 0 8400000000000 NotEct 0 ≡ NoProbability)
+unfolding early_cause considered_cause
+the_order = (refl, refl, refl, refl)
+
+-- ---- after whole histories
+
+-- four arrivals of 65535 bytes
+abbrev four : List Event
+four = event 1 (Arrive 0 (packet 1 65535) 0) answer.Enqueued ∷ event 1 (Arrive 0 (packet 2 65535) 0) answer.Enqueued
+    ∷ event 1 (Arrive 0 (packet 3 65535) 0) answer.Enqueued ∷ event 1 (Arrive 0 (packet 4 65535) 0) answer.Enqueued ∷ []
+
+-- with room for this many packets
+abbrev room_for : ℕ → Opening
+room_for packets = opened_with Bounded (limits packets 16 100) default_profile
+
+-- 262140 bytes wait: five more are too many, also where the ring is full; four more are not
+full_queues : (cause_after (room_for 4) four (Arrive 0 (packet 5 5) 0) ≡ Some (NoRoomInBytes 262140 5 262144))
+    × (cause_after (room_for 4) four (Arrive 0 (packet 5 4) 0) ≡ Some (NoRoomInPackets 4))
+    × (cause_after (room_for 5) four (Arrive 0 (packet 5 5) 0) ≡ Some (NoRoomInBytes 262140 5 262144))
+    × (cause_after (room_for 5) four (Arrive 0 (packet 5 4) 0) ≡ Some (BurstAllowed 150000000))
+unfolding cause early_cause considered_cause accu_after early_events accumulated is_considered is_picked parts_after control_events delay_after delay_of departures_after params_after last_or places effective_moment greatest waiting_after departed_count admitted average samples begun cycles first_position first_opening first_closing first_cycle cycles_from probability last_delay last_moment granted_burst burst_allowance raw_step tuning_divisor tuned_step decayed next
+full_queues = (refl, refl, refl, refl)
+
+-- a mark, an early drop and a lone packet that is let through, each by its word: the numbers are those of before the event
+marks_and_drops : (cause_after opening updated_thrice mark.command ≡ Some (PickedByWord 0 903954174169 0 (Marked 1000000000000)))
+    × (cause_after opening (updated_thrice ++ mark ∷ []) drop_of_one.command ≡ Some (PickedByWord 0 903954174169 0 NotCapable))
+    × (cause_after opening (updated_thrice ++ mark ∷ drop_of_one ∷ []) lone.command ≡ Some (WordNotBelow 0 903954174169 greatest_word))
+    × (cause_after opening two_departed (Arrive 1001000 (packet 5 1) 0) ≡ Some (LowDelay 0 2 0))
+unfolding cause early_cause considered_cause accu_after early_events accumulated is_considered is_picked parts_after control_events delay_after delay_of departures_after params_after last_or places effective_moment greatest waiting_after departed_count admitted average samples begun cycles first_position first_opening first_closing first_cycle cycles_from probability last_delay last_moment granted_burst burst_allowance raw_step tuning_divisor tuned_step decayed next
+marks_and_drops = (refl, refl, refl, refl)
+
+-- what is no arrival has no such cause
+no_arrivals : map (cause_after opening two_departed) (Depart 1 ∷ Update 1 ∷ Reset 1 ∷ SetParams 1 default_profile ∷ []) ≡ None ∷ None ∷ None ∷ None ∷ []
+no_arrivals = refl
+
+-- ---- the verdicts
+
+the_verdicts : map verdict_of
+    (NoRoomInBytes 1 2 3 ∷ NoRoomInPackets 1 ∷ BurstAllowed 1 ∷ LowDelay 1 2 3 ∷ ShortQueue 1 2 ∷ NoProbability ∷ LittleAccumulated 1 2 ∷ WordNotBelow 1 2 3
+    ∷ PickedBySum 1 2 (Marked 3) ∷ PickedBySum 1 2 NotCapable ∷ PickedBySum 1 2 (NotBelow 3)
+    ∷ PickedByWord 1 2 3 (Marked 4) ∷ PickedByWord 1 2 3 NotCapable ∷ PickedByWord 1 2 3 (NotBelow 4) ∷ [])
+    ≡ answer.DroppedBytes ∷ answer.DroppedPackets ∷ answer.Enqueued ∷ answer.Enqueued ∷ answer.Enqueued ∷ answer.Enqueued ∷ answer.Enqueued ∷ answer.Enqueued
+    ∷ answer.Marked ∷ answer.DroppedEarly ∷ answer.DroppedEarly ∷ answer.Marked ∷ answer.DroppedEarly ∷ answer.DroppedEarly ∷ []
+the_verdicts = refl

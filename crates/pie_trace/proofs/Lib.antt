@@ -12,3 +12,4 @@ pub mod LinesFacts
 pub mod WriteFacts
 pub mod Examples
 pub mod ExamplesRuns
+pub mod ExamplesLines

@@ -1,5 +1,5 @@
 -- What the commands and folds of a trace are answered is what the run of a book answers its steps.
-use Rattle.std.proofs.Common.{◌≡◌, ℕ, List, [], ◌∷◌, refl, ap}
+use Rattle.std.proofs.Common.{◌≡◌, List, [], ◌∷◌, refl, ap}
 use Rattle.pie_book.specs.declared.opening.Opening.{Opening}
 use Rattle.pie_book.specs.Run.{Outcome, Progress, Step, asked, folded, outcomes, was_asked, was_folded}
 use Rattle.pie_trace.specs.declared.fields.Request.{Request}

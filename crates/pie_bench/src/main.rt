@@ -4,6 +4,7 @@
 mod book;
 mod control;
 mod early;
+mod link;
 mod lock;
 mod rate;
 mod report;
@@ -36,17 +37,19 @@ fn measure<R: Threads + Wait + Clock + Print + Sync>(
         "early" => early::measure(rt, alloc),
         "lock" => lock::measure(rt, alloc),
         "book" => book::measure(rt, alloc),
+        "link" => link::measure(rt, alloc),
         "all" => {
             rate::measure(rt, alloc)?;
             control::measure(rt, alloc)?;
             early::measure(rt, alloc)?;
             lock::measure(rt, alloc)?;
-            book::measure(rt, alloc)
+            book::measure(rt, alloc)?;
+            link::measure(rt, alloc)
         }
         _ => usage(rt),
     }
 }
 
 fn usage(rt: &impl Print) -> io::Result<()> {
-    println!(rt; "pie_bench: name a measurement: rate, control, early, lock, book or all")
+    println!(rt; "pie_bench: name a measurement: rate, control, early, lock, book, link or all")
 }

@@ -1,5 +1,5 @@
 //! The link: how it is opened, shared and closed.
-ghost use Rattle.std.specs.Prelude.{◌≡◌, ◌+◌, ◌↔◌, Some, None, IsOk, IsErr, IfOk, IfErr, OnOk, OnErr, List};
+ghost use Rattle.std.specs.Prelude.{◌≡◌, ◌+◌, ◌<◌, ◌↔◌, All, Some, None, IsOk, IsErr, IfOk, IfErr, OnOk, OnErr, List};
 ghost use Rattle.pie_book.specs.declared.command.Event.{Event};
 ghost use Rattle.pie_book.specs.declared.opening.Mode.TheVariants.{Bounded};
 ghost use Rattle.pie_book.specs.Book.{Tells};
@@ -146,6 +146,7 @@ impl Link {
         ensures told { IfOk result (λ book. (history : List Event) × IsHistoryFor book.opening caller history × Tells book history) }
         ensures alone { HoldsAll caller → IsOk result }
         ensures same { HoldsAll caller → IfOk result (λ book. Tells book caller.front) }
+        ensures numbered { HoldsAll caller → IfOk result (λ _. All (λ event. number_of event < caller.lock.numbers) caller.front) }
         ensures still_held { IfErr result (λ back. (back.0 ≡ self) × (back.1 ≡ caller)) }
     {
         let alloc = self.alloc;

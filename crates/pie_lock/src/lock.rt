@@ -1,5 +1,5 @@
 //! The lock, and what its callers do with it.
-ghost use Rattle.std.specs.Prelude.{◌≡◌, ◌≢◌, ◌+◌, ◌<◌, ◌↔◌, [], ◌∷◌, ◌++◌, List, Some, None, IsOk, IsErr, IfOk, IfErr, OnOk, OnErr, IfSome};
+ghost use Rattle.std.specs.Prelude.{◌≡◌, ◌≢◌, ◌+◌, ◌<◌, ◌↔◌, [], ◌∷◌, ◌++◌, List, All, Some, None, IsOk, IsErr, IfOk, IfErr, OnOk, OnErr, IfSome};
 
 use crate::kept::Kept;
 use crate::pass::{Held, Pass};
@@ -148,6 +148,7 @@ impl<S: Kept> RuledLock<S> {
         ensures front { IfOk result (λ held. GoesOn S.number_of pass.first pass.limit pass.front held.front) }
         ensures origin { IfOk result (λ held. held.lock.origin ≡ Some (S.origin_of held.state)) }
         ensures told { IfOk result (λ held. S.tells held.state held.front) }
+        ensures numbered { IfOk result (λ held. All (λ e. S.number_of e < pass.lock.numbers) held.front) }
         ensures alone { HoldsAll pass → IsOk result }
         ensures same { HoldsAll pass → IfOk result (λ held. held.front ≡ pass.front) }
         ensures busy { IfErr result (λ back. back ≡ pass) }
@@ -289,6 +290,7 @@ impl<S: Kept> RuledLock<S> {
         ensures told { IfOk result (λ state. (history : List S.Entry) × GoesOn S.number_of pass.first pass.limit pass.front history × S.tells state history) }
         ensures alone { HoldsAll pass → IsOk result }
         ensures same { HoldsAll pass → IfOk result (λ state. S.tells state pass.front) }
+        ensures numbered { HoldsAll pass → IfOk result (λ _. All (λ e. S.number_of e < pass.lock.numbers) pass.front) }
         ensures still_held { IfErr result (λ back. (back.lock ≡ self) × (back.pass ≡ pass)) }
     {
         match self.try_take(pass) {

@@ -4,6 +4,27 @@
 //! numbers and a front, the list that this caller has been shown. Whenever the lock is free, there is one history that the
 //! state tells, which begins with the front of each pass, and which has under each pass's numbers just the entries that
 //! this front has.
+//!
+//! Promised, for any state that implements `Kept`:
+//!
+//! - `new` refuses exactly a lock of no numbers, and else only for want of memory; it hands the state back then (`no_numbers`,
+//!   `back`). The first pass has all numbers and has been shown nothing (`pass`).
+//! - After a take, the front of the `Held` begins with the front that the pass had and has no further entry under the pass's
+//!   numbers (`front`); the state in hand tells it (`told`) and has the lock's origin (`origin`). A pass with all numbers finds
+//!   exactly its own front (`same`).
+//! - `put` requires that the entry stands under the pass's first number (`number`), and that the state has the lock's origin and
+//!   tells the front with the entry (`origin`, `told`). The pass then has this front. A `Held` is not `Drop`: a function that
+//!   lets one go does not compile.
+//! - `share` and `gather` refuse in exactly one case each, with nothing changed: a pass of one number (`one_number`), and ranges
+//!   that are not adjacent (`beside`). Gathered passes have both ranges and the longer front, which begins with the shorter.
+//! - `close` gives back a state that tells a history which goes on from the pass's front (`told`). With all numbers it never
+//!   refuses, and the state tells exactly that front (`alone`, `same`). A refusal hands lock and pass back as they were.
+//! - Every call but `take` returns, and none but `new` takes memory.
+//!
+//! Not promised: that `take` ever returns, that any caller is served before another, that the lock is fair, or how long anything
+//! lasts; that `try_take` and `close` refuse only where another caller has the state (a test shows that they succeed on a free
+//! lock); in which order two callers acted that never gathered; what the holder of a dropped pass had seen; that only one
+//! history is told (a `Counter` tells every list of as many entries with the same sum, and the lock works the same).
 #![tactic(auto)]
 
 mod counter;

@@ -1,13 +1,13 @@
 -- The definitions at examples worked out by hand, with the default parameters.
 use Rattle.std.proofs.Common.{◌≡◌, ℕ, ◌*◌, ◌-◌, ◌^◌, List, [], ◌∷◌, refl}
-use Rattle.std.specs.Prelude.{pos, map}
+use Rattle.std.specs.Prelude.{pos, map, true, false}
 use Rattle.pie_fixed.specs.declared.TheConstants.{ONE}
 use Rattle.pie_control.specs.declared.update.TheConstants.{CAPPED_FROM, LARGEST_STEP, MAX_DELAY}
 use Rattle.pie_params.specs.declared.raw.RawParams.{RawParams}
 use Rattle.pie_params.specs.Profile.{default_profile}
 use Rattle.pie_control.specs.Delay.{delay_of}
-use Rattle.pie_control.specs.Events.{ControlEvent, reset, update_at}
-use Rattle.pie_control.specs.History.{probability, last_delay, last_moment, granted_burst, burst_allowance}
+use Rattle.pie_control.specs.Events.{ControlEvent, idled, reset, update_at}
+use Rattle.pie_control.specs.History.{probability, last_delay, last_moment, granted_burst, burst_allowance, is_calm_after}
 use Rattle.pie_control.specs.Next.{raw_step, tuning_divisor, tuned_step, decayed, next}
 
 -- the constants: the greatest delay, which clauses and definitions name, is 2 ^ 40 nanoseconds, the cap begins
@@ -95,3 +95,24 @@ refills = (refl, refl)
 grants : (granted_burst default_profile (load 1 ∷ calm ∷ []) ≡ 150_000_000) × (granted_burst default_profile (calm ∷ load 1 ∷ []) ≡ 40_000_000) × (burst_allowance default_profile (calm ∷ load 1 ∷ []) ≡ 25_000_000)
 unfolding load calm smaller burst_allowance granted_burst next raw_step tuning_divisor tuned_step decayed
 grants = (refl, refl, refl)
+
+-- idle updates between the same events leave all but the last moment
+with_idle_updates : List ControlEvent
+with_idle_updates = load 1 ∷ idled 2 ∷ reset default_profile ∷ idled 3 ∷ load 4 ∷ idled 9 ∷ []
+
+idle : (probability with_idle_updates ≡ next_of 0 30_000_000 0) × (last_delay with_idle_updates ≡ 30_000_000)
+    × (burst_allowance default_profile with_idle_updates ≡ 135_000_000) × (last_moment 0 with_idle_updates ≡ 9) × (last_moment 5 (idled 3 ∷ []) ≡ 3)
+unfolding load with_idle_updates next_of probability last_delay last_moment burst_allowance granted_burst next raw_step tuning_divisor tuned_step decayed
+idle = (refl, refl, refl, refl, refl)
+
+-- with no weight on the delay's change the probability stays 0 below the target, and an update is calm exactly where both delays
+-- are below half of it
+by_level : RawParams
+by_level = record default_profile { beta = 0 }
+
+calm_after : (is_calm_after [] by_level 7_499_999 ≡ true) × (is_calm_after [] by_level 7_500_000 ≡ false)
+    × (is_calm_after (update_at by_level 7_500_000 1 ∷ []) by_level 0 ≡ false)
+    × (is_calm_after (update_at by_level 7_499_999 1 ∷ idled 2 ∷ []) by_level 7_499_999 ≡ true)
+    × (is_calm_after [] default_profile 7_499_999 ≡ false)
+unfolding by_level probability last_delay next raw_step tuning_divisor tuned_step decayed
+calm_after = (refl, refl, refl, refl, refl)

@@ -1,9 +1,9 @@
 -- What one more update or reset at the end of the events does to each definition that looks back.
-use Rattle.std.proofs.Common.{◌≡◌, ℕ, ◌-◌, ◌≤◌, Bool, true, false, if◌then◌else◌, List, [], ◌∷◌, ◌++◌, reverse, arith, sum_by}
+use Rattle.std.proofs.Common.{◌≡◌, refl, ℕ, ◌-◌, ◌≤◌, Bool, true, false, if◌then◌else◌, List, [], ◌∷◌, ◌++◌, reverse, arith, sum_by}
 use Rattle.std.proofs.lemmas.List.{reverse-append}
 use Rattle.std.proofs.lemmas.List.Sums.{sum_by-cons}
 use Rattle.pie_params.specs.declared.raw.RawParams.{RawParams}
-use Rattle.pie_control.specs.Events.{ControlEvent, updated, reset, Update, update_at, updates_after_reset}
+use Rattle.pie_control.specs.Events.{ControlEvent, updated, idled, reset, Update, update_at, updates_after_reset}
 use Rattle.pie_control.specs.History.{probability, last_delay, last_moment, granted_burst, burst_allowance, burst_after, ends_calm, is_calm, updates_after_refill, burst_after_refill, Shows}
 use Rattle.pie_control.specs.Next.{next}
 use Rattle.pie_control.specs.Parts.{Parts}
@@ -34,6 +34,24 @@ pub last_moment-updated : (start : ℕ) (events : List ControlEvent) (params : R
     → last_moment start (events ++ update_at params delay moment ∷ []) ≡ moment
 unfolding last_moment
 last_moment-updated start events params delay moment = rw (reversed events (update_at params delay moment))
+
+-- an idle update leaves all but the last moment
+pub probability-idled : (events : List ControlEvent) (moment : ℕ) → probability (events ++ idled moment ∷ []) ≡ probability events
+unfolding probability
+probability-idled events moment = rw (reversed events (idled moment)) refl
+
+pub last_delay-idled : (events : List ControlEvent) (moment : ℕ) → last_delay (events ++ idled moment ∷ []) ≡ last_delay events
+unfolding last_delay
+last_delay-idled events moment = rw (reversed events (idled moment)) refl
+
+pub last_moment-idled : (start : ℕ) (events : List ControlEvent) (moment : ℕ) → last_moment start (events ++ idled moment ∷ []) ≡ moment
+unfolding last_moment
+last_moment-idled start events moment = rw (reversed events (idled moment)) refl
+
+pub burst_allowance-idled : (opening : RawParams) (events : List ControlEvent) (moment : ℕ)
+    → burst_allowance opening (events ++ idled moment ∷ []) ≡ burst_allowance opening events
+unfolding burst_allowance granted_burst
+burst_allowance-idled opening events moment = rw (reversed events (idled moment)) refl
 
 pub last_moment-reset : (start : ℕ) (events : List ControlEvent) (params : RawParams)
     → last_moment start (events ++ reset params ∷ []) ≡ last_moment start events
@@ -88,6 +106,17 @@ Shows-updated opening start events params delay moment before after shows p d b 
   old_delay = rw (d, last_delay-updated events params delay moment);
   burst = rw (b, burst_allowance-updated opening events params delay moment, shows.burst, shows.prob, shows.old_delay);
   last = rw (l, last_moment-updated start events params delay moment);
+}
+
+pub Shows-idled : (opening : RawParams) (start : ℕ) (events : List ControlEvent) (moment : ℕ) (before after : Parts)
+    → Shows opening start events before
+    → after ≡ record before { last = moment }
+    → Shows opening start (events ++ idled moment ∷ []) after
+Shows-idled opening start events moment before after shows is = record {
+  prob = rw (is, probability-idled events moment) shows.prob;
+  old_delay = rw (is, last_delay-idled events moment) shows.old_delay;
+  burst = rw (is, burst_allowance-idled opening events moment) shows.burst;
+  last = rw (is, last_moment-idled start events moment) refl;
 }
 
 pub Shows-reset : (opening : RawParams) (start : ℕ) (events : List ControlEvent) (params : RawParams) (before after : Parts)

@@ -1,4 +1,4 @@
--- What a `Control` is shown: updates and resets, in the order in which they came.
+-- What a `Control` is shown: updates, idle updates and resets, in the order in which they came.
 use Rattle.std.specs.Prelude.{ℕ, List, [], ◌∷◌}
 use Rattle.pie_params.specs.declared.raw.RawParams.{RawParams}
 
@@ -8,22 +8,25 @@ pub record Update : Type 0 where
   pub delay : ℕ
   pub moment : ℕ
 
--- an update, or a reset under the parameters in force
+-- an update, an idle update at this moment, or a reset under the parameters in force
 pub data ControlEvent : Type 0 where
   updated : Update → ControlEvent
+  idled : ℕ → ControlEvent
   reset : RawParams → ControlEvent
 
 abbrev pub update_at : RawParams → ℕ → ℕ → ControlEvent
 update_at params delay moment = updated (record { params = params; delay = delay; moment = moment })
 
--- of events with the newest first, the updates
-abbrev pub all_updates : List ControlEvent → List Update
-all_updates [] = []
-all_updates (updated u ∷ earlier) = u ∷ all_updates earlier
-all_updates (reset _ ∷ earlier) = all_updates earlier
+-- of events with the newest first, the moments of the updates and of the idle updates
+abbrev pub all_moments : List ControlEvent → List ℕ
+all_moments [] = []
+all_moments (updated u ∷ earlier) = u.moment ∷ all_moments earlier
+all_moments (idled moment ∷ earlier) = moment ∷ all_moments earlier
+all_moments (reset _ ∷ earlier) = all_moments earlier
 
--- of events with the newest first, the updates after the last reset
+-- of events with the newest first, the updates after the last reset; an idle update is none of them
 abbrev pub updates_after_reset : List ControlEvent → List Update
 updates_after_reset [] = []
 updates_after_reset (updated u ∷ earlier) = u ∷ updates_after_reset earlier
+updates_after_reset (idled _ ∷ earlier) = updates_after_reset earlier
 updates_after_reset (reset _ ∷ _) = []

@@ -2,7 +2,7 @@
 -- 4.4). Every list of updates here has the newest first.
 use Rattle.std.specs.Prelude.{◌≡◌, ℕ, ◌-◌, ◌*◌, Bool, ◌&&◌, ◌==◌, nat_lt, if◌then◌else◌, List, [], ◌∷◌, reverse, sum_by}
 use Rattle.pie_params.specs.declared.raw.RawParams.{RawParams}
-use Rattle.pie_control.specs.Events.{ControlEvent, updated, reset, Update, all_updates, updates_after_reset}
+use Rattle.pie_control.specs.Events.{ControlEvent, updated, idled, reset, Update, all_moments, updates_after_reset}
 use Rattle.pie_control.specs.Next.{next}
 use Rattle.pie_control.specs.Parts.{Parts}
 
@@ -11,10 +11,10 @@ abbrev pub newest_delay : List Update → ℕ
 newest_delay [] = 0
 newest_delay (u ∷ _) = u.delay
 
--- the moment of the newest update, `start` with none
-abbrev pub newest_moment : ℕ → List Update → ℕ
+-- the newest of these moments, `start` with none
+abbrev pub newest_moment : ℕ → List ℕ → ℕ
 newest_moment start [] = start
-newest_moment start (u ∷ _) = u.moment
+newest_moment start (moment ∷ _) = moment
 
 -- from 0, the next probability along the updates, each with its own delay and that of the one before
 abbrev pub probability_along : List Update → ℕ
@@ -35,6 +35,7 @@ is_calm u earlier = ends_calm u.params (probability_along (u ∷ earlier)) u.del
 abbrev pub updates_after_refill : List ControlEvent → List Update
 updates_after_refill [] = []
 updates_after_refill (reset _ ∷ _) = []
+updates_after_refill (idled _ ∷ earlier) = updates_after_refill earlier
 updates_after_refill (updated u ∷ earlier) =
     if is_calm u (updates_after_reset earlier) then [] else (u ∷ updates_after_refill earlier)
 
@@ -43,6 +44,7 @@ updates_after_refill (updated u ∷ earlier) =
 abbrev pub burst_after_refill : RawParams → List ControlEvent → ℕ
 burst_after_refill opening [] = opening.max_burst
 burst_after_refill opening (reset params ∷ _) = params.max_burst
+burst_after_refill opening (idled _ ∷ earlier) = burst_after_refill opening earlier
 burst_after_refill opening (updated u ∷ earlier) =
     if is_calm u (updates_after_reset earlier) then u.params.max_burst else burst_after_refill opening earlier
 
@@ -54,9 +56,9 @@ probability events = probability_along (updates_after_reset (reverse events))
 unfoldable pub last_delay : List ControlEvent → ℕ
 last_delay events = newest_delay (updates_after_reset (reverse events))
 
--- the moment of the last update, or of the opening
+-- the moment of the last update, idle or not, or of the opening
 unfoldable pub last_moment : ℕ → List ControlEvent → ℕ
-last_moment start events = newest_moment start (all_updates (reverse events))
+last_moment start events = newest_moment start (all_moments (reverse events))
 
 -- the `max_burst` in force when the burst allowance was last set to it
 unfoldable pub granted_burst : RawParams → List ControlEvent → ℕ
@@ -67,6 +69,11 @@ granted_burst opening events = burst_after_refill opening (reverse events)
 unfoldable pub burst_allowance : RawParams → List ControlEvent → ℕ
 burst_allowance opening events =
     granted_burst opening events - sum_by (λ u. u.params.t_update) (updates_after_refill (reverse events))
+
+-- an update with these parameters and this delay, after these events, is calm
+abbrev pub is_calm_after : List ControlEvent → RawParams → ℕ → Bool
+is_calm_after events params delay =
+    ends_calm params (next params (probability events) delay (last_delay events)) delay (last_delay events)
 
 -- opened with these parameters at the moment `start`, a controller that was then shown these events
 -- holds these parts

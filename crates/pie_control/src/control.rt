@@ -1,8 +1,8 @@
 ghost use Rattle.std.specs.Prelude.{◌≡◌, ℕ, ◌^◌, ◌≤◌, List, [], ◌∷◌, ◌++◌, if◌then◌else◌};
 ghost use Rattle.pie_params.specs.declared.raw.RawParams.{RawParams};
 ghost use Rattle.pie_control.specs.declared.update.TheConstants.{MAX_DELAY};
-ghost use Rattle.pie_control.specs.Events.{ControlEvent, reset, update_at};
-ghost use Rattle.pie_control.specs.History.{Shows, burst_after, ends_calm, granted_burst};
+ghost use Rattle.pie_control.specs.Events.{ControlEvent, idled, reset, update_at};
+ghost use Rattle.pie_control.specs.History.{Shows, burst_after, ends_calm, granted_burst, is_calm_after};
 ghost use Rattle.pie_control.specs.Next.{next};
 
 use crate::update::next_probability;
@@ -69,8 +69,12 @@ impl Control {
     /// allowance less `t_update`, or whole again after a calm update. The delay, at most
     /// [`MAX_DELAY`](crate::MAX_DELAY) nanoseconds, becomes the old delay, and the moment that of the
     /// last update (RFC 8033, sections 4.2, 4.4 and 5.5).
-    pub fn update(&mut self, params: &Params, delay: u64, moment: Nanos)
+    ///
+    /// The answer is whether the update was calm: the probability after it is 0, and its delay and the
+    /// old one are each below half the target (RFC 8033, section 4.4).
+    pub fn update(&mut self, params: &Params, delay: u64, moment: Nanos) -> bool
         requires { delay ≤ MAX_DELAY }
+        ensures calm { result ≡ ends_calm params.now self.new.prob delay self.old.old_delay }
         ensures prob { self.new.prob ≡ next params.now self.old.prob delay self.old.old_delay }
         ensures old { self.new.old_delay ≡ delay }
         ensures burst { self.new.burst ≡ burst_after params.now self.old delay }
@@ -78,6 +82,8 @@ impl Control {
         ensures shows { (opening : RawParams) (start : ℕ) (events : List ControlEvent) →
             Shows opening start events self.old →
             Shows opening start (events ++ update_at params.now delay moment ∷ []) self.new }
+        ensures look_back { (opening : RawParams) (start : ℕ) (events : List ControlEvent) →
+            Shows opening start events self.old → result ≡ is_calm_after events params.now delay }
     {
         let prob = next_probability(params, self.prob, delay, self.old_delay);
         let calm = is_calm(params, prob, delay, self.old_delay);
@@ -89,6 +95,18 @@ impl Control {
             burst: if calm { whole } else { reduced },
             last: moment,
         };
+        calm
+    }
+
+    /// Makes an idle update: the moment becomes that of the last update, and all else is kept (this
+    /// project's own).
+    pub fn idle(&mut self, moment: Nanos)
+        ensures after { self.new ≡ record self.old { last = moment } }
+        ensures shows { (opening : RawParams) (start : ℕ) (events : List ControlEvent) →
+            Shows opening start events self.old →
+            Shows opening start (events ++ idled moment ∷ []) self.new }
+    {
+        *self = Control::from_parts(self.prob, self.old_delay, self.burst, moment);
     }
 
     /// Sets probability and old delay to 0 and the burst allowance to `max_burst`, and keeps the

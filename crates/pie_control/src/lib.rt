@@ -1,8 +1,9 @@
 //! The PIE controller: the queueing delay, the probability update and the burst allowance (RFC 8033, sections 4.2, 4.4, 5.2
 //! and 5.5).
 //!
-//! `delay` and `next_probability` are exact over their whole ranges. If a `Control` summarizes a list of updates and resets,
-//! `update` and `reset` make it summarize that list with this one at its end (clause `shows`).
+//! `delay` and `next_probability` are exact over their whole ranges. If a `Control` summarizes a list of updates, idle updates
+//! and resets, `update`, `idle` and `reset` make it summarize that list with this one at its end (clause `shows`). `update`
+//! also answers whether it was calm (`calm`, `look_back`).
 #![tactic(auto)]
 
 mod control;

@@ -71,11 +71,22 @@ fn ten_updates_use_up_the_burst_allowance(rt: HostRuntime) -> Result<(), Fail> {
 fn a_calm_update_refills_the_burst_allowance(rt: HostRuntime) -> Result<(), Fail> {
     let defaults = Params::default_profile();
     let mut control = Control::from_parts(prob(50)?, 7_499_999, 20_000_000, moment(3)?);
-    control.update(&defaults, 7_500_000, moment(4)?);
+    assert!(rt; !control.update(&defaults, 7_500_000, moment(4)?));
     assert_eq!(rt; control.burst(), 5_000_000);
-    control.update(&defaults, 7_499_999, moment(5)?);
+    assert!(rt; !control.update(&defaults, 7_499_999, moment(5)?));
     assert_eq!(rt; control.burst(), 0);
-    control.update(&defaults, 7_499_999, moment(6)?);
+    assert!(rt; control.update(&defaults, 7_499_999, moment(6)?));
     assert_eq!(rt; control.burst(), 150_000_000);
+    Ok(())
+}
+
+#[test]
+fn an_idle_update_sets_the_last_moment_alone(rt: HostRuntime) -> Result<(), Fail> {
+    let mut control = Control::from_parts(prob(50)?, 7_499_999, 20_000_000, moment(3)?);
+    control.idle(moment(4)?);
+    assert_eq!(rt; control.last().units(), 4);
+    assert_eq!(rt; control.prob().units(), 50);
+    assert_eq!(rt; control.old(), 7_499_999);
+    assert_eq!(rt; control.burst(), 20_000_000);
     Ok(())
 }

@@ -8,3 +8,6 @@ pub mod text;
 
 pub use auditor::{Auditor, Finding};
 pub use text::audit;
+
+#[cfg(test)]
+mod tests;

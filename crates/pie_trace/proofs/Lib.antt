@@ -10,6 +10,10 @@ pub mod EndFacts
 pub mod LineFacts
 pub mod LinesFacts
 pub mod WriteFacts
+pub mod TextBack
+pub mod EventBack
+pub mod OpeningBack
+pub mod HistoryBack
 pub mod Examples
 pub mod ExamplesRuns
 pub mod ExamplesLines

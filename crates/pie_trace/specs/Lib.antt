@@ -10,3 +10,4 @@ pub mod Rows
 pub mod Records
 pub mod Lines
 pub mod Write
+pub mod ReadBack

@@ -19,6 +19,7 @@ mod records;
 mod rows;
 pub mod run;
 mod session;
+mod typed;
 pub mod write;
 
 pub use fault::{Flaw, OpenFault, TraceFault};

@@ -1,14 +1,16 @@
-/* The static library beside the same steps in plain C (pie_step.c) and, where its header is there, beside DPDK's rte_pie.h:
- * the time of a call, and over one stream under 8 per cent overload the time a packet and the mean wait.
+/* The static library beside the same steps in plain C (pie_step.h) and, where its header is there, beside DPDK's rte_pie.h:
+ * the time of a call, and over one stream under 8 per cent overload the time a packet and the mean wait. Each line is
+ * `name value unit`, once a run; bench/pie_c.sh prints the least, the median and the ratios of them. It ends with a status
+ * above 1 where the library and plain C decide anything otherwise.
  *
  * usage: bench/pie_c.sh
  */
-#define main pie_step_main
-#include "pie_step.c"
-#undef main
+#include "pie_step.h"
 
 #include "pie.h"
 
+#include <stdio.h>
+#include <stdlib.h>
 #include <string.h>
 
 #ifdef WITH_DPDK
@@ -16,6 +18,8 @@
 #endif
 
 #define RUNS 7
+#define ROUNDS 3                  /* over the inputs of a call, each run */
+#define INPUTS 65536
 #define LINK 80                   /* nanoseconds a byte: 100 Mbit/s */
 #define PACKETS 1500000           /* of the stream: about two minutes */
 #define WARM 20000000000ull       /* waits are counted after 20 seconds */
@@ -34,35 +38,14 @@ struct plain {
     struct rate rate;
 };
 
-static uint64_t bounded(__int128 units) {
-    return units < 0 ? 0 : units > (__int128)ONE ? ONE : (uint64_t)units;
-}
-
-/* An update, by the same steps as pie_control. */
-__attribute__((noinline)) static void updated(struct plain *plain, const struct params *p, uint64_t queued,
-                                              uint64_t moment) {
-    unsigned __int128 estimate = (unsigned __int128)queued * plain->rate.average / p->dq_threshold;
-    uint64_t delay = estimate > (uint64_t)1 << 40 ? (uint64_t)1 << 40 : (uint64_t)estimate;
-    uint64_t prob = plain->control.prob, old = plain->control.old_delay;
-    __int128 step = (__int128)p->alpha * ((__int128)delay - p->target) + (__int128)p->beta * ((__int128)delay - old);
-    step /= prob < 1000000 ? 2048 : prob < 10000000 ? 512 : prob < 100000000 ? 128 : prob < 1000000000 ? 32
-            : prob < 10000000000 ? 8 : prob < 100000000000 ? 2 : 1;
-    if (prob >= 100000000000 && step > 20000000000)
-        step = 20000000000;
-    step += prob;
-    if (delay == 0 && old == 0)
-        step = step * 98 / 100;
-    prob = bounded(step);
-    uint64_t burst = plain->control.burst > p->t_update ? plain->control.burst - p->t_update : 0;
-    if (prob == 0 && 2 * delay < p->target && 2 * old < p->target)
-        burst = p->max_burst;
-    plain->control = (struct control){prob, delay, burst, moment};
+/* An update of the library's scope in plain C: the delay, and then the controller. */
+STEP void updated_by(struct plain *plain, const struct params *p, uint64_t queued, uint64_t moment) {
+    plain->control = control_after(&plain->control, p, delay_by(queued, plain->rate.average, p->dq_threshold), moment);
 }
 
 /* An arrival of the library's scope in plain C: tail drop by bytes, then by packets, and then early drop. */
-__attribute__((noinline)) static uint32_t arrived(struct plain *plain, const struct params *p, uint64_t queued,
-                                                  uint32_t size, uint32_t room, uint32_t ecn, uint64_t random,
-                                                  uint64_t moment) {
+STEP uint32_t arrived(struct plain *plain, const struct params *p, uint64_t queued, uint32_t size, uint32_t room,
+                      uint32_t ecn, uint64_t random, uint64_t moment) {
     if (moment > plain->moment)
         plain->moment = moment;
     if (queued + size > p->limit_bytes || room == 0) {
@@ -92,8 +75,8 @@ static inline int is_sound(const struct pie_state *s) {
 }
 
 /* An arrival in plain C with the library's checks. */
-__attribute__((noinline)) static uint32_t checked(struct pie_state *s, uint64_t queued, uint32_t size, uint32_t room,
-                                                  uint32_t ecn, uint64_t random, uint64_t moment) {
+STEP uint32_t checked(struct pie_state *s, uint64_t queued, uint32_t size, uint32_t room, uint32_t ecn, uint64_t random,
+                      uint64_t moment) {
     if (!is_sound(s))
         return PIE_BAD_STATE;
     if (moment >> 60 || size == 0 || size > 65535 || ecn > 3 || queued > 1 << 30)
@@ -185,7 +168,7 @@ static struct outcome run(enum which which) {
             if (which == LIBRARY)
                 due = pie_update(&state, queued, now).due;
             else {
-                updated(&plain, &plain_params, queued, now);
+                updated_by(&plain, &plain_params, queued, now);
                 due = now + plain_params.t_update;
             }
         }
@@ -213,19 +196,85 @@ static struct outcome run(enum which which) {
     return (struct outcome){(nanos() - begin) / PACKETS, left == 0 ? 0 : (double)waited / (double)left, dropped};
 }
 
-/* The time of one call, over the same inputs as pie_step's. */
-static void calls(double least[7]) {
-    static struct arrival arrivals[INPUTS];
-    static struct departure departures[INPUTS];
-    struct params p = plain_params;
+struct arrival {
+    uint64_t bytes, word;
+    uint32_t ecn;
+};
+
+struct departure {
+    uint32_t size;
+    uint64_t moment;
+};
+
+static struct arrival arrivals[INPUTS];
+static struct departure departures[INPUTS];
+
+static void make_inputs(void) {
     last = 1;
     for (int i = 0; i < INPUTS; i++) {
         arrivals[i].bytes = 4096 + word() % 200000;
-        arrivals[i].ecn = (int)(word() % 4);
+        arrivals[i].ecn = (uint32_t)(word() % 4);
         arrivals[i].word = word();
-        departures[i].size = 64 + word() % 1437;
+        departures[i].size = 64 + (uint32_t)(word() % 1437);
         departures[i].moment = i * 2000ull + word() % 2000;
     }
+}
+
+static void print_nanos(const char *name, double begin) {
+    printf("%s %.1f ns\n", name, (nanos() - begin) / INPUTS);
+}
+
+/* The time of an arrival that is considered; the numbers that come out are the decisions. */
+static void arrive(struct pie_state *state, struct plain *plain) {
+    struct pie_state checked_state = *state;
+    uint64_t library = 0, c = 0, c_checked = 0;
+    double begin = nanos();
+    for (int i = 0; i < INPUTS; i++)
+        library = library * 31 + pie_arrive(state, arrivals[i].bytes, 1000, 1, arrivals[i].ecn, arrivals[i].word, (uint64_t)i);
+    print_nanos("arrive_library", begin);
+    begin = nanos();
+    for (int i = 0; i < INPUTS; i++)
+        c = c * 31 + arrived(plain, &plain_params, arrivals[i].bytes, 1000, 1, arrivals[i].ecn, arrivals[i].word, (uint64_t)i);
+    print_nanos("arrive_c", begin);
+    begin = nanos();
+    for (int i = 0; i < INPUTS; i++)
+        c_checked = c_checked * 31 +
+                    checked(&checked_state, arrivals[i].bytes, 1000, 1, arrivals[i].ecn, arrivals[i].word, (uint64_t)i);
+    print_nanos("arrive_c_checked", begin);
+    if (library != c || library != c_checked || state->accu != plain->accu || state->accu != checked_state.accu)
+        exit(2);
+}
+
+static void depart(struct pie_state *state, struct plain *plain) {
+    double begin = nanos();
+    for (int i = 0; i < INPUTS; i++)
+        pie_depart(state, departures[i].size, 100000, departures[i].moment);
+    print_nanos("depart_library", begin);
+    begin = nanos();
+    for (int i = 0; i < INPUTS; i++)
+        departed(&plain->rate, departures[i].size, 100000, departures[i].moment, plain_params.dq_threshold);
+    print_nanos("depart_c", begin);
+    if (state->average != plain->rate.average || state->measuring != (uint64_t)plain->rate.begun ||
+        state->cycle_start != plain->rate.start || state->cycle_count != plain->rate.count)
+        exit(3);
+}
+
+static void update(struct pie_state *state, struct plain *plain) {
+    double begin = nanos();
+    for (uint64_t i = 1; i <= INPUTS; i++)
+        pie_update(state, arrivals[i % INPUTS].bytes, (i + 10) * 15000000);
+    print_nanos("update_library", begin);
+    begin = nanos();
+    for (uint64_t i = 1; i <= INPUTS; i++)
+        updated_by(plain, &plain_params, arrivals[i % INPUTS].bytes, (i + 10) * 15000000);
+    print_nanos("update_c", begin);
+    if (state->prob != plain->control.prob || state->burst != plain->control.burst ||
+        state->old_delay != plain->control.old_delay || state->last != plain->control.last)
+        exit(4);
+}
+
+/* The time of each call, over the same inputs. */
+static void calls(void) {
     struct pie_params params;
     struct pie_state state;
     pie_default_params(&params);
@@ -234,89 +283,46 @@ static void calls(double least[7]) {
     state.prob = 50000000000;
     state.old_delay = 15000000;
     state.burst = 0;
-    struct pie_state opened = state;
     struct plain plain = {0, 0, {state.prob, state.old_delay, 0, 0}, {0, 0, 0, 0}};
-    uint64_t a = 0, b = 0;
-    double times[7], begin = nanos();
-    for (int i = 0; i < INPUTS; i++)
-        a += pie_arrive(&state, arrivals[i].bytes, 1000, 1, (uint32_t)arrivals[i].ecn, arrivals[i].word, (uint64_t)i);
-    times[0] = nanos() - begin;
-    begin = nanos();
-    for (int i = 0; i < INPUTS; i++)
-        b += arrived(&plain, &p, arrivals[i].bytes, 1000, 1, (uint32_t)arrivals[i].ecn, arrivals[i].word, (uint64_t)i);
-    times[1] = nanos() - begin;
-    if (a != b || state.accu != plain.accu)
-        exit(2);
-    state = opened;
-    begin = nanos();
-    for (int i = 0; i < INPUTS; i++)
-        a -= checked(&state, arrivals[i].bytes, 1000, 1, (uint32_t)arrivals[i].ecn, arrivals[i].word, (uint64_t)i);
-    times[6] = nanos() - begin;
-    if (a != 0 || state.accu != plain.accu)
-        exit(2);
-    state = opened;
-    begin = nanos();
-    for (int i = 0; i < INPUTS; i++)
-        pie_depart(&state, departures[i].size, 100000, departures[i].moment);
-    times[2] = nanos() - begin;
-    begin = nanos();
-    for (int i = 0; i < INPUTS; i++)
-        departed(&plain.rate, departures[i].size, 100000, departures[i].moment, p.dq_threshold);
-    times[3] = nanos() - begin;
-    if (state.average != plain.rate.average)
-        exit(3);
-    begin = nanos();
-    for (uint64_t i = 1; i <= INPUTS; i++)
-        pie_update(&state, arrivals[i % INPUTS].bytes, (i + 10) * 15000000);
-    times[4] = nanos() - begin;
-    begin = nanos();
-    for (uint64_t i = 1; i <= INPUTS; i++)
-        updated(&plain, &p, arrivals[i % INPUTS].bytes, (i + 10) * 15000000);
-    times[5] = nanos() - begin;
-    if (state.prob != plain.control.prob || state.burst != plain.control.burst)
-        exit(4);
-    for (int k = 0; k < 7; k++)
-        if (least[k] == 0 || times[k] / INPUTS < least[k])
-            least[k] = times[k] / INPUTS;
+    arrive(&state, &plain);
+    depart(&state, &plain);
+    update(&state, &plain);
 }
 
-int main(void) {
-    double least[7] = {0};
-    for (int k = 0; k < RUNS * 3; k++)
-        calls(least);
-    static const char *const which[] = {"arrive", "depart", "update"};
-    for (int k = 0; k < 3; k++)
-        printf("%s_library %.1f ns\n%s_c %.1f ns\n", which[k], least[2 * k], which[k], least[2 * k + 1]);
-    printf("arrive_c_with_the_checks %.1f ns\n", least[6]);
-
-    stream = malloc(PACKETS * sizeof *stream);
-    if (!stream)
-        return 1;
+/* 8 per cent more than the link takes, in gaps of half to one and a half of the mean. */
+static void make_stream(void) {
     uint64_t now = 0;
     last = 7;
     for (int i = 0; i < PACKETS; i++) {
         stream[i].size = 64 + (uint32_t)(word() % 1437);
         stream[i].random = word();
         stream[i].moment = now;
-        /* 8 per cent more than the link takes, in gaps of half to one and a half of the mean */
         now += stream[i].size * (uint64_t)LINK * (50 + word() % 101) / 108;
     }
+}
+
+int main(void) {
+    stream = malloc(PACKETS * sizeof *stream);
+    if (!stream)
+        return 1;
+    make_inputs();
+    make_stream();
 #ifdef WITH_DPDK
     int count = 4;
 #else
     int count = 3;
 #endif
-    struct outcome best[4];
-    for (int k = 0; k < RUNS; k++)
+    struct outcome one[4];
+    for (int k = 0; k < RUNS; k++) {
+        for (int round = 0; round < ROUNDS; round++)
+            calls();
         for (int which = 0; which < count; which++) {
-            struct outcome one = run((enum which)which);
-            if (k == 0 || one.nanos < best[which].nanos)
-                best[which] = one;
+            one[which] = run((enum which)which);
+            printf("stream_%s %.1f ns\nwait_%s %.2f ms\ndropped_%s %.2f percent\n", names[which], one[which].nanos,
+                   names[which], one[which].wait / 1e6, names[which], 100.0 * (double)one[which].dropped / PACKETS);
         }
-    if (best[LIBRARY].dropped != best[PLAIN].dropped || best[LIBRARY].wait != best[PLAIN].wait)
-        return 5;
-    for (int which = 0; which < count; which++)
-        printf("stream_%s %.1f ns a packet, mean wait %.2f ms, dropped %.2f per cent\n", names[which], best[which].nanos,
-               best[which].wait / 1e6, 100.0 * (double)best[which].dropped / PACKETS);
+        if (one[LIBRARY].dropped != one[PLAIN].dropped || one[LIBRARY].wait != one[PLAIN].wait)
+            return 5;
+    }
     return 0;
 }

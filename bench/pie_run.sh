@@ -1,28 +1,55 @@
 #!/usr/bin/env bash
-# Runs `pie run` on a generated trace, and prints records a second and the greatest resident memory.
-# usage: bench/pie_run.sh PIE [RECORDS] [SEED] [plain|mixed]      PIE: the built program, as crates/pie/out/ has it after
-# `rt run`
+# Runs `pie run` on a generated trace nine times, and prints of its time and its processor time the least and the median, the
+# records a second, and the greatest resident memory. With PEER, a program that writes the same bytes (bench/peer), both run in
+# turn, and their ratio is printed too.
+# usage: bench/pie_run.sh PIE [RECORDS] [SEED] [plain|mixed] [PEER]     PIE: the built program, crates/pie/out/pie
 set -eu
 here=$(cd "$(dirname "$0")" && pwd)
 program=$1
 records=${2:-1000000}
 seed=${3:-1}
 kind=${4:-plain}
+peer=${5:-}
 work=$(mktemp -d)
 trap 'rm -rf "$work"' EXIT
 python3 "$here/trace.py" "$records" "$seed" "$kind" > "$work/trace"
-python3 - "$program" "$work/trace" "$work/history" "$records" <<'PY'
-import os, resource, subprocess, sys, time
-program, trace, history, records = sys.argv[1], sys.argv[2], sys.argv[3], int(sys.argv[4])
-best = None
-for _ in range(5):
-    with open(trace, "rb") as reader, open(history, "wb") as writer:
+python3 - "$work" "$records" "$program" $peer <<'PY'
+import os, statistics, subprocess, sys, time
+RUNS = 9
+work, records, programs = sys.argv[1], int(sys.argv[2]), sys.argv[3:]
+
+
+def run(number):
+    words = [programs[number], "run"] if number == 0 else [programs[number]]
+    with open(f"{work}/trace", "rb") as trace, open(f"{work}/history{number}", "wb") as history:
         begin = time.perf_counter()
-        subprocess.run([program, "run"], stdin=reader, stdout=writer, check=True)
+        child = subprocess.Popen(words, stdin=trace, stdout=history)
+        _, status, usage = os.wait4(child.pid, 0)
         spent = time.perf_counter() - begin
-    best = spent if best is None else min(best, spent)
-memory = resource.getrusage(resource.RUSAGE_CHILDREN).ru_maxrss
-lines = sum(1 for _ in open(history, "rb"))
-refused = sum(1 for line in open(history, "rb") if line.startswith(b"refused"))
-print(f"records {records} seconds {best:.3f} records_a_second {records / best:.0f} greatest_resident_kib {memory} lines {lines} refused {refused}")
+    if status != 0:
+        sys.exit(f"{programs[number]}: status {status}")
+    return {"seconds": spent, "processor_seconds": usage.ru_utime + usage.ru_stime, "user_seconds": usage.ru_utime}, usage.ru_maxrss
+
+
+found, memory = [{} for _ in programs], 0
+for _ in range(RUNS):
+    for number in range(len(programs)):
+        values, resident = run(number)
+        memory = max(memory, resident) if number == 0 else memory
+        for name, value in values.items():
+            found[number].setdefault(name, []).append(value)
+load = " ".join(open("/proc/loadavg").read().split()[:2])
+print(f"load {load} (the last minute, the last five) on {os.cpu_count()} processors, {RUNS} runs in turn, {records} records")
+for name, ours in found[0].items():
+    line = f"{name}: least {min(ours):.3f}, median {statistics.median(ours):.3f}"
+    for theirs in found[1:]:
+        theirs = theirs[name]
+        line += f"; beside it {min(theirs):.3f}, {statistics.median(theirs):.3f}"
+        line += f"; ratio {min(ours) / min(theirs):.2f} ({statistics.median(ours) / statistics.median(theirs):.2f})"
+    print(line)
+print(f"{records / min(found[0]['seconds']):.0f} records a second; greatest resident memory {memory} KiB")
+if len(programs) > 1:
+    same = open(f"{work}/history0", "rb").read() == open(f"{work}/history1", "rb").read()
+    print("both wrote the same bytes" if same else "THE OUTPUTS DIFFER")
+    sys.exit(not same)
 PY

@@ -1,30 +1,23 @@
-/* One considered arrival and one departure of PIE in C, by the same steps and the same fixed-point arithmetic as
- * pie_early and pie_rate, timed over the same kind of inputs as pie_bench's `early_considered` and `rate_departed_mixed`.
+/* The steps of PIE in plain C (pie_step.h), timed over the inputs of `pie_bench rate`, `control` and `early`. Each line is
+ * that of pie_bench with `c_` before its name, the checksums too.
  *
- * usage: gcc -O2 -o pie_step bench/pie_step.c && ./pie_step
+ * usage: bench/pie_parts.sh runs it
  */
-#include <stdint.h>
+#include "pie_step.h"
+
 #include <stdio.h>
 #include <stdlib.h>
-#include <time.h>
 
 #define INPUTS 65536
 #define ROUNDS 128
-#define ONE 1000000000000ull
 
-enum choice { ENQUEUE, MARK, DROP };
-
-struct params {
-    uint64_t target, t_update, max_burst, alpha, beta, mean_pkt, limit_bytes, mark_ecnth, dq_threshold;
+struct departure {
+    uint32_t size;
+    uint64_t moment;
 };
 
-struct control {
-    uint64_t prob, old_delay, burst, last;
-};
-
-struct rate {
-    uint64_t average, start, count;
-    int begun;
+struct update {
+    uint64_t delay, old, prob, moment, bytes, average;
 };
 
 struct arrival {
@@ -32,100 +25,120 @@ struct arrival {
     int ecn;
 };
 
-struct departure {
-    uint32_t size;
-    uint64_t moment;
-};
+static const struct params defaults = {15000000, 15000000, 150000000, 125, 1250, 1024, 262144, 100000000000ull, 16384};
 
-/* Not inlined, as a call across the crates of the repository isn't. */
-__attribute__((noinline)) static enum choice consider(uint64_t *accu, const struct params *params,
-                                                      const struct control *control, uint64_t bytes, int ecn,
-                                                      uint64_t word) {
-    if (control->burst != 0 || bytes <= 2 * params->mean_pkt ||
-        (2 * control->old_delay < params->target && control->prob < 200000000000ull))
-        return ENQUEUE;
-    uint64_t prob = control->prob;
-    if (prob == 0) {
-        *accu = 0;
-        return ENQUEUE;
-    }
-    uint64_t sum = *accu + prob;
-    if (sum < 850000000000ull ||
-        (sum < 8500000000000ull && !((unsigned __int128)word * ONE < (unsigned __int128)prob << 64))) {
-        *accu = sum;
-        return ENQUEUE;
-    }
-    *accu = 0;
-    return ecn != 0 && prob < params->mark_ecnth ? MARK : DROP;
+static void print_nanos(const char *name, double begin) {
+    printf("%s %.1f ns\n", name, (nanos() - begin) / ((double)INPUTS * ROUNDS));
 }
 
-__attribute__((noinline)) static void departed(struct rate *rate, uint32_t size, uint64_t left, uint64_t moment,
-                                               uint64_t threshold) {
-    if (rate->begun) {
-        uint64_t count = rate->count + size;
-        if (count < threshold) {
-            rate->count = count;
-            return;
-        }
-        uint64_t sample = moment > rate->start ? moment - rate->start : 0;
-        if (sample == 0)
-            sample = 1;
-        if (rate->average == 0)
-            rate->average = sample;
-        else
-            rate->average = (uint64_t)(((unsigned __int128)sample * threshold +
-                                        (unsigned __int128)rate->average * (65536 - threshold)) / 65536);
-    }
-    rate->begun = left >= threshold;
-    rate->start = moment;
-    rate->count = 0;
+static void print_checksum(const char *name, uint64_t sum) {
+    printf("%s %llu sum\n", name, (unsigned long long)sum);
 }
 
-static uint64_t last = 1;
-
-static uint64_t word(void) {
-    last = last * 6364136223846793005ull + 1442695040888963407ull;
-    return last ^ (last >> 32);
-}
-
-static double nanos(void) {
-    struct timespec now;
-    clock_gettime(CLOCK_MONOTONIC, &now);
-    return now.tv_sec * 1e9 + now.tv_nsec;
-}
-
-int main(void) {
-    struct params params = {15000000, 15000000, 150000000, 125, 1250, 1024, 262144, 100000000000ull, 16384};
-    struct control control = {50000000000ull, 15000000, 0, 0};
-    struct arrival *arrivals = malloc(INPUTS * sizeof *arrivals);
-    struct departure *departures = malloc(INPUTS * sizeof *departures);
-    if (!arrivals || !departures)
-        return 1;
-    for (int i = 0; i < INPUTS; i++) {
-        arrivals[i].bytes = 4096 + word() % 200000;
-        arrivals[i].ecn = word() % 4;
-        arrivals[i].word = word();
-    }
+static struct departure *departures(uint32_t least) {
+    struct departure *made = malloc(INPUTS * sizeof *made);
+    if (!made)
+        exit(1);
     last = 1;
     for (int i = 0; i < INPUTS; i++) {
-        departures[i].size = 64 + word() % 1437;
-        departures[i].moment = i * 2000ull + word() % 2000;
+        made[i].size = least + (uint32_t)(word() % (1501 - least));
+        made[i].moment = i * 2000ull + word() % 2000;
     }
-    uint64_t sum = 0, accu = 0, rates = 0;
+    return made;
+}
+
+/* Departures in runs of so many, each run shown to an estimate of its own. */
+static uint64_t depart(const char *name, const struct departure *made, int run, uint64_t threshold) {
+    uint64_t sum = 0;
+    double begin = nanos();
+    for (int round = 0; round < ROUNDS; round++)
+        for (int from = 0; from < INPUTS; from += run) {
+            struct rate rate = {0, 0, 0, 0};
+            for (int i = from; i < from + run && i < INPUTS; i++)
+                departed(&rate, made[i].size, 100000, made[i].moment, threshold);
+            sum += rate.average + (uint64_t)rate.begun;
+        }
+    print_nanos(name, begin);
+    return sum;
+}
+
+static void measure_rate(void) {
+    struct departure *mixed = departures(64), *large = departures(1024);
+    uint64_t sum = depart("c_rate_departed_open", mixed, 43, 65536);
+    sum += depart("c_rate_departed_closing", large, INPUTS, 1024);
+    sum += depart("c_rate_departed_mixed", mixed, INPUTS, 16384);
+    print_checksum("c_rate_checksum", sum);
+    free(mixed);
+    free(large);
+}
+
+static void measure_control(void) {
+    struct update *updates = malloc(INPUTS * sizeof *updates);
+    if (!updates)
+        exit(1);
+    last = 1;
+    for (int i = 0; i < INPUTS; i++) {
+        uint64_t shift = word() % 40;
+        updates[i].prob = word() % ONE >> shift;
+        updates[i].moment = i * 15000000ull;
+        updates[i].delay = word() % 40000000;
+        updates[i].old = word() % 40000000;
+        updates[i].bytes = word() % 262144;
+        updates[i].average = 1 + word() % 100000000;
+    }
+    uint64_t sum = 0;
+    double begin = nanos();
+    for (int round = 0; round < ROUNDS; round++) {
+        struct control control = {0, 0, defaults.max_burst, 0};
+        for (int i = 0; i < INPUTS; i++)
+            updated(&control, &defaults, updates[i].delay, updates[i].moment);
+        sum += control.prob + control.burst;
+    }
+    print_nanos("c_control_update", begin);
+    begin = nanos();
+    for (int round = 0; round < ROUNDS; round++)
+        for (int i = 0; i < INPUTS; i++)
+            sum += next_probability(&defaults, updates[i].prob, updates[i].delay, updates[i].old);
+    print_nanos("c_control_next_probability", begin);
+    begin = nanos();
+    for (int round = 0; round < ROUNDS; round++)
+        for (int i = 0; i < INPUTS; i++)
+            sum += delay(updates[i].bytes, updates[i].average, defaults.dq_threshold);
+    print_nanos("c_control_delay", begin);
+    print_checksum("c_control_checksum", sum);
+    free(updates);
+}
+
+static uint64_t arrive(const char *name, const struct arrival *arrivals, const struct control *control) {
+    uint64_t sum = 0, accu = 0;
     double begin = nanos();
     for (int round = 0; round < ROUNDS; round++)
         for (int i = 0; i < INPUTS; i++)
-            sum += consider(&accu, &params, &control, arrivals[i].bytes, arrivals[i].ecn, arrivals[i].word);
-    printf("c_early_considered %.1f ns\n", (nanos() - begin) / ((double)INPUTS * ROUNDS));
-    begin = nanos();
-    for (int round = 0; round < ROUNDS; round++) {
-        struct rate rate = {0, 0, 0, 0};
-        for (int i = 0; i < INPUTS; i++)
-            departed(&rate, departures[i].size, 100000, departures[i].moment, params.dq_threshold);
-        rates += rate.average + rate.begun;
+            sum += consider(&accu, &defaults, control, arrivals[i].bytes, arrivals[i].ecn, arrivals[i].word);
+    print_nanos(name, begin);
+    return sum + accu;
+}
+
+static void measure_early(void) {
+    struct arrival *arrivals = malloc(INPUTS * sizeof *arrivals);
+    if (!arrivals)
+        exit(1);
+    last = 1;
+    for (int i = 0; i < INPUTS; i++) {
+        arrivals[i].bytes = 4096 + word() % 200000;
+        arrivals[i].ecn = (int)(word() % 4);
+        arrivals[i].word = word();
     }
-    printf("c_rate_departed_mixed %.1f ns\n", (nanos() - begin) / ((double)INPUTS * ROUNDS));
-    printf("c_early_checksum %llu sum\nc_rate_checksum %llu sum\n", (unsigned long long)(sum + accu),
-           (unsigned long long)rates);
+    struct control long_delay = {50000000000ull, 15000000, 0, 0}, short_delay = {50000000000ull, 1000000, 0, 0};
+    uint64_t sum = arrive("c_early_considered", arrivals, &long_delay);
+    sum += arrive("c_early_not_considered", arrivals, &short_delay);
+    print_checksum("c_early_checksum", sum);
+    free(arrivals);
+}
+
+int main(void) {
+    measure_rate();
+    measure_control();
+    measure_early();
     return 0;
 }

@@ -2,7 +2,7 @@
 
 use crate::report::{checksum, nanos};
 use crate::words::Words;
-use pie_book::{Answer, Book, Choices, Command, Core, Limits, Mode};
+use pie_book::{Answer, Book, Choices, Command, Core, Event, Limits, Mode};
 use pie_params::Params;
 use pie_queue::{Ecn, Packet};
 use std::alloc::Global;
@@ -164,9 +164,11 @@ fn measure_book<R: Clock + Print>(rt: &R, alloc: Global, name: &str, mode: Mode)
 }
 
 /// Prints the time of one event decided only, decided and recorded in a bounded book that is folded whenever its tail is
-/// full, and in a rolling one.
+/// full, and in a rolling one; and the bytes that an event takes in the tail.
 pub fn measure<R: Clock + Print>(rt: &R, alloc: Global) -> io::Result<()> {
     measure_core(rt, alloc)?;
     measure_book(rt, alloc, "book_recorded_bounded", Mode::Bounded)?;
-    measure_book(rt, alloc, "book_recorded_rolling", Mode::Rolling)
+    measure_book(rt, alloc, "book_recorded_rolling", Mode::Rolling)?;
+    let event = size_of::<Event>();
+    println!(rt; "book_event {event} bytes")
 }

@@ -1,0 +1,18 @@
+#!/usr/bin/env bash
+# The ruled lock beside `std::sync::Mutex`: both in turn within each of so many runs (9), and of each the best and the median,
+# and their ratios. Threads that find no free processor run in turn and hardly meet: look at the load that it prints.
+# usage: bench/pie_lock.sh PIE_BENCH [RUNS]
+set -eu
+bench=$1
+runs=${2:-9}
+here=$(cd "$(dirname "$0")" && pwd)
+work=$(mktemp -d)
+trap 'rm -rf "$work"' EXIT
+for _ in $(seq "$runs"); do
+    "$bench" lock
+done > "$work/lines"
+pairs="lock_uncontended/mutex_uncontended"
+for threads in 1 2 4 8; do
+    pairs="$pairs lock_threads_$threads/mutex_threads_$threads"
+done
+python3 "$here/ratios.py" "$work/lines" $pairs

@@ -1,0 +1,23 @@
+#!/usr/bin/env bash
+# The parts in memory, beside the same steps in C: both in turn, so many times (15), and of each the least and the median,
+# and their ratios. It ends with status 1 where the two come to other results.
+# usage: bench/pie_parts.sh PIE_BENCH [RUNS]
+set -eu
+bench=$1
+runs=${2:-15}
+here=$(cd "$(dirname "$0")" && pwd)
+work=$(mktemp -d)
+trap 'rm -rf "$work"' EXIT
+${CC:-cc} -O2 -o "$work/pie_step" "$here/pie_step.c"
+for _ in $(seq "$runs"); do
+    for part in rate control early; do
+        "$bench" "$part"
+    done
+    "$work/pie_step"
+done > "$work/lines"
+pairs=""
+for name in early_considered early_not_considered rate_departed_open rate_departed_closing rate_departed_mixed \
+    control_update control_next_probability control_delay early_checksum rate_checksum control_checksum; do
+    pairs="$pairs $name/c_$name"
+done
+python3 "$here/ratios.py" "$work/lines" $pairs

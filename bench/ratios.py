@@ -1,0 +1,52 @@
+#!/usr/bin/env python3
+"""Reads lines `name value unit` of several runs, and prints for each pair of names the best value and the median of each
+side, and their ratios, as rows of a table. The best of times is the least, and of throughputs the greatest. Of a name alone
+it prints the least, the median and the greatest value.
+
+usage: bench/ratios.py LINES NAME/OTHER.. NAME..     a pair of checksums has to be the same in all runs, else exit status 1
+"""
+import os
+import statistics
+import sys
+
+values, units = {}, {}
+for line in open(sys.argv[1]):
+    name, value, unit = line.split()
+    values.setdefault(name, []).append(int(value) if unit == "sum" else float(value))
+    units[name] = unit
+pairs = [pair.split("/") for pair in sys.argv[2:] if "/" in pair]
+alone = [name for name in sys.argv[2:] if "/" not in name]
+load = " ".join(open("/proc/loadavg").read().split()[:2])
+print(f"load {load} (the last minute, the last five) on {os.cpu_count()} processors; best (median) of so many runs in turn")
+print("| measured | runs | here | beside it | ratio |")
+print("|---|---|---|---|---|")
+
+
+def shown(number, unit):
+    return f"{number / 1e6:.1f}" if unit == "calls/s" else f"{number:.1f}"
+
+
+def side(name):
+    unit = units[name]
+    best = max(values[name]) if unit == "calls/s" else min(values[name])
+    return best, statistics.median(values[name]), "million calls/s" if unit == "calls/s" else unit
+
+
+differ = []
+for name, other in pairs:
+    if units[name] == "sum":
+        if len(set(values[name] + values[other])) != 1:
+            differ.append(name)
+        continue
+    best, median, unit = side(name)
+    other_best, other_median, _ = side(other)
+    ours = f"{shown(best, units[name])} ({shown(median, units[name])}) {unit}"
+    theirs = f"{shown(other_best, units[name])} ({shown(other_median, units[name])}) {unit}"
+    print(f"| {name} / {other} | {len(values[name])} | {ours} | {theirs} | {best / other_best:.2f} ({median / other_median:.2f}) |")
+for name in alone:
+    least, median, most = min(values[name]), statistics.median(values[name]), max(values[name])
+    between = f"{least:.12g}" if least == most else f"{least:.12g} to {most:.12g}, median {median:.12g}"
+    print(f"{name}: {between} {units[name]}, {len(values[name])} runs")
+if any(units[name] == "sum" for name, _ in pairs):
+    print("CHECKSUMS DIFFER: " + ", ".join(differ) if differ else "all checksums are the same")
+sys.exit(bool(differ))

@@ -65,6 +65,13 @@ expect 'no record' 1 '' 'pie: the first record is not an open record\n' '' run
 expect 'a fault' 1 'open,0,4,16,100\ndepart,1,9,empty\n' 'pie: record 3: unknown kind\n' \
     'open,0,4,16,100\ndepart,1,9\ndep,1,10\ndepart,1,11\n' run
 expect 'a bad parameter' 1 '' 'pie: record 1: target out of range\n' 'open,0,4,16,100,1,1,0,0,0,1,1,0,1024\n' run
+# The histories that these runs write are clean, and one in which a verdict was changed is not.
+expect 'an audit' 0 'clean,11\n' '' "$history" audit
+expect 'a history without events' 0 'clean,0\n' '' 'open,0,4,16,100\n' audit
+expect 'a changed verdict' 2 'differs,10\n' '' "${history/ect0,0,mark/ect0,0,early}" audit
+expect 'a history with a fault' 1 '' 'pie: record 3: unknown kind\n' 'open,0,4,16,100\ndepart,1,9,empty\ndep,1,10\n' audit
+expect 'a fault after a changed verdict' 1 '' 'pie: record 15: wrong number of fields\n' "${history/ect0,0,mark/ect0,0,early}shown\n" audit
+expect 'an empty history' 1 '' 'pie: the first record is not an open record\n' '' audit
 expect 'a version' 0 'pie 0.1.0\n' '' '' --version
 
 "$program" > "$work/output" 2> "$work/errors" < /dev/null
@@ -78,6 +85,31 @@ printf 'open,0,4,16,100\n' | "$program" run > /dev/full 2> "$work/errors"
 got=$?
 if [ "$got" != 1 ] || [ "$(cat "$work/errors")" != 'pie: cannot write the output' ]; then
     echo "tests/pie.sh: a full device: status $got, $(cat "$work/errors")"
+    failed=1
+fi
+printf 'open,0,4,16,100\n' | "$program" audit > /dev/full 2> "$work/errors"
+got=$?
+if [ "$got" != 1 ] || [ "$(cat "$work/errors")" != 'pie: cannot write the output' ]; then
+    echo "tests/pie.sh: a finding on a full device: status $got, $(cat "$work/errors")"
+    failed=1
+fi
+# An input that cannot be read.
+"$program" audit < / > "$work/output" 2> "$work/errors"
+got=$?
+if [ "$got" != 1 ] || [ -s "$work/output" ] || [ "$(cat "$work/errors")" != 'pie: cannot read the input' ]; then
+    echo "tests/pie.sh: an audit of a directory: status $got, $(cat "$work/errors")"
+    failed=1
+fi
+# The two commands as a pipe, over the program's stored trace, and as the help has them.
+if [ "$("$program" run < "$(dirname "$0")/../crates/pie/stdin" | "$program" audit)" != clean,3 ]; then
+    echo "tests/pie.sh: the history of the stored trace is not clean"
+    failed=1
+fi
+example='open,0,4,16,100\narrive,1,10,7,1500,ect0,0\ndepart,2,25\n'
+found=$(printf "$example" | "$program" run | "$program" audit)
+changed=$(printf "$example" | "$program" run | sed s/enqueue/mark/ | "$program" audit)
+if [ "$found $changed" != 'clean,2 differs,1' ]; then
+    echo "tests/pie.sh: the examples of audit --help end with $found and $changed"
     failed=1
 fi
 "$program" run --help > /dev/full 2> "$work/errors"

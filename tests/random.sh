@@ -1,6 +1,7 @@
 #!/usr/bin/env bash
 # Runs the built program on random traces, and compares each history with that of bench/reference.py, which looks back over the
-# whole list of events and shares no code with it.
+# whole list of events and shares no code with it. Then it audits the history, which is clean, and the history with one verdict
+# changed, which differs at that event.
 # usage: tests/random.sh PROGRAM [FIRST_SEED] [RUNS] [STEPS]
 set -u
 program=$1
@@ -21,5 +22,24 @@ for seed in $(seq "$first" $((first + runs - 1))); do
         diff "$work/want" "$work/history" | head -10
         exit 1
     fi
+    events=$(grep -c -E '^(arrive|depart|update|reset|params),' "$work/history")
+    found=$("$program" audit < "$work/history")
+    status=$?
+    if [ "$status $found" != "0 clean,$events" ]; then
+        echo "tests/random.sh: seed $seed: the audit of a history of $events events: status $status, $found"
+        exit 1
+    fi
+    # Another verdict for one of the arrivals, which the seed chooses; its event's number is counted from the records.
+    arrivals=$(grep -c '^arrive,' "$work/history")
+    number=$(awk -F, -v OFS=, -v chosen=$((seed % arrivals + 1)) -v changed="$work/changed" '
+        /^(arrive|depart|update|reset|params),/ { event++ }
+        /^arrive,/ && ++arrival == chosen { $8 = $8 == "enqueue" ? "mark" : "enqueue"; print event }
+        { print > changed }' "$work/history")
+    found=$("$program" audit < "$work/changed")
+    status=$?
+    if [ "$status $found" != "2 differs,$number" ]; then
+        echo "tests/random.sh: seed $seed: the verdict of event $number was changed: status $status, $found"
+        exit 1
+    fi
 done
-echo "tests/random.sh: $runs random traces of $steps steps: the histories are those of the reference"
+echo "tests/random.sh: $runs random traces of $steps steps: the histories are those of the reference, each is audited clean, and with one verdict changed it differs there"

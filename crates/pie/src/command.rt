@@ -1,33 +1,40 @@
 //! The whole program over a list of words, a reader and two writers.
-ghost use Rattle.std.specs.Prelude.{◌≡◌, ◌≤◌, ◌^◌, None, IfSome, map, string_bytes};
+ghost use Rattle.std.specs.Prelude.{◌≡◌, ◌≤◌, Some, IfSome, OnOk, codes, map, string_bytes};
 ghost use Rattle.std.specs.Io.KnownBytes.{Appends};
 ghost use Rattle.clap.specs.Words.{kind_of};
 ghost use Rattle.clap.specs.declared.error.kind.ErrorKind.{ErrorKind};
-ghost use Rattle.pie.specs.Words.{AskForRun};
-ghost use Rattle.pie_trace.specs.History.{fault_of, history_text};
-ghost use Rattle.pie_trace.specs.Text.{records_of};
+ghost use Rattle.pie.specs.Ends.{EndsAudit, EndsRun, finding_line};
+ghost use Rattle.pie.specs.Words.{AskFor, subcommand_in};
 
 use crate::options::options;
 use clap::Error;
 use clap::error::ErrorKind;
+use pie_audit::{Finding, audit};
 use pie_trace::run_trace;
 use std::alloc::Global;
 use std::fmt::Display;
+use std::io;
 use std::io::{Read, Write};
 
 /// All went well.
 const DONE: u8 = 0;
 /// A fault, whose text is on the error stream.
 const FAULT: u8 = 1;
+/// An audit found an event that differs.
+const DIFFERS: u8 = 2;
 
 /// Runs `pie` with these words, of which the first is the program's own name, and answers the exit status: 0 done, 1 a
-/// fault, whose text stands on `errors`. A mistake in the words prints what `clap` says of it on `errors` and ends
-/// with 1; a request for help prints it on `output` and ends with 0.
+/// fault, whose text stands on `errors`, 2 an audit that found a difference. A mistake in the words prints what `clap`
+/// says of it on `errors` and ends with 1; a request for help prints it on `output` and ends with 0.
 ///
-/// For the words `pie run` the status is 0 only where the trace has no fault and its whole history text was written.
-/// Refused records are no fault.
+/// For the words `pie run` a trace with a fault ends with 1; any other writes its whole history text and ends with 0, or
+/// ends with 1 where the reader, the writer or memory fails. Refused records are no fault.
 ///
-/// The runtime is there for subcommands that wait; `run` uses nothing of it.
+/// For the words `pie audit` a history with a fault ends with 1 and writes nothing to `output`; any other writes exactly the
+/// line of its finding and ends with 0 where it is clean and 2 where an event differs, or ends with 1 where the reader, the
+/// writer or memory fails.
+///
+/// The runtime is there for subcommands that wait; `run` and `audit` use nothing of it.
 pub fn command<H, R: Read + Drop, W: Write, E: Write>(
     _rt: &H,
     alloc: Global,
@@ -36,36 +43,78 @@ pub fn command<H, R: Read + Drop, W: Write, E: Write>(
     output: &mut W,
     errors: &mut E,
 ) -> u8
-    ensures status { result ≤ 1 }
-    ensures sound { AskForRun (map string_bytes words.now) → IfSome (R.remaining input) (λ text. result ≡ 0 → fault_of (2 ^ 32) (records_of text) ≡ None) }
-    ensures written { AskForRun (map string_bytes words.now) → IfSome (R.remaining input) (λ text. result ≡ 0
-        → Appends (W.contents output.old) (W.contents output.new) (history_text (2 ^ 32) (records_of text))) }
+    ensures status { result ≤ 2 }
+    ensures differs { result ≡ 2 → subcommand_in (map string_bytes words.now) ≡ Some (codes "audit") }
+    ensures runs { AskFor (codes "run") (map string_bytes words.now)
+        → IfSome (R.remaining input) (λ text. EndsRun text result (W.contents output.old) (W.contents output.new)) }
+    ensures audits { AskFor (codes "audit") (map string_bytes words.now)
+        → IfSome (R.remaining input) (λ text. EndsAudit text result (W.contents output.old) (W.contents output.new)) }
 {
     let options = match options(alloc) {
         Ok(options) => options,
         Err(_) => return fault(errors, "out of memory"),
     };
-    match options.try_get_matches_from(words) {
-        Ok(_) => run(alloc, input, output, errors),
-        Err(error) => mistake(error, output, errors),
+    let matches = match options.try_get_matches_from(words) {
+        Ok(matches) => matches,
+        Err(error) => return mistake(error, output, errors),
+    };
+    match matches.subcommand_name() {
+        Some("run") => run_input(alloc, input, output, errors),
+        Some("audit") => audit_input(alloc, input, output, errors),
+        _ => fault(errors, "unknown subcommand"),
     }
 }
 
-/// `pie run`: status 0 only where the trace has no fault, and then its whole history text was written.
-fn run<R: Read + Drop, W: Write, E: Write>(
+/// `pie run`: a trace with a fault ends with 1; any other writes its whole history text and ends with 0, or with 1 where
+/// the reader, the writer or memory fails.
+fn run_input<R: Read + Drop, W: Write, E: Write>(
     alloc: Global,
     input: R,
     output: &mut W,
     errors: &mut E,
 ) -> u8
     ensures status { result ≤ 1 }
-    ensures sound { IfSome (R.remaining input) (λ text. result ≡ 0 → fault_of (2 ^ 32) (records_of text) ≡ None) }
-    ensures written { IfSome (R.remaining input) (λ text. result ≡ 0 → Appends (W.contents output.old) (W.contents output.new) (history_text (2 ^ 32) (records_of text))) }
+    ensures runs { IfSome (R.remaining input) (λ text. EndsRun text result (W.contents output.old) (W.contents output.new)) }
 {
     match run_trace(alloc, input, output) {
         Ok(_) => DONE,
         Err(why) => fault(errors, why),
     }
+}
+
+/// `pie audit`: a history with a fault ends with 1 and writes nothing; any other writes the line of its finding and ends
+/// with the finding's status, or with 1 where the reader, the writer or memory fails.
+fn audit_input<R: Read + Drop, W: Write, E: Write>(
+    alloc: Global,
+    input: R,
+    output: &mut W,
+    errors: &mut E,
+) -> u8
+    ensures status { result ≤ 2 }
+    ensures audits { IfSome (R.remaining input) (λ text. EndsAudit text result (W.contents output.old) (W.contents output.new)) }
+{
+    let found = match audit(alloc, input) {
+        Ok(found) => found,
+        Err(why) => return fault(errors, why),
+    };
+    if write_finding(found, output).is_err() {
+        return fault(errors, "cannot write the output");
+    }
+    match found {
+        Finding::Clean { .. } => DONE,
+        Finding::Differs { .. } => DIFFERS,
+    }
+}
+
+/// Writes the line of a finding, and nothing else.
+fn write_finding<W: Write>(found: Finding, output: &mut W) -> io::Result<()>
+    ensures { OnOk result (Appends (W.contents output.old) (W.contents output.new) (finding_line found)) }
+{
+    match found {
+        Finding::Clean { events } => writeln!(output, "clean,{events}")?,
+        Finding::Differs { event } => writeln!(output, "differs,{event}")?,
+    }
+    output.flush()
 }
 
 /// Writes the line of a fault, and answers its status. Where that line can't be written the status is the same.
@@ -79,7 +128,7 @@ fn fault<E: Write, D: Display + Drop>(errors: &mut E, text: D) -> u8
 /// What `clap` says of the words: help, or a mistake.
 pub(crate) fn mistake<W: Write, E: Write>(error: Error, output: &mut W, errors: &mut E) -> u8
     ensures status { result ≤ 1 }
-    ensures memory { kind_of error ≡ ErrorKind.OutOfMemory → result ≡ 1 }
+    ensures memory { kind_of error ≡ ErrorKind.OutOfMemory → (result ≡ 1) × (W.contents output.new ≡ W.contents output.old) }
 {
     if matches!(error.kind(), ErrorKind::OutOfMemory) {
         return fault(errors, "out of memory");

@@ -1,4 +1,4 @@
-//! `pie`: runs traces of a PIE queue controller (RFC 8033) and writes their histories.
+//! `pie`: runs traces of a PIE queue controller (RFC 8033), writes their histories and audits them.
 #![tactic(auto)]
 
 mod command;

@@ -1,7 +1,8 @@
 //! The command line of `pie`.
 ghost use Rattle.std.specs.Prelude.{◌≡◌, IfOk};
-ghost use Rattle.clap.specs.Words.{app_of};
-ghost use Rattle.pie.specs.Words.{pie_app};
+ghost use Rattle.clap.specs.Words.{AddsSubcommand, app_of, new_app, with_subcommand};
+ghost use Rattle.clap.specs.declared.builder.command.Command.{Command};
+ghost use Rattle.pie.specs.Words.{pie_alone, pie_app};
 
 use clap::Command;
 use std::alloc::{AllocError, Global};
@@ -69,17 +70,65 @@ ends with
   arrive,1,1001003,5,500,ect0,0,mark
   arrive,2,1001003,6,500,not,0,early";
 
-/// `pie` and its subcommands.
-pub(crate) fn options<'a>(alloc: Global) -> Result<Command<'a>, AllocError>
-    ensures { IfOk result (λ options. app_of options ≡ pie_app) }
+/// What `pie audit --help` says below its options.
+const AUDIT_HELP: &str =
+    "A history is what pie run writes: the first record of a trace, and then one record for each that followed, with what it
+was answered. An audit decides each event again, from the opening and the events before it, and compares.
+
+Events are the records arrive, depart, update, reset and params, numbered from 1. The records refused, folded, shown and
+tallied are notes: they may stand anywhere after the first record, and are looked at for their shape alone.
+
+One line is written:
+  clean,<events>    each event is what the rules give at its place, and there are so many; status 0
+  differs,<event>   the first event that is not: its command would have been refused there, it has another answer, or it
+                    sets parameters that are out of range; status 2
+
+A full tail is no reason to refuse a command here, since a fold may have made room at any time. A record that cannot be
+read ends the audit with status 1 and no finding, also where an event before it differs; pie run --help says how records
+are written.
+
+Example: what pie run writes is clean, and the line is clean,2:
+
+  printf 'open,0,4,16,100\\narrive,1,10,7,1500,ect0,0\\ndepart,2,25\\n' | pie run | pie audit
+
+A verdict that was changed is found, and the line is differs,1:
+
+  printf 'open,0,4,16,100\\narrive,1,10,7,1500,ect0,0\\ndepart,2,25\\n' | pie run | sed s/enqueue/mark/ | pie audit";
+
+/// A subcommand that takes no options.
+fn plain<'a>(alloc: Global, name: &'a str, about: &'a str, help: &'a str) -> Command<'a>
+    ensures { (above with_it : Command) → AddsSubcommand above result with_it
+        → app_of with_it ≡ with_subcommand (app_of above) (new_app name.now).top }
 {
-    let run = Command::new(alloc, "run")
-        .about("Reads a trace from standard input and writes its history to standard output")
-        .after_help(RUN_HELP);
+    Command::new(alloc, name).about(about).after_help(help)
+}
+
+/// `pie` without its subcommands.
+fn alone<'a>(alloc: Global) -> Command<'a>
+    ensures { app_of result ≡ pie_alone }
+{
     Command::new(alloc, "pie")
         .about("A PIE queue controller (RFC 8033) whose every decision is recorded")
         .version(VERSION)
         .after_help(PIE_EXAMPLE)
         .subcommand_required(true)
-        .subcommand(run)
+}
+
+/// `pie` and its subcommands.
+pub(crate) fn options<'a>(alloc: Global) -> Result<Command<'a>, AllocError>
+    ensures { IfOk result (λ options. app_of options ≡ pie_app) }
+{
+    let run = plain(
+        alloc,
+        "run",
+        "Reads a trace from standard input and writes its history to standard output",
+        RUN_HELP,
+    );
+    let audit = plain(
+        alloc,
+        "audit",
+        "Reads a history from standard input and decides each of its events again",
+        AUDIT_HELP,
+    );
+    alone(alloc).subcommand(run)?.subcommand(audit)
 }

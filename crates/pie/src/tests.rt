@@ -42,6 +42,80 @@ fn runs_a_trace(rt: HostRuntime) -> Result<(), Fail> {
     Ok(())
 }
 
+/// What a run of one arrival and two departures wrote is clean, and so is a history without events.
+#[test]
+fn finds_a_history_clean(rt: HostRuntime) -> Result<(), Fail> {
+    let history =
+        b"open,0,4,16,100\narrive,1,10,7,1500,ect0,0,enqueue\ndepart,2,25,left,7,1500,ect0\ndepart,2,30,empty\n";
+    let outcome = pie(&rt, &["pie", "audit"], history)?;
+    assert_eq!(rt; outcome.status, 0);
+    assert_eq!(rt; outcome.output.as_slice(), b"clean,3\n".as_slice());
+    assert!(rt; outcome.errors.is_empty());
+    let none = pie(&rt, &["pie", "audit"], b"open,0,4,16,100\n")?;
+    assert_eq!(rt;
+        (none.status, none.output.as_slice()),
+        (0, b"clean,0\n".as_slice())
+    );
+    Ok(())
+}
+
+/// Four arrivals, of which the last was enqueued and is recorded as marked.
+const CHANGED: &[u8] =
+    b"open,0,8,32,100,2,1,0,850000,0,1,100000,1000000000000,1024\narrive,1,0,1,1024,not,0,enqueue\narrive,1,0,2,1024,not,0,enqueue\narrive,1,0,3,1024,not,0,enqueue\narrive,1,0,4,1024,not,0,mark\ndepart,3,1000,left,1,1024,not\n";
+
+/// A verdict that was changed is found.
+#[test]
+fn finds_a_changed_verdict(rt: HostRuntime) -> Result<(), Fail> {
+    let outcome = pie(&rt, &["pie", "audit"], CHANGED)?;
+    assert_eq!(rt; outcome.status, 2);
+    assert_eq!(rt; outcome.output.as_slice(), b"differs,4\n".as_slice());
+    assert!(rt; outcome.errors.is_empty());
+    Ok(())
+}
+
+/// A history that cannot be read ends with 1 and the text of its fault, and no finding is written.
+#[test]
+fn tells_a_fault_of_a_history(rt: HostRuntime) -> Result<(), Fail> {
+    let faults: [(&[u8], &[u8]); 6] = [
+        (b"", b"pie: the first record is not an open record\n"),
+        (b"open,0,4,16,100\ndep\n", b"pie: record 2: unknown kind\n"),
+        (
+            b"open,0,4,16,100\ndepart,2,30\n",
+            b"pie: record 2: wrong number of fields\n",
+        ),
+        (
+            b"open,0,4,16,100\ndepart,02,30,empty\n",
+            b"pie: record 2: not a number in range\n",
+        ),
+        (
+            b"open,0,4,16,100\ndepart,2,30,emp\n",
+            b"pie: record 2: unknown word\n",
+        ),
+        (
+            b"open,0,0,16,100\n",
+            b"pie: record 1: limits out of range\n",
+        ),
+    ];
+    for (history, text) in faults {
+        let outcome = pie(&rt, &["pie", "audit"], history)?;
+        assert_eq!(rt; (outcome.status, outcome.errors.as_slice()), (1, text));
+        assert!(rt; outcome.output.is_empty());
+    }
+    Ok(())
+}
+
+/// A fault comes before a difference that stands earlier.
+#[test]
+fn tells_a_fault_before_a_difference(rt: HostRuntime) -> Result<(), Fail> {
+    let mut history = Vec::from_slice(rt.alloc(), CHANGED)?;
+    history.extend_from_slice(b"arrive,2,1001003\n")?;
+    let outcome = pie(&rt, &["pie", "audit"], history.as_slice())?;
+    let text = b"pie: record 7: wrong number of fields\n".as_slice();
+    assert_eq!(rt; (outcome.status, outcome.errors.as_slice()), (1, text));
+    assert!(rt; outcome.output.is_empty());
+    Ok(())
+}
+
 /// An empty input writes nothing but the text of its fault.
 #[test]
 fn tells_a_fault(rt: HostRuntime) -> Result<(), Fail> {
@@ -67,7 +141,12 @@ fn tells_a_fault(rt: HostRuntime) -> Result<(), Fail> {
 /// A command line without a subcommand is a mistake, and so is an unknown one.
 #[test]
 fn tells_a_mistake(rt: HostRuntime) -> Result<(), Fail> {
-    let lists: [&[&str]; 3] = [&["pie"], &["pie", "walk"], &["pie", "run", "fast"]];
+    let lists: [&[&str]; 4] = [
+        &["pie"],
+        &["pie", "walk"],
+        &["pie", "run", "fast"],
+        &["pie", "audit", "twice"],
+    ];
     for words in lists {
         let outcome = pie(&rt, words, b"")?;
         assert_eq!(rt; outcome.status, 1);
@@ -80,9 +159,10 @@ fn tells_a_mistake(rt: HostRuntime) -> Result<(), Fail> {
 /// A request for help is answered on the output.
 #[test]
 fn gives_help(rt: HostRuntime) -> Result<(), Fail> {
-    let lists: [&[&str]; 3] = [
+    let lists: [&[&str]; 4] = [
         &["pie", "--help"],
         &["pie", "run", "--help"],
+        &["pie", "audit", "--help"],
         &["pie", "help"],
     ];
     for words in lists {
@@ -129,15 +209,16 @@ fn pie_on_a_full_output(
     Ok((status, errors))
 }
 
-/// Help, a version and a history that cannot be written end with 1 and their text.
+/// Help, a version, a history and a finding that cannot be written end with 1 and their text.
 #[test]
 fn tells_an_output_that_fails(rt: HostRuntime) -> Result<(), Fail> {
     let text = b"pie: cannot write the output\n".as_slice();
-    let lists: [&[&str]; 4] = [
+    let lists: [&[&str]; 5] = [
         &["pie", "--help"],
         &["pie", "run", "--help"],
         &["pie", "--version"],
         &["pie", "run"],
+        &["pie", "audit"],
     ];
     for words in lists {
         let (status, errors) = pie_on_a_full_output(&rt, words, b"open,0,4,16,100\n")?;

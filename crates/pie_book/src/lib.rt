@@ -29,7 +29,7 @@ mod tests;
 pub use book::Book;
 pub use cause::{Cause, Fate};
 pub use command::{Answer, Command, Event};
-pub use law::folds_change_no_answer;
+pub use law::{folds_change_no_answer, registers_look_back};
 pub use opening::{Choices, Limits, Mode, Opening};
 pub use queue_core::Core;
 pub use refusal::{FoldRefusal, OpenRefusal, Refusal};

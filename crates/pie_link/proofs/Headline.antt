@@ -11,11 +11,10 @@ use Rattle.pie_lock.specs.Rule.{EachPass, Follows, Agreed, WhileFree}
 use Rattle.pie_book.specs.declared.command.Event.{Event}
 use Rattle.pie_book.specs.declared.opening.Opening.{Opening}
 use Rattle.pie_book.specs.Book.{BookView, Tells}
-use Rattle.pie_book.specs.Core.{registers_of}
+use Rattle.pie_book.specs.Core.{CoreView, Shows, registers_of}
 use Rattle.pie_book.specs.History.{waiting_after}
 use Rattle.pie_book.specs.Registers.{registers_after}
 use Rattle.pie_book.specs.Statistics.{stats_after}
-use Rattle.pie_book.proofs.LookFacts.{registers-is}
 use Rattle.pie_book.specs.Decision.{IsLegal}
 use Rattle.pie_link.specs.Views.{LinkView, number_of}
 use Rattle.pie_link.specs.Headline.{Informed, BeginsWith, HasCallsOf, informed, callers_at, callers_of, LockState, LiesIn, IsOneHistory, KeepsOneHistory}
@@ -33,12 +32,16 @@ module _ (P : Shown Event Opening → Type 0) (Q : Informed → Type 0) (follows
   at_all [] each = All-nil Q
   at_all (seat ∷ seats) each = All-append Q (callers_at seat) (callers_of seats) (at_seat seat (each 0 seat refl)) (at_all seats (λ k view at. each (suc k) view at))
 
+-- what pie_book promises of the registers
+abbrev pub LookBack : Type 0
+LookBack = (opening : Opening) (core : CoreView) (history : List Event) → Shows opening core history → registers_of core ≡ registers_after opening history
+
 -- what the rule says while the lock is free
-pub while_free : (opening : Opening) (numbers : ℕ) (lock : LockState) (history : List Event)
+pub while_free : LookBack → (opening : Opening) (numbers : ℕ) (lock : LockState) (history : List Event)
     → Agreed number_of opening numbers history lock.views
     → WhileFree number_of (λ (book : BookView). book.opening) Tells opening numbers history lock
     → (book : BookView) × LiesIn lock book × ((h : List Event) × IsOneHistory opening book (callers_of lock.views) h)
-while_free opening numbers lock history agreed free =
+while_free look_back opening numbers lock history agreed free =
     let lodged = free.2.0 in
     let book = lodged.state in
     let opened = free.2.2 in
@@ -55,15 +58,15 @@ while_free opening numbers lock history agreed free =
           calls = at_all (Follows number_of opening numbers history) (HasCallsOf history) (λ p f. f.owned) lock.views agreed.each_follows;
           ends = told.tail;
           queue = subst (λ (o : Opening). book.running.waiting ≡ waiting_after o history) opened told.running.waiting;
-          registers = subst (λ (o : Opening). registers_of book.running ≡ registers_after o history) opened (registers-is book.opening book.running history told.running);
+          registers = subst (λ (o : Opening). registers_of book.running ≡ registers_after o history) opened (look_back book.opening book.running history told.running);
           stats = subst (λ (o : Opening). book.running.stats ≡ stats_after o history) opened told.running.stats;
         },
       ),
     )
 
 -- whenever the lock is free there is one history
-pub keeps_one_history : (link : LinkView) → KeepsOneHistory link
+pub keeps_one_history : LookBack → (link : LinkView) → KeepsOneHistory link
 unfolding KeepsOneHistory
-keeps_one_history link opening from lock ruled free =
+keeps_one_history look_back link opening from lock ruled free =
     let history = ruled.1.0 in
-    ⊎_elim (while_free opening link.numbers lock history ruled.1.1) (λ held. absurd (omega (arith, held.0, free))) ruled.1.2
+    ⊎_elim (while_free look_back opening link.numbers lock history ruled.1.1) (λ held. absurd (omega (arith, held.0, free))) ruled.1.2

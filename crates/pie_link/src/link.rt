@@ -7,7 +7,7 @@ ghost use Rattle.pie_book.specs.Book.{Tells};
 use crate::caller::Caller;
 use crate::kept_book::KeptBook;
 use crate::refusal::LinkRefusal;
-use pie_book::{Book, Choices, Limits, Mode, OpenRefusal};
+use pie_book::{Book, Choices, Limits, Mode, OpenRefusal, registers_look_back};
 use pie_lock::{OneNumber, RuledLock, StillHeld};
 use pie_params::Params;
 use std::alloc::Global;
@@ -93,6 +93,7 @@ impl Link {
         let Ok(book) = Box::new(alloc, book) else {
             return Err(LinkRefusal::Memory);
         };
+        registers_look_back();
         match RuledLock::new(alloc, KeptBook { book }, callers) {
             Ok((lock, pass)) => Ok((Link { lock, alloc }, Caller { pass })),
             Err(_) => Err(LinkRefusal::Memory),

@@ -1,0 +1,95 @@
+#!/usr/bin/env python3
+"""Holds the documents to the code: docs/MODEL.md names each definition that a clause of a public function cites, and each function,
+definition and must-fail edit of its table of rules exists; docs/ARCHITECTURE.md names each dependency of crates.txt. It reads
+by the layout that `rt fmt` writes. Exit status 1 where something is missing.
+
+usage: tests/docs.py
+"""
+import re
+import sys
+from pathlib import Path
+
+ROOT = Path(__file__).resolve().parent.parent
+DEFINED = re.compile(r"^(?:abbrev |unfoldable )?pub (?:record |data )?(\w+)|^  (?:abbrev |unfoldable )pub (\w+)", re.M)
+PUBLIC = re.compile(r'\s*pub (?:extern "C" )?fn (\w+)')
+CLAUSE_NAME = re.compile(r"^\s*(?:requires|ensures)\*? \w+ ", re.M)
+QUOTED = re.compile(r"`([^`\n]+)`")
+
+
+def crates():
+    """Of each crate of crates.txt what it stands on."""
+    lines = (ROOT / "crates.txt").read_text().splitlines()
+    pairs = [line.split(":") for line in lines if ":" in line and not line.startswith("#")]
+    return {head.split()[0]: below.split() for head, below in pairs}
+
+
+def definitions(crate):
+    texts = [path.read_text() for path in (ROOT / "crates" / crate / "specs").glob("*.antt")]
+    return {name for text in texts for found in DEFINED.findall(text) for name in found if name and name != "mod"}
+
+
+def public_clauses(text):
+    """The name of each public function, and the text of its clauses."""
+    lines = text.split("\n")
+    for start, line in enumerate(lines):
+        found = PUBLIC.match(line)
+        if not found:
+            continue
+        indent = line[: len(line) - len(line.lstrip())]
+        end = start
+        while end < len(lines) and lines[end] not in (indent + "{", indent + "{}"):
+            end += 1
+        clauses = re.search(r"\b(?:requires|ensures)\b.*", "\n".join(lines[start:end]), re.S)
+        yield found[1], CLAUSE_NAME.sub("", clauses[0]) if clauses else ""
+
+
+def is_word_of(name, text):
+    return re.search(r"(?<![\w.])" + re.escape(name) + r"(?!\w)", text) is not None
+
+
+def missing_definitions(model):
+    named = " ".join(QUOTED.findall(model))
+    for crate in crates():
+        defined = definitions(crate)
+        for path in sorted((ROOT / "crates" / crate / "src").rglob("*.rt")):
+            for function, clauses in public_clauses(path.read_text()):
+                for name in sorted(defined):
+                    if is_word_of(name, clauses) and not is_word_of(name, named):
+                        yield f"docs/MODEL.md: {crate}'s `{name}`, which {function} cites"
+
+
+def missing_of_rules(model):
+    """What the table of rules names and the repository does not have."""
+    table = model[model.index("| rule | RFC 8033") :].split("\n\n")[0]
+    code = "\n".join(path.read_text() for path in (ROOT / "crates").glob("*/src/*.rt"))
+    defined = {name for crate in crates() for name in definitions(crate)}
+    for line in table.splitlines()[2:]:
+        rule, _, functions, names, edit = [it.strip() for it in line.strip("|").split("|")][:5]
+        for function in QUOTED.findall(functions):
+            if not re.search(r"\bfn " + function.split("::")[-1] + r"\b", code):
+                yield f"docs/MODEL.md: {rule}: no function {function}"
+        for name in QUOTED.findall(names):
+            if name not in defined:
+                yield f"docs/MODEL.md: {rule}: no definition {name}"
+        crate, name = edit.replace("`", "").split()
+        if not (ROOT / "crates" / crate / "must-fail" / f"{name}.edit").exists():
+            yield f"docs/MODEL.md: {rule}: no must-fail edit {name}"
+
+
+def missing_dependencies(architecture):
+    rows = {line.split("|")[1].strip(): line for line in architecture.splitlines() if line.startswith("| pie")}
+    for crate, below in crates().items():
+        for name in below:
+            if not is_word_of(name, rows.get(crate, "").split("|", 2)[-1]):
+                yield f"docs/ARCHITECTURE.md: {crate} stands on {name}"
+
+
+def main():
+    model = (ROOT / "docs" / "MODEL.md").read_text()
+    architecture = (ROOT / "docs" / "ARCHITECTURE.md").read_text()
+    missing = [*missing_definitions(model), *missing_of_rules(model), *missing_dependencies(architecture)]
+    print("\n".join(missing) or "tests/docs.py: the model and the map name what the code has")
+    sys.exit(bool(missing))
+
+
+main()

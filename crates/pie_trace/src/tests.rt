@@ -2,8 +2,10 @@
 
 mod devices;
 mod faults;
+mod lines;
 mod parts;
 mod records;
+mod writing;
 
 use crate::{RunEnd, TraceFault, run_trace, run_trace_within};
 use pie_book::{Registers, Stats};

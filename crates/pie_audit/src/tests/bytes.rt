@@ -1,9 +1,11 @@
 //! A history that is damaged: each audit ends in a finding or in a fault. How many end in each was counted by a plain
 //! program that looks back over the list of events, bench/changes.py.
 
-use super::marks;
+use super::{ONE_ARRIVAL, clean, marks};
 use crate::{Finding, audit};
 use pie_trace::TraceFault;
+use std::io;
+use std::io::{ErrorKind, Read};
 use std::test::Fail;
 
 /// How many audits ended in each way, and the sum of the numbers of events and records that they named.
@@ -94,4 +96,40 @@ fn a_history_with_one_byte_changed(rt: HostRuntime) -> Result<(), Fail> {
     };
     assert_eq!(rt; ends, want);
     Ok(())
+}
+
+/// Gives a few bytes at a time. After so many bytes it fails once, and then goes on.
+#[derive(Drop)]
+struct FailingReader<'a> {
+    rest: &'a [u8],
+    good: Option<usize>,
+}
+
+impl Read for FailingReader<'_> {
+    fn read(&mut self, buf: &mut [u8]) -> io::Result<usize> {
+        let mut count = self.rest.len().min(buf.len()).min(7);
+        if let Some(good) = self.good {
+            if good == 0 {
+                self.good = None;
+                return Err(io::Error::from(ErrorKind::ConnectionReset));
+            }
+            count = count.min(good);
+            self.good = Some(good - count);
+        }
+        buf[..count].copy_from_slice(&self.rest[..count]);
+        self.rest = &self.rest[count..];
+        Ok(count)
+    }
+}
+
+#[test]
+fn a_reader_that_fails_anywhere(rt: HostRuntime) {
+    let rest = ONE_ARRIVAL.as_bytes();
+    for bytes in 0..rest.len() {
+        let good = Some(bytes);
+        let answer = audit(rt.alloc(), FailingReader { rest, good });
+        assert_eq!(rt; answer, Err(TraceFault::Read), "after {bytes} bytes");
+    }
+    let good = None;
+    assert_eq!(rt; audit(rt.alloc(), FailingReader { rest, good }), clean(3));
 }

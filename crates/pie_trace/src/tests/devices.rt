@@ -1,8 +1,13 @@
 //! Readers and writers that fail, once or for good, or that never end.
 
+use super::ONE_ARRIVAL_HISTORY;
 use super::records::{EVERY_KIND, EVERY_KIND_HISTORY};
+use super::writing::{departed, opened};
 use crate::rows::CHUNK;
-use crate::{TraceFault, run_trace, run_trace_within};
+use crate::{HistoryLines, Line, TraceFault, run_trace, run_trace_within, write_history};
+use pie_book::{Answer, Command, Event, Mode};
+use pie_params::Params;
+use pie_queue::Ecn;
 use std::alloc::Global;
 use std::io;
 use std::io::{ErrorKind, Read, Write};
@@ -81,16 +86,27 @@ impl Write for FailingWriter {
     }
 }
 
-/// Gives these bytes, and departures without an end.
+/// Gives these bytes, and then a record without an end.
 #[derive(Drop)]
 struct Endless {
     rest: &'static [u8],
+    again: &'static [u8],
+}
+
+impl Endless {
+    /// A trace of departures.
+    fn departures() -> Endless {
+        Endless {
+            rest: b"open,0,4,16,100\n",
+            again: b"depart,1,1\n",
+        }
+    }
 }
 
 impl Read for Endless {
     fn read(&mut self, buf: &mut [u8]) -> io::Result<usize> {
         if self.rest.is_empty() {
-            self.rest = b"depart,1,1\n";
+            self.rest = self.again;
         }
         let count = self.rest.len().min(buf.len());
         buf[..count].copy_from_slice(&self.rest[..count]);
@@ -260,13 +276,12 @@ fn departures(alloc: Global, count: u64) -> Result<(Vec<u8>, Vec<usize>), Fail> 
 #[test]
 fn a_reader_without_an_end(rt: HostRuntime) -> Result<(), Fail> {
     let alloc = rt.alloc();
-    let first = b"open,0,4,16,100\n".as_slice();
     let whole = history_of_departures(alloc, 9999)?;
     let mut writer = CountingWriter {
         taken: Vec::new(alloc),
         parts: Vec::new(alloc),
     };
-    let result = run_trace_within(alloc, Endless { rest: first }, &mut writer, 10000);
+    let result = run_trace_within(alloc, Endless::departures(), &mut writer, 10000);
     assert_eq!(rt; result, Err(TraceFault::TooLong));
     assert_eq!(rt; writer.taken.as_slice(), whole.as_bytes());
     assert_eq!(rt; writer.parts.len(), 5);
@@ -278,7 +293,7 @@ fn a_reader_without_an_end(rt: HostRuntime) -> Result<(), Fail> {
                 continue;
             }
             let mut failing = FailingWriter::new(alloc, usize::MAX, Some(good));
-            let result = run_trace_within(alloc, Endless { rest: first }, &mut failing, 10000);
+            let result = run_trace_within(alloc, Endless::departures(), &mut failing, 10000);
             assert_eq!(rt; result, Err(TraceFault::Write), "after {good} bytes");
             assert_eq!(rt;
                 failing.taken.as_slice(),
@@ -312,4 +327,94 @@ fn a_history_that_is_a_whole_part(rt: HostRuntime) -> Result<(), Fail> {
         assert_eq!(rt; parts.len(), most, "{count}");
     }
     Ok(())
+}
+
+/// Lines of a history come for as long as the reader gives them.
+#[test]
+fn a_history_without_an_end(rt: HostRuntime) -> Result<(), Fail> {
+    let reader = Endless {
+        rest: b"open,0,4,16,100\n",
+        again: b"depart,1,1,empty\n",
+    };
+    let (mut lines, opening) = HistoryLines::open(rt.alloc(), reader)?;
+    assert_eq!(rt; opening, opened(Mode::Bounded, Params::default_profile()));
+    for _ in 0..1000 {
+        let empty = Event {
+            caller: 1,
+            command: Command::Depart { moment: 1 },
+            answer: Answer::Empty,
+        };
+        assert_eq!(rt; lines.next_line(), Ok(Some(Line::Made(empty))));
+    }
+    Ok(())
+}
+
+/// How many lines a history gives before its end or its first fault, what is answered then, and what after it.
+fn lines_before<R: Read + Drop>(
+    alloc: Global,
+    reader: R,
+) -> Result<(usize, Option<TraceFault>, Option<TraceFault>), TraceFault> {
+    let (mut lines, _) = HistoryLines::open(alloc, reader)?;
+    for count in 0..9 {
+        match lines.next_line() {
+            Ok(Some(_)) => {}
+            Ok(None) => return Ok((count, None, lines.next_line().err())),
+            Err(why) => return Ok((count, Some(why), lines.next_line().err())),
+        }
+    }
+    Ok((9, None, None))
+}
+
+/// Whatever byte a reader fails after, the whole lines before it are given, and then that fault for good.
+#[test]
+fn a_history_whose_reader_fails_once(rt: HostRuntime) {
+    let history = ONE_ARRIVAL_HISTORY.as_bytes();
+    let read = Some(TraceFault::Read);
+    for good in 0..history.len() {
+        let reader = FailingReader {
+            rest: history,
+            good: Some(good),
+        };
+        let whole = history[..good]
+            .iter()
+            .filter(|byte| **byte == b'\n')
+            .count();
+        let want = match whole.checked_sub(1) {
+            Some(count) => Ok((count, read, read)),
+            None => Err(TraceFault::Read),
+        };
+        assert_eq!(rt;
+            lines_before(rt.alloc(), reader),
+            want,
+            "after {good} bytes"
+        );
+    }
+    let reader = FailingReader {
+        rest: history,
+        good: None,
+    };
+    assert_eq!(rt; lines_before(rt.alloc(), reader), Ok((3, None, None)));
+}
+
+/// Whatever byte a writer fails after, those before it are the first of the history.
+#[test]
+fn a_history_whose_writer_fails_once(rt: HostRuntime) {
+    let history = b"open,0,4,16,100\ndepart,2,25,left,7,1500,ect1\n";
+    let opening = opened(Mode::Bounded, Params::default_profile());
+    let event = departed(Ecn::Ect1);
+    assert!(rt; event.fits());
+    for good in 0..history.len() {
+        let mut writer = FailingWriter::new(rt.alloc(), STEP, Some(good));
+        let result = write_history(rt.alloc(), &mut writer, &opening, &[event]);
+        assert_eq!(rt; result, Err(TraceFault::Write), "after {good} bytes");
+        assert_eq!(rt;
+            writer.taken.as_slice(),
+            &history[..good],
+            "after {good} bytes"
+        );
+    }
+    let mut writer = FailingWriter::new(rt.alloc(), STEP, None);
+    writer.flushes = false;
+    let result = write_history(rt.alloc(), &mut writer, &opening, &[event]);
+    assert_eq!(rt; result, Err(TraceFault::Write));
 }

@@ -6,6 +6,8 @@ pub mod LookFacts
 pub mod CoreFacts
 pub mod BookFacts
 pub mod RunFacts
+pub mod RangeFacts
+pub mod RangeLaws
 pub mod Examples
 pub mod ExamplesRates
 pub mod ExamplesMarks

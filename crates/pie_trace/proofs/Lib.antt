@@ -14,5 +14,8 @@ pub mod TextBack
 pub mod EventBack
 pub mod OpeningBack
 pub mod HistoryBack
+pub mod RequestBack
+pub mod NotesBack
+pub mod RunBack
 pub mod Examples
 pub mod ExamplesRuns

@@ -1,4 +1,5 @@
 pub mod FindingFacts
 pub mod AuditorFacts
 pub mod AuditFacts
+pub mod RunFindings
 mod Examples

@@ -4,9 +4,11 @@
 #![tactic(auto)]
 
 pub mod auditor;
+pub mod law;
 pub mod text;
 
 pub use auditor::{Auditor, Finding};
+pub use law::runs_are_clean;
 pub use text::audit;
 
 #[cfg(test)]

@@ -7,6 +7,8 @@ pub mod CoreFacts
 pub mod CauseFacts
 pub mod BookFacts
 pub mod RunFacts
+pub mod RangeFacts
+pub mod RangeLaws
 pub mod Examples
 pub mod ExamplesRates
 pub mod ExamplesMarks

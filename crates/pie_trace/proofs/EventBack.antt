@@ -18,7 +18,7 @@ use Rattle.pie_book.specs.declared.command.Event.{Event}
 use Rattle.pie_trace.specs.declared.history.Line.{Line}
 use Rattle.pie_trace.specs.Line.{arrival_line, call_at, departure_line, line_of, made, packet_at, params_line, reset_line, update_line, verdict_of}
 use Rattle.pie_trace.specs.Number.{number}
-use Rattle.pie_trace.specs.ReadBack.{AnswerFits, CommandFits, EventFits, PacketFits, ParamsFit}
+use Rattle.pie_book.specs.Ranges.{AnswerFits, CommandFits, PacketFits, ParamsFit}
 use Rattle.pie_trace.specs.Record.{ecn_of, most_u16, most_u32, most_u64, params_at}
 use Rattle.pie_trace.specs.Reply.{answer_fields, ecn_word}
 use Rattle.pie_trace.specs.Text.{Row}
@@ -30,11 +30,11 @@ use Rattle.pie_trace.proofs.NumberFacts.{number-decimal}
 pub back_u16 : (n : ℕ) → n ≤ most_u16 → number most_u16 (decimal n) ≡ Some n
 back_u16 n fits = number-decimal most_u16 n fits (omega arith)
 
-pub back_u32 : (n : ℕ) → n ≤ most_u32 → number most_u32 (decimal n) ≡ Some n
-back_u32 n fits = number-decimal most_u32 n fits (omega arith)
+pub back_u32 : (n : ℕ) → n < 2 ^ 32 → number most_u32 (decimal n) ≡ Some n
+back_u32 n fits = number-decimal most_u32 n (omega arith) (omega arith)
 
-pub back_u64 : (n : ℕ) → n ≤ most_u64 → number most_u64 (decimal n) ≡ Some n
-back_u64 n fits = number-decimal most_u64 n fits (omega arith)
+pub back_u64 : (n : ℕ) → n < 2 ^ 64 → number most_u64 (decimal n) ≡ Some n
+back_u64 n fits = number-decimal most_u64 n (omega arith) (omega arith)
 
 pub back_ecn : (e : Ecn) → ecn_of (ecn_word e) ≡ Some e
 unfolding ecn_of
@@ -52,29 +52,29 @@ unfolding line_of arrival_line call_at packet_at field_at command_fields
 line-arrive caller moment packet word answer verdict called fits said is =
     rw said (rw (back_u16 caller called, back_u64 moment fits.0, back_u64 packet.tag fits.1.tag, back_u32 packet.size fits.1.size, back_ecn packet.ecn, back_u64 word fits.2, is) refl)
 
-line-left : (caller moment : ℕ) (packet : Packet) → caller ≤ most_u16 → moment ≤ most_u64 → PacketFits packet
+line-left : (caller moment : ℕ) (packet : Packet) → caller ≤ most_u16 → moment < 2 ^ 64 → PacketFits packet
     → line_of (command_fields caller (Depart moment) ++ answer_fields (Left packet)) ≡ Ok (made caller (Depart moment) (Left packet))
 unfolding line_of departure_line call_at packet_at field_at command_fields answer_fields
 line-left caller moment packet called fits left =
     rw (back_u16 caller called, back_u64 moment fits, back_u64 packet.tag left.tag, back_u32 packet.size left.size, back_ecn packet.ecn) refl
 
-line-empty : (caller moment : ℕ) → caller ≤ most_u16 → moment ≤ most_u64
+line-empty : (caller moment : ℕ) → caller ≤ most_u16 → moment < 2 ^ 64
     → line_of (command_fields caller (Depart moment) ++ answer_fields Empty) ≡ Ok (made caller (Depart moment) Empty)
 unfolding line_of departure_line call_at field_at command_fields answer_fields
 line-empty caller moment called fits = rw (back_u16 caller called, back_u64 moment fits) refl
 
-line-updated : (caller moment delay prob burst : ℕ) → caller ≤ most_u16 → moment ≤ most_u64 → AnswerFits (Updated delay prob burst)
+line-updated : (caller moment delay prob burst : ℕ) → caller ≤ most_u16 → moment < 2 ^ 64 → AnswerFits (Updated delay prob burst)
     → line_of (command_fields caller (Update moment) ++ answer_fields (Updated delay prob burst)) ≡ Ok (made caller (Update moment) (Updated delay prob burst))
 unfolding line_of update_line call_at field_at command_fields answer_fields
 line-updated caller moment delay prob burst called fits answer =
     rw (back_u16 caller called, back_u64 moment fits, back_u64 delay answer.0, back_u64 prob answer.1, back_u64 burst answer.2) refl
 
-line-reset : (caller moment : ℕ) → caller ≤ most_u16 → moment ≤ most_u64
+line-reset : (caller moment : ℕ) → caller ≤ most_u16 → moment < 2 ^ 64
     → line_of (command_fields caller (Reset moment) ++ answer_fields Done) ≡ Ok (made caller (Reset moment) Done)
 unfolding line_of reset_line call_at field_at command_fields answer_fields
 line-reset caller moment called fits = rw (back_u16 caller called, back_u64 moment fits) refl
 
-line-params : (caller moment : ℕ) (params : RawParams) → caller ≤ most_u16 → moment ≤ most_u64 → ParamsFit params
+line-params : (caller moment : ℕ) (params : RawParams) → caller ≤ most_u16 → moment < 2 ^ 64 → ParamsFit params
     → line_of (command_fields caller (SetParams moment params) ++ answer_fields Done) ≡ Ok (made caller (SetParams moment params) Done)
 unfolding line_of params_line call_at params_at field_at command_fields answer_fields
 line-params caller moment params called fits set =

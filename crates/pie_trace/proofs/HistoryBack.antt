@@ -16,7 +16,8 @@ use Rattle.pie_trace.specs.declared.history.Line.TheVariants.{Made}
 use Rattle.pie_trace.specs.History.{opening_of, rows_text}
 use Rattle.pie_trace.specs.Line.{line_of}
 use Rattle.pie_trace.specs.Lines.{Coming, after_opening, coming_from, fault_from, history_opening, lines_from, told_by}
-use Rattle.pie_trace.specs.ReadBack.{EventFits, ParamsFit, TellsHistory}
+use Rattle.pie_book.specs.Ranges.{ParamsFit}
+use Rattle.pie_trace.specs.ReadBack.{EventFits, TellsHistory}
 use Rattle.pie_trace.specs.Text.{Row, records_of}
 use Rattle.pie_trace.specs.Write.{command_fields, event_row, mode_word, opening_row, written_rows}
 use Rattle.pie_trace.proofs.EventBack.{line-back}
@@ -27,7 +28,7 @@ use Rattle.pie_trace.proofs.TextBack.{HasField, records_of-written}
 -- ---- rows that tell lines
 
 -- each of these rows tells the line at its place
-pub TellEach : List Row → List Line → Type 0
+unfoldable pub TellEach : List Row → List Line → Type 0
 TellEach [] [] = ⊤
 TellEach [] (line ∷ lines) = ⊥
 TellEach (row ∷ rows) [] = ⊥

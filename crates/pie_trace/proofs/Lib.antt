@@ -14,6 +14,9 @@ pub mod TextBack
 pub mod EventBack
 pub mod OpeningBack
 pub mod HistoryBack
+pub mod RequestBack
+pub mod NotesBack
+pub mod RunBack
 pub mod Examples
 pub mod ExamplesRuns
 pub mod ExamplesLines

@@ -16,7 +16,7 @@ use Rattle.pie_book.specs.declared.refusal.OpenRefusal.TheVariants as refusal
 use Rattle.pie_book.specs.Opening.{are_in_range, last_moment, opening_refusal}
 use Rattle.pie_trace.specs.History.{opening_of}
 use Rattle.pie_trace.specs.Number.{number}
-use Rattle.pie_trace.specs.ReadBack.{ParamsFit}
+use Rattle.pie_book.specs.Ranges.{ParamsFit}
 use Rattle.pie_trace.specs.Record.{limits_at, mode_of, most_u32, most_u64, opening_fields, params_at}
 use Rattle.pie_trace.specs.Text.{Row}
 use Rattle.pie_trace.specs.Write.{are_default, mode_word, nine_of, opening_row}
@@ -67,8 +67,8 @@ are_default-true p e =
 -- ---- what is accepted is held by its type
 
 pub record OpeningFits (limits : Limits) (moment : ℕ) : Type 0 where
-  pub packets : limits.packets ≤ most_u32
-  pub tail : limits.tail ≤ most_u32
+  pub packets : limits.packets < 2 ^ 32
+  pub tail : limits.tail < 2 ^ 32
   pub events : limits.events ≤ 2 ^ 40
   pub within : moment ≤ last_moment
 

@@ -13,6 +13,7 @@ mod answer;
 pub mod fault;
 mod fields;
 pub mod history;
+pub mod law;
 pub mod lines;
 mod number;
 mod records;
@@ -24,6 +25,7 @@ pub mod write;
 
 pub use fault::{Flaw, OpenFault, TraceFault};
 pub use history::Line;
+pub use law::history_texts_are_read_back;
 pub use lines::HistoryLines;
 pub use run::{RunEnd, run_trace, run_trace_within};
 pub use write::write_history;

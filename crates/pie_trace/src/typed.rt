@@ -1,9 +1,10 @@
 //! The numbers of an event are those that the types of its fields hold. These functions do nothing: their contracts
 //! say it of values in hand.
-ghost use Rattle.std.specs.Prelude.{◌≡◌, ◌≤◌, true};
+ghost use Rattle.std.specs.Prelude.{◌≡◌, ◌<◌, ◌≤◌, ◌^◌, true};
 ghost use Rattle.pie_book.specs.Deed.{fits};
-ghost use Rattle.pie_trace.specs.Record.{most_u16, most_u64};
-ghost use Rattle.pie_trace.specs.ReadBack.{AnswerFits, CommandFits, EventFits, PacketFits, ParamsFit};
+ghost use Rattle.pie_trace.specs.Record.{most_u16};
+ghost use Rattle.pie_book.specs.Ranges.{AnswerFits, CommandFits, PacketFits, ParamsFit};
+ghost use Rattle.pie_trace.specs.ReadBack.{EventFits};
 
 use pie_book::{Answer, Command, Event};
 use pie_params::Params;
@@ -43,7 +44,7 @@ fn change_fits(moment: u64, params: Params)
 
 /// A moment.
 fn moment_fits(moment: u64)
-    ensures { moment ≤ most_u64 }
+    ensures { moment < 2 ^ 64 }
 {
     let _ = moment;
 }

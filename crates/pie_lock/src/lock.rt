@@ -12,6 +12,7 @@ use std::alloc::Global;
 use std::marker::Model;
 use std::snapshot::Snapshot;
 use std::sync::Wait;
+use std::sync::atomic::{AtomicU64, Ordering};
 
 // The lock's one word and one slot.
 const WORD: usize = 0;
@@ -23,6 +24,12 @@ const FREE: u64 = 0;
 
 // One pass has the state.
 const HELD: u64 = 1;
+
+// No pass sleeps, or one was woken that says so anew.
+const NOT_AWAITED: u64 = 0;
+
+// A pass may sleep until a put.
+const AWAITED: u64 = 1;
 
 /// A state that one pass at a time may have.
 ///
@@ -36,6 +43,8 @@ pub struct RuledLock<S: Kept> {
         LockRule,
         Global,
     >,
+    // AWAITED where a pass may sleep until a put. No clause speaks of it.
+    awaited: AtomicU64,
 }
 
 impl<S: Kept> Model for RuledLock<S> {
@@ -94,7 +103,8 @@ impl<S: Kept> RuledLock<S> {
                     limit: numbers,
                     seat,
                 };
-                Ok((RuledLock { table }, pass))
+                let awaited = AtomicU64::new(NOT_AWAITED);
+                Ok((RuledLock { table, awaited }, pass))
             }
             Err(Refused { slots }) => Err((state_of(slots), LockRefusal::Memory)),
         }
@@ -186,11 +196,20 @@ impl<S: Kept> RuledLock<S> {
         let mut waiting = pass;
         let backoff = Backoff::new();
         for _ in rt.forever() {
+            // Before each look at the word that a sleep may follow, and after each sleep, since others may sleep still: a put
+            // that does not see it came before this look, and the put of who takes the lock now wakes the next.
+            if backoff.is_completed() {
+                self.awaited.store(AWAITED, Ordering::SeqCst);
+            }
             waiting = match self.try_take(waiting) {
                 Ok(held) => return held,
                 Err(pass) => pass,
             };
-            backoff.snooze();
+            if backoff.is_completed() {
+                self.awaited.park(rt, AWAITED as u32);
+            } else {
+                backoff.snooze();
+            }
         }
         unreachable!()
     }
@@ -211,6 +230,10 @@ impl<S: Kept> RuledLock<S> {
         } = held;
         self.put_into_slot(&mut seat, state, entry);
         self.table.shared.store::<FreeStep>(&mut seat, WORD, FREE);
+        if self.awaited.load(Ordering::SeqCst) == AWAITED {
+            self.awaited.store(NOT_AWAITED, Ordering::SeqCst);
+            self.awaited.wake_one();
+        }
         Pass { first, limit, seat }
     }
 

@@ -1,6 +1,9 @@
 //! The audit of a history: each recorded event is decided again, and the first that the rules do not give is named.
 //!
 //! The definitions that the contracts cite stand in `specs/`: `finding` looks at each event with all lines before it.
+//!
+//! `runs_are_clean` is the law that ties runs and audits together: the history text of every trace is found clean, with as many events as
+//! the run recorded.
 #![tactic(auto)]
 
 pub mod auditor;

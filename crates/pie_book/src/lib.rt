@@ -10,7 +10,8 @@
 //! want of memory, hands out the oldest ones, and the book tells the same history (`too_many`, `refused`, `folded`, `told`).
 //! `open` and `open_with` refuse only for the listed reasons, in that order, or for lack of memory. The readers are what the definitions say:
 //! `registers`, `stats`, `count` and `waiting` of the whole history, `checkpoint` and `checkpoint_stats` of the history without
-//! the tail. `folds_change_no_answer` is the law over runs. `apply` and `step` take no memory.
+//! the tail. `folds_change_no_answer` is the law over runs, and `all_numbers_are_held` the law that every register, statistic and answer after a
+//! legal history is a number that its field holds. `apply` and `step` take no memory.
 #![tactic(auto)]
 
 pub mod book;

@@ -1,10 +1,7 @@
 -- The record of an opening and of an event is read back as that opening and that event.
-use Rattle.std.proofs.Common.{◌≡◌, ◌≤◌, ◌<◌, ◌+◌, ◌^◌, ◌==◌, ◌&&◌, nat_le, ℕ, List, [], ◌∷◌, ◌++◌, map, length, Bool, true, false, decimal, refl, sym, ap, ◌∙◌, arith, if◌then◌else◌}
-use Rattle.std.specs.Prelude.{Option, Some, None, Result, Ok, Err, codes}
-use Rattle.std.proofs.lemmas.Bool.{eqb-true}
+use Rattle.std.proofs.Common.{◌≡◌, ◌≤◌, ◌<◌, ◌^◌, ℕ, List, [], ◌∷◌, ◌++◌, true, decimal, refl, arith}
+use Rattle.std.specs.Prelude.{Some, Ok, codes}
 use Rattle.csv.specs.Records.{field_at}
-use Rattle.pie_params.specs.Profile.{default_profile}
-use Rattle.pie_params.specs.Range.{first_bad}
 use Rattle.pie_params.specs.declared.raw.RawParams.{RawParams}
 use Rattle.pie_queue.specs.declared.ecn.Ecn.{Ecn}
 use Rattle.pie_queue.specs.declared.ecn.Ecn.TheVariants as ecn
@@ -14,14 +11,11 @@ use Rattle.pie_book.specs.declared.command.Answer.{Answer}
 use Rattle.pie_book.specs.declared.command.Answer.TheVariants.{Enqueued, Marked, DroppedEarly, DroppedBytes, DroppedPackets, Empty, Left, Updated, Done}
 use Rattle.pie_book.specs.declared.command.Command.{Command}
 use Rattle.pie_book.specs.declared.command.Command.TheVariants.{Arrive, Depart, Update, Reset, SetParams}
-use Rattle.pie_book.specs.declared.command.Event.{Event}
-use Rattle.pie_trace.specs.declared.history.Line.{Line}
 use Rattle.pie_trace.specs.Line.{arrival_line, call_at, departure_line, line_of, made, packet_at, params_line, reset_line, update_line, verdict_of}
 use Rattle.pie_trace.specs.Number.{number}
 use Rattle.pie_book.specs.Ranges.{AnswerFits, CommandFits, PacketFits, ParamsFit}
 use Rattle.pie_trace.specs.Record.{ecn_of, most_u16, most_u32, most_u64, params_at}
 use Rattle.pie_trace.specs.Reply.{answer_fields, ecn_word}
-use Rattle.pie_trace.specs.Text.{Row}
 use Rattle.pie_trace.specs.Write.{command_fields}
 use Rattle.pie_trace.proofs.NumberFacts.{number-decimal}
 
@@ -78,9 +72,20 @@ line-params : (caller moment : ℕ) (params : RawParams) → caller ≤ most_u16
     → line_of (command_fields caller (SetParams moment params) ++ answer_fields Done) ≡ Ok (made caller (SetParams moment params) Done)
 unfolding line_of params_line call_at params_at field_at command_fields answer_fields
 line-params caller moment params called fits set =
-    rw (back_u16 caller called, back_u64 moment fits, back_u64 params.target set.target, back_u64 params.t_update set.t_update, back_u64 params.max_burst set.max_burst,
-    back_u64 params.alpha set.alpha, back_u64 params.beta set.beta, back_u64 params.mean_pkt set.mean_pkt, back_u64 params.limit_bytes set.limit_bytes,
-    back_u64 params.mark_ecnth set.mark_ecnth, back_u64 params.dq_threshold set.dq_threshold, set.in_range) refl
+    rw (
+      back_u16 caller called,
+      back_u64 moment fits,
+      back_u64 params.target set.target,
+      back_u64 params.t_update set.t_update,
+      back_u64 params.max_burst set.max_burst,
+      back_u64 params.alpha set.alpha,
+      back_u64 params.beta set.beta,
+      back_u64 params.mean_pkt set.mean_pkt,
+      back_u64 params.limit_bytes set.limit_bytes,
+      back_u64 params.mark_ecnth set.mark_ecnth,
+      back_u64 params.dq_threshold set.dq_threshold,
+      set.in_range,
+    ) refl
 
 -- the record of a command with its answer
 pub line-back : (caller : ℕ) (command : Command) (answer : Answer) → fits command answer ≡ true → caller ≤ most_u16 → CommandFits command → AnswerFits answer

@@ -1,9 +1,8 @@
 -- A text of an opening's record and of records that each tell a line is read back as that opening and those lines.
-use Rattle.std.proofs.Common.{◌≡◌, ◌≤◌, ◌<◌, ◌+◌, ◌^◌, ℕ, zero, suc, List, [], ◌∷◌, ◌++◌, map, length, true, false, refl, sym, ap, subst, ◌∙◌, arith}
+use Rattle.std.proofs.Common.{◌≡◌, ◌≤◌, ◌<◌, ◌+◌, ◌^◌, ℕ, suc, List, [], ◌∷◌, ◌++◌, map, length, refl, sym, ap, subst, ◌∙◌, arith}
 use Rattle.std.specs.Prelude.{All, Option, Some, None, Result, Ok, Err, IfSome, OnOk, ⊤}
 use Rattle.std.specs.Io.KnownBytes.{Appends}
 use Rattle.std.proofs.lemmas.List.Elements.{All-cons, All-head, All-nil, All-tail}
-use Rattle.std.proofs.lemmas.Bool.{le-ltb}
 use Rattle.pie_book.specs.declared.command.Command.{Command}
 use Rattle.pie_book.specs.declared.command.Command.TheVariants.{Arrive, Depart, Update, Reset, SetParams}
 use Rattle.pie_book.specs.declared.command.Event.{Event}
@@ -18,7 +17,7 @@ use Rattle.pie_trace.specs.Line.{line_of}
 use Rattle.pie_trace.specs.Lines.{Coming, after_opening, coming_from, fault_from, history_opening, lines_from, told_by}
 use Rattle.pie_book.specs.Ranges.{ParamsFit}
 use Rattle.pie_trace.specs.ReadBack.{EventFits, TellsHistory}
-use Rattle.pie_trace.specs.Text.{Row, records_of}
+use Rattle.pie_trace.specs.Text.{Row}
 use Rattle.pie_trace.specs.Write.{command_fields, event_row, mode_word, opening_row, written_rows}
 use Rattle.pie_trace.proofs.EventBack.{line-back}
 use Rattle.pie_trace.proofs.LinesFacts.{told_by-line}

@@ -1,6 +1,6 @@
 -- Records that tell no event are read back as notes.
-use Rattle.std.proofs.Common.{◌≡◌, ◌≤◌, ◌<◌, ◌+◌, ◌%◌, ◌^◌, ℕ, zero, suc, List, [], ◌∷◌, ◌++◌, map, length, get_or, Bool, true, false, decimal, refl, sym, ap, ◌∙◌, arith, length-append}
-use Rattle.std.specs.Prelude.{Option, Some, None, Result, Ok, Err, codes}
+use Rattle.std.proofs.Common.{◌≡◌, ◌<◌, ◌+◌, ◌%◌, ◌^◌, ℕ, zero, suc, [], ◌∷◌, length, get_or, Bool, true, false, decimal, refl, ap, ◌∙◌, arith, length-append}
+use Rattle.std.specs.Prelude.{Some, Ok}
 use Rattle.std.specs.Str.{all_ascii_digits}
 use Rattle.std.specs.Str.Parse.{digits_value}
 use Rattle.std.proofs.lemmas.Fmt.{decimal_by_steps_wide, decimal_digit, decimal_is_IsNumeral_wide}
@@ -10,13 +10,11 @@ use Rattle.csv.specs.Records.{field_at}
 use Rattle.pie_book.specs.declared.registers.Registers.{Registers}
 use Rattle.pie_book.specs.declared.stats.Stats.{Stats}
 use Rattle.pie_book.specs.Ranges.{RegistersFit, StatsFit}
-use Rattle.pie_trace.specs.declared.history.Line.{Line}
 use Rattle.pie_trace.specs.declared.history.Line.TheVariants as line
 use Rattle.pie_trace.specs.Line.{line_of, most_u128, note_line, numbers_at}
 use Rattle.pie_trace.specs.Number.{number}
 use Rattle.pie_trace.specs.Record.{most_u64}
 use Rattle.pie_trace.specs.Reply.{flag, folded_row, refused_row, shown_row, tallied_row}
-use Rattle.pie_trace.specs.Text.{Row}
 use Rattle.pie_trace.proofs.NumberFacts.{number-decimal, number-value}
 
 back : (n : ℕ) → n < 2 ^ 64 → number most_u64 (decimal n) ≡ Some n
@@ -59,12 +57,37 @@ back-flag false = number-decimal 1 0 (omega arith) (omega arith)
 pub shown-note : (r : Registers) → RegistersFit r → line_of (shown_row r) ≡ Ok line.Note
 unfolding line_of note_line numbers_at field_at shown_row
 shown-note r f =
-    rw (back r.count f.count, back r.moment f.moment, back r.packets f.packets, back r.bytes f.bytes, back r.prob f.prob, back r.old f.old, back r.accu f.accu, back r.burst f.burst, back r.last f.last,
-    back r.average f.average, back-flag r.measuring) refl
+    rw (
+      back r.count f.count,
+      back r.moment f.moment,
+      back r.packets f.packets,
+      back r.bytes f.bytes,
+      back r.prob f.prob,
+      back r.old f.old,
+      back r.accu f.accu,
+      back r.burst f.burst,
+      back r.last f.last,
+      back r.average f.average,
+      back-flag r.measuring,
+    ) refl
 
 pub tallied-note : (s : Stats) → StatsFit s → line_of (tallied_row s) ≡ Ok line.Note
 unfolding line_of note_line numbers_at field_at tallied_row
 tallied-note s f =
-    rw (back s.arrivals f.arrivals, back s.enqueued f.enqueued, back s.marked f.marked, back s.early f.early, back s.over_bytes f.over_bytes, back s.over_packets f.over_packets, back s.left f.left,
-    back s.left_bytes f.left_bytes, back s.empty f.empty, back s.updates f.updates, back s.resets f.resets, back s.changes f.changes, back s.largest_queue f.largest_queue, back s.largest_delay f.largest_delay,
-    back-long s.waited f.waited) refl
+    rw (
+      back s.arrivals f.arrivals,
+      back s.enqueued f.enqueued,
+      back s.marked f.marked,
+      back s.early f.early,
+      back s.over_bytes f.over_bytes,
+      back s.over_packets f.over_packets,
+      back s.left f.left,
+      back s.left_bytes f.left_bytes,
+      back s.empty f.empty,
+      back s.updates f.updates,
+      back s.resets f.resets,
+      back s.changes f.changes,
+      back s.largest_queue f.largest_queue,
+      back s.largest_delay f.largest_delay,
+      back-long s.waited f.waited,
+    ) refl

@@ -1,24 +1,20 @@
 -- The record of an opening is read back as that opening.
-use Rattle.std.proofs.Common.{◌≡◌, ◌≤◌, ◌<◌, ◌^◌, ◌==◌, ◌&&◌, nat_le, ℕ, List, [], ◌∷◌, ◌++◌, map, length, Bool, true, false, decimal, refl, sym, ap, ◌∙◌, arith, if◌then◌else◌}
-use Rattle.std.specs.Prelude.{Option, Some, None, Result, Ok, Err}
+use Rattle.std.proofs.Common.{◌≡◌, ◌≤◌, ◌<◌, ◌^◌, ◌==◌, ◌&&◌, nat_le, ℕ, [], ◌∷◌, ◌++◌, map, Bool, true, false, decimal, refl, sym, ap, ◌∙◌, arith, if◌then◌else◌}
+use Rattle.std.specs.Prelude.{Some, None, Ok}
 use Rattle.std.proofs.lemmas.Bool.{eqb-true}
 use Rattle.std.proofs.lemmas.Bool.Decides.{nat_tests}
 use Rattle.csv.specs.Records.{field_at}
 use Rattle.pie_params.specs.Profile.{default_profile}
-use Rattle.pie_params.specs.Range.{first_bad}
 use Rattle.pie_params.specs.declared.raw.RawParams.{RawParams}
 use Rattle.pie_book.specs.declared.opening.Limits.{Limits}
 use Rattle.pie_book.specs.declared.opening.Mode.{Mode}
 use Rattle.pie_book.specs.declared.opening.Mode.TheVariants.{Bounded, Rolling}
 use Rattle.pie_book.specs.declared.opening.Opening.{Opening}
-use Rattle.pie_book.specs.declared.refusal.OpenRefusal.{OpenRefusal}
 use Rattle.pie_book.specs.declared.refusal.OpenRefusal.TheVariants as refusal
 use Rattle.pie_book.specs.Opening.{are_in_range, last_moment, opening_refusal}
 use Rattle.pie_trace.specs.History.{opening_of}
-use Rattle.pie_trace.specs.Number.{number}
 use Rattle.pie_book.specs.Ranges.{ParamsFit}
-use Rattle.pie_trace.specs.Record.{limits_at, mode_of, most_u32, most_u64, opening_fields, params_at}
-use Rattle.pie_trace.specs.Text.{Row}
+use Rattle.pie_trace.specs.Record.{limits_at, mode_of, opening_fields, params_at}
 use Rattle.pie_trace.specs.Write.{are_default, mode_word, nine_of, opening_row}
 use Rattle.pie_trace.proofs.EventBack.{back_u32, back_u64}
 
@@ -101,16 +97,42 @@ long-back : (mode : Mode) (moment : ℕ) (limits : Limits) (params : RawParams) 
 unfolding opening_of mode_of opening_fields limits_at params_at field_at
 long-back Bounded moment limits params accepted set =
     let fits = accepted_fits limits moment accepted in
-    rw (back_u64 moment (let m = fits.within in omega arith), back_u32 limits.packets fits.packets, back_u32 limits.tail fits.tail, back_u64 limits.events (let m = fits.events in omega arith),
-    back_u64 params.target set.target, back_u64 params.t_update set.t_update, back_u64 params.max_burst set.max_burst,
-    back_u64 params.alpha set.alpha, back_u64 params.beta set.beta, back_u64 params.mean_pkt set.mean_pkt, back_u64 params.limit_bytes set.limit_bytes,
-    back_u64 params.mark_ecnth set.mark_ecnth, back_u64 params.dq_threshold set.dq_threshold, set.in_range, accepted) refl
+    rw (
+      back_u64 moment (let m = fits.within in omega arith),
+      back_u32 limits.packets fits.packets,
+      back_u32 limits.tail fits.tail,
+      back_u64 limits.events (let m = fits.events in omega arith),
+      back_u64 params.target set.target,
+      back_u64 params.t_update set.t_update,
+      back_u64 params.max_burst set.max_burst,
+      back_u64 params.alpha set.alpha,
+      back_u64 params.beta set.beta,
+      back_u64 params.mean_pkt set.mean_pkt,
+      back_u64 params.limit_bytes set.limit_bytes,
+      back_u64 params.mark_ecnth set.mark_ecnth,
+      back_u64 params.dq_threshold set.dq_threshold,
+      set.in_range,
+      accepted,
+    ) refl
 long-back Rolling moment limits params accepted set =
     let fits = accepted_fits limits moment accepted in
-    rw (back_u64 moment (let m = fits.within in omega arith), back_u32 limits.packets fits.packets, back_u32 limits.tail fits.tail, back_u64 limits.events (let m = fits.events in omega arith),
-    back_u64 params.target set.target, back_u64 params.t_update set.t_update, back_u64 params.max_burst set.max_burst,
-    back_u64 params.alpha set.alpha, back_u64 params.beta set.beta, back_u64 params.mean_pkt set.mean_pkt, back_u64 params.limit_bytes set.limit_bytes,
-    back_u64 params.mark_ecnth set.mark_ecnth, back_u64 params.dq_threshold set.dq_threshold, set.in_range, accepted) refl
+    rw (
+      back_u64 moment (let m = fits.within in omega arith),
+      back_u32 limits.packets fits.packets,
+      back_u32 limits.tail fits.tail,
+      back_u64 limits.events (let m = fits.events in omega arith),
+      back_u64 params.target set.target,
+      back_u64 params.t_update set.t_update,
+      back_u64 params.max_burst set.max_burst,
+      back_u64 params.alpha set.alpha,
+      back_u64 params.beta set.beta,
+      back_u64 params.mean_pkt set.mean_pkt,
+      back_u64 params.limit_bytes set.limit_bytes,
+      back_u64 params.mark_ecnth set.mark_ecnth,
+      back_u64 params.dq_threshold set.dq_threshold,
+      set.in_range,
+      accepted,
+    ) refl
 
 short-back : (mode : Mode) (moment : ℕ) (limits : Limits) → opening_refusal limits moment ≡ None
     → opening_of (mode_word mode ∷ (map decimal (moment ∷ limits.packets ∷ limits.tail ∷ limits.events ∷ []) ++ []))

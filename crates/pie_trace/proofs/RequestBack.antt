@@ -1,7 +1,7 @@
 -- A record that asks a command is the command's fields, as they are written.
-use Rattle.std.proofs.Common.{rules, ◌≡◌, ◌≤◌, ◌<◌, ◌+◌, ◌^◌, ◌==◌, ◌&&◌, nat_le, ℕ, zero, suc, List, [], ◌∷◌, ◌++◌, map, length, Bool, true, false, decimal, refl, sym, ap, subst, ◌∙◌, arith, if◌then◌else◌}
+use Rattle.std.proofs.Common.{rules, ◌≡◌, ◌≤◌, ◌<◌, ◌^◌, ◌==◌, ℕ, suc, List, [], ◌∷◌, map, length, Bool, true, false, decimal, refl, sym, ap, subst, ◌∙◌, arith, if◌then◌else◌}
 use Rattle.std.specs.Prelude.{Option, Some, None, Result, Ok, Err, codes}
-use Rattle.std.specs.Option.{ok_or, option_and_then}
+use Rattle.std.specs.Option.{ok_or}
 use Rattle.std.specs.Str.{bytes_eq}
 use Rattle.std.proofs.lemmas.Bool.{eqb-true}
 use Rattle.csv.specs.Records.{field_at}
@@ -13,19 +13,18 @@ use Rattle.pie_queue.specs.declared.ecn.Ecn.TheVariants as ecn
 use Rattle.pie_queue.specs.declared.packet.Packet.{Packet}
 use Rattle.pie_book.specs.declared.command.Command.{Command}
 use Rattle.pie_book.specs.declared.command.Command.TheVariants.{Arrive, Depart, Update, Reset, SetParams}
-use Rattle.pie_book.specs.Ranges.{CommandFits, PacketFits, ParamsFit}
+use Rattle.pie_book.specs.Ranges.{CommandFits, ParamsFit}
 use Rattle.pie_trace.specs.declared.fault.Flaw.{Flaw}
 use Rattle.pie_trace.specs.declared.fault.Flaw.TheVariants as flaw
 use Rattle.pie_trace.specs.declared.fields.Call.{Call}
 use Rattle.pie_trace.specs.declared.fields.Request.{Request}
 use Rattle.pie_trace.specs.declared.fields.Request.TheVariants as request
 use Rattle.pie_trace.specs.Number.{number}
-use Rattle.pie_trace.specs.Record.{alone, and_then, arrive_fields, call_fields, change_to, ecn_at, ecn_of, fold_fields, is_kind, is_word, most_u16, most_u32, most_u64, number_at, params_at, params_fields, request_of}
+use Rattle.pie_trace.specs.Record.{alone, and_then, arrive_fields, call_fields, change_to, ecn_at, ecn_of, fold_fields, is_kind, most_u16, most_u32, most_u64, number_at, params_at, params_fields, request_of}
 use Rattle.pie_trace.specs.Reply.{ecn_word}
 use Rattle.pie_trace.specs.Text.{Row}
 use Rattle.pie_trace.specs.Write.{command_fields, nine_of}
 use Rattle.pie_trace.proofs.NumberFacts.{number-some}
-use borrow.Author.Tests.{not-true}
 use Rattle.std.proofs.lemmas.Slice.Eq.{bytes_eq-Decides}
 
 -- ---- what was read

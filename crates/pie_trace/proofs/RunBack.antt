@@ -1,5 +1,5 @@
 -- The history text of a trace is read back: its opening, the events of its run, and notes.
-use Rattle.std.proofs.Common.{◌≡◌, ◌≤◌, ◌<◌, ◌+◌, ◌-◌, ◌^◌, ◌==◌, ℕ, zero, suc, List, [], ◌∷◌, ◌++◌, map, length, Bool, true, false, refl, sym, ap, subst, ◌∙◌, arith, length-append, if◌then◌else◌}
+use Rattle.std.proofs.Common.{◌≡◌, ◌≤◌, ◌<◌, ◌+◌, ◌-◌, ◌^◌, ◌==◌, ℕ, List, [], ◌∷◌, ◌++◌, length, Bool, true, false, refl, sym, ap, subst, ◌∙◌, arith, length-append, if◌then◌else◌}
 use Rattle.std.specs.Prelude.{All, nat_lt, take, Option, Some, None, Result, Ok, Err, codes}
 use Rattle.std.proofs.lemmas.Bool.{ltb-true}
 use Rattle.std.proofs.lemmas.Bool.Decides.{nat_tests}
@@ -8,7 +8,6 @@ use Rattle.csv.specs.Records.{field_at}
 use Rattle.pie_params.specs.Range.{first_bad}
 use Rattle.pie_params.specs.declared.raw.Field.{Field}
 use Rattle.pie_params.specs.declared.raw.RawParams.{RawParams}
-use Rattle.pie_book.specs.declared.command.Answer.{Answer}
 use Rattle.pie_book.specs.declared.command.Command.{Command}
 use Rattle.pie_book.specs.declared.command.Event.{Event}
 use Rattle.pie_book.specs.declared.opening.Mode.{Mode}
@@ -26,7 +25,7 @@ use Rattle.pie_book.specs.Deed.{fits}
 use Rattle.pie_book.specs.Opening.{opening_refusal}
 use Rattle.pie_book.specs.Ranges.{AnswerFits, CommandFits, ParamsFit, RegistersFit, StatsFit}
 use Rattle.pie_book.specs.Registers.{registers_after}
-use Rattle.pie_book.specs.Run.{Progress, event_of, fold_outcome, held_after_fold, held_with_one, next, recorded, refused_or, start}
+use Rattle.pie_book.specs.Run.{Progress, event_of, fold_outcome, held_with_one, recorded, refused_or, start}
 use Rattle.pie_book.specs.Statistics.{stats_after}
 use Rattle.pie_trace.specs.declared.fault.Flaw.{Flaw}
 use Rattle.pie_trace.specs.declared.fault.TraceFault.{TraceFault}
@@ -42,7 +41,7 @@ use Rattle.pie_trace.specs.ReadBack.{TellsHistory, line_told, lines_told, run_li
 use Rattle.pie_trace.specs.Record.{is_kind, mode_of, opening_fields, request_of}
 use Rattle.pie_trace.specs.Reply.{Reply, after, code_of, history_row, reply, reply_to_command, reply_to_fold}
 use Rattle.pie_trace.specs.Text.{Row}
-use Rattle.pie_trace.specs.Write.{command_fields, mode_word}
+use Rattle.pie_trace.specs.Write.{mode_word}
 use Rattle.pie_trace.proofs.EndFacts.{history_text-read}
 use Rattle.pie_trace.proofs.EventBack.{line-back}
 use Rattle.pie_trace.proofs.HistoryBack.{TellEach, TellEach-cons, TellEach-none, history-told}

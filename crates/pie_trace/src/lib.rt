@@ -7,6 +7,9 @@
 //! `Write` or `Memory`: Ok exactly where the text has no fault (clause `ends`, with the numbers, registers and statistics of the
 //! run), and else its first fault (`faults`); what was written is the history text (`writes`). They end over a reader that
 //! never ends.
+//!
+//! `write_history`: what was written is the opening's record and a record for each event (clause `written`), and it is read back as the same
+//! opening and events (`read_back`). `history_texts_are_read_back` is the same law of what a run writes.
 #![tactic(auto)]
 
 mod answer;

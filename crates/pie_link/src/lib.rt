@@ -13,7 +13,8 @@
 //! order, and ends with the stored tail, and looking back over it gives all that the book holds.
 //!
 //! Not promised: that a waiting call returns, that anyone is served, or how often `Busy` comes; that `TooMany`, and `HistoryFull`
-//! from as many events on as the tail may hold, come only where the tail really is too short or full (tests show it).
+//! from as many events on as the tail may hold, come only where the tail really is too short or full (tests show it); what a caller
+//! that was dropped had been shown.
 #![tactic(auto)]
 
 pub mod caller;

@@ -2,7 +2,7 @@
 
 use crate::report::{checksum, nanos};
 use crate::words::Words;
-use pie_book::{Answer, Book, Choices, Command, Core, Event, Limits, Mode};
+use pie_book::{Answer, Book, Choices, Command, Core, Event, Limits, Mode, Profile};
 use pie_params::Params;
 use pie_queue::{Ecn, Packet};
 use std::alloc::Global;
@@ -154,7 +154,11 @@ fn measure_core<R: Clock + Print>(rt: &R, alloc: Global) -> io::Result<()> {
 /// Prints the time of one event that is decided and recorded (`Book::apply`).
 fn measure_book<R: Clock + Print>(rt: &R, alloc: Global, name: &str, mode: Mode) -> io::Result<()> {
     let params = Params::default_profile();
-    let Ok(mut book) = Book::open_with(alloc, limits(), params, 0, Choices { mode }) else {
+    let choices = Choices {
+        mode,
+        profile: Profile::One,
+    };
+    let Ok(mut book) = Book::open_with(alloc, limits(), params, 0, choices) else {
         return Ok(());
     };
     let start = Instant::now(rt)?;

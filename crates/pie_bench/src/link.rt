@@ -5,7 +5,7 @@
 ghost use Rattle.std.specs.Prelude.{◌≡◌, All, IfOk};
 
 use crate::report::{checksum, nanos, throughput};
-use pie_book::{Book, Choices, Command, Limits, Mode};
+use pie_book::{Book, Choices, Command, Limits, Mode, Profile};
 use pie_link::{Caller, Link};
 use pie_params::Params;
 use pie_queue::{Ecn, Packet};
@@ -53,6 +53,7 @@ fn limits() -> Limits {
 fn choices() -> Choices {
     Choices {
         mode: Mode::Rolling,
+        profile: Profile::One,
     }
 }
 

@@ -11,7 +11,7 @@ use Rattle.pie_queue.specs.declared.packet.Waiting.{Waiting}
 use Rattle.pie_queue.specs.Queue.{bytes_of}
 use Rattle.pie_queue.specs.Ecn.{is_capable}
 use Rattle.pie_book.specs.declared.cause.Cause.{Cause}
-use Rattle.pie_book.specs.declared.cause.Cause.TheVariants.{NoRoomInBytes, NoRoomInPackets, BurstAllowed, LowDelay, ShortQueue, NoProbability, LittleAccumulated, PickedBySum, PickedByWord, WordNotBelow}
+use Rattle.pie_book.specs.declared.cause.Cause.TheVariants.{NoRoomInBytes, NoRoomInPackets, Inactive, BurstAllowed, LowDelay, ShortQueue, NoProbability, LittleAccumulated, PickedBySum, PickedByWord, WordNotBelow}
 use Rattle.pie_book.specs.declared.cause.Fate.{Fate}
 use Rattle.pie_book.specs.declared.cause.Fate.TheVariants.{Marked, NotCapable, NotBelow}
 use Rattle.pie_book.specs.declared.command.Answer.{Answer}
@@ -81,10 +81,19 @@ module _ (params : RawParams) (waiting : List Waiting) (parts : Parts) (accu : �
   same_verdict false false false false false false false false false capable under = refl
 
 -- an arrival's verdict is what its cause gives
-pub verdict-of-cause : (params : RawParams) (packets : ℕ) (waiting : List Waiting) (parts : Parts) (accu : ℕ) (packet : Packet) (word : ℕ)
-    → verdict params packets waiting parts accu packet word ≡ verdict_of (cause params packets waiting parts accu packet word)
+pub verdict-of-cause : (active : Bool) (params : RawParams) (packets : ℕ) (waiting : List Waiting) (parts : Parts) (accu : ℕ) (packet : Packet) (word : ℕ)
+    → verdict active params packets waiting parts accu packet word ≡ verdict_of (cause active params packets waiting parts accu packet word)
 unfolding cause early_cause considered_cause is_considered is_picked
-verdict-of-cause params packets waiting parts accu packet word =
+verdict-of-cause false params packets waiting parts accu packet word =
+    while_inactive (nat_lt params.limit_bytes (bytes_of waiting + packet.size)) (length waiting == packets)
+  where
+    while_inactive : (over full : Bool)
+        → (if over then DroppedBytes else if full then DroppedPackets else decided.verdict_of Enqueue)
+        ≡ verdict_of (if over then NoRoomInBytes (bytes_of waiting) packet.size params.limit_bytes else if full then NoRoomInPackets (length waiting) else Inactive)
+    while_inactive true full = refl
+    while_inactive false true = refl
+    while_inactive false false = refl
+verdict-of-cause true params packets waiting parts accu packet word =
     rw (zero-lt parts.burst, lt-le (2 * params.mean_pkt) (bytes_of waiting), le-lt 850_000_000_000 (accu + parts.prob))
     (same_verdict params waiting parts accu packet.size word
     (nat_lt params.limit_bytes (bytes_of waiting + packet.size))
@@ -102,13 +111,13 @@ verdict-of-cause params packets waiting parts accu packet word =
 -- the cause of a core's registers is that after each history that the core shows
 pub cause-is : (opening : Opening) (core : CoreView) (history : List Event) → Shows opening core history
     → (moment : ℕ) (packet : Packet) (word : ℕ)
-    → Some (cause core.params core.packets core.waiting core.control core.accu packet word) ≡ cause_after opening history (Arrive moment packet word)
+    → Some (cause core.active core.params core.packets core.waiting core.control core.accu packet word) ≡ cause_after opening history (Arrive moment packet word)
 cause-is opening core history shows moment packet word =
-    rw (shows.params, shows.packets, shows.waiting, parts-is opening core history shows, accu-is opening core history shows) refl
+    rw (shows.active, shows.params, shows.packets, shows.waiting, parts-is opening core history shows, accu-is opening core history shows) refl
 
 -- an arrival's answer after a history is what its cause gives
 pub cause-decides : (opening : Opening) (core : CoreView) (history : List Event) → Shows opening core history
     → (moment : ℕ) (packet : Packet) (word : ℕ)
-    → decision opening history (Arrive moment packet word) ≡ verdict_of (cause core.params core.packets core.waiting core.control core.accu packet word)
+    → decision opening history (Arrive moment packet word) ≡ verdict_of (cause core.active core.params core.packets core.waiting core.control core.accu packet word)
 cause-decides opening core history shows moment packet word =
-    sym (decides-arrive opening core history shows moment packet word) ∙ verdict-of-cause core.params core.packets core.waiting core.control core.accu packet word
+    sym (decides-arrive opening core history shows moment packet word) ∙ verdict-of-cause core.active core.params core.packets core.waiting core.control core.accu packet word

@@ -1,6 +1,6 @@
 -- The definitions on worked histories: each theorem computes. What an event did, and what looking back finds of moments,
 -- parameters and packets.
-use Rattle.std.specs.Prelude.{ℕ, ◌≡◌, List, [], ◌∷◌, Option, Some, None, Bool, true, false, map}
+use Rattle.std.specs.Prelude.{ℕ, ◌≡◌, List, [], ◌∷◌, Some, None, true, false, map}
 use Rattle.std.proofs.Common.{refl}
 use Rattle.pie_params.specs.Profile.{default_profile}
 use Rattle.pie_params.specs.declared.raw.RawParams.{RawParams}
@@ -14,11 +14,12 @@ use Rattle.pie_book.specs.declared.command.Answer.TheVariants.{Enqueued, Marked,
 use Rattle.pie_book.specs.declared.command.Event.{Event}
 use Rattle.pie_book.specs.declared.opening.Limits.{Limits}
 use Rattle.pie_book.specs.declared.opening.Mode.{Mode}
-use Rattle.pie_book.specs.declared.opening.Mode.TheVariants.{Bounded, Rolling}
+use Rattle.pie_book.specs.declared.opening.Mode.TheVariants.{Bounded}
 use Rattle.pie_book.specs.declared.opening.Opening.{Opening}
+use Rattle.pie_book.specs.declared.opening.Profile.TheVariants.{One}
 use Rattle.pie_book.specs.declared.refusal.OpenRefusal.TheVariants as open_refusal
 use Rattle.pie_book.specs.Opening.{are_in_range, opening_refusal}
-use Rattle.pie_book.specs.Deed.{Deed, deed, deed_of, fits, handed_in, admission, departure, params_set, is_update, counts_as_reset, sets_params, clears_rate, queued, marked, dropped_early, dropped_bytes, dropped_packets, departed, found_none, updated, was_reset, set, nothing}
+use Rattle.pie_book.specs.Deed.{Deed, deed, fits, handed_in, admission, departure, params_set, is_update, counts_as_reset, clears_rate, queued, marked, dropped_early, dropped_bytes, dropped_packets, departed, found_none, updated, was_reset, set, nothing}
 use Rattle.pie_book.specs.History.{Place, places, up_to, greatest, last_or, effective_moment, params_after, admitted, departed_count, waiting_after, bytes_after}
 
 abbrev pub limits : ℕ → ℕ → ℕ → Limits
@@ -26,7 +27,7 @@ limits packets tail events = record { packets = packets; tail = tail; events = e
 
 -- an opening at moment 0
 abbrev pub opened_with : Mode → Limits → RawParams → Opening
-opened_with mode limits params = record { moment = 0; limits = limits; params = params; choices = record { mode = mode } }
+opened_with mode limits params = record { moment = 0; limits = limits; params = params; choices = record { mode = mode; profile = One } }
 
 -- .. of a bounded book with the default parameters
 abbrev pub opened : ℕ → ℕ → ℕ → Opening
@@ -108,11 +109,12 @@ setting = refl
 updating : map is_update all_deeds ≡ false ∷ false ∷ false ∷ false ∷ false ∷ false ∷ false ∷ true ∷ false ∷ false ∷ false ∷ []
 updating = refl
 
-resetting : map counts_as_reset all_deeds ≡ false ∷ false ∷ false ∷ false ∷ false ∷ false ∷ false ∷ false ∷ true ∷ false ∷ false ∷ []
-resetting = refl
+resetting : (map (counts_as_reset false) all_deeds ≡ false ∷ false ∷ false ∷ false ∷ false ∷ false ∷ false ∷ false ∷ true ∷ false ∷ false ∷ [])
+    × (counts_as_reset true dropped_bytes ≡ true)
+resetting = (refl, refl)
 
 -- a reset clears the rate estimate, and so do new parameters
-clearing_rate : map clears_rate all_deeds ≡ false ∷ false ∷ false ∷ false ∷ false ∷ false ∷ false ∷ false ∷ true ∷ true ∷ false ∷ []
+clearing_rate : map (clears_rate false) all_deeds ≡ false ∷ false ∷ false ∷ false ∷ false ∷ false ∷ false ∷ false ∷ true ∷ true ∷ false ∷ []
 clearing_rate = refl
 
 -- one arrival and two departures, the second of an empty queue
@@ -129,7 +131,7 @@ late_departure = event 2 (Depart 30) Empty
 abbrev pub three : List Event
 three = arrival ∷ departure_of_it ∷ late_departure ∷ []
 
-abbrev pub place : List Event → Event → Place
+abbrev pub place : List Event → Event → Place Event
 place before event = record { before = before; event = event }
 
 three-places : places three ≡ place [] arrival ∷ place (arrival ∷ []) departure_of_it ∷ place (arrival ∷ departure_of_it ∷ []) late_departure ∷ []

@@ -1,27 +1,22 @@
 -- The definitions on worked histories: each theorem computes. Marks, drops and a lone enqueue: three updates raise the
 -- probability, and three packets meet it.
-use Rattle.std.specs.Prelude.{ℕ, ◌≡◌, ◌-◌, ◌^◌, List, [], ◌∷◌, ◌++◌, Option, Some, None, Bool, true, false, map}
+use Rattle.std.specs.Prelude.{ℕ, ◌≡◌, List, [], ◌∷◌, ◌++◌, Some, None, Bool, true, false, map}
 use Rattle.std.proofs.Common.{refl}
-use Rattle.std.proofs.lemmas.List.Elements.{All-cons, All-head, All-nil}
 use Rattle.pie_params.specs.declared.raw.RawParams.{RawParams}
-use Rattle.pie_queue.specs.declared.ecn.Ecn.TheVariants.{NotEct, Ect0, Ce}
-use Rattle.pie_queue.specs.declared.packet.Packet.{Packet}
-use Rattle.pie_queue.specs.declared.packet.Waiting.{Waiting}
-use Rattle.pie_rate.specs.Departures.{Departure, departure}
+use Rattle.pie_queue.specs.declared.ecn.Ecn.TheVariants.{Ce}
+use Rattle.pie_rate.specs.Departures.{departure}
 use Rattle.pie_rate.specs.Cycles.{cycles, begun, first_position, first_opening, first_closing, first_cycle, cycles_from}
 use Rattle.pie_rate.specs.Average.{average, samples}
 use Rattle.pie_control.specs.Delay.{delay_of}
-use Rattle.pie_control.specs.Events.{ControlEvent, reset, update_at}
+use Rattle.pie_control.specs.Events.{reset, update_at}
 use Rattle.pie_control.specs.History.{probability, last_delay, last_moment, granted_burst, burst_allowance}
 use Rattle.pie_control.specs.Next.{raw_step, tuning_divisor, tuned_step, decayed, next}
 use Rattle.pie_control.specs.Parts.{Parts}
 use Rattle.pie_early.specs.declared.early.Choice.TheVariants.{Enqueue, Mark, Drop}
 use Rattle.pie_early.specs.Decision.{is_considered, is_picked}
-use Rattle.pie_early.specs.Events.{EarlyEvent, arrival, cleared}
+use Rattle.pie_early.specs.Events.{arrival, cleared}
 use Rattle.pie_early.specs.History.{accumulated}
-use Rattle.pie_book.specs.declared.command.Command.{Command}
 use Rattle.pie_book.specs.declared.command.Command.TheVariants.{Arrive, Depart, Update, Reset, SetParams}
-use Rattle.pie_book.specs.declared.command.Answer.{Answer}
 use Rattle.pie_book.specs.declared.command.Answer.TheVariants.{Enqueued, Marked, DroppedEarly, Left, Updated, Done}
 use Rattle.pie_book.specs.declared.command.Event.{Event}
 use Rattle.pie_book.specs.declared.opening.Mode.TheVariants.{Bounded}
@@ -30,11 +25,13 @@ use Rattle.pie_book.specs.declared.refusal.Refusal.TheVariants.{TooSoon}
 use Rattle.pie_book.specs.declared.registers.Registers.{Registers}
 use Rattle.pie_book.specs.declared.stats.Stats.{Stats}
 use Rattle.pie_book.specs.History.{places, greatest, last_or, effective_moment, params_after, admitted, departed_count, waiting_after}
-use Rattle.pie_book.specs.Estimates.{departures_after, average_after, measuring_after, delay_after, control_events, parts_after, due_after, considered_after, early_events, accu_after}
+use Rattle.pie_book.specs.Shown.{departures_of, delay_noted, control_of, early_of}
+use Rattle.pie_book.specs.Activity.{is_active, noted, noted_after}
+use Rattle.pie_book.specs.Estimates.{active_after, departures_after, delay_after, control_events, parts_after, due_after, early_events, accu_after}
 use Rattle.pie_book.specs.Registers.{registers_after}
 use Rattle.pie_book.specs.Statistics.{largest_queue, largest_delay, waited, stats_after}
-use Rattle.pie_book.specs.Decision.{decision, refusal_by_rule, IsLegal, IsLegalAt}
-use Rattle.pie_book.proofs.Examples.{limits, opened_with, nine, packet, capable, waits, event, place}
+use Rattle.pie_book.specs.Decision.{decision, refusal_by_rule}
+use Rattle.pie_book.proofs.Examples.{limits, opened_with, nine, packet, capable, waits, event}
 
 -- no burst allowance, and an update is due after a nanosecond
 abbrev pub no_burst : RawParams
@@ -93,18 +90,18 @@ abbrev pub fourteen : List Event
 fourteen = thirteen ++ restart ∷ []
 
 the_departures : departures_after opening twelve ≡ departure 1024 3072 1000 ∷ departure 1024 2048 1001000 ∷ []
-unfolding departures_after places effective_moment greatest waiting_after departed_count admitted
+unfolding departures_after places effective_moment greatest waiting_after departed_count admitted active_after departures_of delay_noted control_of early_of noted noted_after is_active
 the_departures = refl
 
 -- 2048 bytes at a millisecond for each 1024
 the_delays : map (delay_after opening) (two_departed ∷ twelve ∷ thirteen ∷ []) ≡ 2000000 ∷ 2976562 ∷ 0 ∷ []
-unfolding delay_after delay_of departures_after params_after last_or places effective_moment greatest waiting_after departed_count admitted average samples begun cycles first_position first_opening first_closing first_cycle cycles_from
+unfolding delay_after delay_of departures_after params_after last_or places effective_moment greatest waiting_after departed_count admitted average samples begun cycles first_position first_opening first_closing first_cycle cycles_from active_after departures_of delay_noted control_of early_of noted noted_after is_active
 the_delays = refl
 
 -- each update has the parameters in force and its own delay, and a reset its parameters
 the_control_events : control_events opening fourteen
     ≡ update_at no_burst 2000000 1001000 ∷ update_at no_burst 2000000 1001001 ∷ update_at no_burst 2000000 1001002 ∷ reset some_burst ∷ []
-unfolding control_events delay_after delay_of departures_after params_after last_or places effective_moment greatest waiting_after departed_count admitted average samples begun cycles first_position first_opening first_closing first_cycle cycles_from
+unfolding control_events delay_after delay_of departures_after params_after last_or places effective_moment greatest waiting_after departed_count admitted average samples begun cycles first_position first_opening first_closing first_cycle cycles_from active_after departures_of delay_noted control_of early_of noted noted_after is_active
 the_control_events = refl
 
 abbrev pub parts : ℕ → ℕ → ℕ → ℕ → Parts
@@ -112,54 +109,54 @@ parts prob old burst last = record { prob = prob; old_delay = old; burst = burst
 
 the_parts : map (parts_after opening) (two_departed ∷ updated_thrice ∷ thirteen ∷ fourteen ∷ [])
     ≡ parts 0 0 0 0 ∷ parts 903954174169 2000000 0 1001002 ∷ parts 903954174169 2000000 0 1001002 ∷ parts 0 0 50 1001002 ∷ []
-unfolding parts_after control_events delay_after delay_of departures_after params_after last_or places effective_moment greatest waiting_after departed_count admitted average samples begun cycles first_position first_opening first_closing first_cycle cycles_from probability last_delay last_moment granted_burst burst_allowance raw_step tuning_divisor tuned_step decayed next
+unfolding parts_after control_events delay_after delay_of departures_after params_after last_or places effective_moment greatest waiting_after departed_count admitted average samples begun cycles first_position first_opening first_closing first_cycle cycles_from probability last_delay last_moment granted_burst burst_allowance raw_step tuning_divisor tuned_step decayed next active_after departures_of delay_noted control_of early_of noted noted_after is_active
 the_parts = refl
 
 -- the next update is due a nanosecond after the last
 the_due : due_after opening fourteen ≡ 1001003
-unfolding parts_after control_events delay_after delay_of departures_after params_after last_or places effective_moment greatest waiting_after departed_count admitted average samples begun cycles first_position first_opening first_closing first_cycle cycles_from probability last_delay last_moment granted_burst burst_allowance raw_step tuning_divisor tuned_step decayed next
+unfolding parts_after control_events delay_after delay_of departures_after params_after last_or places effective_moment greatest waiting_after departed_count admitted average samples begun cycles first_position first_opening first_closing first_cycle cycles_from probability last_delay last_moment granted_burst burst_allowance raw_step tuning_divisor tuned_step decayed next active_after departures_of delay_noted control_of early_of noted noted_after is_active
 the_due = refl
 
 -- of the first four arrivals none is considered, since the old delay and the probability are 0; of the last three all are
 the_early_events : early_events opening fourteen
     ≡ arrival false 0 Enqueue ∷ arrival false 0 Enqueue ∷ arrival false 0 Enqueue ∷ arrival false 0 Enqueue ∷ arrival true 903954174169 Mark
     ∷ arrival true 903954174169 Drop ∷ arrival true 903954174169 Enqueue ∷ cleared ∷ []
-unfolding accu_after early_events accumulated is_considered is_picked parts_after control_events delay_after delay_of departures_after params_after last_or places effective_moment greatest waiting_after departed_count admitted average samples begun cycles first_position first_opening first_closing first_cycle cycles_from probability last_delay last_moment granted_burst burst_allowance raw_step tuning_divisor tuned_step decayed next
+unfolding accu_after early_events accumulated is_considered is_picked parts_after control_events delay_after delay_of departures_after params_after last_or places effective_moment greatest waiting_after departed_count admitted average samples begun cycles first_position first_opening first_closing first_cycle cycles_from probability last_delay last_moment granted_burst burst_allowance raw_step tuning_divisor tuned_step decayed next active_after departures_of delay_noted control_of early_of noted noted_after is_active
 the_early_events = refl
 
 -- the mark and the drop each leave nothing accumulated, the lone enqueue its probability, and the reset nothing
 the_accumulated : map (accu_after opening) ((updated_thrice ++ mark ∷ []) ∷ twelve ∷ thirteen ∷ fourteen ∷ []) ≡ 0 ∷ 903954174169 ∷ 903954174169 ∷ 0 ∷ []
-unfolding accu_after early_events accumulated is_considered is_picked parts_after control_events delay_after delay_of departures_after params_after last_or places effective_moment greatest waiting_after departed_count admitted average samples begun cycles first_position first_opening first_closing first_cycle cycles_from probability last_delay last_moment granted_burst burst_allowance raw_step tuning_divisor tuned_step decayed next
+unfolding accu_after early_events accumulated is_considered is_picked parts_after control_events delay_after delay_of departures_after params_after last_or places effective_moment greatest waiting_after departed_count admitted average samples begun cycles first_position first_opening first_closing first_cycle cycles_from probability last_delay last_moment granted_burst burst_allowance raw_step tuning_divisor tuned_step decayed next active_after departures_of delay_noted control_of early_of noted noted_after is_active
 the_accumulated = refl
 
 -- what each command is answered after the events before it
 decided_departure : decision opening (two_departed) (Depart 1001001) ≡ Left (packet 3 1024)
-unfolding accu_after early_events accumulated is_considered is_picked parts_after control_events delay_after delay_of departures_after params_after last_or places effective_moment greatest waiting_after departed_count admitted average samples begun cycles first_position first_opening first_closing first_cycle cycles_from probability last_delay last_moment granted_burst burst_allowance raw_step tuning_divisor tuned_step decayed next
+unfolding accu_after early_events accumulated is_considered is_picked parts_after control_events delay_after delay_of departures_after params_after last_or places effective_moment greatest waiting_after departed_count admitted average samples begun cycles first_position first_opening first_closing first_cycle cycles_from probability last_delay last_moment granted_burst burst_allowance raw_step tuning_divisor tuned_step decayed next active_after departures_of delay_noted control_of early_of noted noted_after is_active
 decided_departure = refl
 
 decided_updates : (decision opening two_departed (Update 1001000) ≡ Updated 2000000 830077294 0)
     × (decision opening (two_departed ++ first_update ∷ []) (Update 1001001) ≡ Updated 2000000 53955024169 0)
     × (decision opening (two_departed ++ first_update ∷ second_update ∷ []) (Update 1001002) ≡ Updated 2000000 903954174169 0)
-unfolding accu_after early_events accumulated is_considered is_picked parts_after control_events delay_after delay_of departures_after params_after last_or places effective_moment greatest waiting_after departed_count admitted average samples begun cycles first_position first_opening first_closing first_cycle cycles_from probability last_delay last_moment granted_burst burst_allowance raw_step tuning_divisor tuned_step decayed next
+unfolding accu_after early_events accumulated is_considered is_picked parts_after control_events delay_after delay_of departures_after params_after last_or places effective_moment greatest waiting_after departed_count admitted average samples begun cycles first_position first_opening first_closing first_cycle cycles_from probability last_delay last_moment granted_burst burst_allowance raw_step tuning_divisor tuned_step decayed next active_after departures_of delay_noted control_of early_of noted noted_after is_active
 decided_updates = (refl, refl, refl)
 
 decided_arrivals : (decision opening updated_thrice mark.command ≡ Marked)
     × (decision opening (updated_thrice ++ mark ∷ []) drop_of_one.command ≡ DroppedEarly)
     × (decision opening (updated_thrice ++ mark ∷ drop_of_one ∷ []) lone.command ≡ Enqueued)
-unfolding accu_after early_events accumulated is_considered is_picked parts_after control_events delay_after delay_of departures_after params_after last_or places effective_moment greatest waiting_after departed_count admitted average samples begun cycles first_position first_opening first_closing first_cycle cycles_from probability last_delay last_moment granted_burst burst_allowance raw_step tuning_divisor tuned_step decayed next
+unfolding accu_after early_events accumulated is_considered is_picked parts_after control_events delay_after delay_of departures_after params_after last_or places effective_moment greatest waiting_after departed_count admitted average samples begun cycles first_position first_opening first_closing first_cycle cycles_from probability last_delay last_moment granted_burst burst_allowance raw_step tuning_divisor tuned_step decayed next active_after departures_of delay_noted control_of early_of noted noted_after is_active
 decided_arrivals = (refl, refl, refl)
 
 -- with the least word the lone packet would have been dropped, and a packet whose endpoints understand a mark is marked
 decided_otherwise : (decision opening (updated_thrice ++ mark ∷ drop_of_one ∷ []) (Arrive 1001003 (packet 7 500) 0) ≡ DroppedEarly)
     × (decision opening (updated_thrice ++ mark ∷ drop_of_one ∷ []) (Arrive 1001003 (capable 7 500) 0) ≡ Marked)
     × (decision opening twelve change.command ≡ Done) × (decision opening thirteen restart.command ≡ Done)
-unfolding accu_after early_events accumulated is_considered is_picked parts_after control_events delay_after delay_of departures_after params_after last_or places effective_moment greatest waiting_after departed_count admitted average samples begun cycles first_position first_opening first_closing first_cycle cycles_from probability last_delay last_moment granted_burst burst_allowance raw_step tuning_divisor tuned_step decayed next
+unfolding accu_after early_events accumulated is_considered is_picked parts_after control_events delay_after delay_of departures_after params_after last_or places effective_moment greatest waiting_after departed_count admitted average samples begun cycles first_position first_opening first_closing first_cycle cycles_from probability last_delay last_moment granted_burst burst_allowance raw_step tuning_divisor tuned_step decayed next active_after departures_of delay_noted control_of early_of noted noted_after is_active
 decided_otherwise = (refl, refl, refl, refl)
 
 -- an update before the due moment is refused, by its effective moment
 too_soon : (refusal_by_rule opening fourteen (Update 1001002) ≡ None) × (refusal_by_rule opening two_departed (Update 0) ≡ None)
     × (refusal_by_rule opening (two_departed ++ first_update ∷ []) (Update 1001000) ≡ Some (TooSoon 1001001))
-unfolding parts_after control_events delay_after delay_of departures_after params_after last_or places effective_moment greatest waiting_after departed_count admitted average samples begun cycles first_position first_opening first_closing first_cycle cycles_from probability last_delay last_moment granted_burst burst_allowance raw_step tuning_divisor tuned_step decayed next
+unfolding parts_after control_events delay_after delay_of departures_after params_after last_or places effective_moment greatest waiting_after departed_count admitted average samples begun cycles first_position first_opening first_closing first_cycle cycles_from probability last_delay last_moment granted_burst burst_allowance raw_step tuning_divisor tuned_step decayed next active_after departures_of delay_noted control_of early_of noted noted_after is_active
 too_soon = (refl, refl, refl)
 
 abbrev shown : ℕ → ℕ → ℕ → ℕ → ℕ → ℕ → ℕ → ℕ → ℕ → ℕ → Bool → RawParams → Registers
@@ -176,18 +173,19 @@ shown count moment packets bytes prob old accu burst last average measuring para
   average = average;
   measuring = measuring;
   params = params;
+  active = true;
 }
 
 registers_at_twelve : registers_after opening twelve ≡ shown 12 1001003 4 3048 903954174169 2000000 903954174169 0 1001002 1000000 true no_burst
-unfolding registers_after accu_after early_events accumulated is_considered is_picked parts_after control_events delay_after delay_of departures_after params_after last_or places effective_moment greatest waiting_after departed_count admitted average samples begun cycles first_position first_opening first_closing first_cycle cycles_from probability last_delay last_moment granted_burst burst_allowance raw_step tuning_divisor tuned_step decayed next
+unfolding registers_after accu_after early_events accumulated is_considered is_picked parts_after control_events delay_after delay_of departures_after params_after last_or places effective_moment greatest waiting_after departed_count admitted average samples begun cycles first_position first_opening first_closing first_cycle cycles_from probability last_delay last_moment granted_burst burst_allowance raw_step tuning_divisor tuned_step decayed next active_after departures_of delay_noted control_of early_of noted noted_after is_active
 registers_at_twelve = refl
 
 registers_at_thirteen : registers_after opening thirteen ≡ shown 13 1001004 4 3048 903954174169 2000000 903954174169 0 1001002 0 false some_burst
-unfolding registers_after accu_after early_events accumulated is_considered is_picked parts_after control_events delay_after delay_of departures_after params_after last_or places effective_moment greatest waiting_after departed_count admitted average samples begun cycles first_position first_opening first_closing first_cycle cycles_from probability last_delay last_moment granted_burst burst_allowance raw_step tuning_divisor tuned_step decayed next
+unfolding registers_after accu_after early_events accumulated is_considered is_picked parts_after control_events delay_after delay_of departures_after params_after last_or places effective_moment greatest waiting_after departed_count admitted average samples begun cycles first_position first_opening first_closing first_cycle cycles_from probability last_delay last_moment granted_burst burst_allowance raw_step tuning_divisor tuned_step decayed next active_after departures_of delay_noted control_of early_of noted noted_after is_active
 registers_at_thirteen = refl
 
 registers_at_fourteen : registers_after opening fourteen ≡ shown 14 1001005 4 3048 0 0 0 50 1001002 0 false some_burst
-unfolding registers_after accu_after early_events accumulated is_considered is_picked parts_after control_events delay_after delay_of departures_after params_after last_or places effective_moment greatest waiting_after departed_count admitted average samples begun cycles first_position first_opening first_closing first_cycle cycles_from probability last_delay last_moment granted_burst burst_allowance raw_step tuning_divisor tuned_step decayed next
+unfolding registers_after accu_after early_events accumulated is_considered is_picked parts_after control_events delay_after delay_of departures_after params_after last_or places effective_moment greatest waiting_after departed_count admitted average samples begun cycles first_position first_opening first_closing first_cycle cycles_from probability last_delay last_moment granted_burst burst_allowance raw_step tuning_divisor tuned_step decayed next active_after departures_of delay_noted control_of early_of noted noted_after is_active
 registers_at_fourteen = refl
 
 -- the packets that wait, the marked one with CE
@@ -218,9 +216,9 @@ tallied resets changes = record {
 }
 
 stats_at_twelve : stats_after opening twelve ≡ tallied 0 0
-unfolding stats_after largest_queue largest_delay waited parts_after control_events delay_after delay_of departures_after params_after last_or places effective_moment greatest waiting_after departed_count admitted average samples begun cycles first_position first_opening first_closing first_cycle cycles_from probability last_delay last_moment granted_burst burst_allowance raw_step tuning_divisor tuned_step decayed next
+unfolding stats_after largest_queue largest_delay waited parts_after control_events delay_after delay_of departures_after params_after last_or places effective_moment greatest waiting_after departed_count admitted average samples begun cycles first_position first_opening first_closing first_cycle cycles_from probability last_delay last_moment granted_burst burst_allowance raw_step tuning_divisor tuned_step decayed next active_after departures_of delay_noted control_of early_of noted noted_after is_active
 stats_at_twelve = refl
 
 stats_at_fourteen : stats_after opening fourteen ≡ tallied 1 1
-unfolding stats_after largest_queue largest_delay waited parts_after control_events delay_after delay_of departures_after params_after last_or places effective_moment greatest waiting_after departed_count admitted average samples begun cycles first_position first_opening first_closing first_cycle cycles_from probability last_delay last_moment granted_burst burst_allowance raw_step tuning_divisor tuned_step decayed next
+unfolding stats_after largest_queue largest_delay waited parts_after control_events delay_after delay_of departures_after params_after last_or places effective_moment greatest waiting_after departed_count admitted average samples begun cycles first_position first_opening first_closing first_cycle cycles_from probability last_delay last_moment granted_burst burst_allowance raw_step tuning_divisor tuned_step decayed next active_after departures_of delay_noted control_of early_of noted noted_after is_active
 stats_at_fourteen = refl

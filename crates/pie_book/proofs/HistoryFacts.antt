@@ -1,18 +1,17 @@
 -- What one more event at the end of a history does to the moment, the parameters and the packets that wait.
 use Rattle.std.proofs.Common.{◌≡◌, ◌≤◌, ◌<◌, ◌+◌, ℕ, List, [], ◌∷◌, ◌++◌, map, length, drop, Bool, true, false, cond, refl, ap, ◌∙◌, arith, length-append}
-use Rattle.std.specs.Prelude.{max, Option, Some, None}
+use Rattle.std.specs.Prelude.{max}
 use Rattle.std.specs.Option.{option_to_list, is_some}
 use Rattle.std.specs.List.{filter_map}
 use Rattle.std.proofs.lemmas.List.{map-append, append-nil, drop-append-le, drop-drop, length-drop}
 use Rattle.std.proofs.lemmas.List.Sums.{sum_by_push}
 use Rattle.pie_params.specs.declared.raw.RawParams.{RawParams}
-use Rattle.pie_queue.specs.declared.packet.Packet.{Packet}
 use Rattle.pie_queue.specs.declared.packet.Waiting.{Waiting}
 use Rattle.pie_book.specs.declared.command.Event.{Event}
 use Rattle.pie_book.specs.declared.opening.Opening.{Opening}
 use Rattle.pie_book.specs.Deed.{Deed, handed_in, deed_of, params_set, admission, departure, queued, marked, dropped_early, dropped_bytes, dropped_packets, departed, found_none, updated, was_reset, set, nothing}
-use Rattle.pie_book.specs.History.{Place, places, greatest, last_or, effective_moment, params_after, admitted_at, admitted, departed_count, waiting_after}
-use Rattle.pie_book.proofs.Places.{place_of, filter_map-push, from_places-push, greatest-push, last_or-push}
+use Rattle.pie_book.specs.History.{places, last_or, effective_moment, params_after, admitted_at, admitted, departed_count, waiting_after}
+use Rattle.pie_book.proofs.Places.{filter_map-push, from_places-push, greatest-push, last_or-push}
 
 -- the effective moment after one more event is the greater of the one before it and the moment handed in
 pub effective_moment-push : (opening : Opening) (history : List Event) (event : Event)

@@ -15,3 +15,4 @@ pub mod ExamplesMarks
 pub mod ExamplesCauses
 pub mod ExamplesBooks
 pub mod ExamplesRuns
+mod ExamplesActivity

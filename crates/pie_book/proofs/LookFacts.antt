@@ -1,23 +1,23 @@
 -- What a core holds, where it shows a history, is what looking back over the history gives.
-use Rattle.std.proofs.Common.{◌≡◌, ◌≤◌, ◌<◌, ℕ, List, [], ◌∷◌, ◌++◌, length, Bool, true, false, IsTrue, refl, ap, ◌∙◌, sym, arith}
-use Rattle.std.specs.Prelude.{max, Option, Some, None, IsSome, option_map, ◌↔◌}
+use Rattle.std.proofs.Common.{◌≡◌, ℕ, List, refl, ap}
+use Rattle.std.specs.Prelude.{Option, Some, None, option_map}
 use Rattle.std.specs.Option.{is_some}
 use Rattle.pie_queue.specs.Queue.{bytes_of}
 use Rattle.pie_rate.specs.Cycles.{begun}
-use Rattle.pie_rate.specs.Estimate.{Estimate, Begun, begun_at}
-use Rattle.pie_rate.specs.Estimate as RateShows
+use Rattle.pie_rate.specs.Estimate.{Begun, begun_at}
 use Rattle.pie_control.specs.Parts.{Parts}
 use Rattle.pie_control.specs.History as ControlShows
+use Rattle.pie_control.specs.History.{is_calm_after}
 use Rattle.pie_control.specs.Events.{ControlEvent}
-use Rattle.pie_early.specs.Decision.{is_considered}
 use Rattle.pie_book.specs.declared.command.Command.{Command}
 use Rattle.pie_book.specs.declared.command.Event.{Event}
 use Rattle.pie_book.specs.declared.opening.Opening.{Opening}
-use Rattle.pie_book.specs.History.{effective_moment, params_after, waiting_after, bytes_after}
-use Rattle.pie_book.specs.Estimates.{departures_after, average_after, measuring_after, delay_after, control_events, parts_of, parts_after, early_events, considered_after, accu_after}
+use Rattle.pie_book.specs.History.{params_after, bytes_after}
+use Rattle.pie_book.specs.Shown.{parts_of, considered_where}
+use Rattle.pie_book.specs.Estimates.{departures_after, average_after, measuring_after, delay_after, delay_answered, control_events, parts_after, considered_after, accu_after}
 use Rattle.pie_book.specs.Registers.{registers_after}
 use Rattle.pie_book.specs.Decision.{refusal_by_rule}
-use Rattle.pie_book.specs.Core.{CoreView, Shows, registers_of, refusal_of, delay_in}
+use Rattle.pie_book.specs.Core.{CoreView, Shows, registers_of, refusal_of, delay_in, answered_in, is_calm_in}
 
 -- a controller that was shown these updates and resets holds what they give
 pub parts-shown : (opening : Opening) (events : List ControlEvent) (parts : Parts) → ControlShows.Shows opening.params opening.moment events parts → parts ≡ parts_of opening events
@@ -42,8 +42,14 @@ module _ (opening : Opening) (core : CoreView) (history : List Event) (shows : S
   unfolding delay_after
   delay-is = rw (shows.waiting, average-is, shows.params) refl
 
-  pub considered-is : is_considered core.params core.control (bytes_of core.waiting) ≡ considered_after opening history
-  considered-is = rw (shows.params, parts-is, shows.waiting) refl
+  pub considered-is : considered_where core.active core.params core.control (bytes_of core.waiting) ≡ considered_after opening history
+  considered-is = rw (shows.active, shows.params, parts-is, shows.waiting) refl
+
+  pub answered-is : answered_in core ≡ delay_answered opening history
+  answered-is = rw (shows.active, delay-is) refl
+
+  pub calm-in : is_calm_in core ≡ is_calm_after (control_events opening history) (params_after opening history) (delay_after opening history)
+  calm-in = rw (delay-is, shows.params, shows.control.prob, shows.control.old_delay) refl
 
   begun-is : (o : Option ℕ) (b : Option Begun) (f : ℕ → Begun) → b ≡ option_map f o → is_some b ≡ is_some o
   begun-is None b f e = rw e refl
@@ -54,7 +60,7 @@ module _ (opening : Opening) (core : CoreView) (history : List Event) (shows : S
 
   pub registers-is : registers_of core ≡ registers_after opening history
   unfolding registers_after
-  registers-is = rw (measuring-is, average-is, accu-is, parts-is, shows.params, shows.count, shows.moment, shows.waiting) refl
+  registers-is = rw (measuring-is, average-is, accu-is, parts-is, shows.active, shows.params, shows.count, shows.moment, shows.waiting) refl
 
   pub refusal-is : (command : Command) → refusal_of core command ≡ refusal_by_rule opening history command
   refusal-is command = rw (shows.moment, shows.params, parts-is, shows.count, shows.events) refl

@@ -1,20 +1,19 @@
 -- What one more event at the end of a history does to its places, and to what is filtered from them.
-use Rattle.std.proofs.Common.{◌≡◌, ◌+◌, ◌-◌, ◌≤◌, ℕ, List, [], ◌∷◌, ◌++◌, map, length, drop, filter, Bool, true, false, cond, not, refl, ap, ◌∙◌, arith}
+use Rattle.std.proofs.Common.{◌≡◌, ◌+◌, ◌-◌, ℕ, List, [], ◌∷◌, ◌++◌, length, drop, Bool, true, false, cond, not, refl, ap, ◌∙◌, arith}
 use Rattle.std.specs.Prelude.{max, Option, Some, None, if◌then◌else◌}
 use Rattle.std.specs.Option.{option_to_list}
 use Rattle.std.specs.List.{cons_option, filter_map, after_last, suffix_len}
 use Rattle.std.proofs.lemmas.List.{map-append, reverse-append, drop_all, drop-append-le, length_push}
 use Rattle.std.proofs.lemmas.List.Elements.{filter_map-append}
 use Rattle.std.proofs.lemmas.List.Sums.{suffix_len-le-length}
-use Rattle.pie_book.specs.declared.command.Event.{Event}
 use Rattle.pie_book.specs.History.{Place, places, after, greatest, last_or}
 
 -- the place of an event that comes after these
-abbrev pub place_of : List Event → Event → Place
+abbrev pub place_of : {E : Type 0} → List E → E → Place E
 place_of history event = record { before = history; event = event }
 
 -- the last event's place is after all the others'
-pub places-push : (history : List Event) (event : Event) → places (history ++ event ∷ []) ≡ places history ++ place_of history event ∷ []
+pub places-push : {E : Type 0} (history : List E) (event : E) → places (history ++ event ∷ []) ≡ places history ++ place_of history event ∷ []
 unfolding places
 places-push [] event = refl
 places-push (first ∷ history) event =
@@ -30,7 +29,7 @@ pub filter_map-push : {X Y : Type 0} (h : X → Option Y) (xs : List X) (x : X) 
 filter_map-push h xs x = filter_map-append h xs (x ∷ []) ∙ ap (λ ys. filter_map h xs ++ ys) (cons_option-nil (h x))
 
 -- what a filter over the places keeps with one more event
-pub from_places-push : {Y : Type 0} (h : Place → Option Y) (history : List Event) (event : Event)
+pub from_places-push : {E Y : Type 0} (h : Place E → Option Y) (history : List E) (event : E)
     → filter_map h (places (history ++ event ∷ [])) ≡ filter_map h (places history) ++ option_to_list (h (place_of history event))
 from_places-push h history event = ap (λ xs. filter_map h xs) (places-push history event) ∙ filter_map-push h (places history) (place_of history event)
 

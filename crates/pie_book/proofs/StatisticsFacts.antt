@@ -1,21 +1,20 @@
 -- What one more event at the end of a history does to the statistics.
 use Rattle.std.proofs.Common.{◌≡◌, ℕ, ◌+◌, List, [], ◌∷◌, ◌++◌, map, Bool, true, false, cond, refl, ap, ◌∙◌, arith}
 use Rattle.std.specs.Prelude.{max, Option, Some, None, if◌then◌else◌, sum_by}
-use Rattle.std.specs.Option.{option_to_list, is_some, option_map_or}
+use Rattle.std.specs.Option.{is_some, option_map_or}
 use Rattle.std.specs.List.{filter_map}
 use Rattle.std.proofs.lemmas.List.{map-append}
 use Rattle.std.proofs.lemmas.List.Sums.{sum_by_push}
 use Rattle.pie_queue.specs.declared.packet.Packet.{Packet}
-use Rattle.pie_queue.specs.declared.packet.Waiting.{Waiting}
 use Rattle.pie_book.specs.declared.command.Answer.{Answer}
 use Rattle.pie_book.specs.declared.command.Answer.TheVariants.{Enqueued, Marked, DroppedEarly, DroppedBytes, DroppedPackets, Empty, Left, Updated, Done}
 use Rattle.pie_book.specs.declared.command.Event.{Event}
 use Rattle.pie_book.specs.declared.opening.Opening.{Opening}
 use Rattle.pie_book.specs.declared.stats.Stats.{Stats}
-use Rattle.pie_book.specs.Deed.{Deed, deed_of, departure, is_update, sets_params, arrival_deed, departure_deed}
+use Rattle.pie_book.specs.Deed.{Deed, deed_of, departure, is_arrival, is_update, sets_params, arrival_deed, departure_deed}
 use Rattle.pie_book.specs.History.{Place, places, up_to, greatest, effective_moment, waiting_after, bytes_after}
-use Rattle.pie_book.specs.Estimates.{delay_after}
-use Rattle.pie_book.specs.Statistics.{count_of, is_arrival, is_queued, is_marked, is_dropped_early, is_dropped_bytes, is_dropped_packets, is_departure, is_found_none, is_reset, bytes_departed, age_of_oldest, wait_of, wait_at, delay_at, largest_queue, largest_delay, waited, stats_after}
+use Rattle.pie_book.specs.Estimates.{delay_answered}
+use Rattle.pie_book.specs.Statistics.{count_of, is_queued, is_marked, is_dropped_early, is_dropped_bytes, is_dropped_packets, is_departure, is_found_none, is_reset, bytes_departed, age_of_oldest, wait_at, delay_at, largest_queue, largest_delay, waited, stats_after}
 use Rattle.pie_book.specs.Core.{counted, with_queue}
 use Rattle.pie_book.proofs.Places.{place_of, places-push, from_places-push, greatest-push, greatest-push_option}
 
@@ -47,17 +46,17 @@ largest_queue-push : (opening : Opening) (history : List Event) (event : Event)
     → largest_queue opening (history ++ event ∷ []) ≡ max (largest_queue opening history) (bytes_after opening (history ++ event ∷ []))
 unfolding largest_queue
 largest_queue-push opening history event =
-    ap (λ xs. greatest (map (λ (place : Place). bytes_after opening (up_to place)) xs)) (places-push history event)
-    ∙ ap greatest (map-append (λ (place : Place). bytes_after opening (up_to place)) (places history) (place_of history event ∷ []))
-    ∙ greatest-push (map (λ (place : Place). bytes_after opening (up_to place)) (places history)) (bytes_after opening (history ++ event ∷ []))
+    ap (λ xs. greatest (map (λ (place : Place Event). bytes_after opening (up_to place)) xs)) (places-push history event)
+    ∙ ap greatest (map-append (λ (place : Place Event). bytes_after opening (up_to place)) (places history) (place_of history event ∷ []))
+    ∙ greatest-push (map (λ (place : Place Event). bytes_after opening (up_to place)) (places history)) (bytes_after opening (history ++ event ∷ []))
 
 largest_delay-push : (opening : Opening) (history : List Event) (event : Event)
     → largest_delay opening (history ++ event ∷ [])
-    ≡ (if is_update (deed_of event) then max (largest_delay opening history) (delay_after opening history) else largest_delay opening history)
+    ≡ (if is_update (deed_of event) then max (largest_delay opening history) (delay_answered opening history) else largest_delay opening history)
 unfolding largest_delay
 largest_delay-push opening history event =
     ap greatest (from_places-push (delay_at opening) history event)
-    ∙ greatest-push_option (filter_map (delay_at opening) (places history)) (is_update (deed_of event)) (delay_after opening history)
+    ∙ greatest-push_option (filter_map (delay_at opening) (places history)) (is_update (deed_of event)) (delay_answered opening history)
 
 waited-push : (opening : Opening) (history : List Event) (event : Event)
     → waited opening (history ++ event ∷ [])
@@ -73,7 +72,7 @@ waited-push opening history event =
 pub stats_after-push : (opening : Opening) (history : List Event) (event : Event)
     → stats_after opening (history ++ event ∷ [])
     ≡ with_queue
-    (counted (stats_after opening history) (deed_of event) (delay_after opening history)
+    (counted (stats_after opening history) (deed_of event) (delay_answered opening history)
     (age_of_oldest (effective_moment opening (history ++ event ∷ [])) (waiting_after opening history)))
     (bytes_after opening (history ++ event ∷ []))
 unfolding stats_after

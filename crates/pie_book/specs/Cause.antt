@@ -1,7 +1,7 @@
 -- What decides an arrival: the first case of the rules that holds after a history, with the numbers that it compares
 -- (RFC 8033, sections 4.1, 4.4, 5.1, 5.4 and Appendix A; the limit in packets and the comparison by a random word of 64 bits are
 -- this project's own).
-use Rattle.std.specs.Prelude.{ℕ, ◌+◌, ◌*◌, ◌^◌, ◌==◌, not, ◌&&◌, nat_lt, nat_le, List, length, Option, Some, None, if◌then◌else◌}
+use Rattle.std.specs.Prelude.{ℕ, ◌+◌, ◌*◌, ◌^◌, ◌==◌, not, ◌&&◌, nat_lt, nat_le, Bool, List, length, Option, Some, None, if◌then◌else◌}
 use Rattle.pie_params.specs.declared.raw.RawParams.{RawParams}
 use Rattle.pie_control.specs.Parts.{Parts}
 use Rattle.pie_queue.specs.declared.ecn.Ecn.{Ecn}
@@ -10,7 +10,7 @@ use Rattle.pie_queue.specs.declared.packet.Packet.{Packet}
 use Rattle.pie_queue.specs.declared.packet.Waiting.{Waiting}
 use Rattle.pie_queue.specs.Queue.{bytes_of}
 use Rattle.pie_book.specs.declared.cause.Cause.{Cause}
-use Rattle.pie_book.specs.declared.cause.Cause.TheVariants.{NoRoomInBytes, NoRoomInPackets, BurstAllowed, LowDelay, ShortQueue, NoProbability, LittleAccumulated, PickedBySum, PickedByWord, WordNotBelow}
+use Rattle.pie_book.specs.declared.cause.Cause.TheVariants.{NoRoomInBytes, NoRoomInPackets, Inactive, BurstAllowed, LowDelay, ShortQueue, NoProbability, LittleAccumulated, PickedBySum, PickedByWord, WordNotBelow}
 use Rattle.pie_book.specs.declared.cause.Fate.{Fate}
 use Rattle.pie_book.specs.declared.cause.Fate.TheVariants.{Marked, NotCapable, NotBelow}
 use Rattle.pie_book.specs.declared.command.Answer.{Answer}
@@ -20,7 +20,7 @@ use Rattle.pie_book.specs.declared.command.Command.TheVariants.{Arrive}
 use Rattle.pie_book.specs.declared.command.Event.{Event}
 use Rattle.pie_book.specs.declared.opening.Opening.{Opening}
 use Rattle.pie_book.specs.History.{params_after, waiting_after}
-use Rattle.pie_book.specs.Estimates.{parts_after, accu_after}
+use Rattle.pie_book.specs.Estimates.{active_after, parts_after, accu_after}
 
 -- ---- what follows from a cause
 
@@ -34,6 +34,7 @@ verdict_on_picked (NotBelow threshold) = answer.DroppedEarly
 abbrev pub verdict_of : Cause → Answer
 verdict_of (NoRoomInBytes bytes size limit) = answer.DroppedBytes
 verdict_of (NoRoomInPackets packets) = answer.DroppedPackets
+verdict_of Inactive = answer.Enqueued
 verdict_of (BurstAllowed burst) = answer.Enqueued
 verdict_of (LowDelay old_delay target prob) = answer.Enqueued
 verdict_of (ShortQueue bytes two_packets) = answer.Enqueued
@@ -70,17 +71,19 @@ early_cause params parts bytes accu ecn word =
     else if nat_le bytes (2 * params.mean_pkt) then ShortQueue bytes (2 * params.mean_pkt)
     else considered_cause params parts.prob accu ecn word
 
--- what decides an arrival where these packets wait: the limit in bytes, then that in packets, then the rest
-unfoldable pub cause : RawParams → ℕ → List Waiting → Parts → ℕ → Packet → ℕ → Cause
-cause params packets waiting parts accu packet word =
+-- what decides an arrival where these packets wait: the limit in bytes, then that in packets, then that the controller is
+-- inactive, then the rest
+unfoldable pub cause : Bool → RawParams → ℕ → List Waiting → Parts → ℕ → Packet → ℕ → Cause
+cause active params packets waiting parts accu packet word =
     if nat_lt params.limit_bytes (bytes_of waiting + packet.size) then NoRoomInBytes (bytes_of waiting) packet.size params.limit_bytes
     else if length waiting == packets then NoRoomInPackets (length waiting)
-    else early_cause params parts (bytes_of waiting) accu packet.ecn word
+    else if active then early_cause params parts (bytes_of waiting) accu packet.ecn word
+    else Inactive
 
 -- ---- after a history
 
 -- what decides a command after a history, where it is an arrival
 abbrev pub cause_after : Opening → List Event → Command → Option Cause
 cause_after opening history (Arrive moment packet word) =
-    Some (cause (params_after opening history) opening.limits.packets (waiting_after opening history) (parts_after opening history) (accu_after opening history) packet word)
+    Some (cause (active_after opening history) (params_after opening history) opening.limits.packets (waiting_after opening history) (parts_after opening history) (accu_after opening history) packet word)
 cause_after opening history _ = None

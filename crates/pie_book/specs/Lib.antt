@@ -1,6 +1,8 @@
 pub mod Opening
 pub mod Deed
 pub mod History
+pub mod Shown
+pub mod Activity
 pub mod Estimates
 pub mod Registers
 pub mod Statistics

@@ -1,5 +1,5 @@
 -- The statistics after a history: counts, sums and greatest values over all its events.
-use Rattle.std.specs.Prelude.{ℕ, ◌+◌, ◌-◌, Bool, true, false, List, [], ◌∷◌, map, Option, Some, None, count_by, sum_by, if◌then◌else◌}
+use Rattle.std.specs.Prelude.{ℕ, ◌-◌, Bool, true, false, List, [], ◌∷◌, map, Option, Some, None, count_by, sum_by, if◌then◌else◌}
 use Rattle.std.specs.List.{filter_map}
 use Rattle.std.specs.Option.{is_some, option_map_or}
 use Rattle.pie_queue.specs.declared.packet.Packet.{Packet}
@@ -7,9 +7,9 @@ use Rattle.pie_queue.specs.declared.packet.Waiting.{Waiting}
 use Rattle.pie_book.specs.declared.command.Event.{Event}
 use Rattle.pie_book.specs.declared.opening.Opening.{Opening}
 use Rattle.pie_book.specs.declared.stats.Stats.{Stats}
-use Rattle.pie_book.specs.Deed.{Deed, deed_of, departure, is_update, sets_params, queued, marked, dropped_early, dropped_bytes, dropped_packets, found_none, was_reset}
+use Rattle.pie_book.specs.Deed.{Deed, deed_of, departure, is_arrival, is_update, sets_params, queued, marked, dropped_early, dropped_bytes, dropped_packets, found_none, was_reset}
 use Rattle.pie_book.specs.History.{Place, places, up_to, greatest, effective_moment, waiting_after, bytes_after}
-use Rattle.pie_book.specs.Estimates.{delay_after}
+use Rattle.pie_book.specs.Estimates.{delay_answered}
 
 abbrev pub is_queued : Deed → Bool
 is_queued (queued packet) = true
@@ -30,15 +30,6 @@ is_dropped_bytes _ = false
 abbrev pub is_dropped_packets : Deed → Bool
 is_dropped_packets dropped_packets = true
 is_dropped_packets _ = false
-
--- an arrival, whatever its verdict
-abbrev pub is_arrival : Deed → Bool
-is_arrival (queued packet) = true
-is_arrival (marked packet) = true
-is_arrival dropped_early = true
-is_arrival dropped_bytes = true
-is_arrival dropped_packets = true
-is_arrival _ = false
 
 abbrev pub is_departure : Deed → Bool
 is_departure d = is_some (departure d)
@@ -69,7 +60,7 @@ abbrev pub wait_of : Deed → ℕ → List Waiting → ℕ
 wait_of d now waiting = if is_departure d then age_of_oldest now waiting else 0
 
 -- .. at a place
-abbrev pub wait_at : Opening → Place → ℕ
+abbrev pub wait_at : Opening → Place Event → ℕ
 wait_at opening place = wait_of (deed_of place.event) (effective_moment opening (up_to place)) (waiting_after opening place.before)
 
 -- the delay of an update
@@ -77,8 +68,8 @@ abbrev pub delay_shown : Deed → ℕ → Option ℕ
 delay_shown d delay = if is_update d then Some delay else None
 
 -- .. at a place
-abbrev pub delay_at : Opening → Place → Option ℕ
-delay_at opening place = delay_shown (deed_of place.event) (delay_after opening place.before)
+abbrev pub delay_at : Opening → Place Event → Option ℕ
+delay_at opening place = delay_shown (deed_of place.event) (delay_answered opening place.before)
 
 -- the greatest number of bytes in the queue after an event
 unfoldable pub largest_queue : Opening → List Event → ℕ

@@ -1,5 +1,5 @@
 -- What a tally of events holds: how many there were, and the statistics, each of which these many events can reach.
-use Rattle.std.specs.Prelude.{ℕ, ◌+◌, ◌*◌, ◌^◌, ◌≤◌}
+use Rattle.std.specs.Prelude.{ℕ, ◌*◌, ◌^◌, ◌≤◌}
 use Rattle.pie_book.specs.declared.stats.Stats.{Stats}
 
 pub record TallyView : Type 0 where

@@ -52,6 +52,8 @@ pub enum Cause {
         /// How many packets wait, which are all that the ring holds.
         packets: u64,
     },
+    /// Queued: the controller is inactive, as it may be in profile two (RFC 8033, section 5.3).
+    Inactive,
     /// Queued: a burst is allowed (RFC 8033, section 4.4).
     BurstAllowed {
         /// What is left of the burst allowance, above 0.
@@ -123,7 +125,8 @@ impl Cause {
         match self {
             Cause::NoRoomInBytes { .. } => Answer::DroppedBytes,
             Cause::NoRoomInPackets { .. } => Answer::DroppedPackets,
-            Cause::BurstAllowed { .. }
+            Cause::Inactive
+            | Cause::BurstAllowed { .. }
             | Cause::LowDelay { .. }
             | Cause::ShortQueue { .. }
             | Cause::NoProbability
@@ -220,9 +223,11 @@ fn early_cause(
     considered_cause(params, prob, accu, ecn, word)
 }
 
-/// What decides an arrival, by the parameters in force, the packets that wait, and what the controller and early drop hold.
+/// What decides an arrival, by whether the controller is active, the parameters in force, the packets that wait, and what the
+/// controller and early drop hold.
 #[tactic(auto, using(std::proofs::lemmas::Bool::Decides::nat_tests), unfolding(crate::specs::Cause::cause))]
 pub(crate) fn cause_of(
+    active: bool,
     params: &Params,
     queue: &ByteQueue,
     control: &Control,
@@ -230,7 +235,7 @@ pub(crate) fn cause_of(
     packet: Packet,
     word: u64,
 ) -> Cause
-    ensures { result ≡ cause params.now queue.now.packets queue.now.waiting control.now early.now packet word }
+    ensures { result ≡ cause active params.now queue.now.packets queue.now.waiting control.now early.now packet word }
 {
     let bytes = queue.bytes();
     let limit = params.limit_bytes();
@@ -241,6 +246,9 @@ pub(crate) fn cause_of(
     if queue.len() == queue.packets() {
         let packets = queue.len() as u64;
         return Cause::NoRoomInPackets { packets };
+    }
+    if !active {
+        return Cause::Inactive;
     }
     early_cause(params, control, bytes, early.accu(), packet.ecn, word)
 }

@@ -1,10 +1,12 @@
-//! Laws: folds change no answer, and the registers are what looking back gives.
-ghost use Rattle.std.specs.Prelude.{◌≡◌, List};
+//! Laws: folds change no answer, profile one is always active, and the registers are what looking back gives.
+ghost use Rattle.std.specs.Prelude.{◌≡◌, List, true};
 ghost use Rattle.pie_book.specs.declared.command.Event.{Event};
 ghost use Rattle.pie_book.specs.declared.opening.Mode.TheVariants.{Rolling};
 ghost use Rattle.pie_book.specs.declared.opening.Opening.{Opening};
+ghost use Rattle.pie_book.specs.declared.opening.Profile.TheVariants.{One};
 ghost use Rattle.pie_book.specs.Core.{CoreView, Shows, registers_of};
 ghost use Rattle.pie_book.specs.Registers.{registers_after};
+ghost use Rattle.pie_book.specs.Estimates.{active_after};
 ghost use Rattle.pie_book.specs.Run.{Step, answers, without_folds, AreSameUntilFull};
 
 /// Where two runs from one opening have the same commands in the same order, and differ in their folds alone, all
@@ -19,6 +21,14 @@ pub fn folds_change_no_answer()
         → AreSameUntilFull (answers opening some) (answers opening other) }
     ensures rolling { (opening : Opening) (some : List Step) (other : List Step) → opening.choices.mode ≡ Rolling
         → without_folds some ≡ without_folds other → answers opening some ≡ answers opening other }
+{}
+
+/// In profile one the controller is active after every history (RFC 8033, section 5.3, is for profile two alone).
+///
+/// It does nothing: its contract is the law. `Book::registers` is proved to read activity after the book's history.
+#[tactic(auto, using(crate::proofs::EstimateFacts::one_is_active))]
+pub fn profile_one_is_always_active()
+    ensures { (opening : Opening) (history : List Event) → opening.choices.profile ≡ One → active_after opening history ≡ true }
 {}
 
 /// The registers of a core that shows a history are what looking back over the history gives, whoever has the core.

@@ -44,11 +44,38 @@ pub enum Mode {
     Rolling,
 }
 
+/// When the controller works (after RFC 8033, section 5.3; what turns it off and on, and what that resets, is this
+/// project's own).
+#[derive(Clone, Copy, Debug, PartialEq, Eq)]
+pub enum Profile {
+    /// It always works.
+    One,
+    /// It is off at the opening. An arrival after which a third of `limit_bytes` waits turns it on, as a reset does; a calm
+    /// update turns it off. While it is off no packet is marked or dropped early, and updates compute nothing.
+    Two,
+}
+
+impl Profile {
+    ghost use Rattle.pie_book.specs.Activity.{opens_active};
+
+    /// Whether the controller works at the opening.
+    pub(crate) fn opens_active(self) -> bool
+        ensures { result ≡ opens_active self }
+    {
+        match self {
+            Profile::One => true,
+            Profile::Two => false,
+        }
+    }
+}
+
 /// What else is chosen at an opening (this project's own).
 #[derive(Clone, Copy, Debug, PartialEq, Eq)]
 pub struct Choices {
     /// What a full tail does.
     pub mode: Mode,
+    /// When the controller works.
+    pub profile: Profile,
 }
 
 /// What a book was opened with, kept as it was handed in.
@@ -60,6 +87,6 @@ pub struct Opening {
     pub limits: Limits,
     /// The parameters.
     pub params: Params,
-    /// What a full tail does.
+    /// What a full tail does, and when the controller works.
     pub choices: Choices,
 }

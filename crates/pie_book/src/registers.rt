@@ -29,4 +29,6 @@ pub struct Registers {
     pub measuring: bool,
     /// The parameters in force.
     pub params: Params,
+    /// Whether the controller works: always in profile one (RFC 8033, section 5.3).
+    pub active: bool,
 }

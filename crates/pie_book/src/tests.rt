@@ -1,9 +1,10 @@
 //! Each public function once with ample memory, and the texts. Worked rows run as traces, in the crate above.
 
 use crate::{
-    Answer, Book, Choices, Command, Core, Event, FoldRefusal, Limits, Mode, OpenRefusal, Refusal,
+    Answer, Book, Choices, Command, Core, Event, FoldRefusal, Limits, Mode, OpenRefusal, Profile,
+    Refusal,
 };
-use pie_params::Params;
+use pie_params::{Params, RawParams};
 use pie_queue::{Ecn, Packet};
 use std::test::Fail;
 
@@ -109,6 +110,7 @@ fn a_fold_hands_out_the_oldest_events(rt: HostRuntime) -> Result<(), Fail> {
 fn a_rolling_book_lets_the_oldest_event_go(rt: HostRuntime) -> Result<(), Fail> {
     let rolling = Choices {
         mode: Mode::Rolling,
+        profile: Profile::One,
     };
     let params = Params::default_profile();
     let mut book = Book::open_with(rt.alloc(), limits(4, 2, 3), params, 0, rolling)?;
@@ -209,5 +211,63 @@ fn other_refusals_in_words(rt: HostRuntime) -> Result<(), Fail> {
     let held = FoldRefusal::TooMany { held: 4 };
     let fold = format!(in rt.alloc(); "{held}, {}", FoldRefusal::Memory)?;
     assert_eq!(rt; fold.as_str(), "the tail holds 4 events, out of memory");
+    Ok(())
+}
+
+/// A target of 2 ns, an update a nanosecond, a burst allowance of 5 ns, gains of 850 and 0, one byte as the mean packet, 9000
+/// bytes at most, marks always, and a threshold of 1024 bytes.
+fn quick() -> Result<Params, Fail> {
+    let raw = RawParams {
+        target: 2,
+        t_update: 1,
+        max_burst: 5,
+        alpha: 850_000,
+        beta: 0,
+        mean_pkt: 1,
+        limit_bytes: 9000,
+        mark_ecnth: 1_000_000_000_000,
+        dq_threshold: 1024,
+    };
+    Ok(Params::check(raw)?)
+}
+
+fn updated(delay: u64, prob: u64, burst: u64) -> Result<Answer, Refusal> {
+    Ok(Answer::Updated { delay, prob, burst })
+}
+
+#[test]
+fn a_third_of_the_byte_limit_turns_the_controller_on(rt: HostRuntime) -> Result<(), Fail> {
+    let profile = Profile::Two;
+    let mut core = Core::open_with(rt.alloc(), limits(8, 32, 100), quick()?, 0, profile)?;
+    assert!(rt; core.step(1, arrive(0, 1024)).is_ok() && core.step(1, arrive(0, 1024)).is_ok());
+    assert!(rt; core.step(1, depart(1)).is_ok() && !core.registers().measuring);
+    assert!(rt; core.step(1, arrive(1, 1024)).is_ok() && !core.registers().active);
+    assert!(rt; core.step(1, arrive(1, 1024)).is_ok() && core.registers().active);
+    assert!(rt; core.step(1, depart(2)).is_ok() && core.registers().measuring);
+    assert!(rt; core.step(1, depart(1002)).is_ok() && core.registers().average == 1000);
+    let update = Command::Update { moment: 1002 };
+    assert_eq!(rt; core.step(1, update), updated(1000, 414_208, 4));
+    Ok(())
+}
+
+#[test]
+fn a_calm_update_turns_the_controller_off(rt: HostRuntime) -> Result<(), Fail> {
+    let choices = Choices {
+        mode: Mode::Bounded,
+        profile: Profile::Two,
+    };
+    let mut book = Book::open_with(rt.alloc(), limits(8, 32, 100), quick()?, 0, choices)?;
+    for _ in 0..3 {
+        assert_eq!(rt; book.apply(1, arrive(0, 1024)), Ok(Answer::Enqueued));
+    }
+    assert!(rt; book.registers().active);
+    assert_eq!(rt;
+        book.apply(1, Command::Update { moment: 1 }),
+        updated(0, 0, 5)
+    );
+    assert!(rt; !book.registers().active);
+    assert_eq!(rt; book.apply(1, arrive(1, 65535)), Ok(Answer::DroppedBytes));
+    assert!(rt; book.registers().active && !book.checkpoint().active);
+    assert!(rt; book.fold(rt.alloc(), 3).is_ok() && book.checkpoint().active);
     Ok(())
 }

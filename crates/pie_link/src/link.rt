@@ -2,12 +2,13 @@
 ghost use Rattle.std.specs.Prelude.{◌≡◌, ◌+◌, ◌<◌, ◌↔◌, All, Some, None, IsOk, IsErr, IfOk, IfErr, OnOk, OnErr, List};
 ghost use Rattle.pie_book.specs.declared.command.Event.{Event};
 ghost use Rattle.pie_book.specs.declared.opening.Mode.TheVariants.{Bounded};
+ghost use Rattle.pie_book.specs.declared.opening.Profile.TheVariants.{One};
 ghost use Rattle.pie_book.specs.Book.{Tells};
 
 use crate::caller::Caller;
 use crate::kept_book::KeptBook;
 use crate::refusal::LinkRefusal;
-use pie_book::{Book, Choices, Limits, Mode, OpenRefusal, registers_look_back};
+use pie_book::{Book, Choices, Limits, Mode, OpenRefusal, Profile, registers_look_back};
 use pie_lock::{OneNumber, RuledLock, StillHeld};
 use pie_params::Params;
 use std::alloc::Global;
@@ -49,13 +50,14 @@ impl Link {
     ) -> Result<(Link, Caller), LinkRefusal>
         ensures refused { IfErr result (IsRefusedFor (link_refusal limits moment callers)) }
         ensures allowed { OnOk result (link_refusal limits moment callers ≡ None) }
-        ensures opening { IfOk result (λ opened. opened.0.origin ≡ Some (record { moment = moment; limits = limits; params = params; choices = record { mode = Bounded } })) }
+        ensures opening { IfOk result (λ opened. opened.0.origin ≡ Some (record { moment = moment; limits = limits; params = params; choices = record { mode = Bounded; profile = One } })) }
         ensures callers { IfOk result (λ opened. opened.0.numbers ≡ callers) }
         ensures caller { IfOk result (λ opened. opened.1 ≡ first_pass opened.0 callers) }
         ensures headline { IfOk result (λ opened. KeepsOneHistory opened.0) }
     {
         let choices = Choices {
             mode: Mode::Bounded,
+            profile: Profile::One,
         };
         Link::open_with(alloc, limits, params, moment, callers, choices)
     }

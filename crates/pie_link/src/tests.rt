@@ -6,7 +6,7 @@ mod one_thread;
 mod threads;
 
 use crate::{Caller, Link, LinkRefusal};
-use pie_book::{Choices, Limits, Mode};
+use pie_book::{Choices, Limits, Mode, Profile};
 use pie_params::Params;
 use pie_queue::{Ecn, Packet};
 use std::alloc::Global;
@@ -29,7 +29,10 @@ fn opened(alloc: Global, tail: u32, callers: u16, mode: Mode) -> Result<(Link, C
         tail,
         events: 100,
     };
-    let choices = Choices { mode };
+    let choices = Choices {
+        mode,
+        profile: Profile::One,
+    };
     Link::open_with(
         alloc,
         limits,

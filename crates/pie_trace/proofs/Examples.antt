@@ -11,6 +11,7 @@ use Rattle.pie_queue.specs.declared.ecn.Ecn.TheVariants as ecn
 use Rattle.pie_book.specs.declared.command.Answer.TheVariants.{Enqueued, Marked, DroppedEarly, DroppedBytes, DroppedPackets, Empty, Left, Updated, Done}
 use Rattle.pie_book.specs.declared.command.Command.TheVariants.{Arrive, Depart, Update, Reset, SetParams}
 use Rattle.pie_book.specs.declared.opening.Mode.TheVariants.{Bounded, Rolling}
+use Rattle.pie_book.specs.declared.opening.Profile.TheVariants.{One}
 use Rattle.pie_book.specs.declared.refusal.Refusal.TheVariants as refusal
 use Rattle.pie_trace.specs.declared.fault.Flaw.TheVariants as flaw
 use Rattle.pie_trace.specs.declared.fault.OpenFault.TheVariants as open_fault
@@ -99,9 +100,9 @@ unfolding number ecn_of params_at mode_of limits_at opening_fields arrive_fields
 first_flaws = (refl, refl)
 
 -- the short form has the default parameters, and the long one its own
-opened : (opening_of open_row ≡ Ok (record { moment = 0; limits = record { packets = 4; tail = 16; events = 100 }; params = default_profile; choices = record { mode = Bounded } }))
+opened : (opening_of open_row ≡ Ok (record { moment = 0; limits = record { packets = 4; tail = 16; events = 100 }; params = default_profile; choices = record { mode = Bounded; profile = One } }))
     × (opening_of (codes "rolling" ∷ codes "5" ∷ codes "4" ∷ codes "16" ∷ codes "100" ∷ nine)
-    ≡ Ok (record { moment = 5; limits = record { packets = 4; tail = 16; events = 100 }; params = nine_params; choices = record { mode = Rolling } }))
+    ≡ Ok (record { moment = 5; limits = record { packets = 4; tail = 16; events = 100 }; params = nine_params; choices = record { mode = Rolling; profile = One } }))
 unfolding opening_of number ecn_of params_at mode_of limits_at opening_fields arrive_fields call_fields params_fields fold_fields request_of field_at
 opened = (refl, refl)
 
@@ -160,6 +161,7 @@ registers_as_text : text_of (shown_row (record {
   average = 10;
   measuring = true;
   params = default_profile;
+  active = true;
 })) ≡ codes "shown,1,2,3,4,5,6,7,8,9,10,1\n"
 unfolding shown_row digits fields_text is_blank
 registers_as_text = refl

@@ -18,6 +18,7 @@ use Rattle.pie_book.specs.declared.command.Event.{Event}
 use Rattle.pie_book.specs.declared.opening.Mode.{Mode}
 use Rattle.pie_book.specs.declared.opening.Mode.TheVariants.{Bounded, Rolling}
 use Rattle.pie_book.specs.declared.opening.Opening.{Opening}
+use Rattle.pie_book.specs.declared.opening.Profile.TheVariants.{One}
 use Rattle.pie_trace.specs.declared.fault.TraceFault.{TraceFault}
 use Rattle.pie_trace.specs.declared.fault.TraceFault.TheVariants as fault
 use Rattle.pie_trace.specs.declared.history.Line.{Line}
@@ -50,7 +51,7 @@ abbrev arrival : Answer → Event
 arrival answer = event 1 (Arrive 10 (packet ecn.Ect0) 0) answer
 
 abbrev opened_as : Mode → RawParams → Opening
-opened_as mode params = record { moment = 0; limits = record { packets = 4; tail = 16; events = 100 }; params = params; choices = record { mode = mode } }
+opened_as mode params = record { moment = 0; limits = record { packets = 4; tail = 16; events = 100 }; params = params; choices = record { mode = mode; profile = One } }
 
 abbrev one_arrival : List ℕ
 one_arrival = codes "open,0,4,16,100\narrive,1,10,7,1500,ect0,0,enqueue\ndepart,2,25,left,7,1500,ect0\ndepart,2,30,empty\n"

@@ -1,5 +1,5 @@
 -- Whole runs, from the bytes read to the bytes written: each theorem computes.
-use Rattle.std.specs.Prelude.{ℕ, ◌≡◌, List, [], ◌∷◌, ◌++◌, Option, Some, None, false, codes, map, refl}
+use Rattle.std.specs.Prelude.{ℕ, ◌≡◌, List, [], ◌∷◌, ◌++◌, Option, Some, None, false, codes, map, refl, true}
 use Rattle.std.specs.Fmt.{digits}
 use Rattle.csv.specs.Machine.{next_record}
 use Rattle.csv.specs.Reading.{records_from, strip_bom}
@@ -15,7 +15,9 @@ use Rattle.pie_control.specs.Next.{raw_step, tuning_divisor, tuned_step, decayed
 use Rattle.pie_early.specs.Decision.{is_considered, is_picked}
 use Rattle.pie_early.specs.History.{accumulated}
 use Rattle.pie_book.specs.History.{places, greatest, last_or, effective_moment, params_after, admitted, departed_count, waiting_after}
-use Rattle.pie_book.specs.Estimates.{departures_after, delay_after, control_events, parts_after, early_events, accu_after}
+use Rattle.pie_book.specs.Shown.{departures_of, delay_noted, control_of, early_of}
+use Rattle.pie_book.specs.Activity.{is_active, noted, noted_after}
+use Rattle.pie_book.specs.Estimates.{active_after, departures_after, delay_after, control_events, parts_after, early_events, accu_after}
 use Rattle.pie_book.specs.Registers.{registers_after}
 use Rattle.pie_book.specs.Statistics.{largest_queue, largest_delay, waited, no_stats, stats_after}
 use Rattle.pie_book.specs.Run.{progress_after}
@@ -51,7 +53,7 @@ unfolding record_fault first_fault before_fault requests_of steps_of replies his
     registers_after stats_after largest_queue largest_delay waited accu_after early_events accumulated is_considered is_picked parts_after
     control_events delay_after delay_of departures_after params_after last_or places effective_moment greatest waiting_after departed_count admitted
     average samples begun cycles first_position first_opening first_closing first_cycle cycles_from probability last_delay last_moment granted_burst
-    burst_allowance raw_step tuning_divisor tuned_step decayed next
+    burst_allowance raw_step tuning_divisor tuned_step decayed next active_after departures_of delay_noted control_of early_of noted noted_after is_active
 bare-runs = refl
 
 -- one arrival and two departures, the second of an empty queue
@@ -76,7 +78,7 @@ unfolding record_fault first_fault before_fault requests_of steps_of replies his
     registers_after stats_after largest_queue largest_delay waited accu_after early_events accumulated is_considered is_picked parts_after
     control_events delay_after delay_of departures_after params_after last_or places effective_moment greatest waiting_after departed_count admitted
     average samples begun cycles first_position first_opening first_closing first_cycle cycles_from probability last_delay last_moment granted_burst
-    burst_allowance raw_step tuning_divisor tuned_step decayed next
+    burst_allowance raw_step tuning_divisor tuned_step decayed next active_after departures_of delay_noted control_of early_of noted noted_after is_active
 one_arrival-runs = refl
 
 -- moments that fall, and commands that are refused by their moment
@@ -107,7 +109,7 @@ unfolding record_fault first_fault before_fault requests_of steps_of replies his
     registers_after stats_after largest_queue largest_delay waited accu_after early_events accumulated is_considered is_picked parts_after
     control_events delay_after delay_of departures_after params_after last_or places effective_moment greatest waiting_after departed_count admitted
     average samples begun cycles first_position first_opening first_closing first_cycle cycles_from probability last_delay last_moment granted_burst
-    burst_allowance raw_step tuning_divisor tuned_step decayed next
+    burst_allowance raw_step tuning_divisor tuned_step decayed next active_after departures_of delay_noted control_of early_of noted noted_after is_active
 falling-runs = refl
 
 -- parameters that limit the queue to 1000 bytes, a reset, and parameters of which one is out of its range
@@ -138,7 +140,7 @@ unfolding record_fault first_fault before_fault requests_of steps_of replies his
     registers_after stats_after largest_queue largest_delay waited accu_after early_events accumulated is_considered is_picked parts_after
     control_events delay_after delay_of departures_after params_after last_or places effective_moment greatest waiting_after departed_count admitted
     average samples begun cycles first_position first_opening first_closing first_cycle cycles_from probability last_delay last_moment granted_burst
-    burst_allowance raw_step tuning_divisor tuned_step decayed next
+    burst_allowance raw_step tuning_divisor tuned_step decayed next active_after departures_of delay_noted control_of early_of noted noted_after is_active
 small_limit-runs = refl
 
 -- cycles of the departure rate
@@ -181,7 +183,7 @@ unfolding record_fault first_fault before_fault requests_of steps_of replies his
     registers_after stats_after largest_queue largest_delay waited accu_after early_events accumulated is_considered is_picked parts_after
     control_events delay_after delay_of departures_after params_after last_or places effective_moment greatest waiting_after departed_count admitted
     average samples begun cycles first_position first_opening first_closing first_cycle cycles_from probability last_delay last_moment granted_burst
-    burst_allowance raw_step tuning_divisor tuned_step decayed next
+    burst_allowance raw_step tuning_divisor tuned_step decayed next active_after departures_of delay_noted control_of early_of noted noted_after is_active
 rates-runs = refl
 
 -- marks, drops and a lone enqueue: three updates raise the probability, and three packets meet it; then the registers, the
@@ -237,7 +239,7 @@ unfolding record_fault first_fault before_fault requests_of steps_of replies his
     registers_after stats_after largest_queue largest_delay waited accu_after early_events accumulated is_considered is_picked parts_after
     control_events delay_after delay_of departures_after params_after last_or places effective_moment greatest waiting_after departed_count admitted
     average samples begun cycles first_position first_opening first_closing first_cycle cycles_from probability last_delay last_moment granted_burst
-    burst_allowance raw_step tuning_divisor tuned_step decayed next
+    burst_allowance raw_step tuning_divisor tuned_step decayed next active_after departures_of delay_noted control_of early_of noted noted_after is_active
 marks-runs = refl
 
 -- the same in a rolling book whose tail holds one event: the first record alone is another
@@ -248,7 +250,7 @@ unfolding record_fault first_fault before_fault requests_of steps_of replies his
     registers_after stats_after largest_queue largest_delay waited accu_after early_events accumulated is_considered is_picked parts_after
     control_events delay_after delay_of departures_after params_after last_or places effective_moment greatest waiting_after departed_count admitted
     average samples begun cycles first_position first_opening first_closing first_cycle cycles_from probability last_delay last_moment granted_burst
-    burst_allowance raw_step tuning_divisor tuned_step decayed next
+    burst_allowance raw_step tuning_divisor tuned_step decayed next active_after departures_of delay_noted control_of early_of noted noted_after is_active
 marks_rolling-runs = refl
 
 -- a rolling book lets its oldest event go; a fold of more events than the tail holds is refused
@@ -277,7 +279,7 @@ unfolding record_fault first_fault before_fault requests_of steps_of replies his
     registers_after stats_after largest_queue largest_delay waited accu_after early_events accumulated is_considered is_picked parts_after
     control_events delay_after delay_of departures_after params_after last_or places effective_moment greatest waiting_after departed_count admitted
     average samples begun cycles first_position first_opening first_closing first_cycle cycles_from probability last_delay last_moment granted_burst
-    burst_allowance raw_step tuning_divisor tuned_step decayed next
+    burst_allowance raw_step tuning_divisor tuned_step decayed next active_after departures_of delay_noted control_of early_of noted noted_after is_active
 rolling-runs = refl
 
 -- no more events than the limits allow, in a rolling book too
@@ -302,7 +304,7 @@ unfolding record_fault first_fault before_fault requests_of steps_of replies his
     registers_after stats_after largest_queue largest_delay waited accu_after early_events accumulated is_considered is_picked parts_after
     control_events delay_after delay_of departures_after params_after last_or places effective_moment greatest waiting_after departed_count admitted
     average samples begun cycles first_position first_opening first_closing first_cycle cycles_from probability last_delay last_moment granted_burst
-    burst_allowance raw_step tuning_divisor tuned_step decayed next
+    burst_allowance raw_step tuning_divisor tuned_step decayed next active_after departures_of delay_noted control_of early_of noted noted_after is_active
 exhausted-runs = refl
 
 -- a full tail refuses until a fold makes room
@@ -335,7 +337,7 @@ unfolding record_fault first_fault before_fault requests_of steps_of replies his
     registers_after stats_after largest_queue largest_delay waited accu_after early_events accumulated is_considered is_picked parts_after
     control_events delay_after delay_of departures_after params_after last_or places effective_moment greatest waiting_after departed_count admitted
     average samples begun cycles first_position first_opening first_closing first_cycle cycles_from probability last_delay last_moment granted_burst
-    burst_allowance raw_step tuning_divisor tuned_step decayed next
+    burst_allowance raw_step tuning_divisor tuned_step decayed next active_after departures_of delay_noted control_of early_of noted noted_after is_active
 full_tail-runs = refl
 
 -- the faults of a first record, in their order: its kind, its fields, its first bad parameter, its limits, its moment
@@ -387,7 +389,7 @@ unfolding record_fault first_fault before_fault requests_of steps_of replies his
     registers_after stats_after largest_queue largest_delay waited accu_after early_events accumulated is_considered is_picked parts_after
     control_events delay_after delay_of departures_after params_after last_or places effective_moment greatest waiting_after departed_count admitted
     average samples begun cycles first_position first_opening first_closing first_cycle cycles_from probability last_delay last_moment granted_burst
-    burst_allowance raw_step tuning_divisor tuned_step decayed next
+    burst_allowance raw_step tuning_divisor tuned_step decayed next active_after departures_of delay_noted control_of early_of noted noted_after is_active
 faulty-runs = refl
 
 -- what the opening alone ends with
@@ -407,6 +409,7 @@ bare-ends : end_of (records_of bare) ≡ Some (record {
     average = 0;
     measuring = false;
     params = default_profile;
+    active = true;
   };
   stats = no_stats;
 })
@@ -416,5 +419,5 @@ unfolding record_fault first_fault before_fault requests_of steps_of replies his
     registers_after stats_after largest_queue largest_delay waited accu_after early_events accumulated is_considered is_picked parts_after
     control_events delay_after delay_of departures_after params_after last_or places effective_moment greatest waiting_after departed_count admitted
     average samples begun cycles first_position first_opening first_closing first_cycle cycles_from probability last_delay last_moment granted_burst
-    burst_allowance raw_step tuning_divisor tuned_step decayed next
+    burst_allowance raw_step tuning_divisor tuned_step decayed next active_after departures_of delay_noted control_of early_of noted noted_after is_active
 bare-ends = refl

@@ -8,6 +8,7 @@ use Rattle.pie_book.specs.declared.command.Command.TheVariants.{Arrive, Depart, 
 use Rattle.pie_book.specs.declared.command.Event.{Event}
 use Rattle.pie_book.specs.declared.opening.Mode.{Mode}
 use Rattle.pie_book.specs.declared.opening.Opening.{Opening}
+use Rattle.pie_book.specs.declared.opening.Profile.TheVariants.{One}
 use Rattle.pie_book.specs.Opening.{opening_refusal}
 use Rattle.pie_trace.specs.declared.fault.TraceFault.{TraceFault}
 use Rattle.pie_trace.specs.declared.history.Line.{Line}
@@ -114,11 +115,11 @@ opening_row-word : (o : Opening) → (rest : Row) × (opening_row o ≡ mode_wor
 unfolding opening_row
 opening_row-word o = (_, refl)
 
-pub written-back : (opening : Opening) (events : List Event) → opening_refusal opening.limits opening.moment ≡ None → ParamsFit opening.params → All EventFits events → length events < 2 ^ 32
+pub written-back : (opening : Opening) (events : List Event) → opening.choices.profile ≡ One → opening_refusal opening.limits opening.moment ≡ None → ParamsFit opening.params → All EventFits events → length events < 2 ^ 32
     → TellsHistory (rows_text (written_rows opening events)) opening (map Made events)
-written-back opening events accepted set fit few =
+written-back opening events one accepted set fit few =
     let word = opening_row-word opening in
-    let opens : opening_of (mode_word opening.choices.mode ∷ word.0) ≡ Ok opening = ap opening_of (sym word.1) ∙ opening-back opening accepted set in
+    let opens : opening_of (mode_word opening.choices.mode ∷ word.0) ≡ Ok opening = ap opening_of (sym word.1) ∙ opening-back opening one accepted set in
     let many = rows-many events in
     subst (λ (row : Row). TellsHistory (rows_text (row ∷ map event_row events)) opening (map Made events)) (sym word.1)
     (history-told opening.choices.mode word.0 (map event_row events) opening (map Made events) opens (events-some events) (events-tell events fit) (omega arith))
@@ -133,9 +134,9 @@ contents-back (Some xs) (Some ys) text opening lines appends empty tells =
     let same : ys ≡ text = rw none at appends in
     subst (λ (held : List ℕ). TellsHistory held opening lines) (sym same) tells
 
-pub history-back : (before now : Option (List ℕ)) (opening : Opening) (events : List Event) (result : Result (Unit {0}) TraceFault) → ParamsFit opening.params → All EventFits events
+pub history-back : (before now : Option (List ℕ)) (opening : Opening) (events : List Event) (result : Result (Unit {0}) TraceFault) → opening.choices.profile ≡ One → ParamsFit opening.params → All EventFits events
     → OnOk result (Appends before now (rows_text (written_rows opening events)))
     → OnOk result (opening_refusal opening.limits opening.moment ≡ None → length events < 2 ^ 32 → before ≡ Some [] → IfSome now (λ text. TellsHistory text opening (map Made events)))
-history-back before now opening events (Err why) set fit written = tt
-history-back before now opening events (Ok done) set fit written = λ accepted few empty.
-    contents-back before now (rows_text (written_rows opening events)) opening (map Made events) written empty (written-back opening events accepted set fit few)
+history-back before now opening events (Err why) one set fit written = tt
+history-back before now opening events (Ok done) one set fit written = λ accepted few empty.
+    contents-back before now (rows_text (written_rows opening events)) opening (map Made events) written empty (written-back opening events one accepted set fit few)

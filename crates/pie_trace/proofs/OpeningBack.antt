@@ -10,6 +10,8 @@ use Rattle.pie_book.specs.declared.opening.Limits.{Limits}
 use Rattle.pie_book.specs.declared.opening.Mode.{Mode}
 use Rattle.pie_book.specs.declared.opening.Mode.TheVariants.{Bounded, Rolling}
 use Rattle.pie_book.specs.declared.opening.Opening.{Opening}
+use Rattle.pie_book.specs.declared.opening.Profile.{Profile}
+use Rattle.pie_book.specs.declared.opening.Profile.TheVariants.{One}
 use Rattle.pie_book.specs.declared.refusal.OpenRefusal.TheVariants as refusal
 use Rattle.pie_book.specs.Opening.{are_in_range, last_moment, opening_refusal}
 use Rattle.pie_trace.specs.History.{opening_of}
@@ -93,7 +95,7 @@ accepted_fits limits moment = by (are_in_range limits) (nat_le moment last_momen
 
 long-back : (mode : Mode) (moment : ℕ) (limits : Limits) (params : RawParams) → opening_refusal limits moment ≡ None → ParamsFit params
     → opening_of (mode_word mode ∷ (map decimal (moment ∷ limits.packets ∷ limits.tail ∷ limits.events ∷ []) ++ map decimal (nine_of params)))
-    ≡ Ok (record { moment = moment; limits = limits; params = params; choices = record { mode = mode } })
+    ≡ Ok (record { moment = moment; limits = limits; params = params; choices = record { mode = mode; profile = One } })
 unfolding opening_of mode_of opening_fields limits_at params_at field_at
 long-back Bounded moment limits params accepted set =
     let fits = accepted_fits limits moment accepted in
@@ -136,7 +138,7 @@ long-back Rolling moment limits params accepted set =
 
 short-back : (mode : Mode) (moment : ℕ) (limits : Limits) → opening_refusal limits moment ≡ None
     → opening_of (mode_word mode ∷ (map decimal (moment ∷ limits.packets ∷ limits.tail ∷ limits.events ∷ []) ++ []))
-    ≡ Ok (record { moment = moment; limits = limits; params = default_profile; choices = record { mode = mode } })
+    ≡ Ok (record { moment = moment; limits = limits; params = default_profile; choices = record { mode = mode; profile = One } })
 unfolding opening_of mode_of opening_fields limits_at field_at
 short-back Bounded moment limits accepted =
     let fits = accepted_fits limits moment accepted in
@@ -145,13 +147,17 @@ short-back Rolling moment limits accepted =
     let fits = accepted_fits limits moment accepted in
     rw (back_u64 moment (let m = fits.within in omega arith), back_u32 limits.packets fits.packets, back_u32 limits.tail fits.tail, back_u64 limits.events (let m = fits.events in omega arith), accepted) refl
 
-pub opening-back : (o : Opening) → opening_refusal o.limits o.moment ≡ None → ParamsFit o.params → opening_of (opening_row o) ≡ Ok o
+-- this opening with these parameters and this profile
+abbrev made : Opening → RawParams → Profile → Opening
+made o params profile = record { moment = o.moment; limits = o.limits; params = params; choices = record { mode = o.choices.mode; profile = profile } }
+
+pub opening-back : (o : Opening) → o.choices.profile ≡ One → opening_refusal o.limits o.moment ≡ None → ParamsFit o.params → opening_of (opening_row o) ≡ Ok o
 unfolding opening_row
-opening-back o accepted set = by (are_default o.params) refl
+opening-back o one accepted set = by (are_default o.params) refl
   where
     by : (b : Bool) → are_default o.params ≡ b
         → opening_of (mode_word o.choices.mode ∷ (map decimal (o.moment ∷ o.limits.packets ∷ o.limits.tail ∷ o.limits.events ∷ []) ++ (if b then [] else map decimal (nine_of o.params)))) ≡ Ok o
     by true same =
-        let made : RawParams → Opening = λ params. record { moment = o.moment; limits = o.limits; params = params; choices = o.choices } in
-        short-back o.choices.mode o.moment o.limits accepted ∙ ap (λ (params : RawParams). Ok (made params)) (sym (are_default-true o.params same))
-    by false other = long-back o.choices.mode o.moment o.limits o.params accepted set
+        short-back o.choices.mode o.moment o.limits accepted ∙ ap (λ (params : RawParams). Ok (made o params One)) (sym (are_default-true o.params same))
+        ∙ ap (λ (profile : Profile). Ok (made o o.params profile)) (sym one)
+    by false other = long-back o.choices.mode o.moment o.limits o.params accepted set ∙ ap (λ (profile : Profile). Ok (made o o.params profile)) (sym one)

@@ -75,6 +75,7 @@ fn fresh() -> Registers {
         average: 0,
         measuring: false,
         params: Params::default_profile(),
+        active: true,
     }
 }
 

@@ -2,7 +2,7 @@
 
 use super::ONE_ARRIVAL;
 use crate::{Auditor, Finding};
-use pie_book::{Answer, Choices, Command, Event, Limits, Mode, OpenRefusal, Opening};
+use pie_book::{Answer, Choices, Command, Event, Limits, Mode, OpenRefusal, Opening, Profile};
 use pie_params::Params;
 use pie_trace::{HistoryLines, Line, TraceFault};
 use std::test::Fail;
@@ -19,6 +19,7 @@ fn opening(moment: u64, packets: u32) -> Opening {
         params: Params::default_profile(),
         choices: Choices {
             mode: Mode::Bounded,
+            profile: Profile::One,
         },
     }
 }

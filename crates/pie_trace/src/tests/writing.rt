@@ -1,14 +1,18 @@
 //! Histories that are written from an opening and events, and read back.
+ghost use Rattle.std.specs.Prelude.{◌≡◌};
+ghost use Rattle.pie_book.specs.declared.opening.Profile.TheVariants.{One};
 
 use crate::{HistoryLines, Line, TraceFault, write_history};
-use pie_book::{Answer, Choices, Command, Event, Limits, Mode, Opening};
+use pie_book::{Answer, Choices, Command, Event, Limits, Mode, Opening, Profile};
 use pie_params::{Params, RawParams};
 use pie_queue::{Ecn, Packet};
 use std::alloc::Global;
 use std::test::Fail;
 
 /// A book of four packets and sixteen events in its tail, opened at moment 0.
-pub(super) fn opened(mode: Mode, params: Params) -> Opening {
+pub(super) fn opened(mode: Mode, params: Params) -> Opening
+    ensures { result.choices.profile ≡ One }
+{
     Opening {
         moment: 0,
         limits: Limits {
@@ -17,7 +21,10 @@ pub(super) fn opened(mode: Mode, params: Params) -> Opening {
             events: 100,
         },
         params,
-        choices: Choices { mode },
+        choices: Choices {
+            mode,
+            profile: Profile::One,
+        },
     }
 }
 
@@ -159,7 +166,9 @@ fn raw_of(nine: [u64; 9]) -> RawParams {
 fn opening_alone(
     alloc: Global,
     opening: &Opening,
-) -> Result<(Vec<u8>, Result<Opening, TraceFault>), Fail> {
+) -> Result<(Vec<u8>, Result<Opening, TraceFault>), Fail>
+    requires { opening.now.choices.profile ≡ One }
+{
     let mut out = Vec::new(alloc);
     write_history(alloc, &mut out, opening, &[])?;
     let read = HistoryLines::open(alloc, out.as_slice()).map(|(_, opening)| opening);

@@ -1,4 +1,4 @@
-use Rattle.std.proofs.Common.{refl, ◌∙◌, ◌≡◌}
+use Rattle.std.proofs.Common.{◌∙◌}
 use Rattle.std.specs.Prelude.{max}
 use Rattle.pie_book.specs.declared.command.Command.TheVariants.{Arrive, Depart, Update, Reset, SetParams}
 use Rattle.pie_book.specs.Core.{closed}
@@ -9,7 +9,7 @@ use Rattle.pie_book.proofs.queue_core.Core.advance.Goals.{in-Arrive, in-Depart, 
 pub returns-clause-decides : goal.returns-clause-decides
 returns-clause-decides c opening history shows =
     elim c.match-command.branch [
-      | in-Arrive w ↦ rw (w.answer-is, w.in-Arrive.is) ((rw c.reach.ensures at w.arrive-answer.ensures.answer) ∙ decides-arrive opening c.args.self.now history shows w.in-Arrive.moment w.in-Arrive.packet w.in-Arrive.word)
+      | in-Arrive w ↦ rw (w.answer-is, w.in-Arrive.is) ((rw c.reach.ensures at w.arrive-verdict.ensures.answer) ∙ decides-arrive opening c.args.self.now history shows w.in-Arrive.moment w.in-Arrive.packet w.in-Arrive.word)
       | in-Depart w ↦ rw (w.answer-is, w.in-Depart.is) ((rw c.reach.ensures at w.depart-answer.ensures.answer) ∙ decides-depart opening c.args.self.now history shows w.in-Depart.moment)
       | in-Update w ↦ let now = rw w.in-Update.is at c.requires.moment in rw (w.answer-is, w.in-Update.is) ((rw c.reach.ensures at w.update-answer.ensures.answer) ∙ decides-update opening c.args.self.now history shows w.in-Update.moment w.update-answer.new.self.control (rw (c.reach.ensures, now) at w.update-answer.ensures.control))
       | in-Reset w ↦ rw (w.answer-is, w.in-Reset.is) (w.reset-answer.ensures.answer)
@@ -21,12 +21,16 @@ returns-clause-shows c opening history caller shows =
     elim c.match-command.branch [
       | in-Arrive w ↦ let now = rw w.in-Arrive.is at c.requires.moment in
           rw (c.close.ensures, w.self-is, w.answer-is, w.in-Arrive.is)
-          (Shows-next opening c.args.self.now (closed w.arrive-answer.new.self) history caller (Arrive w.in-Arrive.moment w.in-Arrive.packet w.in-Arrive.word) w.arrive-answer.result shows
+          (Shows-next opening c.args.self.now (closed w.wake.new.self) history caller (Arrive w.in-Arrive.moment w.in-Arrive.packet w.in-Arrive.word) w.arrive-verdict.result shows
           (rw w.in-Arrive.is at c.requires.taken)
-          ((rw c.reach.ensures at w.arrive-answer.ensures.answer) ∙ decides-arrive opening c.args.self.now history shows w.in-Arrive.moment w.in-Arrive.packet w.in-Arrive.word)
-          (follows-arrive c.args.self.now w.arrive-answer.new.self (max c.args.self.now.moment w.in-Arrive.moment) w.in-Arrive.packet w.arrive-answer.result
-          (rw (c.reach.ensures, now) at w.arrive-answer.ensures.after)
-          (rw c.reach.ensures at w.arrive-answer.ensures.early)))
+          ((rw c.reach.ensures at w.arrive-verdict.ensures.answer) ∙ decides-arrive opening c.args.self.now history shows w.in-Arrive.moment w.in-Arrive.packet w.in-Arrive.word)
+          (follows-arrive c.args.self.now w.arrive-verdict.new.self w.wake.new.self (max c.args.self.now.moment w.in-Arrive.moment) w.in-Arrive.packet w.arrive-verdict.result
+          w.arrive-verdict.ensures.arrival
+          (rw (c.reach.ensures, now) at w.arrive-verdict.ensures.after)
+          (rw c.reach.ensures at w.arrive-verdict.ensures.early)
+          w.wake.ensures.after
+          w.wake.ensures.rate
+          w.wake.ensures.control))
       | in-Depart w ↦ let now = rw w.in-Depart.is at c.requires.moment in
           rw (c.close.ensures, w.self-is, w.answer-is, w.in-Depart.is)
           (Shows-next opening c.args.self.now (closed w.depart-answer.new.self) history caller (Depart w.in-Depart.moment) w.depart-answer.result shows

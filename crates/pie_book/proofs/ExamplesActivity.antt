@@ -1,0 +1,85 @@
+-- A controller that turns itself off and on, on two worked histories: each theorem computes.
+use Rattle.std.specs.Prelude.{ℕ, ◌≡◌, List, [], ◌∷◌, take, Some, None, true, false, map}
+use Rattle.std.proofs.Common.{refl}
+use Rattle.pie_rate.specs.Cycles.{begun, cycles, cycles_from, first_closing, first_cycle, first_opening, first_position}
+use Rattle.pie_rate.specs.Average.{average, samples}
+use Rattle.pie_control.specs.Delay.{delay_of}
+use Rattle.pie_control.specs.History.{probability, last_delay, last_moment, granted_burst, burst_allowance}
+use Rattle.pie_control.specs.Next.{raw_step, tuning_divisor, tuned_step, decayed, next}
+use Rattle.pie_early.specs.Decision.{is_considered, is_picked}
+use Rattle.pie_early.specs.History.{accumulated}
+use Rattle.pie_book.specs.declared.command.Answer.{Answer}
+use Rattle.pie_book.specs.declared.command.Answer.TheVariants.{Enqueued, DroppedBytes, Left, Updated, Done}
+use Rattle.pie_book.specs.declared.command.Command.TheVariants.{Arrive, Depart, Update, Reset}
+use Rattle.pie_book.specs.declared.command.Event.{Event}
+use Rattle.pie_book.specs.declared.opening.Mode.TheVariants.{Bounded}
+use Rattle.pie_book.specs.declared.opening.Opening.{Opening}
+use Rattle.pie_book.specs.declared.opening.Profile.{Profile}
+use Rattle.pie_book.specs.declared.opening.Profile.TheVariants.{One, Two}
+use Rattle.pie_book.specs.declared.refusal.Refusal.TheVariants.{TooSoon}
+use Rattle.pie_book.specs.Activity.{is_active, noted, noted_after}
+use Rattle.pie_book.specs.Decision.{decision, refusal_by_rule}
+use Rattle.pie_book.specs.Estimates.{active_after, average_after, measuring_after, departures_after, delay_after, control_events, parts_after, early_events, accu_after}
+use Rattle.pie_book.specs.History.{Place, places, greatest, last_or, effective_moment, params_after, admitted, departed_count, waiting_after}
+use Rattle.pie_book.specs.Shown.{departures_of, delay_noted, control_of, early_of}
+use Rattle.pie_book.proofs.Examples.{limits, nine, packet, event}
+
+abbrev in_profile : Profile → Opening
+in_profile profile = record {
+  moment = 0;
+  limits = limits 8 32 100;
+  params = nine 2 1 5 850000 0 1 9000 1000000000000 1024;
+  choices = record { mode = Bounded; profile = profile };
+}
+
+abbrev arrives : ℕ → ℕ → Event
+arrives tag moment = event 1 (Arrive moment (packet tag 1024) 0) Enqueued
+
+abbrev leaves : ℕ → ℕ → Event
+leaves tag moment = event 1 (Depart moment) (Left (packet tag 1024))
+
+-- a third of the byte limit is 3000 bytes: the fourth arrival, after which 3072 wait, turns the controller on
+abbrev row : List Event
+row =
+    arrives 1 0 ∷ arrives 2 0 ∷ leaves 1 1 ∷ arrives 3 1 ∷ arrives 4 1 ∷ leaves 2 2 ∷ leaves 3 1002
+    ∷ event 1 (Update 1002) (Updated 1000 414208 4) ∷ event 1 (Reset 1003) Done ∷ event 1 (Update 1004) (Updated 0 0 5)
+    ∷ event 1 (Update 1005) (Updated 0 0 5) ∷ []
+
+-- what the rules answer each event's command at its place
+abbrev answers_of : Profile → List Event → List Answer
+answers_of profile history = map (λ (place : Place Event). decision (in_profile profile) place.before place.event.command) (places history)
+
+row_active : map (λ n. active_after (in_profile Two) (take n row)) (0 ∷ 1 ∷ 2 ∷ 3 ∷ 4 ∷ 5 ∷ 6 ∷ 7 ∷ 8 ∷ 9 ∷ 10 ∷ 11 ∷ [])
+    ≡ false ∷ false ∷ false ∷ false ∷ false ∷ true ∷ true ∷ true ∷ true ∷ true ∷ false ∷ false ∷ []
+unfolding accu_after early_events early_of accumulated is_considered is_picked parts_after control_events control_of delay_after delay_noted delay_of departures_after departures_of active_after is_active noted noted_after params_after last_or places effective_moment greatest waiting_after departed_count admitted average samples begun cycles first_position first_opening first_closing first_cycle cycles_from probability last_delay last_moment granted_burst burst_allowance raw_step tuning_divisor tuned_step decayed next
+row_active = refl
+
+-- the departure while the controller is off opens no cycle
+row_measures : (map (λ n. measuring_after (in_profile Two) (take n row)) (3 ∷ 5 ∷ 6 ∷ 7 ∷ 9 ∷ []) ≡ false ∷ false ∷ true ∷ true ∷ false ∷ [])
+    × (map (λ n. average_after (in_profile Two) (take n row)) (6 ∷ 7 ∷ 9 ∷ []) ≡ 0 ∷ 1000 ∷ 0 ∷ [])
+unfolding accu_after early_events early_of accumulated is_considered is_picked parts_after control_events control_of delay_after delay_noted delay_of departures_after departures_of active_after is_active noted noted_after params_after last_or places effective_moment greatest waiting_after departed_count admitted average samples begun cycles first_position first_opening first_closing first_cycle cycles_from probability last_delay last_moment granted_burst burst_allowance raw_step tuning_divisor tuned_step decayed next
+row_measures = (refl, refl)
+
+row_answers : answers_of Two row ≡ map (λ (e : Event). e.answer) row
+unfolding accu_after early_events early_of accumulated is_considered is_picked parts_after control_events control_of delay_after delay_noted delay_of departures_after departures_of active_after is_active noted noted_after params_after last_or places effective_moment greatest waiting_after departed_count admitted average samples begun cycles first_position first_opening first_closing first_cycle cycles_from probability last_delay last_moment granted_burst burst_allowance raw_step tuning_divisor tuned_step decayed next
+row_answers = refl
+
+-- an update while the controller is off moves the due moment too
+row_due : (refusal_by_rule (in_profile Two) row (Update 1005) ≡ Some (TooSoon 1006)) × (refusal_by_rule (in_profile Two) row (Update 1006) ≡ None)
+unfolding accu_after early_events early_of accumulated is_considered is_picked parts_after control_events control_of delay_after delay_noted delay_of departures_after departures_of active_after is_active noted noted_after params_after last_or places effective_moment greatest waiting_after departed_count admitted average samples begun cycles first_position first_opening first_closing first_cycle cycles_from probability last_delay last_moment granted_burst burst_allowance raw_step tuning_divisor tuned_step decayed next
+row_due = (refl, refl)
+
+-- in profile one the first departure opens a cycle, and the update answers by two samples
+row_in_profile_one : (decision (in_profile One) (take 7 row) (Update 1002) ≡ Updated 16 5810 4) × (active_after (in_profile One) [] ≡ true)
+unfolding accu_after early_events early_of accumulated is_considered is_picked parts_after control_events control_of delay_after delay_noted delay_of departures_after departures_of active_after is_active noted noted_after params_after last_or places effective_moment greatest waiting_after departed_count admitted average samples begun cycles first_position first_opening first_closing first_cycle cycles_from probability last_delay last_moment granted_burst burst_allowance raw_step tuning_divisor tuned_step decayed next
+row_in_profile_one = (refl, refl)
+
+-- the third arrival turns the controller on, a calm update off, and an arrival that is dropped on again
+abbrev dropped_row : List Event
+dropped_row =
+    arrives 1 0 ∷ arrives 2 0 ∷ arrives 3 0 ∷ event 1 (Update 1) (Updated 0 0 5) ∷ event 1 (Arrive 1 (packet 4 65535) 0) DroppedBytes ∷ []
+
+dropped_row_answers : (answers_of Two dropped_row ≡ map (λ (e : Event). e.answer) dropped_row)
+    × (map (λ n. active_after (in_profile Two) (take n dropped_row)) (2 ∷ 3 ∷ 4 ∷ 5 ∷ []) ≡ false ∷ true ∷ false ∷ true ∷ [])
+unfolding accu_after early_events early_of accumulated is_considered is_picked parts_after control_events control_of delay_after delay_noted delay_of departures_after departures_of active_after is_active noted noted_after params_after last_or places effective_moment greatest waiting_after departed_count admitted average samples begun cycles first_position first_opening first_closing first_cycle cycles_from probability last_delay last_moment granted_burst burst_allowance raw_step tuning_divisor tuned_step decayed next
+dropped_row_answers = (refl, refl)

@@ -11,7 +11,7 @@ ghost use Rattle.pie_link.specs.declared.plan.Plan.{Plan};
 ghost use Rattle.pie_link.specs.declared.refusal.LinkRefusal.{LinkRefusal};
 ghost use Rattle.pie_link.specs.Opening.{link_refusal};
 ghost use Rattle.pie_link.specs.Plans.{IsSound, opening_of, planned, senders};
-ghost use Rattle.pie_link.specs.Storms.{AllCameAt, CameAt, FoldedAt};
+ghost use Rattle.pie_link.specs.Storms.{AllCameAt, CameAt, FoldedAt, IsStorm};
 ghost use Rattle.pie_link.specs.Views.{StaysOne};
 
 use crate::caller::Caller;
@@ -110,6 +110,7 @@ pub fn storm<R: Threads + Wait + Sync, G: Gate + Sync>(
     ensures bad_plan { (result ≡ Err StormFault.BadPlan) ↔ (IsSound plan.now → ⊥) }
     ensures refused { IsSound plan.now → (why : LinkRefusal) → link_refusal plan.now.limits plan.now.moment (senders plan.now + 5) ≡ Some why → result ≡ Err (StormFault.Opening why) }
     ensures legal { IfOk result (λ end. IsLegal (opening_of plan.now) end.events.items) }
+    ensures made { IfOk result (λ end. IsStorm plan.now end.events.items end.too_soon) }
     ensures registers { IfOk result (λ end. end.registers ≡ registers_after (opening_of plan.now) end.events.items) }
     ensures stats { IfOk result (λ end. end.stats ≡ stats_after (opening_of plan.now) end.events.items) }
 {

@@ -25,8 +25,10 @@ mod kept_book;
 pub mod link;
 pub mod plan;
 pub mod refusal;
+mod starter;
 pub mod told;
 mod turn;
+mod worker;
 
 pub use caller::Caller;
 pub use ending::{StormEnd, StormFault};
@@ -34,6 +36,7 @@ pub use gate::{Gate, NoGate};
 pub use link::Link;
 pub use plan::{Arrival, Change, Plan};
 pub use refusal::LinkRefusal;
+pub use starter::storm;
 pub use told::{Told, Tried};
 
 #[cfg(test)]

@@ -1,5 +1,5 @@
 -- How explaining a history ends: as its audit would, or with nothing to explain.
-use Rattle.std.specs.Prelude.{ℕ, ◌≡◌, ◌==◌, false, Option, Some, None, Result, Ok, Err, if◌then◌else◌}
+use Rattle.std.specs.Prelude.{ℕ, ◌≡◌, ◌==◌, false, Some, None, Result, Ok, Err, if◌then◌else◌}
 use Rattle.pie_book.specs.declared.opening.Opening.{Opening}
 use Rattle.pie_trace.specs.declared.fault.TraceFault.{TraceFault}
 use Rattle.pie_trace.specs.Fault.{is_device}

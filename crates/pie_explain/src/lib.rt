@@ -10,6 +10,8 @@ pub mod explainer;
 pub mod explanation;
 pub mod fault;
 mod record;
+#[cfg(test)]
+mod tests;
 mod text;
 mod units;
 pub mod which;

@@ -11,6 +11,9 @@
 //! `open_with` promise the headline (clause `headline`, `specs/Headline.antt`): whenever the lock is free there is one
 //! history of one thread that begins with everything any caller has been shown, contains each caller's calls once and in its
 //! order, and ends with the stored tail, and looking back over it gives all that the book holds.
+//!
+//! `storm` runs a `Plan` under many threads at once and answers what was recorded, which is the planned calls, each caller's in
+//! order, in one history that is legal from the opening.
 #![tactic(auto)]
 
 pub mod caller;

@@ -100,7 +100,17 @@ fn both(link: &Link, work: Work, last: Work) -> Work
     }
 }
 
-/// Makes all calls of the plan at once, each list in a thread of its own, and answers what was recorded.
+/// Makes all calls of the plan at once, each list in a thread of its own, and answers what was recorded (this project's own).
+///
+/// With N lists of arrivals, callers 1 to N send them, N + 1 makes the departures, N + 2 the updates, N + 3 the changes and
+/// N + 4 the folds, each in the order of its list, with `gate.before` and `gate.after` around each call. An update that is too
+/// soon, and a fold of more events than the tail holds, are counted and passed over.
+///
+/// # Errors
+///
+/// `BadPlan` before anything else, where the plan is not sound; `Opening` where the link is not opened; then `Memory`, or
+/// `Gap`, whichever is met first. All workers have ended then. `Thread` is kept for a start of threads that can be refused:
+/// today a call whose thread cannot be made runs last in the thread at hand.
 pub fn storm<R: Threads + Wait + Sync, G: Gate + Sync>(
     rt: &R,
     alloc: Global,

@@ -8,6 +8,7 @@ pub mod BookFacts
 pub mod RunFacts
 pub mod RangeFacts
 pub mod RangeLaws
+pub mod BesideFacts
 pub mod Examples
 pub mod ExamplesRates
 pub mod ExamplesMarks

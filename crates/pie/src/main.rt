@@ -3,6 +3,7 @@
 
 mod command;
 mod options;
+mod plan;
 
 use command::command;
 use std::env;

@@ -13,3 +13,4 @@ pub mod Tally
 pub mod Book
 pub mod Run
 pub mod Ranges
+pub mod Beside

@@ -14,6 +14,7 @@
 //! legal history is a number that its field holds. `apply` and `step` take no memory.
 #![tactic(auto)]
 
+pub mod beside;
 pub mod book;
 pub mod cause;
 pub mod command;
@@ -28,6 +29,7 @@ mod tally;
 #[cfg(test)]
 mod tests;
 
+pub use beside::parts_decide_as_a_core;
 pub use book::Book;
 pub use cause::{Cause, Fate};
 pub use command::{Answer, Command, Event};

@@ -1,8 +1,7 @@
 -- The link's definitions at small values that were worked out by hand.
-use Rattle.std.specs.Prelude.{ℕ, ◌≡◌, ◌-◌, List, [], ◌∷◌, Option, Some, None, take, drop}
+use Rattle.std.specs.Prelude.{ℕ, ◌≡◌, ◌-◌, List, [], ◌∷◌, Some, None, take, drop}
 use Rattle.std.proofs.Common.{refl}
 use Rattle.pie_lock.specs.declared.view.Shown.{Shown}
-use Rattle.pie_lock.specs.declared.view.Place.{Place}
 use Rattle.pie_lock.specs.declared.view.Place.TheVariants.{Spent, Waits, Meets}
 use Rattle.pie_book.specs.declared.command.Command.TheVariants.{Depart}
 use Rattle.pie_book.specs.declared.command.Answer.TheVariants.{Empty}

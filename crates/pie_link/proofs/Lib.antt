@@ -2,3 +2,8 @@ pub mod Outcomes
 pub mod Headline
 pub mod Folding
 pub mod Examples
+pub mod Planning
+pub mod Working
+pub mod Gathering
+pub mod Closing
+pub mod Counting

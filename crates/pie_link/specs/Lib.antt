@@ -5,3 +5,5 @@ pub mod Commands
 pub mod Folds
 pub mod Readings
 pub mod Headline
+pub mod Plans
+pub mod Storms

@@ -12,6 +12,9 @@
 //! history of one thread that begins with everything any caller has been shown, contains each caller's calls once and in its
 //! order, and ends with the stored tail, and looking back over it gives all that the book holds.
 //!
+//! `storm` runs a `Plan` under many threads at once and answers what was recorded, which is the planned calls, each caller's in
+//! order, in one history that is legal from the opening.
+//!
 //! Not promised: that a waiting call returns, that anyone is served, or how often `Busy` comes; that `TooMany`, and `HistoryFull`
 //! from as many events on as the tail may hold, come only where the tail really is too short or full (tests show it); what a caller
 //! that was dropped had been shown.
@@ -25,8 +28,10 @@ mod kept_book;
 pub mod link;
 pub mod plan;
 pub mod refusal;
+mod starter;
 pub mod told;
 mod turn;
+mod worker;
 
 pub use caller::Caller;
 pub use ending::{StormEnd, StormFault};
@@ -34,6 +39,7 @@ pub use gate::{Gate, NoGate};
 pub use link::Link;
 pub use plan::{Arrival, Change, Plan};
 pub use refusal::LinkRefusal;
+pub use starter::storm;
 pub use told::{Told, Tried};
 
 #[cfg(test)]

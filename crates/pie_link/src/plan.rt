@@ -1,6 +1,9 @@
 //! What a storm is asked to do.
+ghost use Rattle.std.specs.Prelude.{◌≡◌, ◌≤◌, ◌^◌, ◌-◌, ◌↔◌, IsTrue, All, Option, length, map, min, slice_get};
+ghost use Rattle.pie_link.specs.Plans.{IsMoment, IsSoundArrival, IsSound, arrive, change, commands_of, count_of, planned, senders};
+ghost use Rattle.pie_book.specs.declared.command.Command.TheVariants.{Depart, Update};
 
-use pie_book::Limits;
+use pie_book::{Command, Limits};
 use pie_params::Params;
 use pie_queue::Packet;
 
@@ -45,4 +48,155 @@ pub struct Plan {
     pub changes: Vec<Change>,
     /// How many events each fold hands out.
     pub folds: Vec<u64>,
+}
+
+// The greatest moment that may be handed in.
+const LAST_MOMENT: u64 = (1 << 60) - 1;
+
+impl Arrival {
+    // Whether moment and size are in their ranges.
+    fn is_sound(&self) -> bool
+        ensures { IsTrue result ↔ IsSoundArrival self.now }
+    {
+        self.moment <= LAST_MOMENT && 1 <= self.packet.size && self.packet.size <= 65535
+    }
+}
+
+fn are_sound(arrivals: &[Arrival]) -> bool
+    ensures { IsTrue result ↔ All IsSoundArrival arrivals.now }
+{
+    arrivals.iter().all(|arrival| arrival.is_sound())
+}
+
+fn are_moments(moments: &[u64]) -> bool
+    ensures { IsTrue result ↔ All IsMoment moments.now }
+{
+    moments.iter().all(|moment| *moment <= LAST_MOMENT)
+}
+
+// How many arrivals these lists have, as far as a u64 can count.
+fn count(lists: &[Vec<Arrival>]) -> u64
+    ensures { result ≡ min (count_of lists.now) (2 ^ 64 - 1) }
+{
+    let mut count = 0u64;
+    for list in lists {
+        count = count.saturating_add(list.len() as u64);
+    }
+    count
+}
+
+impl Plan {
+    // How many commands there are in all, as far as a u64 can count.
+    fn planned(&self) -> u64
+        ensures { result ≡ min (planned self.now) (2 ^ 64 - 1) }
+    {
+        count(self.arrivals.as_slice())
+            .saturating_add(self.departs.len() as u64)
+            .saturating_add(self.updates.len() as u64)
+            .saturating_add(self.changes.len() as u64)
+    }
+
+    // Whether tail and events have room for all commands.
+    fn has_room(&self) -> bool
+        ensures { IsTrue result ↔ (planned self.now ≤ self.now.limits.tail) × (planned self.now ≤ self.now.limits.events) }
+    {
+        let planned = self.planned();
+        planned <= u64::from(self.limits.tail) && planned <= self.limits.events
+    }
+
+    /// Whether a storm takes the plan.
+    pub(crate) fn is_sound(&self) -> bool
+        ensures { IsTrue result ↔ IsSound self.now }
+    {
+        2 <= self.arrivals.len()
+            && self.arrivals.len() <= 8
+            && self.moment <= LAST_MOMENT
+            && self.arrivals.iter().all(|list| are_sound(list.as_slice()))
+            && are_moments(self.departs.as_slice())
+            && are_moments(self.updates.as_slice())
+            && self
+                .changes
+                .iter()
+                .all(|change| change.moment <= LAST_MOMENT)
+            && self.has_room()
+    }
+
+    /// How many commands a caller has to make.
+    #[tactic(auto, unfolding(crate::specs::Plans::commands_of))]
+    pub(crate) fn commands(&self, caller: u16) -> usize
+        ensures { result ≡ length (commands_of self.now caller) }
+    {
+        let senders = self.arrivals.len();
+        let place = usize::from(caller);
+        if place == 0 {
+            0
+        } else if place <= senders {
+            self.arrivals[place - 1].len()
+        } else if place - senders == 1 {
+            self.departs.len()
+        } else if place - senders == 2 {
+            self.updates.len()
+        } else if place - senders == 3 {
+            self.changes.len()
+        } else {
+            0
+        }
+    }
+
+    /// The command that a caller makes after `k` others.
+    #[tactic(auto, unfolding(crate::specs::Plans::commands_of))]
+    pub(crate) fn command(&self, caller: u16, k: usize) -> Option<Command>
+        ensures { result ≡ slice_get (commands_of self.now caller) k }
+    {
+        let senders = self.arrivals.len();
+        let place = usize::from(caller);
+        if place == 0 {
+            None
+        } else if place <= senders {
+            arrival_at(self.arrivals[place - 1].as_slice(), k)
+        } else if place - senders == 1 {
+            departure_at(self.departs.as_slice(), k)
+        } else if place - senders == 2 {
+            update_at(self.updates.as_slice(), k)
+        } else if place - senders == 3 {
+            change_at(self.changes.as_slice(), k)
+        } else {
+            None
+        }
+    }
+}
+
+fn arrival_at(arrivals: &[Arrival], k: usize) -> Option<Command>
+    ensures { result ≡ slice_get (map arrive arrivals.now) k }
+{
+    let arrival = arrivals.get(k)?;
+    Some(Command::Arrive {
+        moment: arrival.moment,
+        packet: arrival.packet,
+        word: arrival.word,
+    })
+}
+
+fn departure_at(moments: &[u64], k: usize) -> Option<Command>
+    ensures { result ≡ slice_get (map Depart moments.now) k }
+{
+    let moment = *moments.get(k)?;
+    Some(Command::Depart { moment })
+}
+
+fn update_at(moments: &[u64], k: usize) -> Option<Command>
+    ensures { result ≡ slice_get (map Update moments.now) k }
+{
+    let moment = *moments.get(k)?;
+    Some(Command::Update { moment })
+}
+
+fn change_at(changes: &[Change], k: usize) -> Option<Command>
+    ensures { result ≡ slice_get (map change changes.now) k }
+{
+    let change = changes.get(k)?;
+    Some(Command::SetParams {
+        moment: change.moment,
+        params: change.params,
+    })
 }

@@ -1,0 +1,87 @@
+-- The plan of a storm: what each of its callers does, with random words from a generator for each sender.
+use Rattle.std.specs.Prelude.{ℕ, ◌≡◌, ◌+◌, ◌*◌, ◌/◌, ◌%◌, ◌^◌, List, [], Vec, map, zero, suc}
+use Rattle.std.specs.List.{range_with_len}
+use Rattle.std.specs.declared.alloc.Global.{Global}
+use Rattle.rand_core.specs.Steps.{steps_u64_low, stream_of}
+use Rattle.rand_core.specs.Stream.{Stream, next_u64}
+use Rattle.rand_pcg.specs.Lcg.{Lcg, increment_of, started}
+use Rattle.rand_pcg.specs.Pcg.{multiplier_128, pcg64}
+use Rattle.pie_queue.specs.declared.ecn.Ecn.{Ecn}
+use Rattle.pie_queue.specs.declared.ecn.Ecn.TheVariants.{NotEct, Ect1, Ect0, Ce}
+use Rattle.pie_params.specs.Profile.{default_profile}
+use Rattle.pie_link.specs.declared.plan.Arrival.{Arrival}
+use Rattle.pie_link.specs.declared.plan.Plan.{Plan}
+
+-- ---- random words
+
+-- the words that a generator gives
+abbrev pub words_of : Lcg → Stream
+words_of generator = stream_of (steps_u64_low pcg64) generator
+
+-- the random words of a sender: those of the generator that is made of the seed, with the sender's number as its stream
+abbrev pub sender_words : ℕ → ℕ → Stream
+sender_words seed sender = words_of (started 128 multiplier_128 seed (increment_of 128 sender))
+
+-- the words that are left after so many
+unfoldable pub words_after : ℕ → Stream → Stream
+words_after zero words = words
+words_after (suc count) words = words_after count (next_u64 words).1
+
+-- one of the words, counted from 0
+abbrev pub word_at : ℕ → Stream → ℕ
+word_at place words = (next_u64 (words_after place words)).0
+
+-- ---- the lists
+
+-- the ECN field of two bits
+abbrev pub ecn_of : ℕ → Ecn
+ecn_of zero = NotEct
+ecn_of (suc zero) = Ect1
+ecn_of (suc (suc zero)) = Ect0
+ecn_of _ = Ce
+
+-- an arrival of a sender, counted from 0, by three words: one for the packet's size, one for its ECN field, and the random
+-- word that is handed in
+abbrev pub arrival_by : ℕ → ℕ → ℕ → ℕ → ℕ → Arrival
+arrival_by sender i size ecn word = record {
+  moment = (i + 1) * 1_000_000;
+  packet = record { tag = sender * 2 ^ 32 + i; size = 64 + size % 1437; ecn = ecn_of (ecn % 4) };
+  word = word;
+}
+
+-- .. which are the next three of the sender's random words
+abbrev pub arrival_at : ℕ → Stream → ℕ → Arrival
+arrival_at sender words i = arrival_by sender i (word_at (3 * i) words) (word_at (3 * i + 1) words) (word_at (3 * i + 2) words)
+
+-- the arrivals of a sender: a packet each millisecond
+abbrev pub arrivals_of : ℕ → ℕ → ℕ → List Arrival
+arrivals_of packets seed sender = map (arrival_at sender (sender_words seed sender)) (range_with_len 0 packets)
+
+-- a departure for each packet, spread evenly
+abbrev pub departs_of : ℕ → ℕ → List ℕ
+departs_of senders packets = map (λ j. (j + 1) * 1_000_000 / senders) (range_with_len 0 (senders * packets))
+
+-- an update each fifteen milliseconds
+abbrev pub updates_of : ℕ → List ℕ
+updates_of packets = map (λ j. (j + 1) * 15_000_000) (range_with_len 0 (packets / 15 + 1))
+
+-- how many commands there are in all
+abbrev pub command_count : ℕ → ℕ → ℕ
+command_count senders packets = 2 * senders * packets + packets / 15 + 1
+
+-- ---- the plan
+
+-- the list that a vector holds
+abbrev pub held_by : Vec Arrival Global → List Arrival
+held_by list = list.items
+
+-- the plan of so many senders, each with so many packets, and this seed
+pub record IsStormPlan (senders packets seed : ℕ) (plan : Plan) : Type 0 where
+  pub limits : plan.limits ≡ record { packets = 1024; tail = command_count senders packets; events = command_count senders packets }
+  pub params : plan.params ≡ default_profile
+  pub moment : plan.moment ≡ 0
+  pub arrivals : map held_by plan.arrivals.items ≡ map (arrivals_of packets seed) (range_with_len 1 senders)
+  pub departs : plan.departs.items ≡ departs_of senders packets
+  pub updates : plan.updates.items ≡ updates_of packets
+  pub changes : plan.changes.items ≡ []
+  pub folds : plan.folds.items ≡ []

@@ -1,0 +1,2 @@
+pub mod ExplainFacts
+pub mod RecordFacts

@@ -1,0 +1,4 @@
+pub mod Which
+pub mod Explanation
+pub mod Record
+pub mod Answer

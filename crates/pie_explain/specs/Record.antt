@@ -1,0 +1,95 @@
+-- The CSV record of an explanation.
+use Rattle.std.specs.Prelude.{ℕ, List, [], ◌∷◌, ◌++◌, Option, Some, None, codes}
+use Rattle.std.specs.Fmt.{decimal}
+use Rattle.pie_queue.specs.declared.packet.Packet.{Packet}
+use Rattle.pie_book.specs.declared.cause.Cause.{Cause}
+use Rattle.pie_book.specs.declared.cause.Cause.TheVariants.{NoRoomInBytes, NoRoomInPackets, BurstAllowed, LowDelay, ShortQueue, NoProbability, LittleAccumulated, PickedBySum, PickedByWord, WordNotBelow}
+use Rattle.pie_book.specs.declared.cause.Fate.TheVariants as fate
+use Rattle.pie_book.specs.declared.command.Command.{Command}
+use Rattle.pie_book.specs.declared.command.Command.TheVariants.{Arrive, Depart, Update, Reset, SetParams}
+use Rattle.pie_book.specs.declared.command.Answer.{Answer}
+use Rattle.pie_book.specs.declared.command.Answer.TheVariants.{Enqueued, Marked, DroppedEarly, DroppedBytes, DroppedPackets, Empty, Left, Updated, Done}
+use Rattle.pie_book.specs.Deed.{handed_in}
+use Rattle.pie_explain.specs.declared.explanation.Explanation.{Explanation}
+use Rattle.pie_explain.specs.Which.{packet_of}
+
+-- ---- words
+
+-- the kind of a command, as in a history
+abbrev pub kind_word : Command → List ℕ
+kind_word (Arrive moment packet word) = codes "arrive"
+kind_word (Depart moment) = codes "depart"
+kind_word (Update moment) = codes "update"
+kind_word (Reset moment) = codes "reset"
+kind_word (SetParams moment params) = codes "params"
+
+-- the word of an answer, as in a history
+abbrev pub verdict_word : Answer → List ℕ
+verdict_word Enqueued = codes "enqueue"
+verdict_word Marked = codes "mark"
+verdict_word DroppedEarly = codes "early"
+verdict_word DroppedBytes = codes "bytes"
+verdict_word DroppedPackets = codes "packets"
+verdict_word Empty = codes "empty"
+verdict_word (Left packet) = codes "left"
+verdict_word (Updated delay prob burst) = codes "updated"
+verdict_word Done = codes "done"
+
+-- the word of what decided an arrival; none for another event
+abbrev pub cause_word : Option Cause → List ℕ
+cause_word None = []
+cause_word (Some (NoRoomInBytes bytes size limit)) = codes "no_room_in_bytes"
+cause_word (Some (NoRoomInPackets packets)) = codes "no_room_in_packets"
+cause_word (Some (BurstAllowed burst)) = codes "burst_allowed"
+cause_word (Some (LowDelay old_delay target prob)) = codes "low_delay"
+cause_word (Some (ShortQueue bytes two_packets)) = codes "short_queue"
+cause_word (Some NoProbability) = codes "no_probability"
+cause_word (Some (LittleAccumulated accu prob)) = codes "little_accumulated"
+cause_word (Some (PickedBySum accu prob (fate.Marked threshold))) = codes "picked_by_sum"
+cause_word (Some (PickedBySum accu prob fate.NotCapable)) = codes "picked_by_sum_not_capable"
+cause_word (Some (PickedBySum accu prob (fate.NotBelow threshold))) = codes "picked_by_sum_not_below"
+cause_word (Some (PickedByWord accu prob word (fate.Marked threshold))) = codes "picked_by_word"
+cause_word (Some (PickedByWord accu prob word fate.NotCapable)) = codes "picked_by_word_not_capable"
+cause_word (Some (PickedByWord accu prob word (fate.NotBelow threshold))) = codes "picked_by_word_not_below"
+cause_word (Some (WordNotBelow accu prob word)) = codes "word_not_below"
+
+-- ---- the record
+
+-- the tag and the size of the packet that an event is about, empty where there is none
+abbrev pub tag_field : Option Packet → List ℕ
+tag_field None = []
+tag_field (Some packet) = decimal packet.tag
+
+abbrev pub size_field : Option Packet → List ℕ
+size_field None = []
+size_field (Some packet) = decimal packet.size
+
+-- the fifteen fields: the event and what decided it, and the numbers that it met
+abbrev pub record_of : Explanation → List (List ℕ)
+record_of told =
+    decimal told.number ∷ kind_word told.event.command ∷ decimal told.event.caller ∷ decimal (handed_in told.event.command) ∷ decimal told.moment
+    ∷ tag_field (packet_of told.event) ∷ size_field (packet_of told.event) ∷ verdict_word told.event.answer ∷ cause_word told.cause
+    ∷ decimal told.before.bytes ∷ decimal told.before.packets ∷ decimal told.delay ∷ decimal told.before.prob ∷ decimal told.before.accu ∷ decimal told.before.burst ∷ []
+
+-- these fields as a line of CSV: none of them has a comma, a quote or a line's end in it
+abbrev pub line_of : List (List ℕ) → List ℕ
+line_of [] = codes "\n"
+line_of (field ∷ []) = field ++ codes "\n"
+line_of (field ∷ (next ∷ fields)) = field ++ codes "," ++ line_of (next ∷ fields)
+
+-- ---- its parts, as they are written
+
+-- each field with a comma after it
+abbrev pub with_commas : List (List ℕ) → List ℕ
+with_commas [] = []
+with_commas (field ∷ fields) = field ++ codes "," ++ with_commas fields
+
+abbrev pub head : Explanation → List ℕ
+head told = with_commas (decimal told.number ∷ kind_word told.event.command ∷ decimal told.event.caller ∷ decimal (handed_in told.event.command) ∷ decimal told.moment ∷ [])
+
+abbrev pub packet_fields : Option Packet → List ℕ
+packet_fields packet = with_commas (tag_field packet ∷ size_field packet ∷ [])
+
+abbrev pub rest : Explanation → List ℕ
+rest told = line_of (verdict_word told.event.answer ∷ cause_word told.cause ∷ decimal told.before.bytes ∷ decimal told.before.packets ∷ decimal told.delay ∷ decimal told.before.prob
+    ∷ decimal told.before.accu ∷ decimal told.before.burst ∷ [])

@@ -1,0 +1,74 @@
+//! What there is to say of one event.
+ghost use Rattle.std.specs.Prelude.{◌≡◌, List};
+ghost use Rattle.pie_book.specs.declared.command.Event.{Event};
+ghost use Rattle.pie_book.specs.declared.opening.Opening.{Opening};
+ghost use Rattle.pie_book.specs.Core.{Shows};
+ghost use Rattle.pie_book.specs.Deed.{deed_of};
+ghost use Rattle.pie_book.specs.History.{waiting_after};
+ghost use Rattle.pie_book.specs.Statistics.{wait_of};
+
+use pie_book::{Answer, Cause, Command, Core, Event, Registers};
+
+/// One event and the numbers that it met: all are those of before the event. Times are in nanoseconds, probabilities in units
+/// of `10^-12`.
+#[derive(Clone, Copy, Debug)]
+pub struct Explanation {
+    /// The number of the event, counted from 1.
+    pub number: u64,
+    /// The event.
+    pub event: Event,
+    /// Its effective moment: the greatest handed in up to it.
+    pub moment: u64,
+    /// What the controller held before it.
+    pub before: Registers,
+    /// The queueing delay before it (RFC 8033, section 5.2).
+    pub delay: u64,
+    /// What decided it, where it is an arrival.
+    pub cause: Option<Cause>,
+    /// How long the packet had waited that left, and 0 for any other event.
+    pub waited: u64,
+    /// The number of the last update or reset before it, which set the probability; none where it still is the opening's.
+    pub set_by: Option<u64>,
+}
+
+/// How long the packet had waited that an event let go, at its effective moment, and 0 for any other event.
+fn waited(core: &Core, event: &Event, now: u64) -> u64
+    ensures { (opening : Opening) (history : List Event) → Shows opening core.now history
+        → result ≡ wait_of (deed_of event.now) now (waiting_after opening history) }
+{
+    match event.command {
+        Command::Depart { .. } => match event.answer {
+            Answer::Left(_) => match core.waiting(0) {
+                Some(oldest) => now.saturating_sub(oldest.since.units()),
+                None => 0,
+            },
+            _ => 0,
+        },
+        _ => 0,
+    }
+}
+
+impl Explanation {
+    ghost use Rattle.pie_explain.specs.Explanation.{explanation};
+
+    /// What there is to say of an event with this number that a core is about to decide, where the last update or reset was this
+    /// event. The core is as it was.
+    pub fn of(core: &Core, number: u64, event: &Event, set_by: Option<u64>) -> Explanation
+        ensures { (opening : Opening) (history : List Event) → Shows opening core.now history
+            → result ≡ explanation opening history number event.now set_by }
+    {
+        let before = core.registers();
+        let handed_in = event.command.moment();
+        let now = before.moment.max(handed_in);
+        Explanation {
+            number,
+            event: *event,
+            moment: now,
+            before,
+            delay: core.delay(),
+            cause: core.cause(&event.command),
+            waited: waited(core, event, now),
+            set_by,
+        }
+    }
+}

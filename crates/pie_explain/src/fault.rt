@@ -1,0 +1,32 @@
+//! Why a history was not explained to its end.
+
+use pie_trace::TraceFault;
+use thiserror::Error;
+
+/// Why a history was not explained to its end, or nothing was explained (this project's own).
+#[derive(Clone, Copy, Debug, PartialEq, Eq, Error)]
+pub enum ExplainFault {
+    /// The text has this fault, or a device failed, or there was no memory.
+    #[error("{0}")]
+    Trace(TraceFault),
+    /// The event with this number is not what the rules give there. The chosen events before it are explained.
+    #[error("event {event} is not what the rules give there, so it and later events are not explained")]
+    Differs {
+        /// The number of the event, counted from 1.
+        event: u64,
+    },
+    /// There is no event with this number.
+    #[error("there is no event {event}: the history has {events} events")]
+    NoEvent {
+        /// The number that was asked for.
+        event: u64,
+        /// How many events there are.
+        events: u64,
+    },
+    /// No event is about a packet with this tag.
+    #[error("no packet has the tag {tag}")]
+    NoTag {
+        /// The tag that was asked for.
+        tag: u64,
+    },
+}

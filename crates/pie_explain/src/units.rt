@@ -1,0 +1,41 @@
+//! Numbers as people read them, with the exact whole number in parentheses.
+use std::fmt;
+use std::fmt::Display;
+
+/// A time or a moment in nanoseconds, in milliseconds.
+#[derive(Clone, Copy, Debug)]
+pub(crate) struct Millis(pub(crate) u64);
+
+impl Display for Millis {
+    fn fmt<W: fmt::Write>(&self, f: &mut fmt::Formatter<W>) -> fmt::Result {
+        let (whole, rest) = (self.0 / 1_000_000, self.0 % 1_000_000);
+        let exact = self.0;
+        write!(f, "{whole}.{rest:06} ms ({exact} ns)")
+    }
+}
+
+/// A probability in units of `10^-12`, in per cent, rounded down.
+#[derive(Clone, Copy, Debug)]
+pub(crate) struct PerCent(pub(crate) u64);
+
+impl Display for PerCent {
+    fn fmt<W: fmt::Write>(&self, f: &mut fmt::Formatter<W>) -> fmt::Result {
+        let whole = self.0 / 10_000_000_000;
+        let rest = self.0 % 10_000_000_000 / 1_000_000;
+        let exact = self.0;
+        write!(f, "{whole}.{rest:04} % ({exact})")
+    }
+}
+
+/// A random word as a fraction of 2^64, in per cent, rounded down.
+#[derive(Clone, Copy, Debug)]
+pub(crate) struct Word(pub(crate) u64);
+
+impl Display for Word {
+    fn fmt<W: fmt::Write>(&self, f: &mut fmt::Formatter<W>) -> fmt::Result {
+        let exact = self.0;
+        let parts = (u128::from(exact) * 1_000_000) >> 64;
+        let (whole, rest) = (parts / 10_000, parts % 10_000);
+        write!(f, "{whole}.{rest:04} % ({exact})")
+    }
+}

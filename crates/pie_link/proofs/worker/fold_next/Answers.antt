@@ -1,0 +1,11 @@
+use Rattle.std.proofs.Common.{◌≡◌, None}
+use Rattle.pie_link.proofs.Working.{none_next, folded_next}
+use Rattle.pie_link.proofs.worker.fold_next.Goals as goal
+
+pub returns-clause-none : goal.returns-clause-none
+returns-clause-none g c = none_next c.args.link.now _ c.fold-answer.result c.args.caller.now c.fold-answer.new.caller c.requires.one c.fold-answer.ensures.folded
+
+pub returns-clause-folded : goal.returns-clause-folded
+returns-clause-folded g c =
+    folded_next c.args.link.now _ c.fold-answer.result c.args.caller.now c.fold-answer.new.caller (c.args.folding.now.fault ≡ None) (c.take_in.new.self.fault ≡ None)
+    c.args.folding.now.events.items c.take_in.new.self.events.items c.requires.one c.fold-answer.ensures.folded c.take_in.ensures.first c.take_in.ensures.told c.take_in.ensures.refused

@@ -22,7 +22,8 @@ use Rattle.pie_control.specs.Events as Events
 use Rattle.pie_control.specs.History as Control
 use Rattle.pie_control.specs.Parts.{Parts}
 use Rattle.pie_control.proofs.Laws.{Shows-reset, Shows-updated}
-use Rattle.pie_early.specs.Decision.{is_considered, is_picked}
+use Rattle.pie_early.specs.Decision.{choice_of, is_considered, is_picked}
+use Rattle.pie_early.specs.declared.early.Choice.{Choice}
 use Rattle.pie_early.specs.declared.early.Choice.TheVariants.{Enqueue, Mark, Drop}
 use Rattle.pie_early.specs.Events.{EarlyEvent}
 use Rattle.pie_early.specs.History as Early
@@ -35,11 +36,13 @@ use Rattle.pie_book.specs.declared.command.Event.{Event}
 use Rattle.pie_book.specs.declared.opening.Opening.{Opening}
 use Rattle.pie_book.specs.Beside.{Beside, IsStep, accu_beside, answer_beside, beside, control_after, no_estimate, verdict_beside}
 use Rattle.pie_book.specs.Beside as Step
-use Rattle.pie_book.specs.Core.{CoreView, Shows, closed, counted, delay_in, refusal_of}
+use Rattle.pie_book.specs.Core.{CoreView, Shows, answered_in, closed, counted, delay_in, is_calm_in, refusal_of, stays_active}
 use Rattle.pie_book.specs.Decision.{answer_to_departure, decision, verdict, verdict_of}
 use Rattle.pie_book.specs.Deed.{admission, arrival_deed, departure_deed, set}
 use Rattle.pie_book.specs.Deed as Deed
-use Rattle.pie_book.specs.Estimates.{early_shown}
+use Rattle.pie_book.specs.Shown.{arrival_shown, is_filled, update_shown}
+use Rattle.pie_book.specs.declared.opening.Profile.TheVariants.{One}
+use Rattle.pie_book.proofs.EstimateFacts.{one_is_active}
 use Rattle.pie_book.specs.Statistics.{age_of_oldest}
 use Rattle.pie_book.proofs.CoreFacts.{Shows-next, decides-arrive, decides-depart, decides-update, follows-arrive, follows-depart, follows-reset, follows-set, follows-update}
 use Rattle.pie_book.proofs.RangeFacts.{ltb, params-hold}
@@ -51,7 +54,7 @@ positive zero z = cc
 positive (suc n) z = omega arith
 
 early-step : (events : List EarlyEvent) (held prob : ℕ) (packet : Packet) (over full considered picked test none : Bool) → (prob == 0) ≡ none → Early.Shows events held
-    → Early.Shows (events ++ option_to_list (early_shown (arrival_deed packet (if over then DroppedBytes else if full then DroppedPackets else verdict_of (if considered && picked then (if test then Mark else Drop) else Enqueue))) considered prob))
+    → Early.Shows (events ++ option_to_list (arrival_shown (arrival_deed packet (if over then DroppedBytes else if full then DroppedPackets else verdict_of (if considered && picked then (if test then Mark else Drop) else Enqueue))) considered prob))
     (if over then 0 else if full then 0 else (if not considered then held else if none || picked then 0 else held + prob))
 early-step events held prob packet true full considered picked test none z shown = shows-clear events held shown
 early-step events held prob packet false true considered picked test none z shown = shows-clear events held shown
@@ -62,6 +65,13 @@ early-step events held prob packet false false true true false true z shown = sh
 early-step events held prob packet false false true true false false z shown = shows-pick events held shown true prob Drop refl
 early-step events held prob packet false false true false test true z shown = shows-zero events held shown true prob refl (eqb-true prob 0 z)
 early-step events held prob packet false false true false test false z shown = shows-grown events held shown true prob refl (positive prob z)
+
+is-arrival : (packet : Packet) (over full : Bool) (choice : Choice) → Deed.is_arrival (arrival_deed packet (if over then DroppedBytes else if full then DroppedPackets else verdict_of choice)) ≡ true
+is-arrival packet true full choice = refl
+is-arrival packet false true choice = refl
+is-arrival packet false false Enqueue = refl
+is-arrival packet false false Mark = refl
+is-arrival packet false false Drop = refl
 
 -- ---- the departure rate
 
@@ -89,31 +99,40 @@ nothing-shown t = record { average = refl; begun = refl }
 
 -- ---- the steps
 
-module _ (opening : Opening) (core : CoreView) (history : List Event) (shows : Shows opening core history) (caller : ℕ) where
+module _ (opening : Opening) (core : CoreView) (history : List Event) (shows : Shows opening core history) (one : opening.choices.profile ≡ One) (caller : ℕ) where
+  is-on : core.active ≡ true
+  is-on = shows.active ∙ one_is_active opening history one
+
   pub arrive_beside : (moment : ℕ) (packet : Packet) (word room : ℕ) → (room == 0) ≡ (length core.waiting == core.packets) → refusal_of core (Arrive moment packet word) ≡ None
       → IsStep opening history caller (Arrive moment packet word) (verdict_beside (beside core) (bytes_of core.waiting) room packet word)
       (Step.arrived (beside core) (bytes_of core.waiting) room packet word moment)
   arrive_beside moment packet word room full free =
       let now : ℕ = max core.moment moment in
       let answer : Answer = verdict_beside (beside core) (bytes_of core.waiting) room packet word in
-      let decided : answer ≡ decision opening history (Arrive moment packet word) = rw full (decides-arrive opening core history shows moment packet word) in
+      let decided : answer ≡ decision opening history (Arrive moment packet word) = rw full (rw is-on at (decides-arrive opening core history shows moment packet word)) in
       let d : Deed.Deed = arrival_deed packet answer in
-      let next : CoreView = record core {
+      let here : CoreView = record core {
         moment = now;
         waiting = core.waiting ++ option_to_list (admission now d);
         accu = accu_beside (beside core) (bytes_of core.waiting) room packet word;
         count = core.count + 1;
         stats = counted core.stats d 0 0;
       } in
-      let follows = follows-arrive core next now packet answer refl
-      (λ (events : List EarlyEvent) (shown : Early.Shows events core.accu). early-step events core.accu core.control.prob packet (nat_lt core.params.limit_bytes (bytes_of core.waiting + packet.size)) (room == 0)
+      let next : CoreView = record here {
+        active = here.active || is_filled here.params.limit_bytes (bytes_of here.waiting);
+        accu = if not here.active && is_filled here.params.limit_bytes (bytes_of here.waiting) then 0 else here.accu;
+      } in
+      let follows = follows-arrive core here next now packet answer (is-arrival packet (nat_lt core.params.limit_bytes (bytes_of core.waiting + packet.size)) (room == 0) (choice_of core.params core.control (bytes_of core.waiting) packet.ecn word core.accu)) refl
+      (λ (events : List EarlyEvent) (shown : Early.Shows events core.accu). rw is-on (early-step events core.accu core.control.prob packet (nat_lt core.params.limit_bytes (bytes_of core.waiting + packet.size)) (room == 0)
       (is_considered core.params core.control (bytes_of core.waiting)) (is_picked core.control.prob (core.accu + core.control.prob) word)
-      (is_capable packet.ecn && nat_lt core.control.prob core.params.mark_ecnth) (core.control.prob == 0) refl shown) in
+      (is_capable packet.ecn && nat_lt core.control.prob core.params.mark_ecnth) (core.control.prob == 0) refl shown)) refl
+      (λ (threshold : ℕ) (departures : List Departure) (shown : Rate.Shows threshold departures core.rate). rw is-on shown)
+      (λ (params : RawParams) (start : ℕ) (events : List ControlEvent) (shown : Control.Shows params start events core.control). rw (is-on, append-nil events) shown) in
       record {
         decided = decided;
         core_after = closed next;
         shows = Shows-next opening core (closed next) history caller (Arrive moment packet word) answer shows free decided follows;
-        holds = refl;
+        holds = rw is-on refl;
       }
 
   pub depart_beside : (moment : ℕ) (oldest : Waiting) (others : List Waiting) → core.waiting ≡ oldest ∷ others → first_bad core.params ≡ None → refusal_of core (Depart moment) ≡ None
@@ -132,7 +151,7 @@ module _ (opening : Opening) (core : CoreView) (history : List Event) (shows : S
       } in
       let follows = follows-depart core next now (Left oldest.packet) answered refl
       (λ (departures : List Departure) (shown : Rate.Shows core.params.dq_threshold departures core.rate).
-      rate-step core.params.dq_threshold departures core.rate (departure oldest.packet.size (bytes_of (drop 1 core.waiting)) now) small shown) in
+      rw is-on (rate-step core.params.dq_threshold departures core.rate (departure oldest.packet.size (bytes_of (drop 1 core.waiting)) now) small shown)) in
       record {
         decided = decided;
         core_after = closed next;
@@ -167,14 +186,17 @@ module _ (opening : Opening) (core : CoreView) (history : List Event) (shows : S
   update_beside moment free =
       let now : ℕ = max core.moment moment in
       let parts : Parts = control_after core.params core.control (delay_in core) now in
-      let after = λ (params : RawParams) (start : ℕ) (events : List ControlEvent) (shown : Control.Shows params start events core.control).
-      Shows-updated params start events core.params (delay_in core) now core.control parts shown refl refl refl refl in
-      let decided : answer_beside (Step.updated (beside core) (bytes_of core.waiting) moment) ≡ decision opening history (Update moment) = decides-update opening core history shows moment parts after in
+      let after : (params : RawParams) (start : ℕ) (events : List ControlEvent) → Control.Shows params start events core.control
+      → Control.Shows params start (events ++ update_shown core.active core.params (delay_in core) now ∷ []) parts =
+      λ (params : RawParams) (start : ℕ) (events : List ControlEvent) (shown : Control.Shows params start events core.control).
+      rw is-on (Shows-updated params start events core.params (delay_in core) now core.control parts shown refl refl refl refl) in
+      let decided : answer_beside (Step.updated (beside core) (bytes_of core.waiting) moment) ≡ decision opening history (Update moment) = rw is-on at (decides-update opening core history shows moment parts after) in
       let next : CoreView = record core {
         moment = now;
+        active = core.active && stays_active core.profile (is_calm_in core);
         control = parts;
         count = core.count + 1;
-        stats = counted core.stats Deed.updated (delay_in core) 0;
+        stats = counted core.stats Deed.updated (answered_in core) 0;
       } in
       let follows = follows-update core next now refl after in
       record {

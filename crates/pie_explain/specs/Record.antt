@@ -3,7 +3,7 @@ use Rattle.std.specs.Prelude.{ℕ, List, [], ◌∷◌, ◌++◌, Option, Some, 
 use Rattle.std.specs.Fmt.{decimal}
 use Rattle.pie_queue.specs.declared.packet.Packet.{Packet}
 use Rattle.pie_book.specs.declared.cause.Cause.{Cause}
-use Rattle.pie_book.specs.declared.cause.Cause.TheVariants.{NoRoomInBytes, NoRoomInPackets, BurstAllowed, LowDelay, ShortQueue, NoProbability, LittleAccumulated, PickedBySum, PickedByWord, WordNotBelow}
+use Rattle.pie_book.specs.declared.cause.Cause.TheVariants.{NoRoomInBytes, NoRoomInPackets, Inactive, BurstAllowed, LowDelay, ShortQueue, NoProbability, LittleAccumulated, PickedBySum, PickedByWord, WordNotBelow}
 use Rattle.pie_book.specs.declared.cause.Fate.TheVariants as fate
 use Rattle.pie_book.specs.declared.command.Command.{Command}
 use Rattle.pie_book.specs.declared.command.Command.TheVariants.{Arrive, Depart, Update, Reset, SetParams}
@@ -40,6 +40,7 @@ abbrev pub cause_word : Option Cause → List ℕ
 cause_word None = []
 cause_word (Some (NoRoomInBytes bytes size limit)) = codes "no_room_in_bytes"
 cause_word (Some (NoRoomInPackets packets)) = codes "no_room_in_packets"
+cause_word (Some Inactive) = codes "inactive"
 cause_word (Some (BurstAllowed burst)) = codes "burst_allowed"
 cause_word (Some (LowDelay old_delay target prob)) = codes "low_delay"
 cause_word (Some (ShortQueue bytes two_packets)) = codes "short_queue"

@@ -146,6 +146,7 @@ fn push_cause(page: &mut String, cause: Cause) -> Result<(), AllocError> {
         Cause::NoRoomInPackets { packets } => {
             write!(page, "  the ring is full: it holds {packets} packets\n")
         }
+        Cause::Inactive => write!(page, "  the controller is turned off\n"),
         Cause::BurstAllowed { burst } => {
             let burst = Millis(burst);
             write!(page, "  a burst is allowed: {burst} are left of it\n")

@@ -4,6 +4,7 @@ use Rattle.std.specs.declared.alloc.Global.{Global}
 use Rattle.pie_book.specs.declared.command.Command.{Command}
 use Rattle.pie_book.specs.declared.command.Command.TheVariants.{Arrive, Depart, Update, SetParams}
 use Rattle.pie_book.specs.declared.opening.Mode.TheVariants.{Bounded}
+use Rattle.pie_book.specs.declared.opening.Profile.TheVariants.{One}
 use Rattle.pie_book.specs.declared.opening.Opening.{Opening}
 use Rattle.pie_book.specs.Opening.{last_moment}
 use Rattle.pie_book.specs.Deed.{handed_in}
@@ -14,7 +15,7 @@ use Rattle.pie_link.specs.declared.plan.Plan.{Plan}
 
 -- the opening of the link: its book is bounded
 abbrev pub opening_of : Plan → Opening
-opening_of plan = record { moment = plan.moment; limits = plan.limits; params = plan.params; choices = record { mode = Bounded } }
+opening_of plan = record { moment = plan.moment; limits = plan.limits; params = plan.params; choices = record { mode = Bounded; profile = One } }
 
 -- how many senders there are
 abbrev pub senders : Plan → ℕ

@@ -3,6 +3,7 @@ ghost use Rattle.std.specs.Prelude.{◌≡◌, IfOk};
 
 mod busy;
 mod one_thread;
+mod storms;
 mod threads;
 
 use crate::{Caller, Link, LinkRefusal};

@@ -118,4 +118,38 @@ if [ "$got" != 1 ] || [ "$(cat "$work/errors")" != 'pie: cannot write the output
     echo "tests/pie.sh: help on a full device: status $got, $(cat "$work/errors")"
     failed=1
 fi
+# Storms: the plan with one packet a sender has five events, and eight senders at once end with a history that is clean, whoever
+# comes first.
+"$program" storm --packets 1 > "$work/output" 2> "$work/errors"
+got=$?
+if [ "$got" != 0 ] || [ "$(head -n 1 "$work/output")" != open,0,1024,5,5 ] || [ "$("$program" audit < "$work/output")" != clean,5 ] || [ -s "$work/errors" ]; then
+    echo "tests/pie.sh: a storm of one packet a sender: status $got"
+    cat "$work/output" "$work/errors"
+    failed=1
+fi
+# 50 packets of 8 senders: 400 arrivals, 400 departures and 4 updates, of which those that come too soon are no events.
+for _ in 1 2; do
+    found=$("$program" storm --senders 8 --packets 50 --seed 7 | "$program" audit)
+    case $found in
+        clean,80[0-4]) ;;
+        *)
+            echo "tests/pie.sh: a storm of eight senders: $found"
+            failed=1
+            ;;
+    esac
+done
+for words in '--senders 1' '--senders 9' '--senders two' '--packets 0' '--packets 10001' '--seed 18446744073709551616' '--seed -1' '--fast'; do
+    "$program" storm $words > "$work/output" 2> "$work/errors"
+    got=$?
+    if [ "$got" != 1 ] || [ -s "$work/output" ] || ! [ -s "$work/errors" ]; then
+        echo "tests/pie.sh: storm $words: status $got"
+        failed=1
+    fi
+done
+"$program" storm --packets 1 > /dev/full 2> "$work/errors"
+got=$?
+if [ "$got" != 1 ] || [ "$(cat "$work/errors")" != 'pie: cannot write the output' ]; then
+    echo "tests/pie.sh: a storm on a full device: status $got, $(cat "$work/errors")"
+    failed=1
+fi
 exit "$failed"

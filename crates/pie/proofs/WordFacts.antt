@@ -1,14 +1,26 @@
 -- What `clap` makes of the words that ask for a subcommand.
-use Rattle.std.proofs.Common.{◌≡◌, ℕ, List, [], ◌∷◌, Option, Some, true, arith, codes, refl, ap}
-use Rattle.std.specs.Prelude.{slice_index, unwrap_or}
-use Rattle.clap.specs.Words.{App, Text, new_app, takes, with_subcommand}
+use Rattle.std.proofs.Common.{◌≡◌, ◌∙◌, ◌-◌, ◌^◌, ℕ, Bool, List, [], ◌∷◌, Option, Some, true, false, arith, codes, refl, ap}
+use Rattle.std.specs.Prelude.{◌||◌, slice_index, unwrap_or}
+use Rattle.clap.specs.Words.{App, Rule, Text, new_app, takes, with_rule, with_subcommand}
 use Rattle.clap.proofs.OnLiterals.{clap_on_literals}
-use Rattle.pie.specs.Words.{AskFor, pie_alone, pie_app, subcommand_in}
+use Rattle.pie.specs.Words.{AskFor, number_rule, pie_alone, pie_app, storm_app, subcommand_in}
 
--- `pie` and its two subcommands
-pub whole-app : (bare with_run whole : App) → bare ≡ pie_alone → with_run ≡ with_subcommand bare (new_app (codes "run")).top
-    → whole ≡ with_subcommand with_run (new_app (codes "audit")).top → whole ≡ pie_app
-whole-app bare with_run whole alone run audit = rw (audit, run, alone) refl
+-- `pie` and its subcommands
+pub whole-app : (bare with_run with_audit whole : App) → bare ≡ pie_alone → with_run ≡ with_subcommand bare (new_app (codes "run")).top
+    → with_audit ≡ with_subcommand with_run (new_app (codes "audit")).top → whole ≡ with_subcommand with_audit storm_app.top → whole ≡ pie_app
+whole-app bare with_run with_audit whole alone run audit storm = rw (storm, audit, run, alone) refl
+
+-- the subcommand `storm` with its options
+pub storm-app : (bare first second whole : App) (senders packets seed : Rule) → bare ≡ new_app (codes "storm")
+    → first ≡ with_rule bare senders → second ≡ with_rule first packets → whole ≡ with_rule second seed
+    → senders ≡ number_rule (codes "senders") 2 8 → packets ≡ number_rule (codes "packets") 1 10_000 → seed ≡ number_rule (codes "seed") 0 (2 ^ 64 - 1)
+    → whole ≡ storm_app
+storm-app bare first second whole senders packets seed bare_is one two three senders_is packets_is seed_is =
+    rw (three, two, one, bare_is, senders_is, packets_is, seed_is) refl
+
+-- an option that is not global leaves a command without global ones
+pub still-local : {before own now : Bool} → now ≡ (before || own) → before ≡ false → own ≡ false → now ≡ false
+still-local {before} {own} {now} both first second = both ∙ ap (λ (b : Bool). b || own) first ∙ second
 
 -- ---- they are taken, whatever the program's own name is
 
@@ -44,3 +56,9 @@ audit-in words asks = rw asks.1 (audit_words-in asks.0)
 
 pub run-is-not-audit : Some (codes "run") ≡ Some (codes "audit") → ⊥
 run-is-not-audit e = let bad : 114 ≡ 97 = ap (λ (o : Option (List ℕ)). slice_index (unwrap_or o []) 0) e in omega (arith, bad)
+
+pub run-is-not-storm : Some (codes "run") ≡ Some (codes "storm") → ⊥
+run-is-not-storm e = let bad : 114 ≡ 115 = ap (λ (o : Option (List ℕ)). slice_index (unwrap_or o []) 0) e in omega (arith, bad)
+
+pub audit-is-not-storm : Some (codes "audit") ≡ Some (codes "storm") → ⊥
+audit-is-not-storm e = let bad : 97 ≡ 115 = ap (λ (o : Option (List ℕ)). slice_index (unwrap_or o []) 0) e in omega (arith, bad)

@@ -1,5 +1,5 @@
 //! The whole program over a list of words, a reader and two writers.
-ghost use Rattle.std.specs.Prelude.{◌≡◌, ◌≤◌, Some, IfSome, OnOk, codes, map, string_bytes};
+ghost use Rattle.std.specs.Prelude.{◌≡◌, ◌≤◌, ◌⊎◌, Some, IfSome, OnOk, codes, map, string_bytes};
 ghost use Rattle.std.specs.Io.KnownBytes.{Appends};
 ghost use Rattle.clap.specs.Words.{kind_of};
 ghost use Rattle.clap.specs.declared.error.kind.ErrorKind.{ErrorKind};
@@ -7,6 +7,7 @@ ghost use Rattle.pie.specs.Ends.{EndsAudit, EndsRun, finding_line};
 ghost use Rattle.pie.specs.Words.{AskFor, subcommand_in};
 
 use crate::options::options;
+use crate::storming::make_storm;
 use clap::Error;
 use clap::error::ErrorKind;
 use pie_audit::{Finding, audit};
@@ -15,13 +16,16 @@ use std::alloc::Global;
 use std::fmt::Display;
 use std::io;
 use std::io::{Read, Write};
+use std::marker::Sync;
+use std::sync::Wait;
+use std::thread::Threads;
 
 /// All went well.
-const DONE: u8 = 0;
+pub(crate) const DONE: u8 = 0;
 /// A fault, whose text is on the error stream.
 const FAULT: u8 = 1;
 /// An audit found an event that differs.
-const DIFFERS: u8 = 2;
+pub(crate) const DIFFERS: u8 = 2;
 
 /// Runs `pie` with these words, of which the first is the program's own name, and answers the exit status: 0 done, 1 a
 /// fault, whose text stands on `errors`, 2 an audit that found a difference. A mistake in the words prints what `clap`
@@ -34,9 +38,11 @@ const DIFFERS: u8 = 2;
 /// line of its finding and ends with 0 where it is clean and 2 where an event differs, or ends with 1 where the reader, the
 /// writer or memory fails.
 ///
-/// The runtime is there for subcommands that wait; `run` and `audit` use nothing of it.
-pub fn command<H, R: Read + Drop, W: Write, E: Write>(
-    _rt: &H,
+/// For the words `pie storm`, with options or without, the threads of the runtime make a storm, whose history is written and
+/// audited: it ends with 0, with 1 where memory, a thread or the writer fails, and with 2 where the audit found an event that
+/// differs. Which events there can be is the contract of `storm`, and what is written of them that of `write_history`.
+pub fn command<H: Threads + Wait + Sync, R: Read + Drop, W: Write, E: Write>(
+    rt: &H,
     alloc: Global,
     words: &[String],
     input: R,
@@ -44,7 +50,7 @@ pub fn command<H, R: Read + Drop, W: Write, E: Write>(
     errors: &mut E,
 ) -> u8
     ensures status { result ≤ 2 }
-    ensures differs { result ≡ 2 → subcommand_in (map string_bytes words.now) ≡ Some (codes "audit") }
+    ensures differs { result ≡ 2 → (subcommand_in (map string_bytes words.now) ≡ Some (codes "audit")) ⊎ (subcommand_in (map string_bytes words.now) ≡ Some (codes "storm")) }
     ensures runs { AskFor (codes "run") (map string_bytes words.now)
         → IfSome (R.remaining input) (λ text. EndsRun text result (W.contents output.old) (W.contents output.new)) }
     ensures audits { AskFor (codes "audit") (map string_bytes words.now)
@@ -61,6 +67,7 @@ pub fn command<H, R: Read + Drop, W: Write, E: Write>(
     match matches.subcommand_name() {
         Some("run") => run_input(alloc, input, output, errors),
         Some("audit") => audit_input(alloc, input, output, errors),
+        Some("storm") => make_storm(rt, alloc, &matches, output, errors),
         _ => fault(errors, "unknown subcommand"),
     }
 }
@@ -118,7 +125,7 @@ fn write_finding<W: Write>(found: Finding, output: &mut W) -> io::Result<()>
 }
 
 /// Writes the line of a fault, and answers its status. Where that line can't be written the status is the same.
-fn fault<E: Write, D: Display + Drop>(errors: &mut E, text: D) -> u8
+pub(crate) fn fault<E: Write, D: Display + Drop>(errors: &mut E, text: D) -> u8
     ensures { result ≡ 1 }
 {
     let _ = writeln!(errors, "pie: {text}");

@@ -4,6 +4,7 @@
 mod command;
 mod options;
 mod plan;
+mod storming;
 
 use command::command;
 use std::env;

@@ -1,10 +1,11 @@
 //! The command line of `pie`.
-ghost use Rattle.std.specs.Prelude.{◌≡◌, IfOk};
-ghost use Rattle.clap.specs.Words.{AddsSubcommand, app_of, new_app, with_subcommand};
+ghost use Rattle.std.specs.Prelude.{◌≡◌, IfOk, false};
+ghost use Rattle.clap.specs.Words.{AddsSubcommand, app_of, new_app, rule_of, with_subcommand};
 ghost use Rattle.clap.specs.declared.builder.command.Command.{Command};
-ghost use Rattle.pie.specs.Words.{pie_alone, pie_app};
+ghost use Rattle.pie.specs.Words.{number_rule, pie_alone, pie_app, storm_app};
 
-use clap::Command;
+use clap::builder::ValueParser;
+use clap::{Arg, Command};
 use std::alloc::{AllocError, Global};
 
 /// What `pie --version` prints after the name.
@@ -12,7 +13,14 @@ const VERSION: &str = "0.1.0";
 
 /// What `pie --help` says below its subcommands.
 const PIE_EXAMPLE: &str =
-    "Example: run a trace of one arrival and one departure, and see what was decided:\n\n  printf 'open,0,4,16,100\\narrive,1,10,7,1500,ect0,0\\ndepart,2,25\\n' | pie run";
+    "Example: run a trace of one arrival and one departure, and see what was decided:\n\n  printf 'open,0,4,16,100\\narrive,1,10,7,1500,ect0,0\\ndepart,2,25\\n' | pie run
+
+pie storm runs one controller under many threads at once, writes its history as pie run does, and audits it: status 2
+says that an event differs. Each sender sends a packet each millisecond in a thread of its own, and two more threads
+make the departures and the updates. Who comes first is the machine's choice, so two storms may have other histories.
+Example: three senders with ten packets each, and the audit of what was recorded:
+
+  pie storm --senders 3 --packets 10 | pie audit";
 
 /// What `pie run --help` says below its options.
 const RUN_HELP: &str =
@@ -95,6 +103,50 @@ A verdict that was changed is found, and the line is differs,1:
 
   printf 'open,0,4,16,100\\narrive,1,10,7,1500,ect0,0\\ndepart,2,25\\n' | pie run | sed s/enqueue/mark/ | pie audit";
 
+/// An option whose value is a whole number in a range.
+fn number_option<'a>(alloc: Global, name: &'a str, least: u64, most: u64, help: &'a str) -> Arg<'a>
+    ensures rule { rule_of result ≡ number_rule name.now least most }
+    ensures local { result.global ≡ false }
+{
+    Arg::new(alloc, name)
+        .long(name)
+        .value_name("N")
+        .value_parser(ValueParser::unsigned(least, most))
+        .help(help)
+}
+
+/// The subcommand `storm` and its options.
+fn storm_command<'a>(alloc: Global) -> Result<Command<'a>, AllocError>
+    ensures { IfOk result (λ storm. (above with_it : Command) → AddsSubcommand above storm with_it
+        → app_of with_it ≡ with_subcommand (app_of above) storm_app.top) }
+{
+    let senders = number_option(
+        alloc,
+        "senders",
+        2,
+        8,
+        "How many senders there are, 2 to 8; 2 by default",
+    );
+    let packets = number_option(
+        alloc,
+        "packets",
+        1,
+        10_000,
+        "How many packets each sender has, 1 to 10000; 100 by default",
+    );
+    let seed = number_option(
+        alloc,
+        "seed",
+        0,
+        u64::MAX,
+        "What the random words are made of, 0 to 2^64 - 1; 1 by default",
+    );
+    Command::new(alloc, "storm")
+        .arg(senders)?
+        .arg(packets)?
+        .arg(seed)
+}
+
 /// A subcommand that takes no options.
 fn plain<'a>(alloc: Global, name: &'a str, about: &'a str, help: &'a str) -> Command<'a>
     ensures { (above with_it : Command) → AddsSubcommand above result with_it
@@ -130,5 +182,9 @@ pub(crate) fn options<'a>(alloc: Global) -> Result<Command<'a>, AllocError>
         "Reads a history from standard input and decides each of its events again",
         AUDIT_HELP,
     );
-    alone(alloc).subcommand(run)?.subcommand(audit)
+    let storm = storm_command(alloc)?;
+    alone(alloc)
+        .subcommand(run)?
+        .subcommand(audit)?
+        .subcommand(storm)
 }

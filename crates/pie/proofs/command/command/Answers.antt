@@ -1,7 +1,7 @@
-use Rattle.std.proofs.Common.{◌≡◌, ◌∙◌, Some, codes, map, rules, string_bytes, sym}
+use Rattle.std.proofs.Common.{◌≡◌, ◌∙◌, Some, codes, inl, inr, map, rules, string_bytes, sym}
 use Rattle.clap.specs.Words.{app_of}
 use Rattle.pie.proofs.EndFacts.{EndsAudit-failed, EndsRun-failed}
-use Rattle.pie.proofs.WordFacts.{audit-in, audit-taken, run-in, run-is-not-audit, run-taken}
+use Rattle.pie.proofs.WordFacts.{audit-in, audit-is-not-storm, audit-taken, run-in, run-is-not-audit, run-is-not-storm, run-taken}
 use Rattle.pie.specs.Words.{subcommand_in}
 use Rattle.pie.proofs.command.command.Goals as goal
 
@@ -26,3 +26,23 @@ pub returns-in-Some-audit-clause-runs : goal.returns-in-Some-audit-clause-runs
 returns-in-Some-audit-clause-runs g c asks =
     let found : subcommand_in (map string_bytes c.args.words.now) ≡ Some (codes "audit") = search rules in
     absurd (run-is-not-audit (sym (run-in (map string_bytes c.args.words.now) asks) ∙ found))
+
+pub returns-in-Some-audit-clause-differs : goal.returns-in-Some-audit-clause-differs
+returns-in-Some-audit-clause-differs g c two =
+    let found : subcommand_in (map string_bytes c.args.words.now) ≡ Some (codes "audit") = search rules in
+    inl found
+
+pub returns-in-Some-storm-clause-differs : goal.returns-in-Some-storm-clause-differs
+returns-in-Some-storm-clause-differs g c two =
+    let found : subcommand_in (map string_bytes c.args.words.now) ≡ Some (codes "storm") = search rules in
+    inr found
+
+pub returns-in-Some-storm-clause-runs : goal.returns-in-Some-storm-clause-runs
+returns-in-Some-storm-clause-runs g c asks =
+    let found : subcommand_in (map string_bytes c.args.words.now) ≡ Some (codes "storm") = search rules in
+    absurd (run-is-not-storm (sym (run-in (map string_bytes c.args.words.now) asks) ∙ found))
+
+pub returns-in-Some-storm-clause-audits : goal.returns-in-Some-storm-clause-audits
+returns-in-Some-storm-clause-audits g c asks =
+    let found : subcommand_in (map string_bytes c.args.words.now) ≡ Some (codes "storm") = search rules in
+    absurd (audit-is-not-storm (sym (audit-in (map string_bytes c.args.words.now) asks) ∙ found))

@@ -1,12 +1,13 @@
 //! `pie storm`: a storm on a plan of its own, whose history is written and audited.
 ghost use Rattle.std.specs.Prelude.{◌≡◌, ◌≤◌, ◌↔◌, All, IsTrue, true};
 ghost use Rattle.pie_book.specs.Deed.{fits};
+ghost use Rattle.pie_book.specs.declared.opening.Profile.TheVariants.{One};
 
 use crate::command::{DIFFERS, DONE, fault};
 use crate::plan::storm_plan;
 use clap::ArgMatches;
 use pie_audit::{Auditor, Finding};
-use pie_book::{Choices, Event, Mode, OpenRefusal, Opening};
+use pie_book::{Choices, Event, Mode, OpenRefusal, Opening, Profile};
 use pie_link::{NoGate, Plan, storm};
 use pie_trace::{Line, write_history};
 use std::alloc::Global;
@@ -68,13 +69,16 @@ pub(crate) fn make_storm<H: Threads + Wait + Sync, W: Write, E: Write>(
 }
 
 /// What the book of a storm is opened with.
-fn opening_of(plan: &Plan) -> Opening {
+fn opening_of(plan: &Plan) -> Opening
+    ensures profile { result.choices.profile ≡ One }
+{
     Opening {
         moment: plan.moment,
         limits: plan.limits,
         params: plan.params,
         choices: Choices {
             mode: Mode::Bounded,
+            profile: Profile::One,
         },
     }
 }
@@ -87,6 +91,7 @@ fn tell<W: Write, E: Write>(
     output: &mut W,
     errors: &mut E,
 ) -> u8
+    requires profile { opening.now.choices.profile ≡ One }
     ensures status { result ≤ 2 }
 {
     if !events.iter().all(|event| event.fits()) {

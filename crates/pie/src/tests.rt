@@ -1,9 +1,12 @@
 use crate::command::{command, mistake};
 use clap::Error;
-use std::alloc::AllocError;
+use std::alloc::{AllocError, Global};
 use std::io;
 use std::io::{ErrorKind, Write};
+use std::marker::Sync;
+use std::sync::Wait;
 use std::test::Fail;
+use std::thread::Threads;
 
 /// What a run of the program answered: its status, its output and its error stream.
 #[derive(Drop)]
@@ -13,8 +16,12 @@ struct Outcome {
     errors: Vec<u8>,
 }
 
-fn pie(rt: &HostRuntime, words: &[&str], input: &[u8]) -> Result<Outcome, AllocError> {
-    let alloc = rt.alloc();
+fn pie<H: Threads + Wait + Sync>(
+    rt: &H,
+    alloc: Global,
+    words: &[&str],
+    input: &[u8],
+) -> Result<Outcome, AllocError> {
     let mut owned = Vec::new(alloc);
     for word in words {
         owned.push(String::from_str(alloc, word)?)?;
@@ -35,7 +42,7 @@ fn runs_a_trace(rt: HostRuntime) -> Result<(), Fail> {
     let trace = b"open,0,4,16,100\narrive,1,10,7,1500,ect0,0\ndepart,2,25\ndepart,2,30\n";
     let history =
         b"open,0,4,16,100\narrive,1,10,7,1500,ect0,0,enqueue\ndepart,2,25,left,7,1500,ect0\ndepart,2,30,empty\n";
-    let outcome = pie(&rt, &["pie", "run"], trace)?;
+    let outcome = pie(&rt, rt.alloc(), &["pie", "run"], trace)?;
     assert_eq!(rt; outcome.status, 0);
     assert_eq!(rt; outcome.output.as_slice(), history.as_slice());
     assert!(rt; outcome.errors.is_empty());
@@ -47,11 +54,11 @@ fn runs_a_trace(rt: HostRuntime) -> Result<(), Fail> {
 fn finds_a_history_clean(rt: HostRuntime) -> Result<(), Fail> {
     let history =
         b"open,0,4,16,100\narrive,1,10,7,1500,ect0,0,enqueue\ndepart,2,25,left,7,1500,ect0\ndepart,2,30,empty\n";
-    let outcome = pie(&rt, &["pie", "audit"], history)?;
+    let outcome = pie(&rt, rt.alloc(), &["pie", "audit"], history)?;
     assert_eq!(rt; outcome.status, 0);
     assert_eq!(rt; outcome.output.as_slice(), b"clean,3\n".as_slice());
     assert!(rt; outcome.errors.is_empty());
-    let none = pie(&rt, &["pie", "audit"], b"open,0,4,16,100\n")?;
+    let none = pie(&rt, rt.alloc(), &["pie", "audit"], b"open,0,4,16,100\n")?;
     assert_eq!(rt;
         (none.status, none.output.as_slice()),
         (0, b"clean,0\n".as_slice())
@@ -66,7 +73,7 @@ const CHANGED: &[u8] =
 /// A verdict that was changed is found.
 #[test]
 fn finds_a_changed_verdict(rt: HostRuntime) -> Result<(), Fail> {
-    let outcome = pie(&rt, &["pie", "audit"], CHANGED)?;
+    let outcome = pie(&rt, rt.alloc(), &["pie", "audit"], CHANGED)?;
     assert_eq!(rt; outcome.status, 2);
     assert_eq!(rt; outcome.output.as_slice(), b"differs,4\n".as_slice());
     assert!(rt; outcome.errors.is_empty());
@@ -97,7 +104,7 @@ fn tells_a_fault_of_a_history(rt: HostRuntime) -> Result<(), Fail> {
         ),
     ];
     for (history, text) in faults {
-        let outcome = pie(&rt, &["pie", "audit"], history)?;
+        let outcome = pie(&rt, rt.alloc(), &["pie", "audit"], history)?;
         assert_eq!(rt; (outcome.status, outcome.errors.as_slice()), (1, text));
         assert!(rt; outcome.output.is_empty());
     }
@@ -109,7 +116,7 @@ fn tells_a_fault_of_a_history(rt: HostRuntime) -> Result<(), Fail> {
 fn tells_a_fault_before_a_difference(rt: HostRuntime) -> Result<(), Fail> {
     let mut history = Vec::from_slice(rt.alloc(), CHANGED)?;
     history.extend_from_slice(b"arrive,2,1001003\n")?;
-    let outcome = pie(&rt, &["pie", "audit"], history.as_slice())?;
+    let outcome = pie(&rt, rt.alloc(), &["pie", "audit"], history.as_slice())?;
     let text = b"pie: record 7: wrong number of fields\n".as_slice();
     assert_eq!(rt; (outcome.status, outcome.errors.as_slice()), (1, text));
     assert!(rt; outcome.output.is_empty());
@@ -119,17 +126,22 @@ fn tells_a_fault_before_a_difference(rt: HostRuntime) -> Result<(), Fail> {
 /// An empty input writes nothing but the text of its fault.
 #[test]
 fn tells_a_fault(rt: HostRuntime) -> Result<(), Fail> {
-    let outcome = pie(&rt, &["pie", "run"], b"")?;
+    let outcome = pie(&rt, rt.alloc(), &["pie", "run"], b"")?;
     assert_eq!(rt; outcome.status, 1);
     assert!(rt; outcome.output.is_empty());
     let text = b"pie: the first record is not an open record\n";
     assert_eq!(rt; outcome.errors.as_slice(), text.as_slice());
-    let late = pie(&rt, &["pie", "run"], b"open,0,4,16,100\ndepart,2,05\n")?;
+    let late = pie(
+        &rt,
+        rt.alloc(),
+        &["pie", "run"],
+        b"open,0,4,16,100\ndepart,2,05\n",
+    )?;
     assert_eq!(rt; late.status, 1);
     assert_eq!(rt; late.output.as_slice(), b"open,0,4,16,100\n".as_slice());
     let number = b"pie: record 2: not a number in range\n";
     assert_eq!(rt; late.errors.as_slice(), number.as_slice());
-    let closed = pie(&rt, &["pie", "run"], b"open,0,0,16,100\n")?;
+    let closed = pie(&rt, rt.alloc(), &["pie", "run"], b"open,0,0,16,100\n")?;
     let limits = b"pie: record 1: limits out of range\n";
     assert_eq!(rt;
         (closed.status, closed.errors.as_slice()),
@@ -148,7 +160,7 @@ fn tells_a_mistake(rt: HostRuntime) -> Result<(), Fail> {
         &["pie", "audit", "twice"],
     ];
     for words in lists {
-        let outcome = pie(&rt, words, b"")?;
+        let outcome = pie(&rt, rt.alloc(), words, b"")?;
         assert_eq!(rt; outcome.status, 1);
         assert!(rt; outcome.output.is_empty());
         assert!(rt; !outcome.errors.is_empty());
@@ -166,7 +178,7 @@ fn gives_help(rt: HostRuntime) -> Result<(), Fail> {
         &["pie", "help"],
     ];
     for words in lists {
-        let outcome = pie(&rt, words, b"")?;
+        let outcome = pie(&rt, rt.alloc(), words, b"")?;
         assert_eq!(rt; outcome.status, 0);
         assert!(rt; outcome.errors.is_empty());
         assert!(rt;
@@ -194,12 +206,12 @@ impl Write for Full {
 }
 
 /// Runs the program over an output that takes nothing, and answers its status and its error stream.
-fn pie_on_a_full_output(
-    rt: &HostRuntime,
+fn pie_on_a_full_output<H: Threads + Wait + Sync>(
+    rt: &H,
+    alloc: Global,
     words: &[&str],
     input: &[u8],
 ) -> Result<(u8, Vec<u8>), AllocError> {
-    let alloc = rt.alloc();
     let mut owned = Vec::new(alloc);
     for word in words {
         owned.push(String::from_str(alloc, word)?)?;
@@ -221,7 +233,7 @@ fn tells_an_output_that_fails(rt: HostRuntime) -> Result<(), Fail> {
         &["pie", "audit"],
     ];
     for words in lists {
-        let (status, errors) = pie_on_a_full_output(&rt, words, b"open,0,4,16,100\n")?;
+        let (status, errors) = pie_on_a_full_output(&rt, rt.alloc(), words, b"open,0,4,16,100\n")?;
         assert_eq!(rt; (status, errors.as_slice()), (1, text));
     }
     // Where the error stream takes nothing either, the status is the same.
@@ -246,7 +258,7 @@ fn tells_an_output_that_fails(rt: HostRuntime) -> Result<(), Fail> {
 fn ends_well_after_a_refusal(rt: HostRuntime) -> Result<(), Fail> {
     let trace = b"open,0,4,1,100\ndepart,1,1\ndepart,1,1\nupdate,1,1\nfold,2\n";
     let history = b"open,0,4,1,100\ndepart,1,1,empty\nrefused,3,5\nrefused,4,3\nrefused,5,6\n";
-    let outcome = pie(&rt, &["pie", "run"], trace)?;
+    let outcome = pie(&rt, rt.alloc(), &["pie", "run"], trace)?;
     assert_eq!(rt; outcome.status, 0);
     assert_eq!(rt; outcome.output.as_slice(), history.as_slice());
     assert!(rt; outcome.errors.is_empty());
@@ -256,7 +268,7 @@ fn ends_well_after_a_refusal(rt: HostRuntime) -> Result<(), Fail> {
 /// The name and the version.
 #[test]
 fn gives_its_version(rt: HostRuntime) -> Result<(), Fail> {
-    let outcome = pie(&rt, &["pie", "--version"], b"")?;
+    let outcome = pie(&rt, rt.alloc(), &["pie", "--version"], b"")?;
     assert_eq!(rt; outcome.status, 0);
     assert_eq!(rt; outcome.output.as_slice(), b"pie 0.1.0\n".as_slice());
     assert!(rt; outcome.errors.is_empty());

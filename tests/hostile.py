@@ -10,7 +10,8 @@ import tempfile
 
 PROGRAM = os.path.abspath(sys.argv[1])
 HERE = os.path.dirname(os.path.abspath(__file__))
-CAN_AUDIT = b"audit" in subprocess.run([PROGRAM, "--help"], capture_output=True).stdout
+HELP = subprocess.run([PROGRAM, "--help"], capture_output=True).stdout
+CAN_AUDIT, CAN_STORM = b"audit" in HELP, b"storm" in HELP
 FULL, READ, WRITE, MEMORY = b"/dev/full", b"pie: cannot read the input\n", b"pie: cannot write the output\n", b"pie: out of memory\n"
 
 # Every kind of record and nearly every answer.
@@ -177,9 +178,38 @@ def refused(history):
                         check((status, errors) == (1, says) or did_with_less, name, variable, place, on, status, errors[:100])
                         check(wants[name].startswith(output), name, variable, place, on, "no beginning of the text")
                     print(f"tests/hostile.py: {name}: {variable} at {place - 1} places{' and all after them' if on else ''}")
+        if CAN_STORM:
+            storm_refused(library, met)
         # A text's fault whose history cannot be flushed: the device is what is told.
         status, output, errors = run(["run"], TRACE + b"dep\n", LD_PRELOAD=library, REFUSE_MET=met, REFUSE_WRITE="1", REFUSE_ON="1")
         check((status, output, errors) == (1, b"", WRITE), "a fault that cannot be flushed", status, errors)
+
+
+def storm_refused(library, met):
+    """A storm whose memory is refused at each place ends: with its fault, or with a history that is audited clean where it did with less."""
+    for on in [{}, {"REFUSE_ON": "1"}]:
+        for place in range(1, 10_000):
+            if os.path.exists(met):
+                os.remove(met)
+            words = ["storm", "--senders", "3", "--packets", "4"]
+            status, output, errors = run(words, b"", LD_PRELOAD=library, REFUSE_MET=met, REFUSE_MEMORY=str(place), **on)
+            if not os.path.exists(met):
+                check((status, errors) == (0, b""), "storm", place, "with nothing refused", status, errors)
+                break
+            is_clean = status == 0 and not errors and run(["audit"], output)[:2] == (0, b"clean,%d\n" % (output.count(b"\n") - 1))
+            check(status == 1 and is_error_line(errors) or is_clean and not on, "storm", place, on, status, errors[:100])
+        print(f"tests/hostile.py: storm: memory refused at {place - 1} places{' and all after them' if on else ''}")
+
+
+def storms():
+    """Twenty storms of eight senders with ten thousand packets each: every history is audited clean."""
+    words = ["storm", "--senders", "8", "--packets", "10000"]
+    for seed in range(1, 21):
+        status, output, errors = run([*words, "--seed", str(seed)], b"")
+        check((status, errors) == (0, b""), "storm", seed, status, errors)
+        finding = run(["audit"], output)
+        check(finding == (0, b"clean,%d\n" % (output.count(b"\n") - 1), b""), "the audit of storm", seed, *finding)
+    print("tests/hostile.py: 20 storms of 8 senders with 10,000 packets each were audited")
 
 
 def main():
@@ -190,6 +220,8 @@ def main():
     malformed()
     cuts(history)
     refused(history)
+    if CAN_STORM:
+        storms()
     print(f"tests/hostile.py: {len(failures)} failed")
     sys.exit(1 if failures else 0)
 

@@ -228,6 +228,7 @@ def refused(history):
                         did_with_less = variable == "REFUSE_MEMORY" and not on and (status, output, errors) == (0, want, b"")
                         check((status, errors) == (1, says) or did_with_less, name, variable, place, on, status, errors[:100])
                         check(want.startswith(output), name, variable, place, on, "no beginning of the text")
+                    check(place > 1, name, variable, "met nothing")
                     print(f"tests/hostile.py: {name}: {variable} at {place - 1} places{' and all after them' if on else ''}")
         storm_refused(library, met)
         # A text's fault before which something was written that cannot be flushed: the device is what is told.
@@ -238,19 +239,26 @@ def refused(history):
 
 
 def storm_refused(library, met):
-    """A storm whose memory is refused at each place ends: with its fault, or with a history that is audited clean where it did with less."""
-    for on in [{}, {"REFUSE_ON": "1"}]:
-        for place in range(1, 10_000):
-            if os.path.exists(met):
-                os.remove(met)
-            words = ["storm", "--senders", "3", "--packets", "4"]
-            status, output, errors = run(words, b"", LD_PRELOAD=library, REFUSE_MET=met, REFUSE_MEMORY=str(place), **on)
-            if not os.path.exists(met):
-                check((status, errors) == (0, b""), "storm", place, "with nothing refused", status, errors)
-                break
-            is_clean = status == 0 and not errors and run(["audit"], output)[:2] == (0, b"clean,%d\n" % (output.count(b"\n") - 1))
-            check(status == 1 and is_error_line(errors) or is_clean and not on, "storm", place, on, status, errors[:100])
-        print(f"tests/hostile.py: storm: memory refused at {place - 1} places{' and all after them' if on else ''}")
+    """A storm of which each request for memory, each write and each start of a thread is refused ends: with its fault, or with a history
+    that is audited clean where it did without."""
+    told = {"REFUSE_MEMORY": [MEMORY], "REFUSE_WRITE": [WRITE], "REFUSE_THREAD": [MEMORY, b"pie: a thread could not be started\n"]}
+    for variable, says in told.items():
+        # (long enough for several writes)
+        words = ["storm", "--senders", "3", "--packets", "500" if variable == "REFUSE_WRITE" else "4"]
+        for on in [{}, {"REFUSE_ON": "1"}]:
+            for place in range(1, 10_000):
+                if os.path.exists(met):
+                    os.remove(met)
+                status, output, errors = run(words, b"", LD_PRELOAD=library, REFUSE_MET=met, **{variable: str(place)}, **on)
+                is_clean = status == 0 and not errors and run(["audit"], output)[:2] == (0, b"clean,%d\n" % (output.count(b"\n") - 1))
+                if not os.path.exists(met):
+                    check(is_clean, "storm", variable, place, "with nothing refused", status, errors)
+                    break
+                # (a thread that cannot be started is done without, and a list that grows asks once more, for less)
+                may_do_without = variable == "REFUSE_THREAD" or variable == "REFUSE_MEMORY" and not on
+                check(status == 1 and errors in says or is_clean and may_do_without, "storm", variable, place, on, status, errors[:100])
+            check(place > 1, "storm:", variable, "met nothing")
+            print(f"tests/hostile.py: storm: {variable} at {place - 1} places{' and all after them' if on else ''}")
 
 
 def storms():

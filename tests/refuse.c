@@ -1,9 +1,13 @@
 /* Loaded before a program (LD_PRELOAD), refuses one of its requests: the n-th for memory (REFUSE_MEMORY=n), the n-th read of standard
- * input (REFUSE_READ=n) or the n-th write of standard output (REFUSE_WRITE=n). With REFUSE_ON=1 those after it are refused as well.
+ * input (REFUSE_READ=n), the n-th write of standard output (REFUSE_WRITE=n) or the n-th start of a thread (REFUSE_THREAD=n). With
+ * REFUSE_ON=1 those after it are refused as well.
  * A request that was refused makes the file that REFUSE_MET names. Where REFUSE_AFTER names a line that the program writes, only the
  * requests from that line to the next one are counted, and at that next one it is said on standard error if a thread is still running. */
+#define _GNU_SOURCE
+#include <dlfcn.h>
 #include <errno.h>
 #include <fcntl.h>
+#include <pthread.h>
 #include <stdatomic.h>
 #include <stdlib.h>
 #include <string.h>
@@ -14,7 +18,7 @@
 extern void *__libc_malloc(size_t);
 extern void *__libc_realloc(void *, size_t);
 
-static atomic_long asked[3];
+static atomic_long asked[4];
 
 /* Whether the line that REFUSE_AFTER names was the last that was written. */
 static atomic_int is_between;
@@ -91,4 +95,12 @@ ssize_t write(int file, const void *from, size_t size) {
 
 ssize_t __write(int file, const void *from, size_t size) {
     return write(file, from, size);
+}
+
+int pthread_create(pthread_t *thread, const pthread_attr_t *attributes, void *(*run)(void *), void *with) {
+    if (is_refused(3, "REFUSE_THREAD"))
+        return EAGAIN;
+    int (*create)(pthread_t *, const pthread_attr_t *, void *(*)(void *), void *) =
+        (int (*)(pthread_t *, const pthread_attr_t *, void *(*)(void *), void *))dlsym(RTLD_NEXT, "pthread_create");
+    return create(thread, attributes, run, with);
 }

@@ -12,7 +12,7 @@ use std::alloc::Global;
 use std::io;
 
 /// A ring of four packets, and a tail of eight events.
-pub fn limits() -> Limits {
+pub(crate) fn limits() -> Limits {
     Limits {
         packets: 4,
         tail: 8,
@@ -21,7 +21,7 @@ pub fn limits() -> Limits {
 }
 
 /// A packet of 100 bytes.
-pub fn packet(tag: u64) -> Packet
+pub(crate) fn packet(tag: u64) -> Packet
     ensures { result.size ≡ 100 }
 {
     Packet {
@@ -41,14 +41,15 @@ fn arrive(moment: u64) -> Command {
 }
 
 /// The queue, cores, books and folds, one after another.
-pub fn all(rt: &impl Print, alloc: Global) -> io::Result<()> {
+pub(crate) fn all(rt: &impl Print, alloc: Global) -> io::Result<()> {
     queue(rt, alloc)?;
     core(rt, alloc)?;
     core_with(rt, alloc)?;
     book(rt, alloc)?;
     book_with(rt, alloc)?;
     fold(rt, alloc)?;
-    fold_none(rt, alloc)
+    fold_none(rt, alloc)?;
+    apply(rt, alloc)
 }
 
 /// Whether a packet was queued.
@@ -158,7 +159,7 @@ fn look_at(book: &Book) -> Shown {
 }
 
 /// The moments of the first two events, 0 where there is none.
-pub fn moments(events: &[Event]) -> (u64, u64) {
+pub(crate) fn moments(events: &[Event]) -> (u64, u64) {
     let first = match events.first() {
         Some(event) => event.command.moment(),
         None => 0,
@@ -226,4 +227,18 @@ fn fold_none(rt: &impl Print, alloc: Global) -> io::Result<()> {
         }
         Err(why) => println!(rt; "Book::fold of none: {why:?}"),
     }
+}
+
+/// A book takes its events, and refuses one more, without a request for memory.
+fn apply(rt: &impl Print, alloc: Global) -> io::Result<()> {
+    let Ok(mut book) = Book::open(alloc, limits(), Params::default_profile(), 0) else {
+        return println!(rt; "Book::apply: there is no book");
+    };
+    begin(rt, "Book::apply")?;
+    for moment in 1..9 {
+        let _ = book.apply(1, arrive(moment));
+    }
+    let last = book.apply(1, arrive(9));
+    let (count, packets) = (book.count(), book.registers().packets);
+    println!(rt; "Book::apply: {count} events, {packets} packets wait, and then {last:?}")
 }

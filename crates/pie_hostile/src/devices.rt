@@ -56,7 +56,7 @@ fn tell(rt: &impl Print, name: &str, for_good: bool, ends: Ends) -> io::Result<(
 }
 
 /// All calls at all devices.
-pub fn all(rt: &impl Print, alloc: Global) -> io::Result<()> {
+pub(crate) fn all(rt: &impl Print, alloc: Global) -> io::Result<()> {
     for for_good in [false, true] {
         tell(
             rt,

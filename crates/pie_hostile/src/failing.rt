@@ -8,16 +8,16 @@ const STEP: usize = 7;
 
 /// Where a device fails, if it does.
 #[derive(Clone, Copy)]
-pub struct Fault {
+pub(crate) struct Fault {
     /// How many bytes it moves before; nothing where it never fails.
-    pub after: Option<usize>,
+    pub(crate) after: Option<usize>,
     /// Whether it fails for good, and not for one call alone.
-    pub for_good: bool,
+    pub(crate) for_good: bool,
 }
 
 impl Fault {
     /// A device that never fails.
-    pub const NONE: Fault = Fault {
+    pub(crate) const NONE: Fault = Fault {
         after: None,
         for_good: false,
     };
@@ -42,11 +42,11 @@ impl Fault {
 
 /// Gives these bytes, some at a time.
 #[derive(Drop)]
-pub struct FailingReader<'a> {
+pub(crate) struct FailingReader<'a> {
     /// The bytes that are left.
-    pub rest: &'a [u8],
+    pub(crate) rest: &'a [u8],
     /// Where it fails.
-    pub fault: Fault,
+    pub(crate) fault: Fault,
 }
 
 impl Read for FailingReader<'_> {
@@ -61,11 +61,11 @@ impl Read for FailingReader<'_> {
 
 /// Gives these bytes, and then one record without end.
 #[derive(Drop)]
-pub struct Endless {
+pub(crate) struct Endless {
     /// The bytes that are left of what it gives now.
-    pub rest: &'static [u8],
+    pub(crate) rest: &'static [u8],
     /// What it gives from then on.
-    pub again: &'static [u8],
+    pub(crate) again: &'static [u8],
 }
 
 impl Read for Endless {
@@ -82,20 +82,20 @@ impl Read for Endless {
 
 /// Compares what it takes with the bytes that are wanted, some at a time.
 #[derive(Drop)]
-pub struct FailingWriter<'a> {
+pub(crate) struct FailingWriter<'a> {
     /// The wanted bytes that did not come yet.
-    pub rest: &'a [u8],
+    pub(crate) rest: &'a [u8],
     /// Whether another byte came than was wanted.
-    pub differs: bool,
+    pub(crate) differs: bool,
     /// Where it fails.
-    pub fault: Fault,
+    pub(crate) fault: Fault,
     /// Whether a flush fails.
-    pub flush_fails: bool,
+    pub(crate) flush_fails: bool,
 }
 
 impl<'a> FailingWriter<'a> {
     /// A writer that wants these bytes.
-    pub fn new(wanted: &'a [u8], fault: Fault) -> FailingWriter<'a> {
+    pub(crate) fn new(wanted: &'a [u8], fault: Fault) -> FailingWriter<'a> {
         FailingWriter {
             rest: wanted,
             differs: false,

@@ -11,9 +11,11 @@ use std::alloc::Global;
 use std::io;
 use std::sync::Wait;
 
-pub fn all<R: Wait + Print>(rt: &R, alloc: Global) -> io::Result<()> {
+/// Links, calls that make events, and folds, one after another.
+pub(crate) fn all<R: Wait + Print>(rt: &R, alloc: Global) -> io::Result<()> {
     open(rt, alloc)?;
     open_with(rt, alloc)?;
+    events(rt, alloc)?;
     try_fold(rt, alloc)?;
     fold(rt, alloc)
 }
@@ -75,6 +77,22 @@ fn registers(link: &Link, caller: &mut Caller) -> Option<Registers>
         Ok(told) => Some(told.answer),
         Err(_) => None,
     }
+}
+
+/// Two callers' events, and what a caller reads, make no request for memory.
+fn events(rt: &impl Print, alloc: Global) -> io::Result<()> {
+    let Some((link, mut one, mut two)) = three_events(alloc) else {
+        return println!(rt; "Link::try_arrive: there is no link");
+    };
+    begin(rt, "Link::try_arrive")?;
+    let arrived = link.try_arrive(&mut two, 9, packet(9), 0).is_ok();
+    let left = link.try_depart(&mut one, 9).is_ok();
+    let count = match registers(&link, &mut two) {
+        Some(registers) => registers.count,
+        None => 0,
+    };
+    let closed = link.gather(&mut one, two).is_ok() && link.close(one).is_ok();
+    println!(rt; "Link::try_arrive: {arrived} {left}, {count} events, {closed}")
 }
 
 /// Prints a fold's events and number.

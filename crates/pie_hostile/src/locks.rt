@@ -7,8 +7,21 @@ use pie_lock::{Counter, CounterEntry, Pass, RuledLock};
 use std::alloc::Global;
 use std::io;
 
-pub fn all(rt: &impl Print, alloc: Global) -> io::Result<()> {
-    new(rt, alloc)
+/// A lock that is made, and its other calls.
+pub(crate) fn all(rt: &impl Print, alloc: Global) -> io::Result<()> {
+    new(rt, alloc)?;
+    others(rt, alloc)
+}
+
+/// A take, a put and a close make no request for memory.
+fn others(rt: &impl Print, alloc: Global) -> io::Result<()> {
+    match RuledLock::new(alloc, Counter::new(), 3) {
+        Ok((lock, pass)) => {
+            begin(rt, "RuledLock::try_take")?;
+            tell(rt, "RuledLock::try_take", lock, pass)
+        }
+        Err((_, why)) => println!(rt; "RuledLock::try_take: {why:?}"),
+    }
 }
 
 /// A refused lock hands the counter back, over which the next one is made.

@@ -3,6 +3,6 @@
 use std::io;
 
 /// Says that this call comes next: what is requested from here to the next line is requested by it alone.
-pub fn begin(rt: &impl Print, name: &str) -> io::Result<()> {
+pub(crate) fn begin(rt: &impl Print, name: &str) -> io::Result<()> {
     println!(rt; "begin {name}")
 }

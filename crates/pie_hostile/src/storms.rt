@@ -9,7 +9,8 @@ use std::io;
 use std::sync::Wait;
 use std::thread::Threads;
 
-pub fn all<R: Threads + Wait + Print + Sync>(rt: &R, alloc: Global) -> io::Result<()> {
+/// The storm.
+pub(crate) fn all<R: Threads + Wait + Print + Sync>(rt: &R, alloc: Global) -> io::Result<()> {
     match plan(alloc) {
         Ok(plan) => make(rt, alloc, &plan),
         Err(_) => println!(rt; "storm: there is no plan"),

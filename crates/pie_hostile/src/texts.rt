@@ -17,21 +17,21 @@ use std::alloc::Global;
 use std::io;
 
 /// One arrival and two departures, the second of an empty queue.
-pub const TRACE: &[u8] = b"open,0,4,16,100
+pub(crate) const TRACE: &[u8] = b"open,0,4,16,100
 arrive,1,10,7,1500,ect0,0
 depart,2,25
 depart,2,30
 ";
 
 /// The history of that trace.
-pub const HISTORY: &[u8] = b"open,0,4,16,100
+pub(crate) const HISTORY: &[u8] = b"open,0,4,16,100
 arrive,1,10,7,1500,ect0,0,enqueue
 depart,2,25,left,7,1500,ect0
 depart,2,30,empty
 ";
 
 /// What explains its departures as CSV.
-pub const EXPLAINED: &[u8] =
+pub(crate) const EXPLAINED: &[u8] =
     b"number,kind,caller,moment,effective_moment,tag,size,verdict,cause,bytes,packets,delay,probability,accumulated_probability,burst_allowance
 1,arrive,1,10,10,7,1500,enqueue,burst_allowed,0,0,0,0,0,150000000
 2,depart,2,25,25,7,1500,left,,1500,1,0,0,0,150000000
@@ -39,20 +39,21 @@ pub const EXPLAINED: &[u8] =
 ";
 
 /// What explains its last departure in words.
-pub const IN_WORDS: &[u8] = b"event 3: no packet was there to leave
+pub(crate) const IN_WORDS: &[u8] = b"event 3: no packet was there to leave
   at 0.000030 ms (30 ns), by caller 2
   before it: 0 packets, 0 bytes, a delay of 0.000000 ms (0 ns)
   probability 0.0000 % (0), with no update yet; burst allowance 150.000000 ms (150000000 ns)
 ";
 
 /// The calls over texts, one after another.
-pub fn all(rt: &impl Print, alloc: Global) -> io::Result<()> {
+pub(crate) fn all(rt: &impl Print, alloc: Global) -> io::Result<()> {
     run(rt, alloc)?;
     run_within(rt, alloc)?;
     open_lines(rt, alloc)?;
     next_lines(rt, alloc)?;
     write(rt, alloc)?;
     open_auditor(rt, alloc)?;
+    feed(rt, alloc)?;
     audit_text(rt, alloc)?;
     explain_as(
         rt,
@@ -153,7 +154,7 @@ fn next_lines(rt: &impl Print, alloc: Global) -> io::Result<()> {
 }
 
 /// What the history was opened with.
-pub fn opening() -> Opening
+pub(crate) fn opening() -> Opening
     ensures { result.choices.profile ≡ One }
 {
     Opening {
@@ -181,7 +182,7 @@ fn packet() -> Packet {
 }
 
 /// The arrival in the history.
-pub fn arrived() -> Event {
+pub(crate) fn arrived() -> Event {
     let command = Command::Arrive {
         moment: 10,
         packet: packet(),
@@ -195,7 +196,7 @@ pub fn arrived() -> Event {
 }
 
 /// A departure in the history.
-pub fn departed(moment: u64, answer: Answer) -> Event {
+pub(crate) fn departed(moment: u64, answer: Answer) -> Event {
     Event {
         caller: 2,
         command: Command::Depart { moment },
@@ -204,7 +205,7 @@ pub fn departed(moment: u64, answer: Answer) -> Event {
 }
 
 /// Writes the history to this writer.
-pub fn write_to(alloc: Global, writer: &mut FailingWriter<'_>) -> Result<(), TraceFault> {
+pub(crate) fn write_to(alloc: Global, writer: &mut FailingWriter<'_>) -> Result<(), TraceFault> {
     let first = arrived();
     let second = departed(25, Answer::Left(packet()));
     let third = departed(30, Answer::Empty);
@@ -238,6 +239,19 @@ fn open_auditor(rt: &impl Print, alloc: Global) -> io::Result<()> {
         }
         Err(why) => println!(rt; "Auditor::open: {why:?}"),
     }
+}
+
+/// An auditor looks at lines without a request for memory.
+fn feed(rt: &impl Print, alloc: Global) -> io::Result<()> {
+    let Ok(mut auditor) = Auditor::open(alloc, &opening()) else {
+        return println!(rt; "Auditor::feed: there is no auditor");
+    };
+    begin(rt, "Auditor::feed")?;
+    auditor.feed(&Line::Made(arrived()));
+    auditor.feed(&Line::Made(departed(25, Answer::Left(packet()))));
+    auditor.feed(&Line::Made(departed(30, Answer::Left(packet()))));
+    let found = auditor.finish();
+    println!(rt; "Auditor::feed: {found:?}")
 }
 
 fn audit_text(rt: &impl Print, alloc: Global) -> io::Result<()> {

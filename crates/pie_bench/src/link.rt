@@ -2,7 +2,7 @@
 //! book behind `std::sync::Mutex` in the same run.
 //!
 //! Both make the same `Book::apply` of the same commands, on a rolling book, whose tail is never too full for an event.
-ghost use Rattle.std.specs.Prelude.{◌≡◌, All, IfOk};
+ghost use Rattle.std.specs.Prelude.{◌≡◌, All, IfOk, IfSome};
 
 use crate::report::{checksum, nanos, throughput};
 use pie_book::{Book, Choices, Command, Limits, Mode, Profile};
@@ -221,26 +221,95 @@ fn call_mutex_at_once<R: Threads + Wait + Sync>(
     }
 }
 
-fn uncontended<R: Wait + Clock + Print>(rt: &R, alloc: Global) -> io::Result<()> {
-    let params = Params::default_profile();
-    let Ok((link, mut caller)) = Link::open_with(alloc, limits(), params, 0, 1, choices()) else {
-        return Ok(());
-    };
-    let Ok(book) = Book::open_with(alloc, limits(), params, 0, choices()) else {
-        return Ok(());
-    };
-    let mutex = Mutex::new(book);
+/// A rolling link with a queue of 1024 packets, and the caller that has all its numbers.
+fn opened(alloc: Global, callers: u16) -> Option<(Link, Caller)>
+    ensures { IfSome result (λ pair. pair.1.lock ≡ pair.0) }
+{
+    match Link::open_with(
+        alloc,
+        limits(),
+        Params::default_profile(),
+        0,
+        callers,
+        choices(),
+    ) {
+        Ok(pair) => Some(pair),
+        Err(_) => None,
+    }
+}
+
+/// The same book behind a mutex.
+fn mutex(alloc: Global) -> Option<Mutex<Book>> {
+    match Book::open_with(alloc, limits(), Params::default_profile(), 0, choices()) {
+        Ok(book) => Some(Mutex::new(book)),
+        Err(_) => None,
+    }
+}
+
+/// Prints the time of an event of one thread at the link.
+fn time_alone<R: Wait + Clock + Print>(rt: &R, link: &Link, caller: &mut Caller) -> io::Result<u64>
+    requires { caller.old.lock ≡ link.now }
+{
     let start = Instant::now(rt)?;
-    let linked = call_alone(rt, &link, &mut caller);
+    let events = call_alone(rt, link, caller);
     nanos(rt, "link_uncontended", start.elapsed(rt)?, UNCONTENDED)?;
+    Ok(events)
+}
+
+/// The same at the mutex.
+fn time_mutex_alone<R: Wait + Clock + Print>(rt: &R, mutex: &Mutex<Book>) -> io::Result<u64> {
     let start = Instant::now(rt)?;
-    let plain = call_mutex_alone(rt, &mutex);
+    let events = call_mutex_alone(rt, mutex);
     nanos(
         rt,
         "link_mutex_uncontended",
         start.elapsed(rt)?,
         UNCONTENDED,
     )?;
+    Ok(events)
+}
+
+/// Prints how many events the jobs make in a second.
+fn time_at_once<R: Threads + Wait + Clock + Print + Sync>(
+    rt: &R,
+    link: &Link,
+    jobs: Vec<Job>,
+    enqueuers: u16,
+) -> io::Result<u64>
+    requires { All (λ job. job.caller.lock ≡ link.now) jobs.items }
+{
+    let calls = (u64::from(enqueuers) + 1) * PER_THREAD;
+    let start = Instant::now(rt)?;
+    let events = call_at_once(rt, link, jobs);
+    throughput(rt, "link", enqueuers, start.elapsed(rt)?, calls)?;
+    Ok(events)
+}
+
+/// The same at the mutex.
+fn time_mutex_at_once<R: Threads + Wait + Clock + Print + Sync>(
+    rt: &R,
+    alloc: Global,
+    mutex: &Mutex<Book>,
+    enqueuers: u16,
+) -> io::Result<u64> {
+    let calls = (u64::from(enqueuers) + 1) * PER_THREAD;
+    let start = Instant::now(rt)?;
+    let events = call_mutex_at_once(rt, alloc, mutex, enqueuers);
+    throughput(rt, "link_mutex", enqueuers, start.elapsed(rt)?, calls)?;
+    Ok(events)
+}
+
+// Each of these two opens link and mutex, and leaves the timing to functions that have them by reference: a `?` that lets a link
+// go takes long to prove.
+fn uncontended<R: Wait + Clock + Print>(rt: &R, alloc: Global) -> io::Result<()> {
+    let Some((link, mut caller)) = opened(alloc, 1) else {
+        return Ok(());
+    };
+    let Some(mutex) = mutex(alloc) else {
+        return Ok(());
+    };
+    let linked = time_alone(rt, &link, &mut caller)?;
+    let plain = time_mutex_alone(rt, &mutex)?;
     checksum(rt, "link_uncontended", linked.wrapping_add(plain))
 }
 
@@ -249,22 +318,15 @@ fn contended<R: Threads + Wait + Clock + Print + Sync>(
     alloc: Global,
     enqueuers: u16,
 ) -> io::Result<()> {
-    let params = Params::default_profile();
-    let Ok((link, mut caller)) = Link::open_with(alloc, limits(), params, 0, 10, choices()) else {
+    let Some((link, mut caller)) = opened(alloc, 10) else {
         return Ok(());
     };
-    let Ok(book) = Book::open_with(alloc, limits(), params, 0, choices()) else {
+    let Some(mutex) = mutex(alloc) else {
         return Ok(());
     };
-    let mutex = Mutex::new(book);
-    let calls = (u64::from(enqueuers) + 1) * PER_THREAD;
     let jobs = jobs(alloc, &link, &mut caller, enqueuers)?;
-    let start = Instant::now(rt)?;
-    let linked = call_at_once(rt, &link, jobs);
-    throughput(rt, "link", enqueuers, start.elapsed(rt)?, calls)?;
-    let start = Instant::now(rt)?;
-    let plain = call_mutex_at_once(rt, alloc, &mutex, enqueuers);
-    throughput(rt, "link_mutex", enqueuers, start.elapsed(rt)?, calls)?;
+    let linked = time_at_once(rt, &link, jobs, enqueuers)?;
+    let plain = time_mutex_at_once(rt, alloc, &mutex, enqueuers)?;
     checksum(rt, "link_threads", linked.wrapping_add(plain))
 }
 

@@ -1,4 +1,4 @@
-//! Traces of commands, and the history text that a run of a trace writes.
+//! Traces of commands, and the history text that a run of a trace writes, in two versions.
 //!
 //! The definitions that the contracts cite stand in `specs/`: the records of a text, its first fault, and its history
 //! text.
@@ -15,6 +15,7 @@
 mod answer;
 pub mod fault;
 mod fields;
+mod first_record;
 pub mod history;
 pub mod law;
 pub mod lines;
@@ -24,6 +25,7 @@ mod rows;
 pub mod run;
 mod session;
 mod typed;
+pub mod version;
 pub mod write;
 
 pub use fault::{Flaw, OpenFault, TraceFault};
@@ -31,6 +33,7 @@ pub use history::Line;
 pub use law::history_texts_are_read_back;
 pub use lines::HistoryLines;
 pub use run::{RunEnd, run_trace, run_trace_within};
+pub use version::Version;
 pub use write::write_history;
 
 #[cfg(test)]

@@ -4,8 +4,8 @@ use super::ONE_ARRIVAL_HISTORY;
 use super::records::{EVERY_KIND, EVERY_KIND_HISTORY};
 use super::writing::{departed, opened};
 use crate::rows::CHUNK;
-use crate::{HistoryLines, Line, TraceFault, run_trace, run_trace_within, write_history};
-use pie_book::{Answer, Command, Event, Mode};
+use crate::{HistoryLines, TraceFault, run_trace, run_trace_within, write_history};
+use pie_book::Mode;
 use pie_params::Params;
 use pie_queue::Ecn;
 use std::alloc::Global;
@@ -151,26 +151,35 @@ fn first_lines(text: &str, count: usize) -> &[u8] {
     text.as_bytes()
 }
 
+/// How many of the first so many bytes end a line.
+fn line_feeds(text: &[u8], bytes: usize) -> usize {
+    let mut count: usize = 0;
+    for byte in text.iter().take(bytes) {
+        if *byte == b'\n' {
+            count = count.saturating_add(1);
+        }
+    }
+    count
+}
+
+/// Whether a run whose reader fails after so many bytes answers so, and has written the history of the whole lines before.
+fn run_reads(alloc: Global, good: usize) -> bool {
+    let reader = FailingReader {
+        rest: EVERY_KIND.as_bytes(),
+        good: Some(good),
+    };
+    let mut out = Vec::new(alloc);
+    let result = run_trace(alloc, reader, &mut out);
+    let lines = line_feeds(EVERY_KIND.as_bytes(), good);
+    matches!(result, Err(TraceFault::Read))
+        && out.as_slice() == first_lines(EVERY_KIND_HISTORY, lines)
+}
+
 /// Whatever byte a reader fails after, the history of the whole lines before it is written, and nothing after it is read.
 #[test]
 fn a_reader_that_fails_once(rt: HostRuntime) {
     for good in 0..EVERY_KIND.len() {
-        let reader = FailingReader {
-            rest: EVERY_KIND.as_bytes(),
-            good: Some(good),
-        };
-        let mut out = Vec::new(rt.alloc());
-        let result = run_trace(rt.alloc(), reader, &mut out);
-        assert_eq!(rt; result, Err(TraceFault::Read), "after {good} bytes");
-        let lines = EVERY_KIND.as_bytes()[..good]
-            .iter()
-            .filter(|byte| **byte == b'\n')
-            .count();
-        assert_eq!(rt;
-            out.as_slice(),
-            first_lines(EVERY_KIND_HISTORY, lines),
-            "after {good} bytes"
-        );
+        assert!(rt; run_reads(rt.alloc(), good), "after {good} bytes");
     }
     let reader = FailingReader {
         rest: EVERY_KIND.as_bytes(),
@@ -178,26 +187,32 @@ fn a_reader_that_fails_once(rt: HostRuntime) {
     };
     let mut out = Vec::new(rt.alloc());
     assert!(rt; run_trace(rt.alloc(), reader, &mut out).is_ok());
-    assert_eq!(rt; out.as_slice(), EVERY_KIND_HISTORY.as_bytes());
+    assert!(rt; out.as_slice() == EVERY_KIND_HISTORY.as_bytes());
+}
+
+/// Whether what was taken is as many bytes, the first of this text.
+fn are_first(taken: &[u8], text: &str, bytes: usize) -> bool {
+    taken.len() == bytes && text.as_bytes().starts_with(taken)
+}
+
+/// Whether a run whose writer fails after so many bytes answers so, and has written those.
+fn run_writes(alloc: Global, good: usize) -> bool {
+    let mut writer = FailingWriter::new(alloc, STEP, Some(good));
+    let result = run_trace(alloc, EVERY_KIND.as_bytes(), &mut writer);
+    matches!(result, Err(TraceFault::Write))
+        && are_first(writer.taken.as_slice(), EVERY_KIND_HISTORY, good)
 }
 
 /// Whatever byte a writer fails after, those before it are the first of the history, and nothing comes after them.
 #[test]
 fn a_writer_that_fails_once(rt: HostRuntime) {
-    let history = EVERY_KIND_HISTORY.as_bytes();
-    for good in 0..history.len() {
-        let mut writer = FailingWriter::new(rt.alloc(), STEP, Some(good));
-        let result = run_trace(rt.alloc(), EVERY_KIND.as_bytes(), &mut writer);
-        assert_eq!(rt; result, Err(TraceFault::Write), "after {good} bytes");
-        assert_eq!(rt;
-            writer.taken.as_slice(),
-            &history[..good],
-            "after {good} bytes"
-        );
+    let whole = EVERY_KIND_HISTORY.len();
+    for good in 0..whole {
+        assert!(rt; run_writes(rt.alloc(), good), "after {good} bytes");
     }
-    let mut writer = FailingWriter::new(rt.alloc(), STEP, Some(history.len()));
+    let mut writer = FailingWriter::new(rt.alloc(), STEP, Some(whole));
     assert!(rt; run_trace(rt.alloc(), EVERY_KIND.as_bytes(), &mut writer).is_ok());
-    assert_eq!(rt; writer.taken.as_slice(), history);
+    assert!(rt; writer.taken.as_slice() == EVERY_KIND_HISTORY.as_bytes());
 }
 
 /// A flush that fails takes the place of any other answer.
@@ -213,8 +228,8 @@ fn a_failing_flush(rt: HostRuntime) {
         let mut writer = FailingWriter::new(rt.alloc(), STEP, None);
         writer.flushes = false;
         let result = run_trace(rt.alloc(), text.as_bytes(), &mut writer);
-        assert_eq!(rt; result, Err(TraceFault::Write), "{text}");
-        assert_eq!(rt; writer.taken.as_slice(), history.as_bytes(), "{text}");
+        assert!(rt; matches!(result, Err(TraceFault::Write)), "{text}");
+        assert!(rt; writer.taken.as_slice() == history.as_bytes(), "{text}");
     }
 }
 
@@ -227,11 +242,8 @@ fn what_failed_first_is_answered(rt: HostRuntime) {
     };
     let mut writer = FailingWriter::new(rt.alloc(), STEP, Some(20));
     let result = run_trace(rt.alloc(), reader, &mut writer);
-    assert_eq!(rt; result, Err(TraceFault::Read));
-    assert_eq!(rt;
-        writer.taken.as_slice(),
-        &EVERY_KIND_HISTORY.as_bytes()[..20]
-    );
+    assert!(rt; matches!(result, Err(TraceFault::Read)));
+    assert!(rt; are_first(writer.taken.as_slice(), EVERY_KIND_HISTORY, 20));
     let reader = FailingReader {
         rest: EVERY_KIND.as_bytes(),
         good: Some(0),
@@ -239,7 +251,7 @@ fn what_failed_first_is_answered(rt: HostRuntime) {
     let mut writer = FailingWriter::new(rt.alloc(), STEP, None);
     writer.flushes = false;
     let result = run_trace(rt.alloc(), reader, &mut writer);
-    assert_eq!(rt; result, Err(TraceFault::Read));
+    assert!(rt; matches!(result, Err(TraceFault::Read)));
     assert!(rt; writer.taken.is_empty());
 }
 
@@ -272,6 +284,13 @@ fn departures(alloc: Global, count: u64) -> Result<(Vec<u8>, Vec<usize>), Fail> 
     Ok((taken, parts))
 }
 
+/// Whether an endless run whose writer fails after so many bytes answers so, and has written those.
+fn endless_run_writes(alloc: Global, whole: &str, good: usize) -> bool {
+    let mut writer = FailingWriter::new(alloc, usize::MAX, Some(good));
+    let result = run_trace_within(alloc, Endless::departures(), &mut writer, 10000);
+    matches!(result, Err(TraceFault::Write)) && are_first(writer.taken.as_slice(), whole, good)
+}
+
 /// The run ends where no further record may be read, and its history goes to the writer in parts.
 #[test]
 fn a_reader_without_an_end(rt: HostRuntime) -> Result<(), Fail> {
@@ -282,26 +301,24 @@ fn a_reader_without_an_end(rt: HostRuntime) -> Result<(), Fail> {
         parts: Vec::new(alloc),
     };
     let result = run_trace_within(alloc, Endless::departures(), &mut writer, 10000);
-    assert_eq!(rt; result, Err(TraceFault::TooLong));
-    assert_eq!(rt; writer.taken.as_slice(), whole.as_bytes());
-    assert_eq!(rt; writer.parts.len(), 5);
+    assert!(rt; matches!(result, Err(TraceFault::TooLong)));
+    assert!(rt; writer.taken.as_slice() == whole.as_bytes());
+    assert!(rt; writer.parts.len() == 5);
     // A writer that fails within any part, or between two, and then works, gets nothing more.
     let mut end: usize = 0;
     for part in writer.parts.iter() {
-        for good in [end.saturating_add(1), end.saturating_add(*part)] {
-            if good >= whole.len() {
-                continue;
-            }
-            let mut failing = FailingWriter::new(alloc, usize::MAX, Some(good));
-            let result = run_trace_within(alloc, Endless::departures(), &mut failing, 10000);
-            assert_eq!(rt; result, Err(TraceFault::Write), "after {good} bytes");
-            assert_eq!(rt;
-                failing.taken.as_slice(),
-                &whole.as_bytes()[..good],
-                "after {good} bytes"
+        let within = end.saturating_add(1);
+        end = end.saturating_add(*part);
+        assert!(rt;
+            endless_run_writes(alloc, whole.as_str(), within),
+            "after {within} bytes"
+        );
+        if end < whole.len() {
+            assert!(rt;
+                endless_run_writes(alloc, whole.as_str(), end),
+                "after {end} bytes"
             );
         }
-        end = end.saturating_add(*part);
     }
     Ok(())
 }
@@ -314,78 +331,58 @@ fn a_history_that_is_a_whole_part(rt: HostRuntime) -> Result<(), Fail> {
     let first = parts.first().copied().unwrap_or(0);
     assert!(rt; first >= CHUNK);
     // The first line is the opening's.
-    let lines = taken
-        .iter()
-        .take(first)
-        .filter(|byte| **byte == b'\n')
-        .count() as u64;
+    let lines = line_feeds(taken.as_slice(), first) as u64;
     let last = lines.saturating_sub(1);
     for (count, most) in [(last.saturating_sub(1), 1), (last, 1), (lines, 2)] {
         let (taken, parts) = departures(alloc, count)?;
         let history = history_of_departures(alloc, count)?;
-        assert_eq!(rt; taken.as_slice(), history.as_bytes(), "{count}");
-        assert_eq!(rt; parts.len(), most, "{count}");
+        assert!(rt; taken.as_slice() == history.as_bytes(), "{count}");
+        assert!(rt; parts.len() == most, "{count}");
     }
     Ok(())
 }
 
-/// Lines of a history come for as long as the reader gives them.
-#[test]
-fn a_history_without_an_end(rt: HostRuntime) -> Result<(), Fail> {
-    let reader = Endless {
-        rest: b"open,0,4,16,100\n",
-        again: b"depart,1,1,empty\n",
-    };
-    let (mut lines, opening) = HistoryLines::open(rt.alloc(), reader)?;
-    assert_eq!(rt; opening, opened(Mode::Bounded, Params::default_profile()));
-    for _ in 0..1000 {
-        let empty = Event {
-            caller: 1,
-            command: Command::Depart { moment: 1 },
-            answer: Answer::Empty,
-        };
-        assert_eq!(rt; lines.next_line(), Ok(Some(Line::Made(empty))));
-    }
-    Ok(())
-}
+/// How many lines are asked for at the most.
+const MANY: usize = 1000;
 
 /// How many lines a history gives before its end or its first fault, what is answered then, and what after it.
-fn lines_before<R: Read + Drop>(
+pub(super) fn lines_before<R: Read + Drop>(
     alloc: Global,
     reader: R,
 ) -> Result<(usize, Option<TraceFault>, Option<TraceFault>), TraceFault> {
     let (mut lines, _) = HistoryLines::open(alloc, reader)?;
-    for count in 0..9 {
+    for count in 0..MANY {
         match lines.next_line() {
             Ok(Some(_)) => {}
             Ok(None) => return Ok((count, None, lines.next_line().err())),
             Err(why) => return Ok((count, Some(why), lines.next_line().err())),
         }
     }
-    Ok((9, None, None))
+    Ok((MANY, None, None))
+}
+
+/// Whether a history whose reader fails after so many bytes gives the whole lines before, and then that fault for good.
+fn history_reads(alloc: Global, history: &[u8], good: usize) -> bool {
+    let reader = FailingReader {
+        rest: history,
+        good: Some(good),
+    };
+    let whole = line_feeds(history, good);
+    match lines_before(alloc, reader) {
+        Ok((count, Some(TraceFault::Read), Some(TraceFault::Read))) => count.saturating_add(1)
+            == whole,
+        Err(TraceFault::Read) => whole == 0,
+        _ => false,
+    }
 }
 
 /// Whatever byte a reader fails after, the whole lines before it are given, and then that fault for good.
 #[test]
 fn a_history_whose_reader_fails_once(rt: HostRuntime) {
     let history = ONE_ARRIVAL_HISTORY.as_bytes();
-    let read = Some(TraceFault::Read);
     for good in 0..history.len() {
-        let reader = FailingReader {
-            rest: history,
-            good: Some(good),
-        };
-        let whole = history[..good]
-            .iter()
-            .filter(|byte| **byte == b'\n')
-            .count();
-        let want = match whole.checked_sub(1) {
-            Some(count) => Ok((count, read, read)),
-            None => Err(TraceFault::Read),
-        };
-        assert_eq!(rt;
-            lines_before(rt.alloc(), reader),
-            want,
+        assert!(rt;
+            history_reads(rt.alloc(), history, good),
             "after {good} bytes"
         );
     }
@@ -393,28 +390,36 @@ fn a_history_whose_reader_fails_once(rt: HostRuntime) {
         rest: history,
         good: None,
     };
-    assert_eq!(rt; lines_before(rt.alloc(), reader), Ok((3, None, None)));
+    assert!(rt; matches!(lines_before(rt.alloc(), reader), Ok((3, None, None))));
+    // Lines come for as long as the reader gives them.
+    let endless = Endless {
+        rest: b"open,0,4,16,100\n",
+        again: b"depart,1,1,empty\n",
+    };
+    assert!(rt; matches!(lines_before(rt.alloc(), endless), Ok((MANY, None, None))));
 }
 
 /// Whatever byte a writer fails after, those before it are the first of the history.
 #[test]
 fn a_history_whose_writer_fails_once(rt: HostRuntime) {
-    let history = b"open,0,4,16,100\ndepart,2,25,left,7,1500,ect1\n";
+    let history = "open,0,4,16,100\ndepart,2,25,left,7,1500,ect1\n";
     let opening = opened(Mode::Bounded, Params::default_profile());
     let event = departed(Ecn::Ect1);
     assert!(rt; event.fits());
     for good in 0..history.len() {
         let mut writer = FailingWriter::new(rt.alloc(), STEP, Some(good));
         let result = write_history(rt.alloc(), &mut writer, &opening, &[event]);
-        assert_eq!(rt; result, Err(TraceFault::Write), "after {good} bytes");
-        assert_eq!(rt;
-            writer.taken.as_slice(),
-            &history[..good],
+        assert!(rt;
+            matches!(result, Err(TraceFault::Write)),
+            "after {good} bytes"
+        );
+        assert!(rt;
+            are_first(writer.taken.as_slice(), history, good),
             "after {good} bytes"
         );
     }
     let mut writer = FailingWriter::new(rt.alloc(), STEP, None);
     writer.flushes = false;
     let result = write_history(rt.alloc(), &mut writer, &opening, &[event]);
-    assert_eq!(rt; result, Err(TraceFault::Write));
+    assert!(rt; matches!(result, Err(TraceFault::Write)));
 }

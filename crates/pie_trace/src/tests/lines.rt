@@ -1,6 +1,7 @@
 //! Histories that are read one line at a time.
 
 use super::ONE_ARRIVAL_HISTORY;
+use super::devices::lines_before;
 use super::writing::{departed, opened};
 use crate::{HistoryLines, Line, TraceFault};
 use pie_book::{Answer, Command, Event, Mode};
@@ -9,9 +10,13 @@ use pie_queue::{Ecn, Packet};
 use std::alloc::Global;
 use std::test::Fail;
 
-/// What the only record after a short opening says.
-fn line_of(alloc: Global, record: &str) -> Result<Result<Option<Line>, TraceFault>, Fail> {
-    let text = format!(in alloc; "open,0,4,16,100\n{record}\n")?;
+/// What the only record after this one says.
+fn line_after(
+    alloc: Global,
+    opening: &str,
+    record: &str,
+) -> Result<Result<Option<Line>, TraceFault>, Fail> {
+    let text = format!(in alloc; "{opening}\n{record}\n")?;
     let (mut lines, _) = HistoryLines::open(alloc, text.as_bytes())?;
     Ok(lines.next_line())
 }
@@ -19,7 +24,7 @@ fn line_of(alloc: Global, record: &str) -> Result<Result<Option<Line>, TraceFaul
 #[test]
 fn an_opening_and_three_lines(rt: HostRuntime) -> Result<(), Fail> {
     let (mut lines, opening) = HistoryLines::open(rt.alloc(), ONE_ARRIVAL_HISTORY.as_bytes())?;
-    assert_eq!(rt; opening, opened(Mode::Bounded, Params::default_profile()));
+    assert!(rt; opening == opened(Mode::Bounded, Params::default_profile()));
     let arrived = Event {
         caller: 1,
         command: Command::Arrive {
@@ -45,21 +50,17 @@ fn an_opening_and_three_lines(rt: HostRuntime) -> Result<(), Fail> {
         None,
         None,
     ] {
-        assert_eq!(rt; lines.next_line(), Ok(want));
+        assert!(rt; lines.next_line() == Ok(want));
     }
     Ok(())
 }
 
 /// After a fault it is answered for good, whatever comes after it.
 #[test]
-fn a_fault_for_good(rt: HostRuntime) -> Result<(), Fail> {
-    let history = "open,0,4,16,100\nrefused,2,7\ndepart,1,1,full\ndepart,1,1,empty\ndep\n";
-    let (mut lines, _) = HistoryLines::open(rt.alloc(), history.as_bytes())?;
-    assert_eq!(rt; lines.next_line(), Ok(Some(Line::Note)));
-    for _ in 0..3 {
-        assert_eq!(rt; lines.next_line(), Err(TraceFault::Word { row: 3 }));
-    }
-    Ok(())
+fn a_fault_for_good(rt: HostRuntime) {
+    let history = b"open,0,4,16,100\nrefused,2,7\ndepart,1,1,full\ndepart,1,1,empty\ndep\n";
+    let word = Some(TraceFault::Word { row: 3 });
+    assert!(rt; lines_before(rt.alloc(), history.as_slice()) == Ok((1, word, word)));
 }
 
 #[test]
@@ -94,6 +95,7 @@ fn records_that_tell_no_event(rt: HostRuntime) -> Result<(), Fail> {
         ("refused,2", fields),
         ("folded,2,3", fields),
         ("shown,1,2,3,4,5,6,7,8,9,10", fields),
+        ("shown,1,2,3,4,5,6,7,8,9,10,1,1", fields),
         ("depart,1,1", fields),
         ("depart,1,1,left", word),
         ("depart,1,1,empty,1,1,not", word),
@@ -107,7 +109,37 @@ fn records_that_tell_no_event(rt: HostRuntime) -> Result<(), Fail> {
         ("fold,1", kind),
     ];
     for (record, want) in cases {
-        assert_eq!(rt; line_of(rt.alloc(), record)?, want, "{record}");
+        assert!(rt;
+            line_after(rt.alloc(), "open,0,4,16,100", record)? == want,
+            "{record}"
+        );
+    }
+    Ok(())
+}
+
+/// In version two `shown` ends with whether the controller works.
+#[test]
+fn registers_in_version_two(rt: HostRuntime) -> Result<(), Fail> {
+    let number = Err(TraceFault::Number { row: 2 });
+    let cases = [
+        ("shown,1,2,3,4,5,6,7,8,9,10,1,0", Ok(Some(Line::Note))),
+        ("shown,1,2,3,4,5,6,7,8,9,10,0,1", Ok(Some(Line::Note))),
+        (
+            "shown,1,2,3,4,5,6,7,8,9,10,1",
+            Err(TraceFault::Fields { row: 2 }),
+        ),
+        ("shown,1,2,3,4,5,6,7,8,9,10,2,1", number),
+        ("shown,1,2,3,4,5,6,7,8,9,10,1,2", number),
+        (
+            "open2,2,bounded,0,4,16,100",
+            Err(TraceFault::Kind { row: 2 }),
+        ),
+    ];
+    for (record, want) in cases {
+        assert!(rt;
+            line_after(rt.alloc(), "open2,2,bounded,0,4,16,100", record)? == want,
+            "{record}"
+        );
     }
     Ok(())
 }
@@ -123,6 +155,6 @@ fn histories_that_open_nothing(rt: HostRuntime) {
     ];
     for (text, fault) in cases {
         let answer = HistoryLines::open(rt.alloc(), text.as_bytes()).map(|(_, opening)| opening);
-        assert_eq!(rt; answer, Err(fault), "{text}");
+        assert!(rt; answer == Err(fault), "{text}");
     }
 }

@@ -1,6 +1,4 @@
 //! Histories that are written from an opening and events, and read back.
-ghost use Rattle.std.specs.Prelude.{◌≡◌};
-ghost use Rattle.pie_book.specs.declared.opening.Profile.TheVariants.{One};
 
 use crate::{HistoryLines, Line, TraceFault, write_history};
 use pie_book::{Answer, Choices, Command, Event, Limits, Mode, Opening, Profile};
@@ -10,9 +8,7 @@ use std::alloc::Global;
 use std::test::Fail;
 
 /// A book of four packets and sixteen events in its tail, opened at moment 0.
-pub(super) fn opened(mode: Mode, params: Params) -> Opening
-    ensures { result.choices.profile ≡ One }
-{
+pub(super) fn opened(mode: Mode, params: Params) -> Opening {
     Opening {
         moment: 0,
         limits: Limits {
@@ -109,9 +105,9 @@ fn verdicts_and_departures(rt: HostRuntime) -> Result<(), Fail> {
             "open,0,4,16,100\narrive,1,10,7,1500,{ecn_word},18446744073709551615,{word}\ndepart,2,25,left,7,1500,{ecn_word}\n"
         )?;
         let out = written(alloc, &first, &second)?;
-        assert_eq!(rt; out.as_slice(), want.as_bytes());
+        assert!(rt; out.as_slice() == want.as_bytes());
         let read = read_back(alloc, out.as_slice());
-        assert_eq!(rt; read, Ok(wanted(&first, &second)), "{want}");
+        assert!(rt; read == Ok(wanted(&first, &second)), "{want}");
     }
     Ok(())
 }
@@ -140,9 +136,9 @@ fn answers_to_other_commands(rt: HostRuntime) -> Result<(), Fail> {
     for (first, second, records) in cases {
         let want = format!(in alloc; "open,0,4,16,100\n{records}")?;
         let out = written(alloc, &first, &second)?;
-        assert_eq!(rt; out.as_slice(), want.as_bytes());
+        assert!(rt; out.as_slice() == want.as_bytes());
         let read = read_back(alloc, out.as_slice());
-        assert_eq!(rt; read, Ok(wanted(&first, &second)), "{want}");
+        assert!(rt; read == Ok(wanted(&first, &second)), "{want}");
     }
     Ok(())
 }
@@ -166,32 +162,37 @@ fn raw_of(nine: [u64; 9]) -> RawParams {
 fn opening_alone(
     alloc: Global,
     opening: &Opening,
-) -> Result<(Vec<u8>, Result<Opening, TraceFault>), Fail>
-    requires { opening.now.choices.profile ≡ One }
-{
+) -> Result<(Vec<u8>, Result<Opening, TraceFault>), Fail> {
     let mut out = Vec::new(alloc);
     write_history(alloc, &mut out, opening, &[])?;
     let read = HistoryLines::open(alloc, out.as_slice()).map(|(_, opening)| opening);
     Ok((out, read))
 }
 
+/// Each profile and mode has its first record.
 #[test]
 fn openings_with_the_default_parameters(rt: HostRuntime) -> Result<(), Fail> {
-    for (mode, want) in [
-        (Mode::Bounded, b"open,0,4,16,100\n".as_slice()),
-        (Mode::Rolling, b"rolling,0,4,16,100\n".as_slice()),
-    ] {
-        let opening = opened(mode, Params::default_profile());
+    let cases: [(Profile, Mode, &[u8]); 4] = [
+        (Profile::One, Mode::Bounded, b"open,0,4,16,100\n"),
+        (Profile::One, Mode::Rolling, b"rolling,0,4,16,100\n"),
+        (Profile::Two, Mode::Bounded, b"open2,2,bounded,0,4,16,100\n"),
+        (Profile::Two, Mode::Rolling, b"open2,2,rolling,0,4,16,100\n"),
+    ];
+    for (profile, mode, want) in cases {
+        let opening = Opening {
+            choices: Choices { mode, profile },
+            ..opened(mode, Params::default_profile())
+        };
         let (out, read) = opening_alone(rt.alloc(), &opening)?;
-        assert_eq!(rt; out.as_slice(), want);
-        assert_eq!(rt; read, Ok(opening));
+        assert!(rt; out.as_slice() == want);
+        assert!(rt; read == Ok(opening));
     }
     Ok(())
 }
 
-/// Where one parameter is half the default, all nine are written.
+/// Where one parameter is half the default all nine are written, and with the default parameters none.
 #[test]
-fn openings_with_other_parameters(rt: HostRuntime) -> Result<(), Fail> {
+fn openings(rt: HostRuntime) -> Result<(), Fail> {
     let defaults = [
         15_000_000,
         15_000_000,
@@ -203,18 +204,23 @@ fn openings_with_other_parameters(rt: HostRuntime) -> Result<(), Fail> {
         100_000_000_000,
         16384,
     ];
-    for place in 0..9 {
+    for place in 0..10 {
         let mut nine = defaults;
-        nine[place] /= 2;
+        let is_other = place < 9;
+        if is_other {
+            nine[place] /= 2;
+        }
         let opening = opened(Mode::Rolling, Params::check(raw_of(nine))?);
         let mut want = String::from_str(rt.alloc(), "rolling,0,4,16,100")?;
-        for value in nine {
-            write!(want, ",{value}")?;
+        if is_other {
+            for value in nine {
+                write!(want, ",{value}")?;
+            }
         }
         writeln!(want)?;
         let (out, read) = opening_alone(rt.alloc(), &opening)?;
-        assert_eq!(rt; out.as_slice(), want.as_bytes());
-        assert_eq!(rt; read, Ok(opening), "{want}");
+        assert!(rt; out.as_slice() == want.as_bytes());
+        assert!(rt; read == Ok(opening), "{want}");
     }
     Ok(())
 }

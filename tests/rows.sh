@@ -1,0 +1,35 @@
+#!/usr/bin/env bash
+# Runs each worked trace of tests/rows, and compares its history, byte for byte, with the one beside it, which was worked out by
+# hand. The audit of each is clean, with as many events as its history has lines that are no notes.
+# usage: tests/rows.sh PROGRAM      PROGRAM: crates/pie/out/pie, as `rt run` builds it there
+set -u
+program=$1
+rows=$(dirname "$0")/rows
+work=$(mktemp -d)
+trap 'rm -rf "$work"' EXIT
+failed=0
+tried=0
+for trace in "$rows"/*.in; do
+    name=$(basename "$trace" .in)
+    history=$rows/$name.out
+    "$program" run < "$trace" > "$work/output" 2> "$work/errors"
+    got=$?
+    if [ "$got" != 0 ] || [ -s "$work/errors" ] || ! cmp -s "$work/output" "$history"; then
+        echo "tests/rows.sh: $name: status $got, or another history:"
+        diff "$history" "$work/output"
+        cat "$work/errors"
+        failed=1
+    fi
+    events=$(grep -cvE '^(open|open2|rolling|refused|folded|shown|tallied),' "$history")
+    found=$("$program" audit < "$history")
+    if [ "$found" != "clean,$events" ]; then
+        echo "tests/rows.sh: $name: its audit is $found, and not clean,$events"
+        failed=1
+    fi
+    tried=$((tried + 1))
+done
+if [ "$tried" -lt 18 ]; then
+    echo "tests/rows.sh: $tried rows, where 18 or more are wanted"
+    failed=1
+fi
+exit "$failed"

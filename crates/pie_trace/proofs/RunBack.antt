@@ -110,7 +110,7 @@ ask-told version held number row caller command opening progress small opens sou
     by None true free = refused-note version number 5 small (omega arith)
     by (Some why) full free = refused-note version number (code_of why) small (code-small why)
 
-ltb-false : (a b : ℕ) → nat_lt a b ≡ false → b ≤ a
+pub ltb-false : (a b : ℕ) → nat_lt a b ≡ false → b ≤ a
 ltb-false a b e = grind (arith, nat_tests)
 
 fold-enough : (progress : Progress) (n : ℕ) (events : List Event) → fold_outcome progress n ≡ Ok events → n ≤ progress.held
@@ -264,7 +264,7 @@ rows-few version number (row ∷ rows) [] = omega arith
 rows-few version number (row ∷ rows) (reply ∷ given) = let more = rows-few version (number + 1) rows given in omega arith
 
 -- a row that tells a line has a field
-told-field : (version : Version) (row : Row) (line : Line) → line_of version row ≡ Ok line → HasField row
+pub told-field : (version : Version) (row : Row) (line : Line) → line_of version row ≡ Ok line → HasField row
 unfolding line_of field_at
 told-field version [] line e = cc
 told-field version (field ∷ rest) line e = omega arith

@@ -12,3 +12,4 @@ pub mod Records
 pub mod Lines
 pub mod Write
 pub mod ReadBack
+pub mod Migrate

@@ -80,13 +80,13 @@ Ends most all (Ok end) before now = (fault_of most all ≡ None) × (end_of all 
 Ends most all (Err why) before now = is_device why ≡ false → (fault_of most all ≡ Some why) × Appends before now (history_text most all)
 
 -- neither the reader, the writer nor memory failed
-abbrev pub IsTold : Result RunEnd TraceFault → Type 0
+abbrev pub IsTold : {A : Type 0} → Result A TraceFault → Type 0
 IsTold (Ok end) = ⊤
 IsTold (Err why) = is_device why ≡ false
 
 -- what the answer is where the last rows were written out, or could not be: a device or memory that failed before stays the
 -- answer, and any other answer gives way to what failed now
-abbrev pub closed : Result RunEnd TraceFault → Result (Unit {0}) TraceFault → Result RunEnd TraceFault
+abbrev pub closed : {A : Type 0} → Result A TraceFault → Result (Unit {0}) TraceFault → Result A TraceFault
 closed result (Ok written) = result
 closed (Ok end) (Err why) = Err why
 closed (Err first) (Err why) = if is_device first then Err first else Err why

@@ -6,10 +6,12 @@ ghost use Rattle.pie_c.specs.State.{held_in, is_sound};
 ghost use Rattle.pie_c.specs.Calls.{arrival_refusal, departure_refusal, ecn_at, kept_if_refused, moment_refusal, params_refusal, unless_refused, update_refusal, updated_by, verdict_number};
 ghost use Rattle.pie_c.specs.History.{Shown, Shows, with_arrival, with_departure, with_params as with_params_shown, with_reset, with_update};
 
-use crate::code::{BAD_ECN, BAD_MOMENT, BAD_PARAMS, BAD_QUEUE, BAD_SIZE, BAD_STATE, DONE, TOO_SOON};
+use crate::checked::{ecn, is_bad_size};
+use crate::code::{
+    BAD_ECN, BAD_MOMENT, BAD_PARAMS, BAD_QUEUE, BAD_SIZE, BAD_STATE, DONE, TOO_SOON,
+};
 use crate::controller::{Controller, cleared};
 use crate::params::PieParams;
-use crate::checked::{ecn, is_bad_size};
 use crate::state::PieState;
 use crate::updated::PieUpdated;
 use pie_fixed::Nanos;

@@ -1,4 +1,4 @@
-use Rattle.std.proofs.Common.{◌≡◌, ◌≤◌, ◌∙◌, ap, max, true, false, refl, None, arith, rules}
+use Rattle.std.proofs.Common.{◌≡◌, ◌≤◌, ◌∙◌, ap, true, false, refl, None, arith, rules}
 use Rattle.pie_beside.specs.Beside.{flag_of, start_of, count_of, turns_on}
 use Rattle.pie_c.specs.Calls.{ecn_at}
 use Rattle.pie_c.specs.History.{with_arrival}

@@ -42,68 +42,112 @@ fn opened(alloc: std::alloc::Global, tail: u32, events: u64) -> Result<Book, Fai
     Ok(Book::open(alloc, limits(4, tail, events), params, 3)?)
 }
 
+// What a test asks of a book that it has opened stands in a function which has the book by reference: an assertion, or a `?`, that
+// may let a book go takes long to prove.
+
+/// Whether a book is as it was opened by `opened`.
+fn is_new(book: &Book) -> bool {
+    let opening = book.opening();
+    book.count() == 0
+        && book.tail_len() == 0
+        && opening.moment == 3
+        && opening.choices.mode == Mode::Bounded
+        && book.registers().last == 3
+        && book.event(0).is_none()
+        && book.waiting(0).is_none()
+}
+
 #[test]
 fn a_new_book_is_empty(rt: HostRuntime) -> Result<(), Fail> {
     let book = opened(rt.alloc(), 16, 100)?;
-    assert_eq!(rt; (book.count(), book.tail_len()), (0, 0));
-    assert_eq!(rt; book.opening().moment, 3);
-    assert_eq!(rt; book.opening().choices.mode, Mode::Bounded);
-    assert_eq!(rt; book.registers().last, 3);
-    assert!(rt; book.event(0).is_none() && book.waiting(0).is_none());
+    assert!(rt; is_new(&book));
     Ok(())
+}
+
+/// Whether an arrival waits in a new book, leaves at the next departure, and leaves none to the one after.
+fn waits_and_leaves(book: &mut Book) -> bool {
+    let waits = book.apply(1, arrive(10, 1500)) == Ok(Answer::Enqueued)
+        && book.waiting(0).is_some()
+        && book.registers().bytes == 1500;
+    let leaves = book.apply(2, depart(25)).is_ok() && book.apply(2, depart(5)) == Ok(Answer::Empty);
+    waits
+        && leaves
+        && book.registers().moment == 25
+        && book.stats().waited == 15
+        && book.event(2).is_some()
 }
 
 #[test]
 fn an_arrival_waits_and_leaves(rt: HostRuntime) -> Result<(), Fail> {
     let mut book = opened(rt.alloc(), 16, 100)?;
-    assert_eq!(rt; book.apply(1, arrive(10, 1500)), Ok(Answer::Enqueued));
-    assert!(rt; book.waiting(0).is_some());
-    assert_eq!(rt; book.registers().bytes, 1500);
-    assert!(rt; book.apply(2, depart(25)).is_ok());
-    assert_eq!(rt; book.apply(2, depart(5)), Ok(Answer::Empty));
-    assert_eq!(rt; book.registers().moment, 25);
-    assert_eq!(rt; book.stats().waited, 15);
-    assert!(rt; book.event(2).is_some());
+    assert!(rt; waits_and_leaves(&mut book));
     Ok(())
 }
 
-#[test]
-fn an_update_before_its_moment_is_refused(rt: HostRuntime) -> Result<(), Fail> {
-    let mut book = opened(rt.alloc(), 16, 100)?;
+/// Whether a new book refuses an update before it is due, makes it then, and a reset after it.
+fn updates_when_due(book: &mut Book) -> bool {
     let soon = Command::Update { moment: 15_000_002 };
     let due = 15_000_003;
-    assert_eq!(rt; book.apply(1, soon), Err(Refusal::TooSoon { due }));
-    assert_eq!(rt; book.registers().moment, 3);
     let made = Answer::Updated {
         delay: 0,
         prob: 0,
         burst: 150_000_000,
     };
-    assert_eq!(rt; book.apply(1, Command::Update { moment: due }), Ok(made));
-    assert_eq!(rt;
-        book.apply(1, Command::Reset { moment: 1 }),
-        Ok(Answer::Done)
-    );
-    assert_eq!(rt; book.stats().resets, 1);
+    let refused = book.apply(1, soon) == Err(Refusal::TooSoon { due })
+        && book.registers().moment == 3;
+    refused
+        && book.apply(1, Command::Update { moment: due }) == Ok(made)
+        && book.apply(1, Command::Reset { moment: 1 }) == Ok(Answer::Done)
+        && book.stats().resets == 1
+}
+
+#[test]
+fn an_update_before_its_moment_is_refused(rt: HostRuntime) -> Result<(), Fail> {
+    let mut book = opened(rt.alloc(), 16, 100)?;
+    assert!(rt; updates_when_due(&mut book));
     Ok(())
+}
+
+/// How many events a fold hands out, or why none.
+fn folded(alloc: std::alloc::Global, book: &mut Book, n: u64) -> Result<usize, FoldRefusal> {
+    match book.fold(alloc, n) {
+        Ok(events) => Ok(events.len()),
+        Err(why) => Err(why),
+    }
+}
+
+/// Whether a tail of two events refuses a third, and then folds.
+fn folds(alloc: std::alloc::Global, book: &mut Book) -> bool {
+    let is_full = book.apply(1, depart(4)) == Ok(Answer::Empty)
+        && book.apply(2, depart(5)) == Ok(Answer::Empty)
+        && book.apply(3, depart(6)) == Err(Refusal::HistoryFull);
+    is_full
+        && folded(alloc, book, 3) == Err(FoldRefusal::TooMany { held: 2 })
+        && folded(alloc, book, 1) == Ok(1)
+        && book.tail_len() == 1
+        && book.checkpoint().count == 1
+        && book.checkpoint_stats().empty == 1
+        && folded(alloc, book, 0) == Ok(0)
 }
 
 #[test]
 fn a_fold_hands_out_the_oldest_events(rt: HostRuntime) -> Result<(), Fail> {
     let mut book = opened(rt.alloc(), 2, 100)?;
-    assert_eq!(rt; book.apply(1, depart(4)), Ok(Answer::Empty));
-    assert_eq!(rt; book.apply(2, depart(5)), Ok(Answer::Empty));
-    assert_eq!(rt; book.apply(3, depart(6)), Err(Refusal::HistoryFull));
-    assert_eq!(rt;
-        book.fold(rt.alloc(), 3).err(),
-        Some(FoldRefusal::TooMany { held: 2 })
-    );
-    let events = book.fold(rt.alloc(), 1)?;
-    assert_eq!(rt; events.len(), 1);
-    assert_eq!(rt; (book.tail_len(), book.checkpoint().count), (1, 1));
-    assert_eq!(rt; book.checkpoint_stats().empty, 1);
-    assert_eq!(rt; book.fold(rt.alloc(), 0)?.len(), 0);
+    assert!(rt; folds(rt.alloc(), &mut book));
     Ok(())
+}
+
+/// Whether a rolling book of two events in its tail and three in all lets its oldest event go, and then takes no more.
+fn rolls(book: &mut Book) -> bool {
+    for moment in 1..4 {
+        if book.apply(1, depart(moment)) != Ok(Answer::Empty) {
+            return false;
+        }
+    }
+    book.apply(1, depart(4)) == Err(Refusal::Exhausted)
+        && book.count() == 3
+        && book.tail_len() == 2
+        && book.checkpoint().count == 1
 }
 
 #[test]
@@ -114,25 +158,25 @@ fn a_rolling_book_lets_the_oldest_event_go(rt: HostRuntime) -> Result<(), Fail> 
     };
     let params = Params::default_profile();
     let mut book = Book::open_with(rt.alloc(), limits(4, 2, 3), params, 0, rolling)?;
-    for moment in 1..4 {
-        assert_eq!(rt; book.apply(1, depart(moment)), Ok(Answer::Empty));
-    }
-    assert_eq!(rt; book.apply(1, depart(4)), Err(Refusal::Exhausted));
-    assert_eq!(rt; (book.count(), book.tail_len()), (3, 2));
-    assert_eq!(rt; book.checkpoint().count, 1);
+    assert!(rt; rolls(&mut book));
     Ok(())
+}
+
+/// Whether a new core with a queue of one packet answers as a book does.
+fn answers_as_a_book(core: &mut Core, params: Params) -> bool {
+    let set = Command::SetParams { moment: 11, params };
+    core.step(1, arrive(10, 1500)) == Ok(Answer::Enqueued)
+        && core.step(1, arrive(10, 1500)) == Ok(Answer::DroppedPackets)
+        && core.step(1, set) == Ok(Answer::Done)
+        && core.registers().count == 3
+        && core.stats().changes == 1
 }
 
 #[test]
 fn a_core_answers_as_a_book(rt: HostRuntime) -> Result<(), Fail> {
     let params = Params::default_profile();
     let mut core = Core::open(rt.alloc(), limits(1, 1, 100), params, 0)?;
-    assert_eq!(rt; core.step(1, arrive(10, 1500)), Ok(Answer::Enqueued));
-    assert_eq!(rt; core.step(1, arrive(10, 1500)), Ok(Answer::DroppedPackets));
-    let set = Command::SetParams { moment: 11, params };
-    assert_eq!(rt; core.step(1, set), Ok(Answer::Done));
-    assert_eq!(rt; core.registers().count, 3);
-    assert_eq!(rt; core.stats().changes, 1);
+    assert!(rt; answers_as_a_book(&mut core, params));
     Ok(())
 }
 
@@ -235,19 +279,52 @@ fn updated(delay: u64, prob: u64, burst: u64) -> Result<Answer, Refusal> {
     Ok(Answer::Updated { delay, prob, burst })
 }
 
+/// Whether a third of the byte limit turns a new core of profile two on, and what the departures before count for nothing.
+fn turns_on(core: &mut Core) -> bool {
+    let waits = core.step(1, arrive(0, 1024)).is_ok() && core.step(1, arrive(0, 1024)).is_ok();
+    let is_shown_none = core.step(1, depart(1)).is_ok() && !core.registers().measuring;
+    let is_off = core.step(1, arrive(1, 1024)).is_ok() && !core.registers().active;
+    let is_on = core.step(1, arrive(1, 1024)).is_ok() && core.registers().active;
+    let begins = core.step(1, depart(2)).is_ok() && core.registers().measuring;
+    let closes = core.step(1, depart(1002)).is_ok() && core.registers().average == 1000;
+    let update = Command::Update { moment: 1002 };
+    waits
+        && is_shown_none
+        && is_off
+        && is_on
+        && begins
+        && closes
+        && core.step(1, update) == updated(1000, 414_208, 4)
+}
+
 #[test]
 fn a_third_of_the_byte_limit_turns_the_controller_on(rt: HostRuntime) -> Result<(), Fail> {
     let profile = Profile::Two;
     let mut core = Core::open_with(rt.alloc(), limits(8, 32, 100), quick()?, 0, profile)?;
-    assert!(rt; core.step(1, arrive(0, 1024)).is_ok() && core.step(1, arrive(0, 1024)).is_ok());
-    assert!(rt; core.step(1, depart(1)).is_ok() && !core.registers().measuring);
-    assert!(rt; core.step(1, arrive(1, 1024)).is_ok() && !core.registers().active);
-    assert!(rt; core.step(1, arrive(1, 1024)).is_ok() && core.registers().active);
-    assert!(rt; core.step(1, depart(2)).is_ok() && core.registers().measuring);
-    assert!(rt; core.step(1, depart(1002)).is_ok() && core.registers().average == 1000);
-    let update = Command::Update { moment: 1002 };
-    assert_eq!(rt; core.step(1, update), updated(1000, 414_208, 4));
+    assert!(rt; turns_on(&mut core));
     Ok(())
+}
+
+/// Whether a calm update turns the controller of a new book of profile two off, and the next third turns it on, in the checkpoint
+/// too.
+fn turns_off_and_on(alloc: std::alloc::Global, book: &mut Book) -> bool {
+    for _ in 0..3 {
+        if book.apply(1, arrive(0, 1024)) != Ok(Answer::Enqueued) {
+            return false;
+        }
+    }
+    let is_on = book.registers().active;
+    let is_calm = book.apply(1, Command::Update { moment: 1 }) == updated(0, 0, 5);
+    let is_off = !book.registers().active;
+    let is_full = book.apply(1, arrive(1, 65535)) == Ok(Answer::DroppedBytes);
+    is_on
+        && is_calm
+        && is_off
+        && is_full
+        && book.registers().active
+        && !book.checkpoint().active
+        && folded(alloc, book, 3) == Ok(3)
+        && book.checkpoint().active
 }
 
 #[test]
@@ -257,17 +334,6 @@ fn a_calm_update_turns_the_controller_off(rt: HostRuntime) -> Result<(), Fail> {
         profile: Profile::Two,
     };
     let mut book = Book::open_with(rt.alloc(), limits(8, 32, 100), quick()?, 0, choices)?;
-    for _ in 0..3 {
-        assert_eq!(rt; book.apply(1, arrive(0, 1024)), Ok(Answer::Enqueued));
-    }
-    assert!(rt; book.registers().active);
-    assert_eq!(rt;
-        book.apply(1, Command::Update { moment: 1 }),
-        updated(0, 0, 5)
-    );
-    assert!(rt; !book.registers().active);
-    assert_eq!(rt; book.apply(1, arrive(1, 65535)), Ok(Answer::DroppedBytes));
-    assert!(rt; book.registers().active && !book.checkpoint().active);
-    assert!(rt; book.fold(rt.alloc(), 3).is_ok() && book.checkpoint().active);
+    assert!(rt; turns_off_and_on(rt.alloc(), &mut book));
     Ok(())
 }

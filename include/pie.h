@@ -7,8 +7,8 @@
  * 2^60 - 1. Probabilities are whole numbers of 10^-12, from 0 to 10^12. Sizes are in bytes.
  *
  * Each call checks all that comes in, the whole state too. Where something is out of its range the call is refused by
- * a code above 100, and the state stays as it was. A state that pie_open made and that only these calls changed is
- * never refused.
+ * a code above 100, and the state stays as it was. A state that pie_open or pie_open_with made and that only these
+ * calls changed is never refused.
  *
  * What a caller owes, since nothing can check it: each pointer points to a struct of its type that is aligned, and that no
  * other thread reads or writes during the call; the structs of one call do not overlap; queued bytes are those that
@@ -39,11 +39,16 @@ enum {
     PIE_BAD_PARAMS = 107, /* parameters out of their ranges; pie_check_params says which */
     PIE_BAD_STATE = 110,  /* a state out of its ranges, or whose fields do not fit one another */
     PIE_BAD_ECN = 111,    /* an ECN field above 3 */
-    PIE_BAD_QUEUE = 112   /* more than 2^30 bytes in the queue */
+    PIE_BAD_QUEUE = 112,  /* more than 2^30 bytes in the queue */
+    PIE_BAD_PROFILE = 113 /* a profile that is neither 1 nor 2 */
 };
 
 /* The ECN field of an IP header (RFC 3168, section 5). */
 enum { PIE_NOT_ECT = 0, PIE_ECT1 = 1, PIE_ECT0 = 2, PIE_CE = 3 };
+
+/* The profiles: in the first the controller is always active, in the second it turns itself on and off (section 5.3; when
+ * it does is this project's own). */
+enum { PIE_ALWAYS_ON = 1, PIE_ON_AND_OFF = 2 };
 
 /* The parameters, in the order in which they are checked; the defaults are in brackets. */
 struct pie_params {
@@ -71,18 +76,20 @@ struct pie_state {
     uint64_t measuring;       /* 1 while a cycle of the departure rate is open, and else 0 */
     uint64_t cycle_start;     /* the moment at which it opened, 0 with none */
     uint64_t cycle_count;     /* the bytes that it counted, below dq_threshold, 0 with none */
+    uint64_t profile;         /* 1 or 2 */
+    uint64_t active;          /* 1 while the controller is active, and else 0; in profile 1 always 1 (section 5.3) */
 };
 
 /* What an update answers. */
 struct pie_updated {
     uint64_t code;  /* PIE_DONE, or why it is refused */
     uint64_t due;   /* the moment from which the next update isn't too soon */
-    uint64_t delay; /* the queueing delay that it took (section 5.2) */
+    uint64_t delay; /* the queueing delay that it took (section 5.2); 0 while the controller is inactive */
     uint64_t prob;  /* the probability after it */
     uint64_t burst; /* the burst allowance after it */
 };
-/* Where an update is too soon, due, delay, prob and burst are those that stay. Where it is refused for anything else
- * they are 0. */
+/* Where an update is too soon, due, prob and burst are those that stay, and delay is the old delay. Where it is refused for
+ * anything else they are 0. */
 
 /* Fills in the default parameters: those of RFC 8033 where it has them. */
 void pie_default_params(struct pie_params *params);
@@ -91,8 +98,16 @@ void pie_default_params(struct pie_params *params);
  * 6 mean_pkt, 7 limit_bytes, 8 mark_ecnth, 9 dq_threshold. */
 uint32_t pie_check_params(const struct pie_params *params);
 
-/* Opens a controller. What the state held does not matter. Refused, in this order: PIE_BAD_PARAMS, PIE_BAD_MOMENT. */
+/* Opens a controller of profile 1. What the state held does not matter.
+ * Refused, in this order: PIE_BAD_PARAMS, PIE_BAD_MOMENT. */
 uint32_t pie_open(struct pie_state *state, const struct pie_params *params, uint64_t moment);
+
+/* Opens a controller of a profile. One of profile 2 opens inactive. After any arrival's verdict it becomes active where three
+ * times the bytes in the queue then reach limit_bytes; it starts anew, as by pie_reset. A calm update (probability 0, this
+ * delay and the one before below half the target) makes it inactive. While it is inactive, tail drops are as ever and every
+ * other packet is enqueued; a departure and an update count by their moments alone, and an update's delay is 0.
+ * Refused, in this order: PIE_BAD_PARAMS, PIE_BAD_MOMENT, PIE_BAD_PROFILE. */
+uint32_t pie_open_with(struct pie_state *state, const struct pie_params *params, uint64_t moment, uint32_t profile);
 
 /* Decides on an arriving packet (sections 4.1, 5.1 and 5.4), and answers PIE_ENQUEUE, PIE_MARK, PIE_EARLY, PIE_BYTES or
  * PIE_PACKETS.
@@ -120,7 +135,7 @@ uint32_t pie_empty(struct pie_state *state, uint64_t moment);
 struct pie_updated pie_update(struct pie_state *state, uint64_t queued, uint64_t moment);
 
 /* Sets probability, old delay, accumulated probability and the rate estimate to 0, and the burst allowance to max_burst.
- * Keeps parameters and last update.
+ * Keeps parameters, last update, profile and whether the controller is active.
  * Refused, in this order: PIE_BAD_STATE, PIE_BAD_MOMENT. */
 uint32_t pie_reset(struct pie_state *state, uint64_t moment);
 

@@ -3,16 +3,19 @@
 malformed text, and each request for memory, each read and each write refused in turn.
 usage: tests/hostile.py PROGRAM      PROGRAM: crates/pie/out/pie, as `rt run` builds it there"""
 import os
+import re
 import shutil
 import subprocess
 import sys
 import tempfile
+from concurrent.futures import ThreadPoolExecutor
 
 PROGRAM = os.path.abspath(sys.argv[1])
 HERE = os.path.dirname(os.path.abspath(__file__))
-HELP = subprocess.run([PROGRAM, "--help"], capture_output=True).stdout
-CAN_AUDIT, CAN_STORM = b"audit" in HELP, b"storm" in HELP
-FULL, READ, WRITE, MEMORY = b"/dev/full", b"pie: cannot read the input\n", b"pie: cannot write the output\n", b"pie: out of memory\n"
+# The commands that read a history, as far as the source has them.
+SOURCE = open(f"{HERE}/../crates/pie/src/options.rt").read()
+READERS = {name: words for name, words in [("audit", ["audit"]), ("explain", ["explain", "--all"]), ("migrate", ["migrate"])] if f'"{name}"' in SOURCE}
+READ, WRITE, MEMORY = b"pie: cannot read the input\n", b"pie: cannot write the output\n", b"pie: out of memory\n"
 
 # Every kind of record and nearly every answer.
 TRACE = b"""open,0,8,32,100,2,1,0,850000,0,1,100000,1000000000000,1024
@@ -66,9 +69,9 @@ def shell(line):
 
 def streams():
     """Standard streams that are closed, full or broken. A run that has nothing to say on the error stream does not need it."""
-    for words in [["run"], ["audit"]] if CAN_AUDIT else [["run"]]:
-        name = words[0]
-        good = "printf 'open,0,4,16,100\\n' | "
+    for words in [["run"], *READERS.values()]:
+        name = " ".join(words)
+        good = "printf 'open,0,4,16,100\\n%s' | " % ("" if name == "run" else "depart,1,1,empty\\n")
         check(shell(f'"$1" {name} <&-') == (1, b"", READ), name, "without standard input")
         check(shell(f'{good} "$1" {name} >&-') == (1, b"", WRITE), name, "without standard output")
         check(shell(f'{good} "$1" {name} >/dev/full') == (1, b"", WRITE), name, "on a full device")
@@ -77,6 +80,9 @@ def streams():
         check(shell(f'{good} "$1" {name} 2>&-')[0] == 0, name, "without a fault, without standard error")
         check(shell(f'"$1" {name} <&- >&- 2>&-') == (1, b"", b""), name, "without any stream")
         check(shell(f'"$1" {name} </') == (1, b"", READ), name, "with a folder as input")
+    check(shell('"$1" storm --packets 1 <&- 2>&-')[0] == 0, "a storm without standard input and error")
+    for line in ['"$1" storm --packets 1 >&-', '"$1" storm --packets 1 >/dev/full', '"$1" storm --packets 10000 | head -n 1 >/dev/null; exit ${PIPESTATUS[0]}']:
+        check(shell(line) == (1, b"", WRITE), line)
     check(shell('"$1" run --help >/dev/full') == (1, b"", WRITE), "help on a full device")
     check(shell('"$1" --help >&-') == (1, b"", WRITE), "help without standard output")
     check(shell('"$1" <&- >&- 2>&-')[0] == 1, "no subcommand and no stream")
@@ -114,6 +120,9 @@ def malformed():
         output = opened if text.startswith(opened) else b""
         got = run(["run"], text)
         check(got == (1, output, errors), "malformed", text[:60], len(text), got[0], got[2][:100])
+        for words in READERS.values():
+            got = run(words, text)
+            check(got[0] == 1 and is_error_line(got[2]), "malformed", words, text[:60], len(text), got[0], got[2][:100])
     history = opened + b"depart,1,9,empty\ndepart,1,10,empty\n"
     for end in [b"\r", b"\r\n", b"\n", b"\n\n\n"]:
         check(run(["run"], end.join([b"open,0,4,16,100", b"depart,1,9", b"depart,1,10"])) == (0, history, b""), "line ends", end)
@@ -130,22 +139,68 @@ def changed(text):
                 yield f"byte {at} made {byte}", text[:at] + bytes([byte]) + text[at + 1 :]
 
 
+def small():
+    """A trace and a history of four records, in which one is another, or a part of it."""
+    trace = b"open,0,4,16,100\narrive,1,10,7,1500,ect0,0\ndepart,2,25\ndepart,2,30\n"
+    lines = [b"open,0,4,16,100\n", b"arrive,1,10,7,1500,ect0,0,enqueue\n", b"depart,2,25,left,7,1500,ect0\n", b"depart,2,30,empty\n"]
+    history = b"".join(lines)
+    for same in [trace, trace.replace(b"\n", b"\r\n"), trace.replace(b"depart", b'"depart"', 1)]:
+        check(run(["run"], same) == (0, history, b""), "the history of", same)
+    got = run(["run"], trace.replace(b"ect0,0", b"ect0,18446744073709551616"))
+    check(got == (1, lines[0], b"pie: record 2: not a number in range\n"), "a word that is too great", got)
+    faults = [
+        (4, b"dep\n", b"pie: record 4: unknown kind\n"),
+        (4, b"depart,2,30\n", b"pie: record 4: wrong number of fields\n"),
+        (4, b"depart,2,30,emp\n", b"pie: record 4: unknown word\n"),
+        (4, b"depart,02,30,empty\n", b"pie: record 4: not a number in range\n"),
+        (3, b"depart,2,25,left,7,15", b"pie: record 3: wrong number of fields\n"),
+        (3, b"depart,2,25,left,7,1500,ec", b"pie: record 3: unknown word\n"),
+    ]
+    for number, line, errors in faults:
+        text = b"".join(lines[: number - 1]) + line
+        for words in READERS.values():
+            got = run(words, text)
+            check((got[0], got[2]) == (1, errors), words, "at", line, got)
+        check(run(["audit"], text)[1] == b"", "an audit with a fault wrote something at", line)
+    cut = history[: len(history) - len(lines[3]) - 1]
+    check(run(["audit"], cut) == (0, b"clean,2\n", b""), "a history without its last line feed")
+
+
+def cut_or_changed_trace(case):
+    """It ends with status 0 and the history, or with status 1, a named fault and the history before it."""
+    name, text, history = case
+    status, output, errors = run(["run"], text)
+    check((status, errors) == (0, b"") or status == 1 and is_error_line(errors), "trace", name, status, errors[:100])
+    check(output == b"" or output.endswith(b"\n"), "trace", name, "half a record")
+    if name.startswith("cut"):
+        lines = output.split(b"\n")[:-2]
+        check(lines == history.split(b"\n")[: len(lines)], "trace", name, "another history before the cut")
+
+
+def cut_or_changed_history(case):
+    """Its audit ends with a finding or a fault. Explaining it tells of the same fault or of the same event that differs. Migrating it
+    tells of the same fault, or writes a history with the same finding."""
+    name, text = case
+    status, output, errors = found = run(["audit"], text)
+    kind = output.split(b",")[0]
+    is_found = (status, kind, errors) in [(0, b"clean", b""), (2, b"differs", b"")]
+    check(is_found or status == 1 and not output and is_error_line(errors), "history", name, status, output, errors[:100])
+    if "explain" in READERS:
+        status, output, errors = run(READERS["explain"], text)
+        event = re.match(rb"pie: event (\d+) ", errors)
+        says = b"differs,%s\n" % event[1] if status == 2 and event else found[1]
+        check((status, says) == found[:2] and (status == 2 or errors == found[2]), "explained history", name, status, errors[:100], *found)
+    if "migrate" in READERS:
+        status, output, errors = run(READERS["migrate"], text)
+        again = run(["audit"], output) if status == 0 else (1, b"", errors)
+        check(again == found, "migrated history", name, status, errors[:100], *found)
+
+
 def cuts(history):
-    """Each ends with status 0 and the history, or with status 1, a named fault and the history before it; the audit of each history with a finding or a fault."""
-    for name, text in changed(TRACE):
-        status, output, errors = run(["run"], text)
-        check((status, errors) == (0, b"") or status == 1 and is_error_line(errors), "trace", name, status, errors[:100])
-        check(output == b"" or output.endswith(b"\n"), "trace", name, "half a record")
-        if name.startswith("cut"):
-            lines = output.split(b"\n")[:-2]
-            check(lines == history.split(b"\n")[: len(lines)], "trace", name, "another history before the cut")
-    if not CAN_AUDIT:
-        return
-    for name, text in changed(history):
-        status, output, errors = run(["audit"], text)
-        kind = output.split(b",")[0]
-        found = (status, kind, errors) in [(0, b"clean", b""), (2, b"differs", b"")]
-        check(found or status == 1 and not output and is_error_line(errors), "history", name, status, output, errors[:100])
+    """Each beginning of the trace and of its history, and each with one byte changed."""
+    with ThreadPoolExecutor(os.cpu_count()) as pool:
+        list(pool.map(cut_or_changed_trace, [(name, text, history) for name, text in changed(TRACE)]))
+        list(pool.map(cut_or_changed_history, changed(history)))
 
 
 def refused(history):
@@ -159,46 +214,54 @@ def refused(history):
         subprocess.run([compiler, "-O2", "-Wall", "-Werror", "-shared", "-fPIC", "-o", library, f"{HERE}/refuse.c"], check=True)
         # (long enough for several reads and writes)
         long = TRACE.replace(b"8,32,100", b"8,3200,9999", 1) + b"depart,1,1001006\nshow\n" * 1500
-        text, records = run(["run"], long)[1], {"run": long}
-        wants = {"run": text}
-        if CAN_AUDIT:
-            records["audit"], wants["audit"] = text, run(["audit"], text)[1]
-        for name, given in records.items():
+        text = run(["run"], long)[1]
+        commands = {"run": (["run"], long), **{name: (words, text) for name, words in READERS.items()}}
+        for name, (words, given) in commands.items():
+            want = run(words, given)[1]
             for variable, says in [("REFUSE_MEMORY", MEMORY), ("REFUSE_READ", READ), ("REFUSE_WRITE", WRITE)]:
                 for on in [{}, {"REFUSE_ON": "1"}]:
                     for place in range(1, 10_000):
                         if os.path.exists(met):
                             os.remove(met)
-                        status, output, errors = run([name], given, LD_PRELOAD=library, REFUSE_MET=met, **{variable: str(place)}, **on)
+                        status, output, errors = run(words, given, LD_PRELOAD=library, REFUSE_MET=met, **{variable: str(place)}, **on)
                         if not os.path.exists(met):
-                            check((status, output, errors) == (0, wants[name], b""), name, variable, place, "with nothing refused", status, errors)
+                            check((status, output, errors) == (0, want, b""), name, variable, place, "with nothing refused", status, errors)
                             break
                         # (a list that grows asks once more, for less, before it gives up)
-                        did_with_less = variable == "REFUSE_MEMORY" and not on and (status, output, errors) == (0, wants[name], b"")
+                        did_with_less = variable == "REFUSE_MEMORY" and not on and (status, output, errors) == (0, want, b"")
                         check((status, errors) == (1, says) or did_with_less, name, variable, place, on, status, errors[:100])
-                        check(wants[name].startswith(output), name, variable, place, on, "no beginning of the text")
+                        check(want.startswith(output), name, variable, place, on, "no beginning of the text")
+                    check(place > 1, name, variable, "met nothing")
                     print(f"tests/hostile.py: {name}: {variable} at {place - 1} places{' and all after them' if on else ''}")
-        if CAN_STORM:
-            storm_refused(library, met)
-        # A text's fault whose history cannot be flushed: the device is what is told.
-        status, output, errors = run(["run"], TRACE + b"dep\n", LD_PRELOAD=library, REFUSE_MET=met, REFUSE_WRITE="1", REFUSE_ON="1")
-        check((status, output, errors) == (1, b"", WRITE), "a fault that cannot be flushed", status, errors)
+        storm_refused(library, met)
+        # A text's fault before which something was written that cannot be flushed: the device is what is told.
+        faulty = {"run": (["run"], TRACE + b"dep\n"), **{name: (words, history + b"dep\n") for name, words in READERS.items() if name != "audit"}}
+        for name, (words, given) in faulty.items():
+            got = run(words, given, LD_PRELOAD=library, REFUSE_MET=met, REFUSE_WRITE="1", REFUSE_ON="1")
+            check(got == (1, b"", WRITE), name, "a fault that cannot be flushed", got)
 
 
 def storm_refused(library, met):
-    """A storm whose memory is refused at each place ends: with its fault, or with a history that is audited clean where it did with less."""
-    for on in [{}, {"REFUSE_ON": "1"}]:
-        for place in range(1, 10_000):
-            if os.path.exists(met):
-                os.remove(met)
-            words = ["storm", "--senders", "3", "--packets", "4"]
-            status, output, errors = run(words, b"", LD_PRELOAD=library, REFUSE_MET=met, REFUSE_MEMORY=str(place), **on)
-            if not os.path.exists(met):
-                check((status, errors) == (0, b""), "storm", place, "with nothing refused", status, errors)
-                break
-            is_clean = status == 0 and not errors and run(["audit"], output)[:2] == (0, b"clean,%d\n" % (output.count(b"\n") - 1))
-            check(status == 1 and is_error_line(errors) or is_clean and not on, "storm", place, on, status, errors[:100])
-        print(f"tests/hostile.py: storm: memory refused at {place - 1} places{' and all after them' if on else ''}")
+    """A storm of which each request for memory, each write and each start of a thread is refused ends: with its fault, or with a history
+    that is audited clean where it did without."""
+    told = {"REFUSE_MEMORY": [MEMORY], "REFUSE_WRITE": [WRITE], "REFUSE_THREAD": [MEMORY, b"pie: a thread could not be started\n"]}
+    for variable, says in told.items():
+        # (long enough for several writes)
+        words = ["storm", "--senders", "3", "--packets", "500" if variable == "REFUSE_WRITE" else "4"]
+        for on in [{}, {"REFUSE_ON": "1"}]:
+            for place in range(1, 10_000):
+                if os.path.exists(met):
+                    os.remove(met)
+                status, output, errors = run(words, b"", LD_PRELOAD=library, REFUSE_MET=met, **{variable: str(place)}, **on)
+                is_clean = status == 0 and not errors and run(["audit"], output)[:2] == (0, b"clean,%d\n" % (output.count(b"\n") - 1))
+                if not os.path.exists(met):
+                    check(is_clean, "storm", variable, place, "with nothing refused", status, errors)
+                    break
+                # (a thread that cannot be started is done without, and a list that grows asks once more, for less)
+                may_do_without = variable == "REFUSE_THREAD" or variable == "REFUSE_MEMORY" and not on
+                check(status == 1 and errors in says or is_clean and may_do_without, "storm", variable, place, on, status, errors[:100])
+            check(place > 1, "storm:", variable, "met nothing")
+            print(f"tests/hostile.py: storm: {variable} at {place - 1} places{' and all after them' if on else ''}")
 
 
 def storms():
@@ -215,13 +278,16 @@ def storms():
 def main():
     status, history, errors = run(["run"], TRACE)
     check((status, errors) == (0, b""), "the trace itself", status, errors)
+    for name in ["run", "audit", "storm", *READERS]:
+        check(run([name, "--help"], b"")[0] == 0, "there is no", name)
+    print("tests/hostile.py: commands that read a history:", *READERS)
     streams()
     words()
     malformed()
+    small()
     cuts(history)
     refused(history)
-    if CAN_STORM:
-        storms()
+    storms()
     print(f"tests/hostile.py: {len(failures)} failed")
     sys.exit(1 if failures else 0)
 

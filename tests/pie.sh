@@ -28,6 +28,8 @@ expect() {
 expect 'a run' 0 'open,0,4,16,100\ndepart,1,9,empty\n' '' 'open,0,4,16,100\ndepart,1,9\n' run
 expect 'a refused record is no fault' 0 'open,0,4,1,100\ndepart,1,1,empty\nrefused,3,5\n' '' \
     'open,0,4,1,100\ndepart,1,1\ndepart,1,1\n' run
+expect 'a run of version two' 0 'open2,2,rolling,0,4,16,100\nshown,0,0,0,0,0,0,0,150000000,0,0,0,0\n' '' \
+    'open2,2,rolling,0,4,16,100\nshow\n' run
 # The first session of the README, which is the example of `pie run --help` too.
 trace='open,0,8,32,100,2,1,0,850000,0,1,100000,1000000000000,1024
 arrive,1,0,1,1024,not,0
@@ -72,6 +74,22 @@ expect 'a changed verdict' 2 'differs,10\n' '' "${history/ect0,0,mark/ect0,0,ear
 expect 'a history with a fault' 1 '' 'pie: record 3: unknown kind\n' 'open,0,4,16,100\ndepart,1,9,empty\ndep,1,10\n' audit
 expect 'a fault after a changed verdict' 1 '' 'pie: record 15: wrong number of fields\n' "${history/ect0,0,mark/ect0,0,early}shown\n" audit
 expect 'an empty history' 1 '' 'pie: the first record is not an open record\n' '' audit
+# Explanations: of the packet that was lost, of one event, up to a changed verdict; and what is not there.
+header='number,kind,caller,moment,effective_moment,tag,size,verdict,cause,bytes,packets,delay,probability,accumulated_probability,burst_allowance\n'
+lost='11,arrive,2,1001003,1001003,6,500,early,picked_by_word_not_capable,2548,3,2488281,903954174169,0,0\n'
+changed=${history/ect0,0,mark/ect0,0,early}
+differs='pie: event 10 is not what the rules give there, so it and later events are not explained\n'
+choice='pie: explain takes exactly one of --event N, --tag T, --lost and --all; see pie explain --help\n'
+expect 'a lost packet' 0 "$header$lost" '' "$history" explain --csv --lost
+expect 'a tag' 0 "$header$lost" '' "$history" explain --tag 6 --csv
+expect 'no packet lost before a changed verdict' 2 "$header" "$differs" "$changed" explain --csv --lost
+expect 'an event before a changed verdict' 2 "${header}1,arrive,1,0,0,1,1024,enqueue,low_delay,0,0,0,0,0,0\n" "$differs" "$changed" explain --csv --event=1
+expect 'an event that is not there' 1 '' 'pie: there is no event 12: the history has 11 events\n' "$history" explain --event 12
+expect 'a tag that is not there' 1 "$header" 'pie: no packet has the tag 9\n' "$history" explain --csv --tag 9
+expect 'a fault of an explained history' 1 '' 'pie: record 15: wrong number of fields\n' "${changed}shown\n" explain --lost
+expect 'no choice' 1 '' "$choice" "$history" explain
+expect 'no choice but a form' 1 '' "$choice" "$history" explain --csv
+expect 'two choices' 1 '' "$choice" "$history" explain --lost --all
 expect 'a version' 0 'pie 0.1.0\n' '' '' --version
 
 "$program" > "$work/output" 2> "$work/errors" < /dev/null
@@ -118,6 +136,21 @@ if [ "$got" != 1 ] || [ "$(cat "$work/errors")" != 'pie: cannot write the output
     echo "tests/pie.sh: help on a full device: status $got, $(cat "$work/errors")"
     failed=1
 fi
+printf "$history" | "$program" explain --all > /dev/full 2> "$work/errors"
+got=$?
+if [ "$got" != 1 ] || [ "$(cat "$work/errors")" != 'pie: cannot write the output' ]; then
+    echo "tests/pie.sh: explanations on a full device: status $got, $(cat "$work/errors")"
+    failed=1
+fi
+# What words of explain cannot be read.
+for words in '--event 0' '--event one' '--tag -1' '--tag 18446744073709551616' '--lost=yes' '--lost --lost' 'lost'; do
+    "$program" explain $words < /dev/null > "$work/output" 2> "$work/errors"
+    got=$?
+    if [ "$got" != 1 ] || [ -s "$work/output" ] || ! [ -s "$work/errors" ]; then
+        echo "tests/pie.sh: explain $words: status $got"
+        failed=1
+    fi
+done
 # Storms: the plan with one packet a sender has five events, and eight senders at once end with a history that is clean, whoever
 # comes first.
 "$program" storm --packets 1 > "$work/output" 2> "$work/errors"

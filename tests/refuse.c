@@ -1,22 +1,32 @@
 /* Loaded before a program (LD_PRELOAD), refuses one of its requests: the n-th for memory (REFUSE_MEMORY=n), the n-th read of standard
- * input (REFUSE_READ=n) or the n-th write of standard output (REFUSE_WRITE=n). With REFUSE_ON=1 those after it are refused as well.
- * A request that was refused makes the file that REFUSE_MET names. */
+ * input (REFUSE_READ=n), the n-th write of standard output (REFUSE_WRITE=n) or the n-th start of a thread (REFUSE_THREAD=n). With
+ * REFUSE_ON=1 those after it are refused as well.
+ * A request that was refused makes the file that REFUSE_MET names. Where REFUSE_AFTER names a line that the program writes, only the
+ * requests from that line to the next one are counted, and at that next one it is said on standard error if a thread is still running. */
+#define _GNU_SOURCE
+#include <dlfcn.h>
 #include <errno.h>
 #include <fcntl.h>
+#include <pthread.h>
 #include <stdatomic.h>
 #include <stdlib.h>
+#include <string.h>
+#include <sys/stat.h>
 #include <sys/syscall.h>
 #include <unistd.h>
 
 extern void *__libc_malloc(size_t);
 extern void *__libc_realloc(void *, size_t);
 
-static atomic_long asked[3];
+static atomic_long asked[4];
+
+/* Whether the line that REFUSE_AFTER names was the last that was written. */
+static atomic_int is_between;
 
 /* Whether this request, of the kind that the variable names, is one to refuse. */
 static int is_refused(int kind, const char *variable) {
     const char *text = getenv(variable), *on = getenv("REFUSE_ON"), *met = getenv("REFUSE_MET");
-    if (!text || !met)
+    if (!text || !met || (getenv("REFUSE_AFTER") && !atomic_load(&is_between)))
         return 0;
     long place = atol(text), now = atomic_fetch_add(&asked[kind], 1) + 1;
     if (now != place && !(on && now > place))
@@ -25,6 +35,28 @@ static int is_refused(int kind, const char *variable) {
     if (file >= 0)
         close(file);
     return 1;
+}
+
+/* Says so where another thread than this one is running a second from now. One that was joined may be listed for a moment longer. */
+static void look_for_threads(void) {
+    static const char found[] = "refuse.c: a thread is still running\n";
+    struct stat tasks;
+    for (int turn = 0; turn < 1000; turn++) {
+        if (stat("/proc/self/task", &tasks) || tasks.st_nlink <= 3)
+            return;
+        usleep(1000);
+    }
+    syscall(SYS_write, 2, found, sizeof found - 1);
+}
+
+/* Looks at a line that the program writes. */
+static void see_line(const void *from, size_t size) {
+    const char *after = getenv("REFUSE_AFTER");
+    if (!after)
+        return;
+    int is_it = size == strlen(after) + 1 && !memcmp(from, after, size - 1);
+    if (atomic_exchange(&is_between, is_it))
+        look_for_threads();
 }
 
 void *malloc(size_t size) {
@@ -52,6 +84,8 @@ ssize_t read(int file, void *to, size_t size) {
 }
 
 ssize_t write(int file, const void *from, size_t size) {
+    if (file == 1)
+        see_line(from, size);
     if (file == 1 && is_refused(2, "REFUSE_WRITE")) {
         errno = EIO;
         return -1;
@@ -61,4 +95,12 @@ ssize_t write(int file, const void *from, size_t size) {
 
 ssize_t __write(int file, const void *from, size_t size) {
     return write(file, from, size);
+}
+
+int pthread_create(pthread_t *thread, const pthread_attr_t *attributes, void *(*run)(void *), void *with) {
+    if (is_refused(3, "REFUSE_THREAD"))
+        return EAGAIN;
+    int (*create)(pthread_t *, const pthread_attr_t *, void *(*)(void *), void *) =
+        (int (*)(pthread_t *, const pthread_attr_t *, void *(*)(void *), void *))dlsym(RTLD_NEXT, "pthread_create");
+    return create(thread, attributes, run, with);
 }

@@ -63,6 +63,9 @@ static int parameters(void) {
     CHECK(pie_open(&state, &params, LATEST + 1) == PIE_BAD_PARAMS && same(&state, &before));
     params.target = 2;
     CHECK(pie_open(&state, &params, LATEST + 1) == PIE_BAD_MOMENT && same(&state, &before));
+    CHECK(pie_open_with(&state, &params, LATEST + 1, 3) == PIE_BAD_MOMENT && same(&state, &before));
+    CHECK(pie_open_with(&state, &params, 0, 0) == PIE_BAD_PROFILE && same(&state, &before));
+    CHECK(pie_open_with(&state, &params, 0, 3) == PIE_BAD_PROFILE && same(&state, &before));
     CHECK(pie_open(&state, &params, LATEST) == PIE_DONE && state.moment == LATEST && state.last == LATEST);
     CHECK(state.burst == 150000000 && state.params.target == 2);
     return 0;
@@ -239,6 +242,56 @@ static int marks_and_drops(void) {
     return 0;
 }
 
+/* Parameters under which 3072 bytes reach a third of the limit. */
+static const struct pie_params small = {2, 1, 5, 850000, 0, 1, 9000, ONE, 1024};
+
+/* Two packets of 1024 bytes arrive at a moment, where so many bytes wait. */
+static int two_more(struct pie_state *state, uint64_t queued, uint64_t moment) {
+    CHECK(pie_arrive(state, queued, 1024, 7, PIE_NOT_ECT, 0, moment) == PIE_ENQUEUE);
+    CHECK(pie_arrive(state, queued + 1024, 1024, 6, PIE_NOT_ECT, 0, moment) == PIE_ENQUEUE);
+    return 0;
+}
+
+/* Profile two turns on at a third of the limit, and off at a calm update. */
+static int on_and_off(void) {
+    struct pie_state state;
+    CHECK(pie_open_with(&state, &small, 0, PIE_ON_AND_OFF) == PIE_DONE && state.profile == 2 && state.active == 0);
+    CHECK(two_more(&state, 0, 0) == 0 && state.active == 0);
+    CHECK(pie_depart(&state, 1024, 1024, 1) == PIE_DONE && state.active == 0 && state.measuring == 0);
+    CHECK(two_more(&state, 1024, 1) == 0 && state.active == 1 && state.burst == 5);
+    CHECK(pie_depart(&state, 1024, 2048, 2) == PIE_DONE && state.measuring == 1);
+    CHECK(pie_depart(&state, 1024, 1024, 1002) == PIE_DONE && state.average == 1000);
+    struct pie_updated made = pie_update(&state, 1024, 1002);
+    CHECK(made.code == PIE_DONE && made.delay == 1000 && made.prob == 414208 && made.burst == 4 && state.active == 1);
+    CHECK(pie_reset(&state, 1003) == PIE_DONE && state.active == 1);
+    for (uint64_t moment = 1004; moment <= 1005; moment++) {
+        made = pie_update(&state, 1024, moment);
+        CHECK(made.code == PIE_DONE && made.delay == 0 && made.prob == 0 && made.burst == 5 && state.active == 0);
+    }
+    made = pie_update(&state, 1024, 1005);
+    CHECK(made.code == PIE_TOO_SOON && made.due == 1006);
+    /* the same calls in profile one */
+    CHECK(pie_open(&state, &small, 0) == PIE_DONE && state.profile == 1 && state.active == 1);
+    CHECK(two_more(&state, 0, 0) == 0 && pie_depart(&state, 1024, 1024, 1) == PIE_DONE && state.measuring == 1);
+    CHECK(two_more(&state, 1024, 1) == 0 && pie_depart(&state, 1024, 2048, 2) == PIE_DONE);
+    CHECK(pie_depart(&state, 1024, 1024, 1002) == PIE_DONE);
+    made = pie_update(&state, 1024, 1002);
+    CHECK(made.delay == 16 && made.prob == 5810 && made.burst == 4 && state.active == 1);
+    return 0;
+}
+
+/* A tail drop turns it on as well, and new parameters leave it as it is. */
+static int on_by_a_tail_drop(void) {
+    struct pie_state state;
+    CHECK(pie_open_with(&state, &small, 0, PIE_ON_AND_OFF) == PIE_DONE && two_more(&state, 0, 0) == 0 && state.active == 0);
+    CHECK(pie_arrive(&state, 2048, 1024, 6, PIE_NOT_ECT, 0, 0) == PIE_ENQUEUE && state.active == 1);
+    struct pie_updated made = pie_update(&state, 3072, 1);
+    CHECK(made.code == PIE_DONE && made.delay == 0 && made.prob == 0 && made.burst == 5 && state.active == 0);
+    CHECK(pie_set_params(&state, &small, 1) == PIE_DONE && state.active == 0);
+    CHECK(pie_arrive(&state, 3072, 65535, 5, PIE_NOT_ECT, 0, 1) == PIE_BYTES && state.active == 1);
+    return 0;
+}
+
 /* What comes in is looked at in one order, and a refused call changes nothing. */
 static int refusals(void) {
     struct pie_state state = opened(), before = state;
@@ -254,7 +307,7 @@ static int refusals(void) {
     CHECK(pie_update(&state, UINT64_MAX, 0).code == PIE_BAD_QUEUE && pie_update(&state, UINT64_MAX, 0).due == 0);
     CHECK(pie_reset(&state, LATEST + 1) == PIE_BAD_MOMENT && same(&state, &before));
     /* each field of the state, out of its range */
-    for (int field = 0; field < 18; field++) {
+    for (int field = 0; field < 22; field++) {
         state = opened();
         struct pie_params params = state.params;
         switch (field) {
@@ -276,6 +329,10 @@ static int refusals(void) {
         case 15: state.last = UINT64_MAX; break;
         case 16: state.params.max_burst = UINT64_MAX; break;
         case 17: memset(&state, 255, sizeof state); break;
+        case 18: state.profile = 0; break;
+        case 19: state.profile = 3; break;
+        case 20: state.active = 0; break; /* in profile one */
+        case 21: state.profile = 2, state.active = 2; break;
         }
         before = state;
         CHECK(pie_arrive(&state, UINT64_MAX, 0, 0, 4, 0, UINT64_MAX) == PIE_BAD_STATE);
@@ -290,5 +347,5 @@ static int refusals(void) {
 
 int main(void) {
     return parameters() || departure_rate() || delays() || probabilities() || early_drop() || considered() ||
-           tail_drop() || burst_allowance() || moments() || marks_and_drops() || refusals();
+           tail_drop() || burst_allowance() || moments() || marks_and_drops() || on_and_off() || on_by_a_tail_drop() || refusals();
 }

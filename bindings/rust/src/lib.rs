@@ -19,7 +19,7 @@ pub struct Params {
     pub dq_threshold: u64,
 }
 
-/// The controller's state: the parameters in force and the registers.
+/// The controller's state: the parameters in force, the registers, the profile and whether the controller is active.
 #[repr(C)]
 #[derive(Clone, Copy, Debug, PartialEq, Eq)]
 pub struct State {
@@ -34,6 +34,8 @@ pub struct State {
     pub measuring: u64,
     pub cycle_start: u64,
     pub cycle_count: u64,
+    pub profile: u64,
+    pub active: u64,
 }
 
 #[repr(C)]
@@ -49,7 +51,7 @@ struct RawUpdated {
 unsafe extern "C" {
     fn pie_default_params(params: &mut Params);
     fn pie_check_params(params: &Params) -> u32;
-    fn pie_open(state: &mut State, params: &Params, moment: u64) -> u32;
+    fn pie_open_with(state: &mut State, params: &Params, moment: u64, profile: u32) -> u32;
     fn pie_arrive(state: &mut State, queued: u64, size: u32, room: u32, ecn: u32, word: u64, moment: u64) -> u32;
     fn pie_depart(state: &mut State, size: u32, left: u64, moment: u64) -> u32;
     fn pie_empty(state: &mut State, moment: u64) -> u32;
@@ -65,6 +67,15 @@ pub enum Ecn {
     Ect1 = 1,
     Ect0 = 2,
     Ce = 3,
+}
+
+/// Whether the controller turns itself on and off (RFC 8033, section 5.3).
+#[derive(Clone, Copy, Debug, PartialEq, Eq)]
+pub enum Profile {
+    /// It is always active.
+    One = 1,
+    /// It opens inactive, and turns itself on and off.
+    Two = 2,
 }
 
 /// What becomes of an arriving packet.
@@ -149,8 +160,13 @@ impl Params {
 }
 
 impl State {
-    /// Opens a controller at a moment.
+    /// Opens a controller of profile one at a moment.
     pub fn open(params: &Params, moment: u64) -> Result<State, Refusal> {
+        State::open_with(params, moment, Profile::One)
+    }
+
+    /// Opens a controller of this profile at a moment.
+    pub fn open_with(params: &Params, moment: u64, profile: Profile) -> Result<State, Refusal> {
         let mut state = State {
             params: *params,
             moment: 0,
@@ -163,8 +179,10 @@ impl State {
             measuring: 0,
             cycle_start: 0,
             cycle_count: 0,
+            profile: 0,
+            active: 0,
         };
-        done(unsafe { pie_open(&mut state, params, moment) })?;
+        done(unsafe { pie_open_with(&mut state, params, moment, profile as u32) })?;
         Ok(state)
     }
 

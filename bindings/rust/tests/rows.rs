@@ -1,6 +1,6 @@
 //! The worked rows of the parts of the controller, as in `bindings/c/rows.c`.
 
-use pie::{Ecn, Params, Refusal, State, Verdict};
+use pie::{Ecn, Params, Profile, Refusal, State, Verdict};
 
 const TENTH: u64 = 100_000_000_000;
 const ONE: u64 = 1_000_000_000_000;
@@ -177,4 +177,58 @@ fn marks_drops_and_a_lone_enqueue() {
     assert_eq!((state.moment, state.last), (1_001_005, 1_001_002));
     params.target = 1;
     assert_eq!(state.set_params(&params, 1_001_006), Err(Refusal::Params));
+}
+
+/// Parameters under which 3072 bytes reach a third of the limit.
+const SMALL: Params = Params {
+    target: 2,
+    t_update: 1,
+    max_burst: 5,
+    alpha: 850_000,
+    beta: 0,
+    mean_pkt: 1,
+    limit_bytes: 9000,
+    mark_ecnth: ONE,
+    dq_threshold: 1024,
+};
+
+fn two_more(state: &mut State, queued: u64, moment: u64) {
+    assert_eq!(state.arrive(queued, 1024, 7, Ecn::NotEct, 0, moment), Ok(Verdict::Enqueue));
+    assert_eq!(state.arrive(queued + 1024, 1024, 6, Ecn::NotEct, 0, moment), Ok(Verdict::Enqueue));
+}
+
+#[test]
+fn profile_two_turns_on_and_off() {
+    for (profile, first, update) in [(Profile::Two, 0, (1000, 414_208, 4)), (Profile::One, 1, (16, 5810, 4))] {
+        let mut state = State::open_with(&SMALL, 0, profile).unwrap();
+        assert_eq!((state.profile, state.active), (profile as u64, first));
+        two_more(&mut state, 0, 0);
+        state.depart(1024, 1024, 1).unwrap();
+        assert_eq!((state.active, state.measuring), (first, first));
+        two_more(&mut state, 1024, 1);
+        assert_eq!(state.active, 1);
+        state.depart(1024, 2048, 2).unwrap();
+        state.depart(1024, 1024, 1002).unwrap();
+        let made = state.update(1024, 1002).unwrap();
+        assert_eq!((made.delay, made.prob, made.burst), update);
+        state.reset(1003).unwrap();
+        for moment in [1004, 1005] {
+            let made = state.update(1024, moment).unwrap();
+            assert_eq!((made.delay, made.prob, made.burst), (0, 0, 5));
+            assert_eq!(state.active, first);
+        }
+        assert_eq!(state.update(1024, 1005), Err(Refusal::TooSoon { due: 1006 }));
+    }
+}
+
+#[test]
+fn a_tail_drop_turns_on() {
+    let mut state = State::open_with(&SMALL, 0, Profile::Two).unwrap();
+    two_more(&mut state, 0, 0);
+    assert_eq!((state.arrive(2048, 1024, 6, Ecn::NotEct, 0, 0), state.active), (Ok(Verdict::Enqueue), 1));
+    let made = state.update(3072, 1).unwrap();
+    assert_eq!((made.delay, made.prob, made.burst, state.active), (0, 0, 5, 0));
+    assert_eq!((state.arrive(3072, 65_535, 5, Ecn::NotEct, 0, 1), state.active), (Ok(Verdict::Bytes), 1));
+    let mut bad = State { active: 2, ..state };
+    assert_eq!(bad.reset(1), Err(Refusal::State));
 }

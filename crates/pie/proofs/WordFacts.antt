@@ -1,26 +1,34 @@
 -- What `clap` makes of the words that ask for a subcommand.
-use Rattle.std.proofs.Common.{◌≡◌, ◌∙◌, ◌-◌, ◌^◌, ℕ, Bool, List, [], ◌∷◌, Option, Some, true, false, arith, codes, refl, ap}
-use Rattle.std.specs.Prelude.{◌||◌, slice_index, unwrap_or}
-use Rattle.clap.specs.Words.{App, Rule, Text, new_app, takes, with_rule, with_subcommand}
+use Rattle.std.proofs.Common.{◌≡◌, ◌∙◌, ℕ, Bool, List, [], ◌∷◌, Option, Some, true, false, codes, refl, sym, subst, ap}
+use Rattle.std.specs.Prelude.{◌&&◌, not, option_map, slice_index, unwrap_or}
+use Rattle.clap.specs.Words.{AddsArg, AddsSubcommand, App, HasMatchesOf, Row, Rule, Text, app_of, is_simple, rule_of, subcommand_rows_of, takes, with_rule, with_subcommand}
+use Rattle.clap.specs.declared.builder.arg.Arg.{Arg}
+use Rattle.clap.specs.declared.builder.command.Command.{Command}
+use Rattle.clap.specs.declared.parser.matches.ArgMatches.{ArgMatches}
 use Rattle.clap.proofs.OnLiterals.{clap_on_literals}
-use Rattle.pie.specs.Words.{AskFor, number_rule, pie_alone, pie_app, storm_app, subcommand_in}
+use Rattle.pie.specs.Words.{AskFor, Asks, options_in, pie_app, subcommand_in}
 
--- `pie` and its subcommands
-pub whole-app : (bare with_run with_audit whole : App) → bare ≡ pie_alone → with_run ≡ with_subcommand bare (new_app (codes "run")).top
-    → with_audit ≡ with_subcommand with_run (new_app (codes "audit")).top → whole ≡ with_subcommand with_audit storm_app.top → whole ≡ pie_app
-whole-app bare with_run with_audit whole alone run audit storm = rw (storm, audit, run, alone) refl
+-- ---- how a command is put together
 
--- the subcommand `storm` with its options
-pub storm-app : (bare first second whole : App) (senders packets seed : Rule) → bare ≡ new_app (codes "storm")
-    → first ≡ with_rule bare senders → second ≡ with_rule first packets → whole ≡ with_rule second seed
-    → senders ≡ number_rule (codes "senders") 2 8 → packets ≡ number_rule (codes "packets") 1 10_000 → seed ≡ number_rule (codes "seed") 0 (2 ^ 64 - 1)
-    → whole ≡ storm_app
-storm-app bare first second whole senders packets seed bare_is one two three senders_is packets_is seed_is =
-    rw (three, two, one, bare_is, senders_is, packets_is, seed_is) refl
+-- one more option that is not global
+pub adds_arg : {old new : Command} {arg : Arg} (app : App) (rule : Rule) → app_of old ≡ app → arg.global ≡ false → rule_of arg ≡ rule → AddsArg old arg new
+    → app_of new ≡ with_rule app rule
+adds_arg {old} {new} {arg} app rule old_is local rule_is added =
+    added.shape local ∙ ap (λ (a : App). with_rule a (rule_of arg)) old_is ∙ ap (with_rule app) rule_is
 
--- an option that is not global leaves a command without global ones
-pub still-local : {before own now : Bool} → now ≡ (before || own) → before ≡ false → own ≡ false → now ≡ false
-still-local {before} {own} {now} both first second = both ∙ ap (λ (b : Bool). b || own) first ∙ second
+-- a plain command has no global options
+third : (a b c d : Bool) → (a && (b && (not c && d))) ≡ true → c ≡ false
+third true true false d e = refl
+third true true true d e = cc
+third true false c d e = cc
+third false b c d e = cc
+
+-- one more subcommand, which is plain
+pub adds_subcommand : {above sub with_it : Command} (app sub_app : App) → app_of above ≡ app → app_of sub ≡ sub_app → sub_app.top.is_plain ≡ true → AddsSubcommand above sub with_it
+    → app_of with_it ≡ with_subcommand app sub_app.top
+adds_subcommand {above} {sub} app sub_app above_is sub_is plain added =
+    added.shape (third _ _ _ _ (ap (λ (a : App). a.top.is_plain) sub_is ∙ plain)) ∙ ap (λ (a : App). with_subcommand a (app_of sub).top) above_is
+    ∙ ap (λ (a : App). with_subcommand app a.top) sub_is
 
 -- ---- they are taken, whatever the program's own name is
 
@@ -38,6 +46,9 @@ run-taken app words is asks = rw (is, asks.1) (run_words-taken asks.0)
 pub audit-taken : (app : App) (words : List Text) → app ≡ pie_app → AskFor (codes "audit") words → takes app words ≡ true
 audit-taken app words is asks = rw (is, asks.1) (audit_words-taken asks.0)
 
+pub asked-taken : (app : App) (subcommand : Text) (words : List Text) → app ≡ pie_app → Asks subcommand words → takes app words ≡ true
+asked-taken app subcommand words is asks = subst (λ (a : App). takes a words ≡ true) (sym is) asks.taken
+
 -- ---- and their subcommand is found
 
 run_words-in : (name : Text) → subcommand_in (name ∷ codes "run" ∷ []) ≡ Some (codes "run")
@@ -54,11 +65,22 @@ run-in words asks = rw asks.1 (run_words-in asks.0)
 pub audit-in : (words : List Text) → AskFor (codes "audit") words → subcommand_in words ≡ Some (codes "audit")
 audit-in words asks = rw asks.1 (audit_words-in asks.0)
 
-pub run-is-not-audit : Some (codes "run") ≡ Some (codes "audit") → ⊥
-run-is-not-audit e = let bad : 114 ≡ 97 = ap (λ (o : Option (List ℕ)). slice_index (unwrap_or o []) 0) e in omega (arith, bad)
+-- ---- and what its options are given
 
-pub run-is-not-storm : Some (codes "run") ≡ Some (codes "storm") → ⊥
-run-is-not-storm e = let bad : 114 ≡ 115 = ap (λ (o : Option (List ℕ)). slice_index (unwrap_or o []) 0) e in omega (arith, bad)
+simple : is_simple pie_app ≡ true
+unfolding clap_on_literals
+simple = refl
 
-pub audit-is-not-storm : Some (codes "audit") ≡ Some (codes "storm") → ⊥
-audit-is-not-storm e = let bad : 97 ≡ 115 = ap (λ (o : Option (List ℕ)). slice_index (unwrap_or o []) 0) e in omega (arith, bad)
+pub options-in : (app : App) (words : List Text) (matches : ArgMatches) (rows : List Row) → app ≡ pie_app → HasMatchesOf app words matches
+    → Some rows ≡ option_map (λ (p : Text × List Row). p.1) (subcommand_rows_of matches) → options_in words ≡ rows
+options-in app words matches rows is has met =
+    let found = subst (λ (a : App). HasMatchesOf a words matches) is has simple in
+    sym (ap (λ (o : Option (List Row)). unwrap_or o []) (met ∙ ap (option_map (λ (p : Text × List Row). p.1)) found.1))
+
+-- ---- one subcommand is no other: their names have other first letters
+
+abbrev first_letter : Option Text → ℕ
+first_letter name = slice_index (unwrap_or name []) 0
+
+pub no-other : (one other : Text) (words : List Text) → subcommand_in words ≡ Some one → subcommand_in words ≡ Some other → (slice_index one 0 ≡ slice_index other 0 → ⊥) → ⊥
+no-other one other words is_one is_other differ = differ (ap first_letter (sym is_one ∙ is_other))

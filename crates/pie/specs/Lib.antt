@@ -1,3 +1,5 @@
+pub mod Choice
 pub mod Ends
+pub mod StormEnds
 pub mod StormPlan
 pub mod Words

@@ -1,6 +1,11 @@
--- The command line: what `pie` takes, and which words ask for which subcommand.
-use Rattle.std.specs.Prelude.{ℕ, ◌≡◌, ◌-◌, ◌^◌, List, [], ◌∷◌, true, Option, Some, option_map, codes}
-use Rattle.clap.specs.Words.{App, Rule, Text, new_app, new_rule, subcommand_of, with_rule, with_subcommand}
+-- The command line: what `pie` takes, which words ask for which subcommand, and what they give its options.
+use Rattle.std.specs.Prelude.{ℕ, ◌≡◌, ◌-◌, ◌^◌, List, [], ◌∷◌, Bool, true, false, Option, Some, None, option_and_then, option_map, unwrap_or, codes, if◌then◌else◌}
+use Rattle.std.specs.Option.{option_map_or}
+use Rattle.std.specs.Str.{bytes_eq}
+use Rattle.std.specs.Str.Parse.{digits_value, without_leading_plus}
+use Rattle.clap.specs.ValueTests.{accepts}
+use Rattle.clap.specs.Words.{App, Row, Rule, Text, new_app, new_rule, one_of, subcommand_of, takes, with_rule, with_subcommand}
+use Rattle.clap.specs.declared.builder.action.ArgAction.TheVariants.{SetTrue}
 use Rattle.clap.specs.declared.builder.value_parser.ValueParser.TheVariants.{Unsigned}
 
 -- `pie`, which has a version and wants a subcommand
@@ -11,6 +16,15 @@ pie_alone = record (new_app (codes "pie")) { top = record (new_app (codes "pie")
 abbrev pub number_rule : Text → ℕ → ℕ → Rule
 number_rule name least most = record (new_rule name) { long = Some name; value_names = 1; parser = Some (Unsigned least most) }
 
+-- an option with no value
+abbrev pub flag_rule : Text → Rule
+flag_rule name = record (new_rule name) { long = Some name; action = Some SetTrue }
+
+-- the subcommand `explain`: four options that choose events, and one for the form
+abbrev pub explain_app : App
+explain_app = with_rule (with_rule (with_rule (with_rule (with_rule (new_app (codes "explain")) (number_rule (codes "event") 1 (2 ^ 64 - 1)))
+    (number_rule (codes "tag") 0 (2 ^ 64 - 1))) (flag_rule (codes "lost"))) (flag_rule (codes "all"))) (flag_rule (codes "csv"))
+
 -- the subcommand `storm`, whose options are numbers
 abbrev pub storm_app : App
 storm_app = with_rule (with_rule (with_rule (new_app (codes "storm")) (number_rule (codes "senders") 2 8)) (number_rule (codes "packets") 1 10_000))
@@ -18,7 +32,10 @@ storm_app = with_rule (with_rule (with_rule (new_app (codes "storm")) (number_ru
 
 -- .. `pie` with its subcommands
 abbrev pub pie_app : App
-pie_app = with_subcommand (with_subcommand (with_subcommand pie_alone (new_app (codes "run")).top) (new_app (codes "audit")).top) storm_app.top
+pie_app = with_subcommand (with_subcommand (with_subcommand (with_subcommand pie_alone (new_app (codes "run")).top) (new_app (codes "audit")).top)
+    explain_app.top) storm_app.top
+
+-- ---- subcommands
 
 -- the words are the program's own name, whatever it is, and this subcommand's
 abbrev pub AskFor : Text → List Text → Type 0
@@ -27,3 +44,26 @@ AskFor subcommand words = (name : Text) × (words ≡ name ∷ subcommand ∷ []
 -- the subcommand that `clap` finds in any words
 abbrev pub subcommand_in : List Text → Option Text
 subcommand_in words = option_map (λ p. p.0) (subcommand_of pie_app words)
+
+-- the words ask for this subcommand, with any options: they are no request for help, and `clap` refuses them for want of memory alone
+pub record Asks (subcommand : Text) (words : List Text) : Type 0 where
+  pub taken : takes pie_app words ≡ true
+  pub found : subcommand_in words ≡ Some subcommand
+
+-- ---- options
+
+-- what the words give the options of their subcommand
+abbrev pub options_in : List Text → List Row
+options_in words = unwrap_or (option_map (λ p. p.1) (subcommand_of pie_app words)) []
+
+-- the number below 2^64 that a text writes in decimal digits
+abbrev pub number_of : Text → Option ℕ
+number_of text = if accepts false (Unsigned 0 (2 ^ 64 - 1)) text then Some (digits_value 10 (without_leading_plus text)) else None
+
+-- the number that an option is given
+abbrev pub number_given : Text → List Row → Option ℕ
+number_given name options = option_and_then number_of (one_of name options)
+
+-- an option with no value is there
+abbrev pub flag_given : Text → List Row → Bool
+flag_given name options = option_map_or (λ text. bytes_eq text (codes "true")) (one_of name options) false

@@ -3,9 +3,12 @@ ghost use Rattle.std.specs.Prelude.{◌≡◌, ◌≤◌, ◌⊎◌, Some, IfSom
 ghost use Rattle.std.specs.Io.KnownBytes.{Appends};
 ghost use Rattle.clap.specs.Words.{kind_of};
 ghost use Rattle.clap.specs.declared.error.kind.ErrorKind.{ErrorKind};
-ghost use Rattle.pie.specs.Ends.{EndsAudit, EndsRun, finding_line};
-ghost use Rattle.pie.specs.Words.{AskFor, subcommand_in};
+ghost use Rattle.pie.specs.Choice.{choice_of};
+ghost use Rattle.pie.specs.Ends.{EndsAudit, EndsExplain, EndsRun, finding_line};
+ghost use Rattle.pie.specs.StormEnds.{EndsStorm};
+ghost use Rattle.pie.specs.Words.{AskFor, Asks, options_in, subcommand_in};
 
+use crate::explaining::explain_input;
 use crate::options::options;
 use crate::storming::make_storm;
 use clap::Error;
@@ -23,13 +26,13 @@ use std::thread::Threads;
 /// All went well.
 pub(crate) const DONE: u8 = 0;
 /// A fault, whose text is on the error stream.
-const FAULT: u8 = 1;
-/// An audit found an event that differs.
+pub(crate) const FAULT: u8 = 1;
+/// An event of a history differs.
 pub(crate) const DIFFERS: u8 = 2;
 
 /// Runs `pie` with these words, of which the first is the program's own name, and answers the exit status: 0 done, 1 a
-/// fault, whose text stands on `errors`, 2 an audit that found a difference. A mistake in the words prints what `clap`
-/// says of it on `errors` and ends with 1; a request for help prints it on `output` and ends with 0.
+/// fault, whose text stands on `errors`, 2 an audit or an explanation that met an event that differs. A mistake in the words
+/// prints what `clap` says of it on `errors` and ends with 1; a request for help prints it on `output` and ends with 0.
 ///
 /// For the words `pie run` a trace with a fault ends with 1; any other writes its whole history text and ends with 0, or
 /// ends with 1 where the reader, the writer or memory fails. Refused records are no fault.
@@ -38,9 +41,12 @@ pub(crate) const DIFFERS: u8 = 2;
 /// line of its finding and ends with 0 where it is clean and 2 where an event differs, or ends with 1 where the reader, the
 /// writer or memory fails.
 ///
-/// For the words `pie storm`, with options or without, the threads of the runtime make a storm, whose history is written and
-/// audited: it ends with 0, with 1 where memory, a thread or the writer fails, and with 2 where the audit found an event that
-/// differs. Which events there can be is the contract of `storm`, and what is written of them that of `write_history`.
+/// For any words that ask for `pie explain`, exactly one option chooses events, or the status is 1 and nothing is written. A
+/// history with a fault ends with 1, one in which an event differs with 2, and any other with 0; the last two end with 1 where
+/// the reader, the writer or memory fails, and the last where no event is the chosen one.
+///
+/// For any words that ask for `pie storm`, the threads of the runtime make a storm of the plan that the options ask for. Its
+/// history is written, which is legal and clean, and the status is 0; or it is 1, where memory, a thread or the writer fails.
 pub fn command<H: Threads + Wait + Sync, R: Read + Drop, W: Write, E: Write>(
     rt: &H,
     alloc: Global,
@@ -50,11 +56,15 @@ pub fn command<H: Threads + Wait + Sync, R: Read + Drop, W: Write, E: Write>(
     errors: &mut E,
 ) -> u8
     ensures status { result ≤ 2 }
-    ensures differs { result ≡ 2 → (subcommand_in (map string_bytes words.now) ≡ Some (codes "audit")) ⊎ (subcommand_in (map string_bytes words.now) ≡ Some (codes "storm")) }
+    ensures differs { result ≡ 2 → (subcommand_in (map string_bytes words.now) ≡ Some (codes "audit")) ⊎ (subcommand_in (map string_bytes words.now) ≡ Some (codes "explain")) }
     ensures runs { AskFor (codes "run") (map string_bytes words.now)
         → IfSome (R.remaining input) (λ text. EndsRun text result (W.contents output.old) (W.contents output.new)) }
     ensures audits { AskFor (codes "audit") (map string_bytes words.now)
         → IfSome (R.remaining input) (λ text. EndsAudit text result (W.contents output.old) (W.contents output.new)) }
+    ensures explains { Asks (codes "explain") (map string_bytes words.now)
+        → IfSome (R.remaining input) (λ text. EndsExplain (choice_of (options_in (map string_bytes words.now))) text result (W.contents output.old) (W.contents output.new)) }
+    ensures storms { Asks (codes "storm") (map string_bytes words.now)
+        → EndsStorm (options_in (map string_bytes words.now)) result (W.contents output.old) (W.contents output.new) }
 {
     let options = match options(alloc) {
         Ok(options) => options,
@@ -64,10 +74,14 @@ pub fn command<H: Threads + Wait + Sync, R: Read + Drop, W: Write, E: Write>(
         Ok(matches) => matches,
         Err(error) => return mistake(error, output, errors),
     };
-    match matches.subcommand_name() {
-        Some("run") => run_input(alloc, input, output, errors),
-        Some("audit") => audit_input(alloc, input, output, errors),
-        Some("storm") => make_storm(rt, alloc, &matches, output, errors),
+    let Some((name, options)) = matches.subcommand() else {
+        return fault(errors, "no subcommand");
+    };
+    match name {
+        "run" => run_input(alloc, input, output, errors),
+        "audit" => audit_input(alloc, input, output, errors),
+        "explain" => explain_input(alloc, options, input, output, errors),
+        "storm" => make_storm(rt, alloc, options, output, errors),
         _ => fault(errors, "unknown subcommand"),
     }
 }

@@ -1,7 +1,10 @@
-//! `pie`: runs traces of a PIE queue controller (RFC 8033), writes their histories and audits them.
+//! `pie`: runs traces of a PIE queue controller (RFC 8033), writes their histories, audits them and explains their events.
 #![tactic(auto)]
 
 mod command;
+mod explaining;
+mod given;
+mod help;
 mod options;
 mod plan;
 mod storming;

@@ -1,9 +1,14 @@
-//! `pie storm`: a storm on a plan of its own, whose history is written and audited.
-ghost use Rattle.std.specs.Prelude.{◌≡◌, ◌≤◌, ◌↔◌, All, IsTrue, true};
-ghost use Rattle.pie_book.specs.Deed.{fits};
-ghost use Rattle.pie_book.specs.declared.opening.Profile.TheVariants.{One};
+//! `pie storm`: a storm on a plan of its own, whose events are audited and whose history is written.
+ghost use Rattle.std.specs.Prelude.{◌≡◌, ◌≤◌, ◌⊎◌, IfOk, map};
+ghost use Rattle.clap.specs.Words.{found_of, rows_of};
+ghost use Rattle.pie_book.specs.Decision.{IsLegal};
+ghost use Rattle.pie_trace.specs.declared.history.Line.TheVariants.{Made};
+ghost use Rattle.pie_audit.specs.Auditor.{Audits};
+ghost use Rattle.pie_link.specs.Plans.{opening_of};
+ghost use Rattle.pie.specs.StormEnds.{EndsStorm, WritesHistory, number_or};
 
-use crate::command::{DIFFERS, DONE, fault};
+use crate::command::{DONE, fault};
+use crate::given::number;
 use crate::plan::storm_plan;
 use clap::ArgMatches;
 use pie_audit::{Auditor, Finding};
@@ -23,34 +28,33 @@ const PACKETS: u64 = 100;
 /// The seed of the random words where the words name none.
 const SEED: u64 = 1;
 
-/// The number that the words give an option of `storm`, or else this one. `clap` refuses words that give one out of this range.
-fn number(matches: &ArgMatches<'_>, name: &str, least: u64, most: u64, unnamed: u64) -> u64
+/// The number that an option is given, or else this one. `clap` refuses words that give one out of this range.
+fn number_or(options: &ArgMatches<'_>, name: &str, least: u64, most: u64, unnamed: u64) -> u64
     requires { least ≤ most }
+    ensures given { result ≡ number_or name.now least most unnamed (rows_of (found_of options.now)) }
     ensures least { least ≤ result }
     ensures most { result ≤ most }
 {
-    let given = match matches.subcommand_matches("storm") {
-        Some(storm) => storm.get_one::<u64>(name),
-        None => None,
-    };
-    given.unwrap_or(unnamed).clamp(least, most)
+    number(options, name)
+        .unwrap_or(unnamed)
+        .min(most)
+        .max(least)
 }
 
-/// `pie storm`: makes the storm that these options ask for, writes its history and audits it. Ends with 0; with 1 where memory, a
-/// thread or the writer fails, and with 2 where the audit finds an event that differs. Which events a storm can have is the
-/// contract of `storm`, and what of them is written that of `write_history`.
+/// `pie storm`: makes the storm that these options ask for, audits its events and writes their history. Ends with 0, or with 1
+/// where memory, a thread or the writer fails.
 pub(crate) fn make_storm<H: Threads + Wait + Sync, W: Write, E: Write>(
     rt: &H,
     alloc: Global,
-    matches: &ArgMatches<'_>,
+    options: &ArgMatches<'_>,
     output: &mut W,
     errors: &mut E,
 ) -> u8
-    ensures status { result ≤ 2 }
+    ensures { EndsStorm (rows_of (found_of options.now)) result (W.contents output.old) (W.contents output.new) }
 {
-    let senders = number(matches, "senders", 2, 8, SENDERS) as u16;
-    let packets = number(matches, "packets", 1, 10_000, PACKETS) as u32;
-    let seed = number(matches, "seed", 0, u64::MAX, SEED);
+    let senders = number_or(options, "senders", 2, 8, SENDERS) as u16;
+    let packets = number_or(options, "packets", 1, 10_000, PACKETS) as u32;
+    let seed = number_or(options, "seed", 0, u64::MAX, SEED);
     let plan = match storm_plan(alloc, senders, packets, seed) {
         Ok(plan) => plan,
         Err(why) => return fault(errors, why),
@@ -59,18 +63,12 @@ pub(crate) fn make_storm<H: Threads + Wait + Sync, W: Write, E: Write>(
         Ok(end) => end,
         Err(why) => return fault(errors, why),
     };
-    tell(
-        alloc,
-        &opening_of(&plan),
-        end.events.as_slice(),
-        output,
-        errors,
-    )
+    tell(alloc, &plan, end.events.as_slice(), output, errors)
 }
 
 /// What the book of a storm is opened with.
 fn opening_of(plan: &Plan) -> Opening
-    ensures profile { result.choices.profile ≡ One }
+    ensures { result ≡ opening_of plan.now }
 {
     Opening {
         moment: plan.moment,
@@ -83,40 +81,41 @@ fn opening_of(plan: &Plan) -> Opening
     }
 }
 
-/// Writes the history of these events, audits them, and answers the status of both.
+/// Audits these events and writes their history, and answers the status of both.
 fn tell<W: Write, E: Write>(
     alloc: Global,
-    opening: &Opening,
+    plan: &Plan,
     events: &[Event],
     output: &mut W,
     errors: &mut E,
 ) -> u8
-    requires profile { opening.now.choices.profile ≡ One }
-    ensures status { result ≤ 2 }
+    requires legal { IsLegal (opening_of plan.now) events.now }
+    requires limits { plan.now.limits.events ≡ plan.now.limits.tail }
+    ensures { (result ≡ 1) ⊎ ((result ≡ 0) × WritesHistory plan.now events.now (W.contents output.old) (W.contents output.new)) }
 {
-    if !events.iter().all(|event| event.fits()) {
-        return fault(errors, "an answer is not of its command's kind");
+    let opening = opening_of(plan);
+    let auditor = match auditor_of(alloc, &opening, events) {
+        Ok(auditor) => auditor,
+        Err(_) => return fault(errors, "out of memory"),
+    };
+    match auditor.finish() {
+        Finding::Clean { .. } => {}
+        Finding::Differs { .. } => unreachable!(),
     }
-    match write_history(alloc, output, opening, events) {
-        Ok(()) => {}
-        Err(why) => return fault(errors, why),
-    }
-    match audit_events(alloc, opening, events) {
-        Ok(Finding::Clean { .. }) => DONE,
-        Ok(Finding::Differs { .. }) => DIFFERS,
-        Err(_) => fault(errors, "out of memory"),
+    match write_history(alloc, output, &opening, events) {
+        Ok(()) => DONE,
+        Err(why) => fault(errors, why),
     }
 }
 
-/// Decides each of these events again. The limits of a storm's plan are in their ranges, so only memory can be wanting.
-fn audit_events(
-    alloc: Global,
-    opening: &Opening,
-    events: &[Event],
-) -> Result<Finding, OpenRefusal> {
+/// An auditor that has decided each of these events again. The limits of a storm's plan are in their ranges, so only memory can
+/// be wanting.
+fn auditor_of(alloc: Global, opening: &Opening, events: &[Event]) -> Result<Auditor, OpenRefusal>
+    ensures { IfOk result (λ auditor. Audits opening.now auditor (map Made events.now)) }
+{
     let mut auditor = Auditor::open(alloc, opening)?;
     for event in events {
         auditor.feed(&Line::Made(*event));
     }
-    Ok(auditor.finish())
+    Ok(auditor)
 }

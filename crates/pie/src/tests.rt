@@ -1,3 +1,6 @@
+mod explaining;
+mod storming;
+
 use crate::command::{command, mistake};
 use clap::Error;
 use std::alloc::{AllocError, Global};
@@ -171,10 +174,12 @@ fn tells_a_mistake(rt: HostRuntime) -> Result<(), Fail> {
 /// A request for help is answered on the output.
 #[test]
 fn gives_help(rt: HostRuntime) -> Result<(), Fail> {
-    let lists: [&[&str]; 4] = [
+    let lists: [&[&str]; 6] = [
         &["pie", "--help"],
         &["pie", "run", "--help"],
         &["pie", "audit", "--help"],
+        &["pie", "explain", "--help"],
+        &["pie", "storm", "--help"],
         &["pie", "help"],
     ];
     for words in lists {

@@ -1,5 +1,5 @@
 -- Which states are sound after a call on a sound one.
-use Rattle.std.proofs.Common.{◌≡◌, ℕ, ◌+◌, ◌<◌, ◌≤◌, ◌^◌, Bool, true, false, eqb, nat_lt, Option, Some, None, is_none, arith, refl, sym, ap, ◌∙◌}
+use Rattle.std.proofs.Common.{◌≡◌, ℕ, ◌+◌, ◌<◌, ◌≤◌, ◌^◌, ◌==◌, ◌&&◌, if◌then◌else◌, Bool, true, false, eqb, nat_lt, Option, Some, None, is_none, arith, refl, sym, ap, ◌∙◌}
 use Rattle.std.proofs.lemmas.Bool.Decides.{nat_tests}
 use Rattle.pie_rate.specs.Departures.{Departure}
 use Rattle.pie_params.specs.declared.raw.RawParams.{RawParams}
@@ -9,8 +9,8 @@ use Rattle.pie_rate.specs.Step.{after_departure, opened_by, step_from}
 use Rattle.pie_c.specs.declared.params.PieParams.{PieParams}
 use Rattle.pie_c.specs.Params.{raw_of}
 use Rattle.pie_c.specs.declared.state.PieState.{PieState}
-use Rattle.pie_c.specs.Calls.{flag_of, start_of, count_of}
-use Rattle.pie_c.specs.State.{are_in_range, begun_in, estimate_of, is_control_sound, is_rate_sound, is_sound, last_moment}
+use Rattle.pie_beside.specs.Beside.{begun_in, estimate_of, flag_of, start_of, count_of}
+use Rattle.pie_c.specs.State.{are_in_range, held_in, is_activity_sound, is_control_sound, is_rate_sound, is_sound, last_moment}
 
 -- the parts of a sound state
 pub record Sound (s : PieState) : Type 0 where
@@ -19,6 +19,7 @@ pub record Sound (s : PieState) : Type 0 where
   pub control : is_control_sound s ≡ true
   pub accu : s.accu < 8_500_000_000_000
   pub rate : is_rate_sound s ≡ true
+  pub activity : is_activity_sound s ≡ true
 
 pub Sound-from : (s : PieState) → is_sound s ≡ true → Sound s
 unfolding is_sound
@@ -28,19 +29,25 @@ Sound-from s h = record {
   control = grind (arith, nat_tests);
   accu = grind (arith, nat_tests);
   rate = grind (arith, nat_tests);
+  activity = grind (arith, nat_tests);
 }
 
-sound_by : (s : PieState) → are_in_range s.params ≡ true → s.moment ≤ last_moment → is_control_sound s ≡ true → s.accu < 8_500_000_000_000 → is_rate_sound s ≡ true → is_sound s ≡ true
+sound_by : (s : PieState) → are_in_range s.params ≡ true → s.moment ≤ last_moment → is_control_sound s ≡ true → s.accu < 8_500_000_000_000 → is_rate_sound s ≡ true → is_activity_sound s ≡ true → is_sound s ≡ true
 unfolding is_sound
-sound_by s p m c a r = grind (arith, nat_tests)
+sound_by s p m c a r b = grind (arith, nat_tests)
 
 pub Sound-to : (s : PieState) → Sound s → is_sound s ≡ true
-Sound-to s h = sound_by s h.params h.moment h.control h.accu h.rate
+Sound-to s h = sound_by s h.params h.moment h.control h.accu h.rate h.activity
 
 -- a later moment leaves the controller's registers sound
 pub later-control : (s t : PieState) → is_control_sound s ≡ true → t.prob ≡ s.prob → t.old_delay ≡ s.old_delay → t.burst ≡ s.burst → t.last ≡ s.last → s.moment ≤ t.moment → is_control_sound t ≡ true
 unfolding is_control_sound
 later-control s t h p o b l m = grind (arith, nat_tests)
+
+-- and so does an update that takes in the moment alone
+pub idle-control : (s t : PieState) → is_control_sound s ≡ true → t.prob ≡ s.prob → t.old_delay ≡ s.old_delay → t.burst ≡ s.burst → t.last ≤ t.moment → is_control_sound t ≡ true
+unfolding is_control_sound
+idle-control s t h p o b l = grind (arith, nat_tests)
 
 pub control-new : (t : PieState) → t.prob ≤ 10 ^ 12 → t.old_delay ≤ 2 ^ 40 → t.burst ≤ 10 ^ 12 → t.last ≤ t.moment → is_control_sound t ≡ true
 unfolding is_control_sound
@@ -50,6 +57,19 @@ control-new t p o b l = grind (arith, nat_tests)
 pub later-rate : (s t : PieState) → is_rate_sound s ≡ true → t.average ≡ s.average → t.measuring ≡ s.measuring → t.cycle_start ≡ s.cycle_start → t.cycle_count ≡ s.cycle_count → t.params.dq_threshold ≡ s.params.dq_threshold → s.moment ≤ t.moment → is_rate_sound t ≡ true
 unfolding is_rate_sound
 later-rate s t h a f b n d m = grind (arith, nat_tests)
+
+-- the same profile and activity are sound, and so is a controller that is turned on, or off in profile two
+pub same-activity : (s t : PieState) → is_activity_sound s ≡ true → t.profile ≡ s.profile → t.active ≡ s.active → is_activity_sound t ≡ true
+unfolding is_activity_sound
+same-activity s t h p a = rw (p, a) h
+
+pub on-activity : (s t : PieState) → is_activity_sound s ≡ true → t.profile ≡ s.profile → t.active ≡ 1 → is_activity_sound t ≡ true
+unfolding is_activity_sound
+on-activity s t h p a = grind (arith, nat_tests)
+
+pub off-activity : (s t : PieState) (calm : Bool) → is_activity_sound s ≡ true → t.profile ≡ s.profile → t.active ≡ (if (s.profile == 2) && calm then 0 else s.active) → is_activity_sound t ≡ true
+unfolding is_activity_sound
+off-activity s t calm h p a = grind (arith, nat_tests)
 
 pub last-from : (s : PieState) → is_control_sound s ≡ true → s.last ≤ s.moment
 unfolding is_control_sound
@@ -103,9 +123,9 @@ rate-new t None a f s c w = rw (f, s, c) grind (arith, nat_tests)
 rate-new t (Some cycle) a f s c w = let from = w.0 in let below = w.1 in grind (arith, nat_tests)
 
 -- after a departure that is shown at a sound state, a cycle that is begun is sound
-pub depart-within : (s : PieState) (before after : Estimate) (threshold n : ℕ) (d : Departure) → is_rate_sound s ≡ true → before ≡ estimate_of s → threshold ≡ s.params.dq_threshold
+pub depart-within : (s : PieState) (before after : Estimate) (threshold n : ℕ) (d : Departure) → is_rate_sound s ≡ true → before ≡ estimate_of (held_in s) → threshold ≡ s.params.dq_threshold
     → after ≡ after_departure threshold before d → 0 < threshold → d.moment ≤ n → s.moment ≤ n → Within s.params.dq_threshold n after.begun
 depart-within s before after threshold n d h b t a z m l =
-    let then : Within s.params.dq_threshold n (step_from s.params.dq_threshold s.average d (begun_in s.measuring s.cycle_start s.cycle_count)).begun
+    let stepped : Within s.params.dq_threshold n (step_from s.params.dq_threshold s.average d (begun_in s.measuring s.cycle_start s.cycle_count)).begun
     = Within-step s.params.dq_threshold s.average n d _ (omega (arith, t)) m (Within-later s.params.dq_threshold s.moment n _ l (Within-from s h)) in
-    rw (a, b, t) then
+    rw (a, b, t) stepped

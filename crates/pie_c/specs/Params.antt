@@ -19,6 +19,20 @@ raw_of p = record {
   dq_threshold = p.dq_threshold;
 }
 
+-- the parameters as a C caller holds them, of that record
+abbrev pub params_of : RawParams → PieParams
+params_of p = record {
+  target = p.target;
+  t_update = p.t_update;
+  max_burst = p.max_burst;
+  alpha = p.alpha;
+  beta = p.beta;
+  mean_pkt = p.mean_pkt;
+  limit_bytes = p.limit_bytes;
+  mark_ecnth = p.mark_ecnth;
+  dq_threshold = p.dq_threshold;
+}
+
 -- the number of a field, counted from 1 in the order in which the fields are checked
 abbrev pub field_number : Field → ℕ
 field_number Target = 1

@@ -1,11 +1,10 @@
 -- What a state says to the parts of the controller, and which states are sound.
-use Rattle.std.specs.Prelude.{ℕ, ◌^◌, ◌-◌, Bool, ◌&&◌, ◌==◌, nat_lt, nat_le, Option, Some, None, is_none, if◌then◌else◌}
+use Rattle.std.specs.Prelude.{ℕ, ◌^◌, ◌-◌, Bool, ◌&&◌, ◌==◌, nat_lt, nat_le, is_none, if◌then◌else◌}
 use Rattle.pie_params.specs.Range.{first_bad}
-use Rattle.pie_control.specs.Parts.{Parts}
-use Rattle.pie_rate.specs.Estimate.{Begun, Estimate}
+use Rattle.pie_beside.specs.Beside.{Beside}
 use Rattle.pie_c.specs.declared.params.PieParams.{PieParams}
 use Rattle.pie_c.specs.declared.state.PieState.{PieState}
-use Rattle.pie_c.specs.Params.{raw_of}
+use Rattle.pie_c.specs.Params.{params_of, raw_of}
 
 -- the latest moment
 abbrev pub last_moment : ℕ
@@ -15,17 +14,41 @@ last_moment = 2 ^ 60 - 1
 unfoldable pub are_in_range : PieParams → Bool
 are_in_range params = is_none (first_bad (raw_of params))
 
--- probability, old delay, burst allowance and last update
-abbrev pub control_of : PieState → Parts
-control_of s = record { prob = s.prob; old_delay = s.old_delay; burst = s.burst; last = s.last }
+-- what a controller beside a queue holds, by this state
+abbrev pub held_in : PieState → Beside
+held_in s = record {
+  params = raw_of s.params;
+  moment = s.moment;
+  prob = s.prob;
+  old_delay = s.old_delay;
+  burst = s.burst;
+  last = s.last;
+  accu = s.accu;
+  average = s.average;
+  measuring = s.measuring;
+  cycle_start = s.cycle_start;
+  cycle_count = s.cycle_count;
+  profile = s.profile;
+  active = s.active;
+}
 
--- the cycle that is begun, where the flag says so
-abbrev pub begun_in : ℕ → ℕ → ℕ → Option Begun
-begun_in measuring start count = if measuring == 1 then Some (record { start = start; count = count }) else None
-
--- the estimate of the departure rate
-abbrev pub estimate_of : PieState → Estimate
-estimate_of s = record { average = s.average; begun = begun_in s.measuring s.cycle_start s.cycle_count }
+-- the state that says this
+abbrev pub state_of : Beside → PieState
+state_of b = record {
+  params = params_of b.params;
+  moment = b.moment;
+  prob = b.prob;
+  old_delay = b.old_delay;
+  burst = b.burst;
+  last = b.last;
+  accu = b.accu;
+  average = b.average;
+  measuring = b.measuring;
+  cycle_start = b.cycle_start;
+  cycle_count = b.cycle_count;
+  profile = b.profile;
+  active = b.active;
+}
 
 -- the controller's registers are in their ranges, and the last update wasn't later than now
 unfoldable pub is_control_sound : PieState → Bool
@@ -44,6 +67,10 @@ is_cycle_sound s =
 unfoldable pub is_rate_sound : PieState → Bool
 is_rate_sound s = nat_lt s.average (2 ^ 60) && is_cycle_sound s
 
+-- in profile one the controller is active, and in profile two it is active or not
+unfoldable pub is_activity_sound : PieState → Bool
+is_activity_sound s = if s.profile == 1 then s.active == 1 else (s.profile == 2) && nat_le s.active 1
+
 -- each field is in its range, and the fields fit one another
 unfoldable pub is_sound : PieState → Bool
 is_sound s =
@@ -52,3 +79,4 @@ is_sound s =
     && is_control_sound s
     && nat_lt s.accu 8_500_000_000_000
     && is_rate_sound s
+    && is_activity_sound s

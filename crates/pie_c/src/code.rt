@@ -35,3 +35,6 @@ pub(crate) const BAD_ECN: u32 = 111;
 
 /// Refused: more than 2^30 bytes in the queue.
 pub(crate) const BAD_QUEUE: u32 = 112;
+
+/// Refused: a profile that is neither 1 nor 2.
+pub(crate) const BAD_PROFILE: u32 = 113;

@@ -1,109 +1,48 @@
-//! A state that was found sound, in the types of the parts.
-ghost use Rattle.std.specs.Prelude.{◌≡◌, ℕ, ◌+◌, List, [], ◌∷◌, ◌++◌, ◌^◌, ◌<◌, ◌≤◌, max, nat_le, nat_lt, is_some, IfSome};
-ghost use Rattle.pie_control.specs.Delay.{delay_of};
+//! A controller in the types of the parts, and its steps.
+ghost use Rattle.std.specs.Prelude.{◌≡◌, ℕ, ◌+◌, ◌*◌, ◌&&◌, not, nat_le, List, [], ◌∷◌, ◌++◌, ◌^◌, ◌<◌, ◌≤◌, max};
 ghost use Rattle.pie_params.specs.declared.raw.RawParams.{RawParams};
-ghost use Rattle.pie_control.specs.Events.{ControlEvent, reset, update_at};
-ghost use Rattle.pie_control.specs.History.{Shows as ShowsControl};
+ghost use Rattle.pie_control.specs.Delay.{delay_of};
+ghost use Rattle.pie_control.specs.Events.{ControlEvent, idled, reset, update_at};
+ghost use Rattle.pie_control.specs.History.{Shows as ShowsControl, ends_calm};
+ghost use Rattle.pie_control.specs.Next.{next};
 ghost use Rattle.pie_early.specs.Events.{EarlyEvent, cleared};
 ghost use Rattle.pie_early.specs.History.{Shows as ShowsEarly};
 ghost use Rattle.pie_rate.specs.Estimate.{Shows as ShowsRate};
 ghost use Rattle.pie_rate.specs.Departures.{Departure, departure};
 ghost use Rattle.pie_rate.specs.Step.{after_departure};
-ghost use Rattle.pie_c.specs.Calls.{accu_left, ecn_at, is_bad_size, control_after, controller_opened, no_estimate, shown_by, state_of, verdict, with_control, with_estimate};
-ghost use Rattle.pie_c.specs.Params.{raw_of};
-ghost use Rattle.pie_c.specs.State.{control_of, estimate_of, is_control_sound, is_rate_sound, is_sound};
+ghost use Rattle.pie_beside.specs.Beside.{accu_by, bytes_with, control_after, count_of, event_by, flag_of, no_estimate, start_of, verdict_by};
+ghost use Rattle.pie_c.specs.Calls.{verdict_number};
 
 use crate::code::{DONE, EARLY, MARK, OVER_BYTES, OVER_PACKETS};
-use crate::params::PieParams;
 use crate::state::PieState;
-use pie_control::{Control, MAX_DELAY, delay};
+use pie_control::{Control, delay};
 use pie_early::{Choice, Early};
-use pie_fixed::{ALWAYS_PICKED, Accu, Nanos, Prob};
+use pie_fixed::Nanos;
 use pie_params::Params;
 use pie_queue::Ecn;
-use pie_rate::{OpenCycle, Rate};
+use pie_rate::Rate;
 
 /// A state whose fields were found in their ranges.
 #[derive(Clone, Copy)]
 pub(crate) struct Controller {
     pub(crate) params: Params,
     pub(crate) moment: Nanos,
+    pub(crate) active: bool,
     pub(crate) control: Control,
     pub(crate) early: Early,
     pub(crate) rate: Rate,
 }
 
-/// The greatest burst allowance, in nanoseconds.
-const MAX_BURST: u64 = 1_000_000_000_000;
-
-/// The averages are below this, in nanoseconds.
-const AVERAGES: u64 = 1 << 60;
+/// What becomes of an arriving packet.
+#[derive(Clone, Copy)]
+pub(crate) struct Arrival {
+    /// The number that the call answers.
+    pub(crate) code: u32,
+    /// The bytes in the queue after it.
+    pub(crate) bytes: u64,
+}
 
 impl Controller {
-    /// The controller of a state, `None` where it isn't sound.
-    #[inline(always)]
-    #[tactic(auto, unfolding(crate::specs::State::is_sound, crate::specs::State::are_in_range))]
-    pub(crate) fn of(state: &PieState) -> Option<Self>
-        ensures sound { is_some result ≡ is_sound state.now }
-        ensures params { IfSome result (λ c. c.params ≡ raw_of state.now.params) }
-        ensures moment { IfSome result (λ c. c.moment ≡ state.now.moment) }
-        ensures control { IfSome result (λ c. c.control ≡ control_of state.now) }
-        ensures early { IfSome result (λ c. c.early ≡ state.now.accu) }
-        ensures rate { IfSome result (λ c. c.rate ≡ estimate_of state.now) }
-    {
-        let params = Params::check(state.params.raw()).ok()?;
-        let moment = Nanos::from_units(state.moment)?;
-        let control = control(state)?;
-        let early = early(state)?;
-        let rate = rate(state)?;
-        Some(Controller {
-            params,
-            moment,
-            control,
-            early,
-            rate,
-        })
-    }
-
-    /// The controller that is opened with these parameters at this moment.
-    pub(crate) fn opened(params: Params, moment: Nanos) -> Self
-        ensures value { result ≡ controller_opened params moment }
-        ensures control { ShowsControl params moment [] result.control }
-        ensures early { ShowsEarly [] result.early }
-        ensures rate { (threshold : ℕ) → ShowsRate threshold [] result.rate }
-        ensures burst { result.control.burst ≤ 10 ^ 12 }
-    {
-        Controller {
-            params,
-            moment,
-            control: Control::opened(&params, moment),
-            early: Early::opened(),
-            rate: cleared(),
-        }
-    }
-
-    /// The state of this controller, with its parameters as the caller holds them.
-    pub(crate) fn state(&self, params: PieParams) -> PieState
-        ensures { result ≡ state_of params self.now }
-    {
-        let mut state = PieState {
-            params,
-            moment: self.moment.units(),
-            prob: 0,
-            old_delay: 0,
-            burst: 0,
-            last: 0,
-            accu: self.early.accu().units(),
-            average: 0,
-            measuring: 0,
-            cycle_start: 0,
-            cycle_count: 0,
-        };
-        self.store_control(&mut state);
-        self.store_rate(&mut state);
-        state
-    }
-
     /// Moves the effective moment to this one, where it is later.
     pub(crate) fn reach(&mut self, moment: Nanos)
         ensures { self.new ≡ record self.old { moment = max self.old.moment moment } }
@@ -111,33 +50,66 @@ impl Controller {
         self.moment = self.moment.max(moment);
     }
 
-    /// What becomes of an arriving packet: tail drop by bytes, then by packets, and else early drop
-    /// chooses.
-    #[tactic(auto, unfolding(crate::specs::Calls::verdict, crate::specs::Calls::accu_left, crate::specs::Calls::shown_by))]
-    pub(crate) fn arrive(&mut self, queued: u64, size: u32, room: u32, ecn: Ecn, word: u64) -> u32
+    /// What becomes of an arriving packet: tail drop by bytes, then by packets, and else early drop chooses, where the controller
+    /// is active.
+    #[tactic(auto, unfolding(pie_beside::specs::Beside::verdict_by, pie_beside::specs::Beside::accu_by, pie_beside::specs::Beside::event_by))]
+    pub(crate) fn arrive(&mut self, queued: u64, size: u32, room: u32, ecn: Ecn, word: u64) -> Arrival
         requires { queued ≤ 2 ^ 30 }
-        ensures verdict { result ≡ verdict self.old.params self.old.control self.old.early queued size room ecn word }
-        ensures accu { self.new.early ≡ accu_left self.old.params self.old.control self.old.early queued size room word }
+        ensures verdict { result.code ≡ verdict_number (verdict_by self.old.active self.old.params self.old.control self.old.early queued size room ecn word) }
+        ensures bytes { result.bytes ≡ bytes_with (verdict_by self.old.active self.old.params self.old.control self.old.early queued size room ecn word) queued size }
+        ensures bound { result.bytes ≤ 2 ^ 30 }
+        ensures accu { self.new ≡ record self.old { early = accu_by self.old.active self.old.params self.old.control self.old.early queued size room word } }
         ensures shows { (events : List EarlyEvent) →
             ShowsEarly events self.old.early →
-            ShowsEarly (events ++ shown_by self.old.params self.old.control self.old.early queued size room ecn word ∷ []) self.new.early }
+            ShowsEarly (events ++ event_by self.old.active self.old.params self.old.control self.old.early queued size room ecn word ∷ []) self.new.early }
     {
-        let tail_drop = if queued + u64::from(size) > self.params.limit_bytes() {
-            OVER_BYTES
-        } else if room == 0 {
-            OVER_PACKETS
-        } else {
-            return match self
-                .early
-                .consider(&self.params, &self.control, queued, ecn, word)
-            {
-                Choice::Enqueue => DONE,
-                Choice::Mark => MARK,
-                Choice::Drop => EARLY,
+        let whole = queued + u64::from(size);
+        if whole > self.params.limit_bytes() {
+            self.early.clear();
+            return Arrival {
+                code: OVER_BYTES,
+                bytes: queued,
             };
-        };
-        self.early.clear();
-        tail_drop
+        }
+        if room == 0 {
+            self.early.clear();
+            return Arrival {
+                code: OVER_PACKETS,
+                bytes: queued,
+            };
+        }
+        if !self.active {
+            return Arrival {
+                code: DONE,
+                bytes: whole,
+            };
+        }
+        let choice = self
+            .early
+            .consider(&self.params, &self.control, queued, ecn, word);
+        match choice {
+            Choice::Enqueue => Arrival {
+                code: DONE,
+                bytes: whole,
+            },
+            Choice::Mark => Arrival {
+                code: MARK,
+                bytes: whole,
+            },
+            Choice::Drop => Arrival {
+                code: EARLY,
+                bytes: queued,
+            },
+        }
+    }
+
+    /// Whether a queue of so many bytes turns an inactive controller on: three times these reach the limit (RFC 8033, section 5.3;
+    /// the third is this project's own).
+    pub(crate) fn is_turned_on_by(&self, bytes: u64) -> bool
+        requires { bytes ≤ 2 ^ 30 }
+        ensures { result ≡ not self.now.active && nat_le self.now.params.limit_bytes (3 * bytes) }
+    {
+        !self.active && 3 * bytes >= self.params.limit_bytes()
     }
 
     /// Takes in a packet that left, with `left` bytes after it.
@@ -159,10 +131,13 @@ impl Controller {
         self.control.last().units() + self.params.t_update().units()
     }
 
-    /// Makes an update at the effective moment, with so many bytes in the queue.
-    pub(crate) fn update(&mut self, queued: u64)
+    /// Makes an update of an active controller at the effective moment, with so many bytes in the queue, and answers whether it is calm.
+    pub(crate) fn update(&mut self, queued: u64) -> bool
         requires { queued ≤ 2 ^ 30 }
         ensures step { self.new ≡ record self.old { control = control_after self.old.params self.old.control (delay_of queued self.old.rate.average self.old.params.dq_threshold) self.old.moment } }
+        ensures calm {
+            let delay = delay_of queued self.old.rate.average self.old.params.dq_threshold in
+            result ≡ ends_calm self.old.params (next self.old.params self.old.control.prob delay self.old.control.old_delay) delay self.old.control.old_delay }
         ensures shows { (opening : RawParams) (start : ℕ) (events : List ControlEvent) →
             let delay = delay_of queued self.old.rate.average self.old.params.dq_threshold in
             ShowsControl opening start events self.old.control →
@@ -170,7 +145,17 @@ impl Controller {
     {
         let threshold = self.params.dq_threshold();
         let delay = delay(queued, self.rate.average(), threshold);
-        self.control.update(&self.params, delay, self.moment);
+        self.control.update(&self.params, delay, self.moment)
+    }
+
+    /// Makes an update of an inactive controller: the effective moment is that of the last update.
+    pub(crate) fn idle(&mut self)
+        ensures step { self.new ≡ record self.old { control = record self.old.control { last = self.old.moment } } }
+        ensures shows { (opening : RawParams) (start : ℕ) (events : List ControlEvent) →
+            ShowsControl opening start events self.old.control →
+            ShowsControl opening start (events ++ idled self.old.moment ∷ []) self.new.control }
+    {
+        self.control.idle(self.moment);
     }
 
     /// Sets probability, old delay, accumulated probability and rate estimate to 0 and the burst
@@ -191,7 +176,12 @@ impl Controller {
 
     /// Stores the controller's registers.
     pub(crate) fn store_control(&self, state: &mut PieState)
-        ensures after { state.new ≡ with_control state.old self.now.control }
+        ensures after { state.new ≡ record state.old {
+          prob = self.now.control.prob;
+          old_delay = self.now.control.old_delay;
+          burst = self.now.control.burst;
+          last = self.now.control.last;
+        } }
         ensures prob { self.now.control.prob ≤ 10 ^ 12 }
         ensures old { self.now.control.old_delay ≤ 2 ^ 40 }
         ensures burst { self.now.control.burst ≤ 10 ^ 12 }
@@ -204,7 +194,12 @@ impl Controller {
 
     /// Stores the estimate of the departure rate.
     pub(crate) fn store_rate(&self, state: &mut PieState)
-        ensures after { state.new ≡ with_estimate state.old self.now.rate }
+        ensures after { state.new ≡ record state.old {
+          average = self.now.rate.average;
+          measuring = flag_of self.now.rate.begun;
+          cycle_start = start_of self.now.rate.begun;
+          cycle_count = count_of self.now.rate.begun;
+        } }
         ensures average { self.now.rate.average < 2 ^ 60 }
     {
         state.average = self.rate.average();
@@ -222,81 +217,4 @@ pub(crate) fn cleared() -> Rate
     ensures shows { (threshold : ℕ) → ShowsRate threshold [] result }
 {
     Rate::cleared()
-}
-
-/// The ECN field of these two bits, `None` above 3 (RFC 3168, section 5).
-pub(crate) fn ecn(bits: u32) -> Option<Ecn>
-    ensures two { is_some result ≡ nat_le bits 3 }
-    ensures value { IfSome result (λ ecn. ecn ≡ ecn_at bits) }
-{
-    match bits {
-        0 => Some(Ecn::NotEct),
-        1 => Some(Ecn::Ect1),
-        2 => Some(Ecn::Ect0),
-        3 => Some(Ecn::Ce),
-        _ => None,
-    }
-}
-
-/// Whether a packet's size is outside 1 to 65535 bytes.
-pub(crate) fn is_bad_size(size: u32) -> bool
-    ensures { result ≡ is_bad_size size }
-{
-    size == 0 || size > 65535
-}
-
-/// The controller's registers, `None` where they are out of their ranges.
-#[inline(always)]
-#[tactic(auto, unfolding(crate::specs::State::is_control_sound))]
-fn control(state: &PieState) -> Option<Control>
-    requires { state.now.moment < 2 ^ 60 }
-    ensures sound { is_some result ≡ is_control_sound state.now }
-    ensures value { IfSome result (λ control. control ≡ control_of state.now) }
-{
-    let prob = Prob::from_units(state.prob)?;
-    let last = Nanos::from_units(state.last)?;
-    if state.old_delay > MAX_DELAY || state.burst > MAX_BURST || state.last > state.moment {
-        return None;
-    }
-    Some(Control::from_parts(prob, state.old_delay, state.burst, last))
-}
-
-/// The accumulated probability, `None` where it is 8.5 or above.
-fn early(state: &PieState) -> Option<Early>
-    ensures sound { is_some result ≡ nat_lt state.now.accu 8_500_000_000_000 }
-    ensures value { IfSome result (λ early. early ≡ state.now.accu) }
-{
-    if state.accu >= ALWAYS_PICKED {
-        return None;
-    }
-    Some(Early::from_parts(Accu::from_units(state.accu)?))
-}
-
-/// The estimate of the departure rate, `None` where it is out of its range.
-#[inline(always)]
-#[tactic(auto, unfolding(crate::specs::State::is_rate_sound))]
-fn rate(state: &PieState) -> Option<Rate>
-    requires moment { state.now.moment < 2 ^ 60 }
-    requires threshold { state.now.params.dq_threshold ≤ 65536 }
-    ensures sound { is_some result ≡ is_rate_sound state.now }
-    ensures value { IfSome result (λ rate. rate ≡ estimate_of state.now) }
-{
-    if state.average >= AVERAGES {
-        return None;
-    }
-    if state.measuring == 1 {
-        if state.cycle_start > state.moment || state.cycle_count >= state.params.dq_threshold {
-            return None;
-        }
-        let cycle = OpenCycle {
-            start: Nanos::from_units(state.cycle_start)?,
-            count: state.cycle_count,
-        };
-        return Some(Rate::from_parts(state.average, Some(cycle)));
-    }
-    if state.measuring == 0 && state.cycle_start == 0 && state.cycle_count == 0 {
-        Some(Rate::from_parts(state.average, None))
-    } else {
-        None
-    }
 }

@@ -1,8 +1,8 @@
 use crate::params::PieParams;
 
-/// The controller's state, which its caller owns: the parameters in force and the registers. Times
-/// are in nanoseconds, probabilities in units of `10^-12` (RFC 8033, sections 4.2, 4.4, 5.2 and 5.4;
-/// the scales are this project's own).
+/// The controller's state, which its caller owns: the parameters in force, the registers, the profile and whether the controller is
+/// active. Times are in nanoseconds, probabilities in units of `10^-12` (RFC 8033, sections 4.2, 4.4, 5.2, 5.3 and 5.4; the scales
+/// are this project's own).
 #[repr(C)]
 #[derive(Clone, Copy, Debug, PartialEq, Eq)]
 pub struct PieState {
@@ -28,4 +28,8 @@ pub struct PieState {
     pub cycle_start: u64,
     /// The bytes that it has counted, below `dq_threshold`, and 0 with none.
     pub cycle_count: u64,
+    /// 1 or 2: in profile one the controller is always active, in profile two it turns itself on and off.
+    pub profile: u64,
+    /// 1 while the controller is active, and else 0; always 1 in profile one.
+    pub active: u64,
 }

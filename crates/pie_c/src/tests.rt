@@ -1,7 +1,6 @@
-use crate::calls::{
-    pie_arrive, pie_depart, pie_empty, pie_open, pie_reset, pie_set_params, pie_update,
-};
+use crate::calls::{pie_arrive, pie_depart, pie_empty, pie_reset, pie_set_params, pie_update};
 use crate::code::{BAD_PARAMS, DONE, EARLY, MARK, OVER_BYTES, OVER_PACKETS, TOO_SOON};
+use crate::opening::pie_open;
 use crate::params::{PieParams, pie_check_params, pie_default_params};
 use crate::state::PieState;
 
@@ -41,6 +40,8 @@ fn unopened(params: PieParams) -> PieState {
         measuring: 0,
         cycle_start: 0,
         cycle_count: 0,
+        profile: 0,
+        active: 0,
     }
 }
 

@@ -1,5 +1,5 @@
-ghost use Rattle.std.specs.Prelude.{◌≡◌};
-ghost use Rattle.pie_c.specs.Calls.{nothing_updated, updated_with};
+ghost use Rattle.std.specs.Prelude.{◌≡◌, ◌+◌};
+ghost use Rattle.pie_c.specs.Calls.{nothing_updated};
 
 use crate::controller::Controller;
 
@@ -11,7 +11,7 @@ pub struct PieUpdated {
     pub code: u64,
     /// The moment from which the next update isn't too soon, in nanoseconds.
     pub due: u64,
-    /// The delay that the update took, in nanoseconds.
+    /// The delay that the update took, in nanoseconds; 0 while the controller is inactive.
     pub delay: u64,
     /// The probability after it, in units of `10^-12`.
     pub prob: u64,
@@ -35,14 +35,20 @@ impl PieUpdated {
 }
 
 impl Controller {
-    /// What an update answers with this number, from the registers.
-    pub(crate) fn updated(&self, code: u32) -> PieUpdated
-        ensures { result ≡ updated_with code self.now.params self.now.control }
+    /// What an update answers with this number and this delay, from the registers.
+    pub(crate) fn updated(&self, code: u32, delay: u64) -> PieUpdated
+        ensures { result ≡ record {
+          code = code;
+          due = self.now.control.last + self.now.params.t_update;
+          delay = delay;
+          prob = self.now.control.prob;
+          burst = self.now.control.burst;
+        } }
     {
         PieUpdated {
             code: u64::from(code),
             due: self.due(),
-            delay: self.control.old(),
+            delay,
             prob: self.control.prob().units(),
             burst: self.control.burst(),
         }

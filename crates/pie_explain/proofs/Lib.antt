@@ -1,2 +1,6 @@
+pub mod EndFacts
 pub mod ExplainFacts
+pub mod ExplanationFacts
+pub mod LineFacts
 pub mod RecordFacts
+pub mod WordFacts

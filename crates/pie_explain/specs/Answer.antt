@@ -1,17 +1,24 @@
 -- How explaining a history ends: as its audit would, or with nothing to explain.
-use Rattle.std.specs.Prelude.{ℕ, ◌≡◌, ◌==◌, false, Some, None, Result, Ok, Err, if◌then◌else◌}
+use Rattle.std.specs.Prelude.{ℕ, ◌≡◌, ◌^◌, ◌==◌, ◌≤◌, List, ◌++◌, length, false, Option, Some, None, Result, Ok, Err, ⊤, if◌then◌else◌}
+use Rattle.std.specs.Io.KnownBytes.{Appends}
 use Rattle.pie_book.specs.declared.opening.Opening.{Opening}
 use Rattle.pie_trace.specs.declared.fault.TraceFault.{TraceFault}
+use Rattle.pie_trace.specs.declared.history.Line.{Line}
 use Rattle.pie_trace.specs.Fault.{is_device}
-use Rattle.pie_trace.specs.Lines.{Coming}
+use Rattle.pie_trace.specs.Lines.{Coming, LinesView, history_lines, history_opening, later_fault}
+use Rattle.pie_trace.specs.Text.{Row}
 use Rattle.pie_audit.specs.declared.auditor.Finding.{Finding}
 use Rattle.pie_audit.specs.declared.auditor.Finding.TheVariants.{Clean}
 use Rattle.pie_audit.specs.declared.auditor.Finding.TheVariants as finding
 use Rattle.pie_audit.specs.Auditor.{Audits, AuditorView}
+use Rattle.pie_audit.specs.Finding.{event_count, finding as finding_of}
+use Rattle.pie_explain.specs.declared.explainer.Form.{Form}
 use Rattle.pie_explain.specs.declared.fault.ExplainFault.{ExplainFault}
 use Rattle.pie_explain.specs.declared.fault.ExplainFault.TheVariants.{Trace, Differs, NoEvent, NoTag}
 use Rattle.pie_explain.specs.declared.which.Which.{Which}
 use Rattle.pie_explain.specs.declared.which.Which.TheVariants.{Number, Tag, Lost, All}
+use Rattle.pie_explain.specs.Explanation.{explanations, setter_after}
+use Rattle.pie_explain.specs.Output.{said}
 
 -- the answer where this many events were explained, and the audit of the history finds this
 abbrev pub answered : Which → ℕ → Finding → Result ℕ ExplainFault
@@ -21,6 +28,27 @@ answered (Tag tag) explained (Clean events) = if explained == 0 then Err (NoTag 
 answered Lost explained (Clean events) = Ok explained
 answered All explained (Clean events) = Ok explained
 
+-- the answer to a history of these lines, and the fault after them
+abbrev pub answer_by : Which → Opening → List Line → Option TraceFault → Result ℕ ExplainFault
+answer_by which opening lines (Some why) = Err (Trace why)
+answer_by which opening lines None = answered which (length (explanations opening which lines)) (finding_of opening lines)
+
+abbrev pub answer_after : Which → List Row → Result Opening TraceFault → Result ℕ ExplainFault
+answer_after which rows (Err why) = Err (Trace why)
+answer_after which rows (Ok opening) = answer_by which opening (history_lines (2 ^ 32) rows) (later_fault (2 ^ 32) rows)
+
+-- the answer to a history of these records: its first fault, its first difference, or how many events are explained
+abbrev pub answer : Which → List Row → Result ℕ ExplainFault
+answer which rows = answer_after which rows (history_opening rows)
+
+-- neither the reader, the writer nor memory failed
+abbrev pub IsTold : Result ℕ ExplainFault → Type 0
+IsTold (Ok explained) = ⊤
+IsTold (Err (Trace why)) = is_device why ≡ false
+IsTold (Err (Differs event)) = ⊤
+IsTold (Err (NoEvent event events)) = ⊤
+IsTold (Err (NoTag tag)) = ⊤
+
 -- an answer says what the audit of the text answers: its fault, or its first difference; or there is none
 abbrev pub IsAsAudited : Result Finding TraceFault → Result ℕ ExplainFault → Type 0
 IsAsAudited audited (Ok explained) = (events : ℕ) × (audited ≡ Ok (Clean events))
@@ -29,7 +57,37 @@ IsAsAudited audited (Err (Differs event)) = audited ≡ Ok (finding.Differs even
 IsAsAudited audited (Err (NoEvent event events)) = audited ≡ Ok (Clean events)
 IsAsAudited audited (Err (NoTag tag)) = (events : ℕ) × (audited ≡ Ok (Clean events))
 
--- all these lines were looked at, and no fault is after them; or the fault after them was met, unless a device or memory failed
-abbrev pub Heard : Opening → Coming → Result (Unit {0}) TraceFault → AuditorView → Type 0
-Heard opening coming (Ok done) auditor = Audits opening auditor coming.lines × (coming.fault ≡ None)
-Heard opening coming (Err why) auditor = is_device why ≡ false → coming.fault ≡ Some why
+-- what failed first, reading and explaining or writing the last page: a device or memory that failed before stays the answer, and
+-- any other answer gives way to a write that fails
+abbrev pub closed : Result (Unit {0}) TraceFault → Result (Unit {0}) TraceFault → Result (Unit {0}) TraceFault
+closed outcome (Ok done) = outcome
+closed (Ok done) (Err why) = Err why
+closed (Err first) (Err why) = if is_device first then Err first else Err why
+
+-- ---- how far explaining has come
+
+-- these lines were looked at: where none differs, what set the probability is known, and how many events were explained
+pub record Follows (opening : Opening) (which : Which) (lines : List Line) (auditor : AuditorView) (set_by : Option ℕ) (explained : ℕ) : Type 0 where
+  pub audits : Audits opening auditor lines
+  pub setter : auditor.differs ≡ None → set_by ≡ setter_after lines
+  pub counted : auditor.differs ≡ None → explained ≡ length (explanations opening which lines)
+  pub few : auditor.differs ≡ None → explained ≤ event_count lines
+
+-- .. and what was said of their chosen events joined what was there before
+pub record Explains (opening : Opening) (which : Which) (form : Form) (lines : List Line) (auditor : AuditorView) (set_by : Option ℕ) (explained : ℕ) (before now : Option (List ℕ)) : Type 0 where
+  pub follows : Follows opening which lines auditor set_by explained
+  pub written : Appends before now (said form (explanations opening which lines))
+
+-- all these lines were explained, and no fault is after them; or the fault after them was met, unless a device or memory failed
+abbrev pub Heard : Opening → Which → Form → Coming → Result (Unit {0}) TraceFault → AuditorView → Option ℕ → ℕ → Option (List ℕ) → Option (List ℕ) → Type 0
+Heard opening which form coming (Ok done) auditor set_by explained before now = Explains opening which form coming.lines auditor set_by explained before now × (coming.fault ≡ None)
+Heard opening which form coming (Err why) auditor set_by explained before now =
+    is_device why ≡ false → (coming.fault ≡ Some why) × Appends before now (said form (explanations opening which coming.lines))
+
+-- where explaining stands among all lines: some are left, and the others were explained
+pub record Stands (opening : Opening) (which : Which) (form : Form) (all : Coming) (lines : LinesView) (auditor : AuditorView) (set_by : Option ℕ) (explained : ℕ) (before now : Option (List ℕ)) : Type 0 where
+  pub seen : List Line
+  pub left : List Line
+  pub split : all.lines ≡ seen ++ left
+  pub remain : lines.coming ≡ Some (record { lines = left; fault = all.fault })
+  pub explains : Explains opening which form seen auditor set_by explained before now

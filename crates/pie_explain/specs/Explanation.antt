@@ -1,5 +1,8 @@
 -- What there is to say of an event after a history: the numbers that it met, and what decided it.
-use Rattle.std.specs.Prelude.{ℕ, ◌+◌, max, Bool, true, false, List, Option, Some, None}
+use Rattle.std.specs.Prelude.{ℕ, ◌+◌, max, Bool, true, false, List, [], ◌∷◌, ◌++◌, Option, Some, None, if◌then◌else◌}
+use Rattle.std.specs.List.{filter_map, last_or}
+use Rattle.pie_book.specs.declared.command.Command.{Command}
+use Rattle.pie_book.specs.declared.command.Command.TheVariants.{Update, Reset}
 use Rattle.pie_book.specs.declared.command.Event.{Event}
 use Rattle.pie_book.specs.declared.opening.Opening.{Opening}
 use Rattle.pie_book.specs.Deed.{deed_of, handed_in}
@@ -10,7 +13,7 @@ use Rattle.pie_book.specs.Statistics.{wait_of}
 use Rattle.pie_book.specs.Cause.{cause_after}
 use Rattle.pie_trace.specs.declared.history.Line.{Line}
 use Rattle.pie_trace.specs.declared.history.Line.TheVariants.{Made, Unmakeable, Note}
-use Rattle.pie_audit.specs.Finding.{event_count, events_of, first_difference}
+use Rattle.pie_audit.specs.Finding.{LinePlace, event_count, events_of, first_difference, line_places, number_of}
 use Rattle.pie_explain.specs.declared.explanation.Explanation.{Explanation}
 use Rattle.pie_explain.specs.declared.which.Which.{Which}
 use Rattle.pie_explain.specs.Which.{chooses}
@@ -32,6 +35,32 @@ explanation opening history number event set_by = record {
   set_by = set_by;
 }
 
+-- ---- which event set the probability
+
+-- an event sets the probability: an update or a reset
+abbrev pub is_setting : Command → Bool
+is_setting (Update moment) = true
+is_setting (Reset moment) = true
+is_setting _ = false
+
+-- a line tells such an event
+abbrev pub sets_probability : Line → Bool
+sets_probability (Made event) = is_setting event.command
+sets_probability Unmakeable = false
+sets_probability Note = false
+
+-- the number of the event of a place, where it sets the probability
+abbrev pub setter_at : LinePlace → Option ℕ
+setter_at place = if sets_probability place.line then Some (number_of place) else None
+
+-- the number of the last such event among these lines
+unfoldable pub setter_after : List Line → Option ℕ
+setter_after lines = last_or None (filter_map setter_at (line_places lines))
+
+-- .. with this line, where these events were counted with it
+abbrev pub setter_with : Line → ℕ → Option ℕ → Option ℕ
+setter_with line events before = if sets_probability line then Some events else before
+
 -- ---- of the lines of a history
 
 -- an explanation where this holds
@@ -46,11 +75,19 @@ told_after opening which lines set_by (Made event) =
 told_after opening which lines set_by Unmakeable = None
 told_after opening which lines set_by Note = None
 
--- nothing after an event that differs
+-- nothing from an event on that differs
 abbrev pub told_unless : Option ℕ → Option Explanation → Option Explanation
 told_unless (Some event) told = None
 told_unless None told = told
 
--- what there is to say of a line after these lines, of which none differs
-abbrev pub told_of : Opening → Which → List Line → Option ℕ → Line → Option Explanation
-told_of opening which lines set_by line = told_unless (first_difference opening lines) (told_after opening which lines set_by line)
+abbrev pub told_unless_differs : Opening → List Line → Option Explanation → Option Explanation
+told_unless_differs opening lines told = told_unless (first_difference opening lines) told
+
+-- what there is to say at a place, where no event up to it, itself included, differs
+abbrev pub told_at : Opening → Which → LinePlace → Option Explanation
+told_at opening which place =
+    told_unless_differs opening (place.before ++ place.line ∷ []) (told_after opening which place.before (setter_after place.before) place.line)
+
+-- what there is to say of the chosen events of these lines, in their order
+unfoldable pub explanations : Opening → Which → List Line → List Explanation
+explanations opening which lines = filter_map (told_at opening which) (line_places lines)

@@ -1,13 +1,17 @@
-//! An explanation in words, of four or five lines.
+//! An explanation in words, of four to seven lines.
+ghost use Rattle.std.specs.Prelude.{◌≡◌, ◌++◌, OnOk, string_bytes};
+ghost use Rattle.pie_explain.specs.Words.{before_words, burst_words, cause_words, compared_words, considered_words, deed_words, departure_words, ecn_name, verdict_text, packet_words, picked_words, queue_words, reason_words, setter_words, sum_words, update_words, when_words, words};
 
 use crate::explanation::Explanation;
 use crate::units::{Millis, PerCent, Word};
-use pie_book::{Answer, Cause, Command, Fate};
+use pie_book::{Answer, Cause, Command, Fate, Registers};
 use pie_queue::{Ecn, Packet};
 use std::alloc::AllocError;
 
 /// An ECN field as RFC 3168 names it.
-fn ecn_name(ecn: Ecn) -> &'static str {
+fn ecn_name(ecn: Ecn) -> &'static str
+    ensures { result.now ≡ ecn_name ecn }
+{
     match ecn {
         Ecn::NotEct => "Not-ECT",
         Ecn::Ect1 => "ECT(1)",
@@ -17,7 +21,9 @@ fn ecn_name(ecn: Ecn) -> &'static str {
 }
 
 /// What became of an arriving packet.
-fn verdict_text(answer: Answer) -> &'static str {
+fn verdict_text(answer: Answer) -> &'static str
+    ensures { result.now ≡ verdict_text answer }
+{
     match answer {
         Answer::Enqueued => "queued",
         Answer::Marked => "queued and marked",
@@ -28,56 +34,91 @@ fn verdict_text(answer: Answer) -> &'static str {
     }
 }
 
-/// The first line: what the event did.
-fn push_event(page: &mut String, told: &Explanation) -> Result<(), AllocError> {
-    let (number, caller, now) = (told.number, told.event.caller, Millis(told.moment));
-    match told.event.command {
-        Command::Arrive { packet, .. } => {
-            let Packet { tag, size, ecn } = packet;
-            let (ecn, verdict) = (ecn_name(ecn), verdict_text(told.event.answer));
-            write!(
-                page,
-                "event {number}: packet {tag}, {size} bytes, {ecn}: {verdict}\n"
-            )?;
+/// The beginning of the first line of an event about a packet.
+#[tactic(auto, unfolding(crate::specs::Words::packet_words))]
+fn push_packet(page: &mut String, number: u64, packet: Packet) -> Result<(), AllocError>
+    ensures { OnOk result (string_bytes page.new ≡ string_bytes page.old ++ packet_words number packet) }
+{
+    let Packet { tag, size, ecn } = packet;
+    let ecn = ecn_name(ecn);
+    write!(page, "event {number}: packet {tag}, {size} bytes, {ecn}: ")
+}
+
+/// The first lines of a departure.
+#[tactic(auto, unfolding(crate::specs::Words::departure_words))]
+fn push_departure(
+    page: &mut String,
+    number: u64,
+    answer: Answer,
+    waited: u64,
+) -> Result<(), AllocError>
+    ensures { OnOk result (string_bytes page.new ≡ string_bytes page.old ++ departure_words number answer waited) }
+{
+    match answer {
+        Answer::Left(packet) => {
+            let waited = Millis(waited);
+            push_packet(page, number, packet)?;
+            write!(page, "left\n  it had waited {waited}\n")
         }
-        Command::Depart { .. } => match told.event.answer {
-            Answer::Left(packet) => {
-                let Packet { tag, size, ecn } = packet;
-                let (ecn, waited) = (ecn_name(ecn), Millis(told.waited));
-                write!(
-                    page,
-                    "event {number}: packet {tag}, {size} bytes, {ecn}: left\n"
-                )?;
-                write!(page, "  it had waited {waited}\n")?;
-            }
-            _ => write!(page, "event {number}: no packet was there to leave\n")?,
-        },
-        Command::Update { .. } => push_update(page, told)?,
-        Command::Reset { .. } => write!(page, "event {number}: a reset\n")?,
-        Command::SetParams { .. } => write!(page, "event {number}: new parameters\n")?,
+        _ => write!(page, "event {number}: no packet was there to leave\n"),
     }
-    write!(page, "  at {now}, by caller {caller}\n")
 }
 
 /// The first lines of an update.
-fn push_update(page: &mut String, told: &Explanation) -> Result<(), AllocError> {
-    let number = told.number;
-    match told.event.answer {
+#[tactic(auto, unfolding(crate::specs::Words::update_words))]
+fn push_update(page: &mut String, number: u64, answer: Answer) -> Result<(), AllocError>
+    ensures { OnOk result (string_bytes page.new ≡ string_bytes page.old ++ update_words number answer) }
+{
+    match answer {
         Answer::Updated { delay, prob, burst } => {
             let (delay, prob, burst) = (Millis(delay), PerCent(prob), Millis(burst));
-            write!(page, "event {number}: an update\n")?;
             write!(
                 page,
-                "  it took a delay of {delay}, and made the probability {prob}\n"
-            )?;
-            write!(page, "  and the burst allowance {burst}\n")
+                "event {number}: an update\n  it took a delay of {delay}, and made the probability {prob}\n  and the burst allowance {burst}\n"
+            )
         }
         _ => write!(page, "event {number}: an update\n"),
     }
 }
 
+/// The first lines: what the event did.
+#[tactic(auto, unfolding(crate::specs::Words::deed_words))]
+fn push_deed(
+    page: &mut String,
+    number: u64,
+    command: Command,
+    answer: Answer,
+    waited: u64,
+) -> Result<(), AllocError>
+    ensures { OnOk result (string_bytes page.new ≡ string_bytes page.old ++ deed_words number command answer waited) }
+{
+    match command {
+        Command::Arrive { packet, .. } => {
+            push_packet(page, number, packet)?;
+            let verdict = verdict_text(answer);
+            write!(page, "{verdict}\n")
+        }
+        Command::Depart { .. } => push_departure(page, number, answer, waited),
+        Command::Update { .. } => push_update(page, number, answer),
+        Command::Reset { .. } => write!(page, "event {number}: a reset\n"),
+        Command::SetParams { .. } => write!(page, "event {number}: new parameters\n"),
+    }
+}
+
+/// When the event was, and whose it was.
+#[tactic(auto, unfolding(crate::specs::Words::when_words))]
+fn push_when(page: &mut String, moment: u64, caller: u16) -> Result<(), AllocError>
+    ensures { OnOk result (string_bytes page.new ≡ string_bytes page.old ++ when_words moment caller) }
+{
+    let now = Millis(moment);
+    write!(page, "  at {now}, by caller {caller}\n")
+}
+
 /// Why a picked packet was marked or dropped.
-fn push_fate(page: &mut String, fate: Fate) -> Result<(), AllocError> {
+#[tactic(auto, unfolding(crate::specs::Words::picked_words))]
+fn push_fate(page: &mut String, fate: Fate) -> Result<(), AllocError>
+    ensures { OnOk result (string_bytes page.new ≡ string_bytes page.old ++ picked_words fate) }
+{
     match fate {
         Fate::Marked { threshold } => {
             let threshold = PerCent(threshold);
@@ -98,7 +139,10 @@ fn push_fate(page: &mut String, fate: Fate) -> Result<(), AllocError> {
 }
 
 /// What was accumulated, with the probability of this arrival.
-fn push_sum(page: &mut String, accu: u64, prob: u64) -> Result<(), AllocError> {
+#[tactic(auto, unfolding(crate::specs::Words::sum_words))]
+fn push_sum(page: &mut String, accu: u64, prob: u64) -> Result<(), AllocError>
+    ensures { OnOk result (string_bytes page.new ≡ string_bytes page.old ++ sum_words accu prob) }
+{
     let sum = PerCent(accu.saturating_add(prob));
     write!(
         page,
@@ -107,13 +151,16 @@ fn push_sum(page: &mut String, accu: u64, prob: u64) -> Result<(), AllocError> {
 }
 
 /// How the random word compares with the probability.
+#[tactic(auto, unfolding(crate::specs::Words::compared_words))]
 fn push_word(
     page: &mut String,
     word: u64,
     prob: u64,
     outcome: &str,
     compares: &str,
-) -> Result<(), AllocError> {
+) -> Result<(), AllocError>
+    ensures { OnOk result (string_bytes page.new ≡ string_bytes page.old ++ compared_words word prob outcome.now compares.now) }
+{
     let (word, prob) = (Word(word), PerCent(prob));
     write!(
         page,
@@ -121,23 +168,11 @@ fn push_word(
     )
 }
 
-/// Why an arrival was let in at a low delay.
-fn push_low_delay(
-    page: &mut String,
-    old_delay: u64,
-    target: u64,
-    prob: u64,
-) -> Result<(), AllocError> {
-    let (old_delay, target, prob) = (Millis(old_delay), Millis(target), PerCent(prob));
-    write!(
-        page,
-        "  the old delay, {old_delay}, is below half the target of {target},\n"
-    )?;
-    write!(page, "  and the probability, {prob}, below 20 %\n")
-}
-
 /// Why an arrival was decided so.
-fn push_cause(page: &mut String, cause: Cause) -> Result<(), AllocError> {
+#[tactic(auto, unfolding(crate::specs::Words::cause_words))]
+fn push_cause(page: &mut String, cause: Cause) -> Result<(), AllocError>
+    ensures { OnOk result (string_bytes page.new ≡ string_bytes page.old ++ cause_words cause) }
+{
     match cause {
         Cause::NoRoomInBytes { bytes, size, limit } => write!(
             page,
@@ -155,7 +190,13 @@ fn push_cause(page: &mut String, cause: Cause) -> Result<(), AllocError> {
             old_delay,
             target,
             prob,
-        } => push_low_delay(page, old_delay, target, prob),
+        } => {
+            let (old_delay, target, prob) = (Millis(old_delay), Millis(target), PerCent(prob));
+            write!(
+                page,
+                "  the old delay, {old_delay}, is below half the target of {target},\n  and the probability, {prob}, below 20 %\n"
+            )
+        }
         Cause::ShortQueue { bytes, two_packets } => write!(
             page,
             "  the queue is short: {bytes} bytes, at most two mean packets ({two_packets} bytes)\n"
@@ -166,7 +207,10 @@ fn push_cause(page: &mut String, cause: Cause) -> Result<(), AllocError> {
 }
 
 /// Why an arrival was decided so that was considered at a probability above 0.
-fn push_considered(page: &mut String, cause: Cause) -> Result<(), AllocError> {
+#[tactic(auto, unfolding(crate::specs::Words::considered_words))]
+fn push_considered(page: &mut String, cause: Cause) -> Result<(), AllocError>
+    ensures { OnOk result (string_bytes page.new ≡ string_bytes page.old ++ considered_words cause) }
+{
     match cause {
         Cause::LittleAccumulated { accu, prob } => {
             push_sum(page, accu, prob)?;
@@ -195,33 +239,75 @@ fn push_considered(page: &mut String, cause: Cause) -> Result<(), AllocError> {
     }
 }
 
-/// What the controller held before the event.
-fn push_before(page: &mut String, told: &Explanation) -> Result<(), AllocError> {
-    let before = &told.before;
-    let (packets, bytes, delay) = (before.packets, before.bytes, Millis(told.delay));
-    write!(
-        page,
-        "  before it: {packets} packets, {bytes} bytes, a delay of {delay}\n"
-    )?;
-    let (prob, burst) = (PerCent(before.prob), Millis(before.burst));
-    match told.set_by {
+/// Why an event was decided so; nothing of one that is no arrival.
+#[tactic(auto, unfolding(crate::specs::Words::reason_words))]
+fn push_reason(page: &mut String, cause: Option<Cause>) -> Result<(), AllocError>
+    ensures { OnOk result (string_bytes page.new ≡ string_bytes page.old ++ reason_words cause) }
+{
+    match cause {
+        Some(cause) => push_cause(page, cause),
+        None => Ok(()),
+    }
+}
+
+/// The probability before the event, and which event set it.
+#[tactic(auto, unfolding(crate::specs::Words::setter_words))]
+fn push_setter(page: &mut String, set_by: Option<u64>, before: &Registers) -> Result<(), AllocError>
+    ensures { OnOk result (string_bytes page.new ≡ string_bytes page.old ++ setter_words set_by before.now) }
+{
+    let prob = PerCent(before.prob);
+    match set_by {
         Some(event) => {
             let last = Millis(before.last);
             write!(
                 page,
                 "  probability {prob}, set by event {event}; last update at {last};"
-            )?;
+            )
         }
-        None => write!(page, "  probability {prob}, with no update yet;")?,
+        None => write!(page, "  probability {prob}, with no update yet;"),
     }
+}
+
+/// What waited before the event.
+#[tactic(auto, unfolding(crate::specs::Words::queue_words))]
+fn push_queue(page: &mut String, packets: u64, bytes: u64, delay: u64) -> Result<(), AllocError>
+    ensures { OnOk result (string_bytes page.new ≡ string_bytes page.old ++ queue_words packets bytes delay) }
+{
+    let delay = Millis(delay);
+    write!(
+        page,
+        "  before it: {packets} packets, {bytes} bytes, a delay of {delay}\n"
+    )
+}
+
+/// What was left of the burst allowance before the event.
+#[tactic(auto, unfolding(crate::specs::Words::burst_words))]
+fn push_burst(page: &mut String, burst: u64) -> Result<(), AllocError>
+    ensures { OnOk result (string_bytes page.new ≡ string_bytes page.old ++ burst_words burst) }
+{
+    let burst = Millis(burst);
     write!(page, " burst allowance {burst}\n")
 }
 
+/// What the controller held before the event.
+#[tactic(auto, unfolding(crate::specs::Words::before_words))]
+fn push_before(page: &mut String, told: &Explanation) -> Result<(), AllocError>
+    ensures { OnOk result (string_bytes page.new ≡ string_bytes page.old ++ before_words told.now) }
+{
+    let before = &told.before;
+    push_queue(page, before.packets, before.bytes, told.delay)?;
+    push_setter(page, told.set_by, before)?;
+    push_burst(page, before.burst)
+}
+
 /// Writes an explanation in words.
-pub(crate) fn push_text(page: &mut String, told: &Explanation) -> Result<(), AllocError> {
-    push_event(page, told)?;
-    if let Some(cause) = told.cause {
-        push_cause(page, cause)?;
-    }
+#[tactic(auto, unfolding(crate::specs::Words::words))]
+pub(crate) fn push_text(page: &mut String, told: &Explanation) -> Result<(), AllocError>
+    ensures { OnOk result (string_bytes page.new ≡ string_bytes page.old ++ words told.now) }
+{
+    let event = &told.event;
+    push_deed(page, told.number, event.command, event.answer, told.waited)?;
+    push_when(page, told.moment, event.caller)?;
+    push_reason(page, told.cause)?;
     push_before(page, told)
 }

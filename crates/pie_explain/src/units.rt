@@ -7,6 +7,11 @@ use std::fmt::Display;
 pub(crate) struct Millis(pub(crate) u64);
 
 impl Display for Millis {
+    ghost use Rattle.std.specs.Prelude.{Some};
+    ghost use Rattle.pie_explain.specs.Words.{millis};
+
+    ghost output = { λ time. Some (millis time.0) };
+
     fn fmt<W: fmt::Write>(&self, f: &mut fmt::Formatter<W>) -> fmt::Result {
         let (whole, rest) = (self.0 / 1_000_000, self.0 % 1_000_000);
         let exact = self.0;
@@ -19,6 +24,11 @@ impl Display for Millis {
 pub(crate) struct PerCent(pub(crate) u64);
 
 impl Display for PerCent {
+    ghost use Rattle.std.specs.Prelude.{Some};
+    ghost use Rattle.pie_explain.specs.Words.{per_cent};
+
+    ghost output = { λ part. Some (per_cent part.0) };
+
     fn fmt<W: fmt::Write>(&self, f: &mut fmt::Formatter<W>) -> fmt::Result {
         let whole = self.0 / 10_000_000_000;
         let rest = self.0 % 10_000_000_000 / 1_000_000;
@@ -32,6 +42,11 @@ impl Display for PerCent {
 pub(crate) struct Word(pub(crate) u64);
 
 impl Display for Word {
+    ghost use Rattle.std.specs.Prelude.{Some};
+    ghost use Rattle.pie_explain.specs.Words.{word_text};
+
+    ghost output = { λ word. Some (word_text word.0) };
+
     fn fmt<W: fmt::Write>(&self, f: &mut fmt::Formatter<W>) -> fmt::Result {
         let exact = self.0;
         let parts = (u128::from(exact) * 1_000_000) >> 64;

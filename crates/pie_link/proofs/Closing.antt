@@ -12,7 +12,7 @@ use Rattle.pie_link.specs.declared.ending.StormFault.{StormFault}
 use Rattle.std.specs.List.{All}
 use Rattle.pie_link.specs.declared.plan.Plan.{Plan}
 use Rattle.pie_link.specs.Plans.{IsSound, opening_of, senders}
-use Rattle.pie_link.specs.Storms.{AllCameOf, AllCameAt, IsStorm}
+use Rattle.pie_link.specs.Storms.{AllCameOf, AllCameAt, AreFolded, IsStorm}
 use Rattle.pie_link.specs.Views.{LinkView, CallerView, StaysOne, number_of}
 use Rattle.pie_link.proofs.Counting.{callers_of_plan, is_storm}
 
@@ -37,19 +37,21 @@ pub end_shows : {A : Type 0} (value : StormEnd → A) (after : Opening → List 
 end_shows value after opening other history (Ok end) same is shows = shows ∙ (ap (λ o. after o history) same ∙ ap (λ h. after opening h) (sym is))
 end_shows value after opening other history (Err why) same is shows = is
 
-pub end_made : (plan : Plan) (history : List Event) (passed : ℕ) (result : Result StormEnd StormFault) → IsStorm plan history passed
-    → IfOk result (λ end. end.events.items ≡ history) → IfOk result (λ end. end.too_soon ≡ passed) → IfOk result (λ end. IsStorm plan end.events.items end.too_soon)
-end_made plan history passed (Ok end) made is count =
-    subst (λ (es : List Event). IsStorm plan es end.too_soon) (sym is) (subst (λ (t : ℕ). IsStorm plan history t) (sym count) made)
-end_made plan history passed (Err why) made is count = is
+pub end_made : (plan : Plan) (history : List Event) (well : Type 0) (passed many : ℕ) (result : Result StormEnd StormFault) → (well → IsStorm plan history passed many)
+    → IfOk result (λ end. end.events.items ≡ history) → IfOk result (λ end. well × (end.too_soon ≡ passed) × (end.too_many ≡ many))
+    → IfOk result (λ end. IsStorm plan end.events.items end.too_soon end.too_many)
+end_made plan history well passed many (Ok end) made is counts =
+    subst (λ (es : List Event). IsStorm plan es end.too_soon end.too_many) (sym is)
+    (subst (λ (t : ℕ). IsStorm plan history t end.too_many) (sym (counts.1)) (subst (λ (t : ℕ). IsStorm plan history passed t) (sym (counts.2)) (made counts.0)))
+end_made plan history well passed many (Err why) made is counts = is
 
 -- the starter's front, once it has all numbers, is what the plan asks for
-pub gathered_storm : (plan : Plan) (link : LinkView) (starter caller : CallerView) (passed : ℕ) → IsSound plan
+pub gathered_storm : (plan : Plan) (link : LinkView) (starter caller : CallerView) (passed many : ℕ) → IsSound plan
     → link.origin ≡ Some (opening_of plan) → link.numbers ≡ senders plan + 5 → starter ≡ first_pass link (senders plan + 5) → StaysOne starter caller
     → AllCameAt link plan starter.limit caller.front passed → (HoldsAll caller → All (λ (e : Event). number_of e < caller.lock.numbers) caller.front)
-    → IsStorm plan caller.front passed
+    → AreFolded caller.front 0 plan.folds.items many → IsStorm plan caller.front passed many
 unfolding AllCameAt
-gathered_storm plan link starter caller passed sound from numbers first stays came numbered =
+gathered_storm plan link starter caller passed many sound from numbers first stays came numbered folds =
     let lock : caller.lock ≡ link = stays.0 ∙ ap (λ (p : CallerView). p.lock) first in
     let low : caller.first ≡ 0 = stays.1 ∙ ap (λ (p : CallerView). p.first) first in
     let high : caller.limit ≡ caller.lock.numbers = stays.2 ∙ (ap (λ (p : CallerView). p.limit) first ∙ (sym numbers ∙ ap (λ (l : LinkView). l.numbers) (sym lock))) in
@@ -57,8 +59,4 @@ gathered_storm plan link starter caller passed sound from numbers first stays ca
     let below : All (λ (e : Event). e.caller < callers_of_plan plan) caller.front =
     subst (λ (n : ℕ). All (λ (e : Event). e.caller < n) caller.front) all (numbered (low, high)) in
     let limit : starter.limit ≡ callers_of_plan plan = omega (arith, ap (λ (p : CallerView). p.limit) first) in
-    is_storm plan caller.front passed sound below (subst (λ (n : ℕ). AllCameOf (opening_of plan) plan n caller.front passed) limit (came (opening_of plan) from))
-
-pub ok_first : (passed many : ℕ) (result : Result StormEnd StormFault) → IfOk result (λ end. (end.too_soon ≡ passed) × (end.too_many ≡ many)) → IfOk result (λ end. end.too_soon ≡ passed)
-ok_first passed many (Ok end) both = both.0
-ok_first passed many (Err why) both = both
+    is_storm plan caller.front passed many sound below (subst (λ (n : ℕ). AllCameOf (opening_of plan) plan n caller.front passed) limit (came (opening_of plan) from)) folds

@@ -27,7 +27,7 @@ use Rattle.pie_link.specs.declared.plan.Plan.{Plan}
 use Rattle.pie_link.specs.Plans.{senders, sent, arrive, change, commands_of, commands_after_senders, count_of, planned, opening_of, IsSound}
 use Rattle.pie_link.specs.Views.{number_of}
 use Rattle.pie_link.proofs.Planning.{of_either}
-use Rattle.pie_link.specs.Storms.{events_of, commands_in, AreMade, CameOf, AllCameOf, IsStorm}
+use Rattle.pie_link.specs.Storms.{events_of, commands_in, AreFolded, AreMade, CameOf, AllCameOf, IsStorm}
 
 -- the sum of f over the numbers below n
 abbrev pub total : (ℕ → ℕ) → ℕ → ℕ
@@ -309,10 +309,10 @@ events_past n caller (e ∷ xs) past all =
     (events_past n caller xs past (All-tail (λ (x : Event). x.caller < n) e xs all))
 
 -- the history of a storm is what its plan asks for
-pub is_storm : (plan : Plan) (h : List Event) (passed : ℕ) → IsSound plan → All (λ (e : Event). e.caller < callers_of_plan plan) h
-    → AllCameOf (opening_of plan) plan (callers_of_plan plan) h passed → IsStorm plan h passed
+pub is_storm : (plan : Plan) (h : List Event) (passed many : ℕ) → IsSound plan → All (λ (e : Event). e.caller < callers_of_plan plan) h
+    → AllCameOf (opening_of plan) plan (callers_of_plan plan) h passed → AreFolded h 0 plan.folds.items many → IsStorm plan h passed many
 unfolding commands_of
-is_storm plan h passed sound below came =
+is_storm plan h passed many sound below came folds =
     let opening = opening_of plan in
     let n = senders plan in
     let all = all_made plan h passed sound below came in
@@ -322,6 +322,7 @@ is_storm plan h passed sound below came =
       departures = whole (n + 1) (λ is. omega (arith, is)) (omega arith) ∙ after_senders plan 1 (omega arith);
       changes = whole (n + 3) (λ is. omega (arith, is)) (omega arith) ∙ after_senders plan 3 (omega arith);
       updates = subst (λ (cs : List Command). AreMade opening (n + 2) h [] cs (events_of (n + 2) h) passed) (after_senders plan 2 (omega arith)) (updates_made opening plan h passed all);
+      folds = folds;
       no_others = λ caller out. ⊎_elim
           (λ starter. empty_of_commands (events_of caller h) (subst (λ (c : ℕ). commands_in (events_of c h) ≡ []) (sym starter) (whole 0 (λ is. omega (arith, is)) (omega arith))))
           (λ past. dite (ℕ_discrete caller (n + 4))

@@ -4,6 +4,7 @@ pub mod Folding
 pub mod Examples
 pub mod Planning
 pub mod Working
+pub mod FoldsMade
 pub mod Gathering
 pub mod Closing
 pub mod Counting

@@ -33,7 +33,7 @@ use Rattle.pie_link.specs.Plans.{IsFair, IsSound, commands_of}
 use Rattle.pie_link.proofs.Planning.{fair_at}
 use Rattle.pie_link.specs.Storms.{events_of, WasTooSoon, AreMade, IsCutShort, CameOf, CameAt, Goes, EachGoes, GoesOrEnds, added_by, FoldedAt, HasNoneAt}
 
-drop_next : {A : Type 0} (xs : List A) (k : ℕ) (x : A) → slice_get xs k ≡ Some x → drop k xs ≡ x ∷ drop (k + 1) xs
+pub drop_next : {A : Type 0} (xs : List A) (k : ℕ) (x : A) → slice_get xs k ≡ Some x → drop k xs ≡ x ∷ drop (k + 1) xs
 drop_next xs k x e =
     let next : suc k ≡ k + 1 = omega arith in
     drop-cons xs k x (slice_get_within xs k x e) ∙ (ap (λ y. y ∷ drop (suc k) xs) (get_or_from_slice_get xs k x x e) ∙ ap (λ j. x ∷ drop j xs) next)

@@ -8,6 +8,10 @@ use Rattle.pie_book.specs.declared.opening.Opening.{Opening}
 use Rattle.pie_book.specs.declared.command.Answer.{Answer}
 use Rattle.pie_book.specs.declared.refusal.Refusal.{Refusal}
 use Rattle.pie_book.specs.declared.refusal.Refusal.TheVariants.{Moment, Size, TooSoon, Exhausted, HistoryFull}
+use Rattle.std.specs.declared.alloc.Global.{Global}
+use Rattle.std.specs.Prelude.{Vec}
+use Rattle.pie_book.specs.declared.refusal.FoldRefusal.{FoldRefusal}
+use Rattle.pie_book.specs.declared.refusal.FoldRefusal.TheVariants.{TooMany, Memory}
 use Rattle.pie_link.specs.declared.told.Told.{Told}
 use Rattle.pie_book.specs.Decision.{refusal_by_rule}
 use Rattle.pie_link.specs.declared.plan.Plan.{Plan}
@@ -92,6 +96,41 @@ GoesOrEnds link caller commands k front passed None = (opening : Opening) → li
 unfoldable pub FoldedAt : LinkView → Type 0 → List Event → List Event → Type 0
 FoldedAt link well events front = (opening : Opening) → link.origin ≡ Some opening → well → IsPrefix events front
 
+-- where so many events had been folded, n more were too many after a beginning of the history, which holds fewer beside them
+pub record WasTooMany (history : List Event) (folded n : ℕ) : Type 0 where
+  pub before : List Event
+  pub begins : IsPrefix before history
+  pub held : ℕ
+  pub holds : length before ≡ folded + held
+  pub fewer : held < n
+
+-- where so many events had been folded, these folds came one after another: each handed out the next n events of the history, but
+-- for so many, where n were too many
+abbrev pub AreFolded : List Event → ℕ → List ℕ → ℕ → Type 0
+AreFolded history folded [] too_many = too_many ≡ 0
+AreFolded history folded (n ∷ folds) too_many =
+    ((folded + n ≤ length history) × AreFolded history (folded + n) folds too_many)
+    ⊎ (WasTooMany history folded n × ((fewer : ℕ) × (too_many ≡ fewer + 1) × AreFolded history folded folds fewer))
+
+-- after k of these folds so many events were folded, and so many folds were too many: whatever comes of the others, in a history
+-- that goes on from what the caller was shown, comes of all
+unfoldable pub FoldsGo : List ℕ → ℕ → List Event → ℕ → ℕ → Type 0
+FoldsGo folds k front folded too_many = (history : List Event) → IsPrefix front history → (n : ℕ)
+    → AreFolded history folded (drop k folds) n → AreFolded history 0 folds (too_many + n)
+
+-- the same at a link, where they are well; and what came of all folds
+unfoldable pub FoldsGoAt : LinkView → Type 0 → List ℕ → ℕ → List Event → ℕ → ℕ → Type 0
+FoldsGoAt link well folds k front folded too_many = (opening : Opening) → link.origin ≡ Some opening → well → FoldsGo folds k front folded too_many
+
+unfoldable pub AreFoldedAt : LinkView → Type 0 → List ℕ → List Event → ℕ → Type 0
+AreFoldedAt link well folds front too_many = (opening : Opening) → link.origin ≡ Some opening → well → AreFolded front 0 folds too_many
+
+-- what an answer adds to the folds that were too many
+unfoldable pub refused_by : Result (Told (Vec Event Global)) FoldRefusal → ℕ
+refused_by (Ok told) = 0
+refused_by (Err (TooMany held)) = 1
+refused_by (Err Memory) = 0
+
 -- at a link, a caller has no events in this history
 unfoldable pub HasNoneAt : LinkView → ℕ → List Event → Type 0
 HasNoneAt link caller front = (opening : Opening) → link.origin ≡ Some opening → events_of caller front ≡ []
@@ -100,8 +139,9 @@ HasNoneAt link caller front = (opening : Opening) → link.origin ≡ Some openi
 abbrev pub commands_in : List Event → List Command
 commands_in events = map (λ (event : Event). event.command) events
 
--- these events are those that the plan asks for, but for so many updates that were too soon
-pub record IsStorm (plan : Plan) (events : List Event) (too_soon : ℕ) : Type 0 where
+-- these events are those that the plan asks for, but for so many updates that were too soon; and so many of its folds were of too
+-- many events
+pub record IsStorm (plan : Plan) (events : List Event) (too_soon too_many : ℕ) : Type 0 where
   -- each sender's arrivals, in order; senders are counted from 0
   pub arrivals : (sender : ℕ) → sender < senders plan → commands_in (events_of (sender + 1) events) ≡ sent plan.arrivals.items sender
   -- the departures, in order, and the changes
@@ -109,5 +149,7 @@ pub record IsStorm (plan : Plan) (events : List Event) (too_soon : ℕ) : Type 0
   pub changes : commands_in (events_of (senders plan + 3) events) ≡ map change plan.changes.items
   -- the updates, in order, but for those that were too soon
   pub updates : AreMade (opening_of plan) (senders plan + 2) events [] (map Update plan.updates.items) (events_of (senders plan + 2) events) too_soon
+  -- the folds, in order, but for those that were too many, each at a beginning of these events
+  pub folds : AreFolded events 0 plan.folds.items too_many
   -- no other caller has an event
   pub no_others : (caller : ℕ) → (caller ≡ 0) ⊎ (senders plan + 3 < caller) → events_of caller events ≡ []

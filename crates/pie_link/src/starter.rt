@@ -11,7 +11,7 @@ ghost use Rattle.pie_link.specs.declared.plan.Plan.{Plan};
 ghost use Rattle.pie_link.specs.declared.refusal.LinkRefusal.{LinkRefusal};
 ghost use Rattle.pie_link.specs.Opening.{link_refusal};
 ghost use Rattle.pie_link.specs.Plans.{IsSound, opening_of, planned, senders};
-ghost use Rattle.pie_link.specs.Storms.{AllCameAt, CameAt, FoldedAt, IsStorm};
+ghost use Rattle.pie_link.specs.Storms.{AllCameAt, AreFoldedAt, CameAt, FoldedAt, IsStorm};
 ghost use Rattle.pie_link.specs.Views.{StaysOne};
 
 use crate::caller::Caller;
@@ -44,6 +44,7 @@ fn work_at_once<R: Threads + Wait + Sync, G: Gate + Sync>(
     ensures made { AllCameAt link.now plan.now caller.limit result.caller.front result.too_soon }
     ensures few { result.too_soon ≤ caller.limit * 2 ^ 20 }
     ensures folded { FoldedAt link.now (result.folding.fault ≡ None) result.folding.events.items result.caller.front }
+    ensures folds { caller.limit ≡ senders plan.now + 5 → AreFoldedAt link.now (result.folding.fault ≡ None) plan.now.folds.items result.caller.front result.folding.too_many }
 {
     let mut rest = caller;
     let last = match link.share(&mut rest) {
@@ -64,6 +65,7 @@ fn work_at_once<R: Threads + Wait + Sync, G: Gate + Sync>(
             ensures made { CameAt link.entry.now plan.entry.now last.first result.caller.front result.too_soon }
             ensures few { result.too_soon ≤ 2 ^ 20 }
             ensures folded { FoldedAt link.entry.now (result.folding.fault ≡ None) result.folding.events.items result.caller.front }
+            ensures folds { last.first ≡ senders plan.entry.now + 4 → AreFoldedAt link.entry.now (result.folding.fault ≡ None) plan.entry.now.folds.items result.caller.front result.folding.too_many }
         { make_calls(rt, alloc, link, plan, gate, last) },
         || -> Work
             requires { IsSync R.row × IsSync G.row × (rest.lock ≡ link.now) × (rest.first ≡ 0) × (rest.front ≡ []) × IsSound plan.now × (planned plan.now ≤ 2 ^ 20) }
@@ -88,6 +90,8 @@ fn both(link: &Link, work: Work, last: Work) -> Work
     ensures few { result.too_soon ≤ result.caller.limit * 2 ^ 20 }
     ensures folded { FoldedAt link.now (last.folding.fault ≡ None) last.folding.events.items last.caller.front
         → FoldedAt link.now (result.folding.fault ≡ None) result.folding.events.items result.caller.front }
+    ensures folds { (plan : Plan) → AreFoldedAt link.now (last.folding.fault ≡ None) plan.folds.items last.caller.front last.folding.too_many
+        → AreFoldedAt link.now (result.folding.fault ≡ None) plan.folds.items result.caller.front result.folding.too_many }
 {
     let mut caller = work.caller;
     let Ok(()) = link.gather(&mut caller, last.caller) else {
@@ -120,7 +124,7 @@ pub fn storm<R: Threads + Wait + Sync, G: Gate + Sync>(
     ensures bad_plan { (result ≡ Err StormFault.BadPlan) ↔ (IsSound plan.now → ⊥) }
     ensures refused { IsSound plan.now → (why : LinkRefusal) → link_refusal plan.now.limits plan.now.moment (senders plan.now + 5) ≡ Some why → result ≡ Err (StormFault.Opening why) }
     ensures legal { IfOk result (λ end. IsLegal (opening_of plan.now) end.events.items) }
-    ensures made { IfOk result (λ end. IsStorm plan.now end.events.items end.too_soon) }
+    ensures made { IfOk result (λ end. IsStorm plan.now end.events.items end.too_soon end.too_many) }
     ensures registers { IfOk result (λ end. end.registers ≡ registers_after (opening_of plan.now) end.events.items) }
     ensures stats { IfOk result (λ end. end.stats ≡ stats_after (opening_of plan.now) end.events.items) }
 {
@@ -154,7 +158,7 @@ fn end_of(
     ensures events { (history : List Event) → Tells book history → (folding.fault ≡ None → IsPrefix folding.events.items history) → IfOk result (λ end. end.events.items ≡ history) }
     ensures registers { (history : List Event) → Tells book history → IfOk result (λ end. end.registers ≡ registers_after book.opening history) }
     ensures stats { (history : List Event) → Tells book history → IfOk result (λ end. end.stats ≡ stats_after book.opening history) }
-    ensures counts { IfOk result (λ end. (end.too_soon ≡ too_soon) × (end.too_many ≡ folding.too_many)) }
+    ensures counts { IfOk result (λ end. (folding.fault ≡ None) × (end.too_soon ≡ too_soon) × (end.too_many ≡ folding.too_many)) }
 {
     let Folding {
         events,

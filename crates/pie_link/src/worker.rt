@@ -1,8 +1,8 @@
 //! The workers of a storm: each makes the calls of one caller, one after another.
-ghost use Rattle.std.specs.Prelude.{◌≡◌, ◌+◌, ◌^◌, ◌<◌, ◌≤◌, ◌-◌, ◌++◌, ℕ, [], Some, None, IfSome, IfOk, OnErr, unwrap_or, length, vec_len};
+ghost use Rattle.std.specs.Prelude.{◌≡◌, ◌≢◌, ◌+◌, ◌^◌, ◌<◌, ◌≤◌, ◌-◌, ◌++◌, ℕ, [], Some, None, Err, IfSome, IfOk, OnErr, unwrap_or, length, vec_len};
 ghost use Rattle.pie_link.specs.Commands.{Answers};
 ghost use Rattle.pie_link.specs.Plans.{IsSound, commands_of, planned, senders};
-ghost use Rattle.pie_link.specs.Storms.{CameAt, EachGoes, FoldedAt, GoesOrEnds, HasNoneAt, added_by, events_of};
+ghost use Rattle.pie_link.specs.Storms.{AreFoldedAt, CameAt, EachGoes, FoldedAt, FoldsGoAt, GoesOrEnds, HasNoneAt, added_by, events_of, refused_by};
 ghost use Rattle.pie_link.specs.Views.{StaysOne};
 
 use crate::caller::Caller;
@@ -84,13 +84,16 @@ impl Folding {
     }
 
     // Takes in what one more fold was answered.
+    #[tactic(auto, unfolding(crate::specs::Storms::refused_by))]
     fn take_in(&mut self, answer: Result<Told<Vec<Event>>, FoldRefusal>)
         requires room { self.old.too_many < 2 ^ 64 - 1 }
         ensures first { self.new.fault ≡ None → self.old.fault ≡ None }
         ensures told { self.new.fault ≡ None → IfOk answer (λ told. (told.number ≡ length self.old.events.items + length told.answer.items)
             × (self.new.events.items ≡ self.old.events.items ++ told.answer.items)) }
         ensures refused { OnErr answer (self.new.events.items ≡ self.old.events.items) }
-        ensures too_many { self.new.too_many ≤ self.old.too_many + 1 }
+        ensures memory { self.new.fault ≡ None → answer ≢ Err FoldRefusal.Memory }
+        ensures too_many { self.new.too_many ≡ self.old.too_many + refused_by answer }
+        ensures few { self.new.too_many ≤ self.old.too_many + 1 }
     {
         match answer {
             Ok(told) => self.follow(told),
@@ -220,13 +223,16 @@ fn fold_next<R: Wait, G: Gate>(
 )
     requires own { caller.old.lock ≡ link.now }
     requires one { caller.old.limit ≡ caller.old.first + 1 }
-    requires some { k < vec_len plan.now.folds }
+    requires some { k < length plan.now.folds.items }
     requires room { folding.old.too_many ≤ k }
     ensures stays { StaysOne caller.old caller.new }
     ensures few { folding.new.too_many ≤ k + 1 }
     ensures none { HasNoneAt link.now caller.old.first caller.old.front → HasNoneAt link.now caller.old.first caller.new.front }
     ensures folded { FoldedAt link.now (folding.old.fault ≡ None) folding.old.events.items caller.old.front
         → FoldedAt link.now (folding.new.fault ≡ None) folding.new.events.items caller.new.front }
+    ensures folds { FoldedAt link.now (folding.old.fault ≡ None) folding.old.events.items caller.old.front
+        → FoldsGoAt link.now (folding.old.fault ≡ None) plan.now.folds.items k caller.old.front (length folding.old.events.items) folding.old.too_many
+        → FoldsGoAt link.now (folding.new.fault ≡ None) plan.now.folds.items (k + 1) caller.new.front (length folding.new.events.items) folding.new.too_many }
 {
     let number = caller.first();
     gate.before(number, k as u64 + 1);
@@ -254,6 +260,7 @@ fn fold_all<R: Wait, G: Gate>(
     ensures made { CameAt link.now plan.now caller.first result.caller.front result.too_soon }
     ensures few { result.too_soon ≤ 2 ^ 20 }
     ensures folded { FoldedAt link.now (result.folding.fault ≡ None) result.folding.events.items result.caller.front }
+    ensures folds { AreFoldedAt link.now (result.folding.fault ≡ None) plan.now.folds.items result.caller.front result.folding.too_many }
 {
     let mut mine = caller;
     let mut folding = Folding::none(alloc);
@@ -285,6 +292,7 @@ pub(crate) fn make_calls<R: Wait, G: Gate>(
     ensures made { CameAt link.now plan.now caller.first result.caller.front result.too_soon }
     ensures few { result.too_soon ≤ 2 ^ 20 }
     ensures folded { FoldedAt link.now (result.folding.fault ≡ None) result.folding.events.items result.caller.front }
+    ensures folds { caller.first ≡ senders plan.now + 4 → AreFoldedAt link.now (result.folding.fault ≡ None) plan.now.folds.items result.caller.front result.folding.too_many }
 {
     if usize::from(caller.first()) == plan.arrivals.len() + 4 {
         fold_all(rt, alloc, link, plan, gate, caller)

@@ -1,4 +1,4 @@
-ghost use Rattle.std.specs.Prelude.{◌≡◌, ◌^◌, ◌≤◌, ◌↔◌, IsTrue, IsOk, IfOk, IfErr};
+ghost use Rattle.std.specs.Prelude.{◌≡◌, is_some, is_none, IfSome, ◌^◌, ◌≤◌, ◌↔◌, IsTrue, IsOk, IfOk, IfErr};
 ghost use Rattle.pie_fixed.specs.declared.TheConstants.{ONE};
 
 use crate::raw::{BadParam, RawParams};
@@ -68,6 +68,20 @@ impl Params {
         match raw.first_bad() {
             Some(field) => Err(BadParam(field)),
             None => Ok(Params::in_range(raw)),
+        }
+    }
+
+    /// The parameters of a record, `None` where a field is out of its range; which one, [`Params::check`] says. It looks at nothing
+    /// twice, for callers that ask at each packet.
+    #[inline(always)]
+    pub fn from_raw(raw: RawParams) -> Option<Self>
+        ensures accepts { is_some result ≡ is_none (first_bad raw) }
+        ensures same { IfSome result (λ params. params ≡ raw) }
+    {
+        if raw.are_in_range() {
+            Some(Params::in_range(raw))
+        } else {
+            None
         }
     }
 

@@ -1,4 +1,4 @@
-ghost use Rattle.std.specs.Prelude.{◌≡◌};
+ghost use Rattle.std.specs.Prelude.{◌≡◌, is_none};
 
 use std::fmt;
 use thiserror::Error;
@@ -123,6 +123,22 @@ impl RawParams {
                 1024 | 2048 | 4096 | 8192 | 16384 | 32768 | 65536
             ),
         }
+    }
+
+    /// Whether each field is in its range: the same as no `first_bad`, by one comparison after another.
+    #[inline(always)]
+    pub(crate) fn are_in_range(self) -> bool
+        ensures { result ≡ is_none (first_bad self) }
+    {
+        self.is_in_range(Field::Target)
+            && self.is_in_range(Field::TUpdate)
+            && self.is_in_range(Field::MaxBurst)
+            && self.is_in_range(Field::Alpha)
+            && self.is_in_range(Field::Beta)
+            && self.is_in_range(Field::MeanPkt)
+            && self.is_in_range(Field::LimitBytes)
+            && self.is_in_range(Field::MarkEcnth)
+            && self.is_in_range(Field::DqThreshold)
     }
 
     /// The first field that is out of its range, in the order of [`FIELDS`].

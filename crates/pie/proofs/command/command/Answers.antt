@@ -1,9 +1,20 @@
-use Rattle.std.proofs.Common.{◌≡◌, ◌∙◌, Some, codes, inl, inr, map, rules, string_bytes, sym}
-use Rattle.clap.specs.Words.{app_of}
-use Rattle.pie.proofs.EndFacts.{EndsAudit-failed, EndsRun-failed}
-use Rattle.pie.proofs.WordFacts.{audit-in, audit-is-not-storm, audit-taken, run-in, run-is-not-audit, run-is-not-storm, run-taken}
-use Rattle.pie.specs.Words.{subcommand_in}
+use Rattle.std.proofs.Common.{◌≡◌, Some, List, arith, codes, inl, inr, map, refl, rules, string_bytes, sym, subst}
+use Rattle.std.specs.Prelude.{IfSome}
+use Rattle.clap.specs.Words.{Row, app_of, found_of, rows_of}
+use Rattle.pie.proofs.EndFacts.{EndsAudit-failed, EndsExplain-failed, EndsRun-failed}
+use Rattle.pie.proofs.WordFacts.{asked-taken, audit-in, audit-taken, no-other, options-in, run-in, run-taken}
+use Rattle.pie.specs.Choice.{choice_of}
+use Rattle.pie.specs.Ends.{EndsExplain}
+use Rattle.pie.specs.StormEnds.{EndsStorm}
+use Rattle.pie.specs.Words.{options_in, subcommand_in}
 use Rattle.pie.proofs.command.command.Goals as goal
+
+-- ---- memory is wanting
+
+pub returns-in-Err-clause-explains : goal.returns-in-Err-clause-explains
+returns-in-Err-clause-explains g c asks =
+    EndsExplain-failed (choice_of (options_in (map string_bytes c.args.words.now))) (g.R.Read.remaining c.args.input) c.fault.result (g.W.Write.contents c.args.output.now)
+    (g.W.Write.contents c.args.output.now) c.fault.ensures refl
 
 pub returns-in-Err-try_get_matches_from-clause-runs : goal.returns-in-Err-try_get_matches_from-clause-runs
 returns-in-Err-try_get_matches_from-clause-runs g c asks =
@@ -17,32 +28,72 @@ returns-in-Err-try_get_matches_from-clause-audits g c asks =
     let failed = c.mistake.ensures.memory (c.in-Err-try_get_matches_from.ensures.passes taken) in
     EndsAudit-failed (g.R.Read.remaining c.args.input) c.mistake.result (g.W.Write.contents c.args.output.now) (g.W.Write.contents c.mistake.new.output) failed.0 failed.1
 
-pub returns-in-Some-run-clause-audits : goal.returns-in-Some-run-clause-audits
-returns-in-Some-run-clause-audits g c asks =
+pub returns-in-Err-try_get_matches_from-clause-explains : goal.returns-in-Err-try_get_matches_from-clause-explains
+returns-in-Err-try_get_matches_from-clause-explains g c asks =
+    let failed = c.mistake.ensures.memory (c.in-Err-try_get_matches_from.ensures.passes
+    (asked-taken (app_of c.in-Ok.options) (codes "explain") (map string_bytes c.args.words.now) c.in-Ok.ensures asks)) in
+    EndsExplain-failed (choice_of (options_in (map string_bytes c.args.words.now))) (g.R.Read.remaining c.args.input) c.mistake.result (g.W.Write.contents c.args.output.now)
+    (g.W.Write.contents c.mistake.new.output) failed.0 failed.1
+
+pub returns-in-Err-try_get_matches_from-clause-storms : goal.returns-in-Err-try_get_matches_from-clause-storms
+returns-in-Err-try_get_matches_from-clause-storms g c asks =
+    let failed = c.mistake.ensures.memory (c.in-Err-try_get_matches_from.ensures.passes
+    (asked-taken (app_of c.in-Ok.options) (codes "storm") (map string_bytes c.args.words.now) c.in-Ok.ensures asks)) in
+    inl failed.0
+
+-- ---- another subcommand was found
+
+pub returns-in-run-clause-audits : goal.returns-in-run-clause-audits
+returns-in-run-clause-audits g c asks =
     let found : subcommand_in (map string_bytes c.args.words.now) ≡ Some (codes "run") = search rules in
-    absurd (run-is-not-audit (sym found ∙ audit-in (map string_bytes c.args.words.now) asks))
+    absurd (no-other (codes "run") (codes "audit") (map string_bytes c.args.words.now) found (audit-in (map string_bytes c.args.words.now) asks) (λ same. let wrong : 114 ≡ 97 = same in omega (arith, wrong)))
 
-pub returns-in-Some-audit-clause-runs : goal.returns-in-Some-audit-clause-runs
-returns-in-Some-audit-clause-runs g c asks =
+pub returns-in-audit-clause-runs : goal.returns-in-audit-clause-runs
+returns-in-audit-clause-runs g c asks =
     let found : subcommand_in (map string_bytes c.args.words.now) ≡ Some (codes "audit") = search rules in
-    absurd (run-is-not-audit (sym (run-in (map string_bytes c.args.words.now) asks) ∙ found))
+    absurd (no-other (codes "audit") (codes "run") (map string_bytes c.args.words.now) found (run-in (map string_bytes c.args.words.now) asks) (λ same. let wrong : 97 ≡ 114 = same in omega (arith, wrong)))
 
-pub returns-in-Some-audit-clause-differs : goal.returns-in-Some-audit-clause-differs
-returns-in-Some-audit-clause-differs g c two =
-    let found : subcommand_in (map string_bytes c.args.words.now) ≡ Some (codes "audit") = search rules in
-    inl found
+pub returns-in-explain-clause-runs : goal.returns-in-explain-clause-runs
+returns-in-explain-clause-runs g c asks =
+    let found : subcommand_in (map string_bytes c.args.words.now) ≡ Some (codes "explain") = search rules in
+    absurd (no-other (codes "explain") (codes "run") (map string_bytes c.args.words.now) found (run-in (map string_bytes c.args.words.now) asks) (λ same. let wrong : 101 ≡ 114 = same in omega (arith, wrong)))
 
-pub returns-in-Some-storm-clause-differs : goal.returns-in-Some-storm-clause-differs
-returns-in-Some-storm-clause-differs g c two =
+pub returns-in-explain-clause-audits : goal.returns-in-explain-clause-audits
+returns-in-explain-clause-audits g c asks =
+    let found : subcommand_in (map string_bytes c.args.words.now) ≡ Some (codes "explain") = search rules in
+    absurd (no-other (codes "explain") (codes "audit") (map string_bytes c.args.words.now) found (audit-in (map string_bytes c.args.words.now) asks) (λ same. let wrong : 101 ≡ 97 = same in omega (arith, wrong)))
+
+pub returns-in-storm-clause-runs : goal.returns-in-storm-clause-runs
+returns-in-storm-clause-runs g c asks =
     let found : subcommand_in (map string_bytes c.args.words.now) ≡ Some (codes "storm") = search rules in
+    absurd (no-other (codes "storm") (codes "run") (map string_bytes c.args.words.now) found (run-in (map string_bytes c.args.words.now) asks) (λ same. let wrong : 115 ≡ 114 = same in omega (arith, wrong)))
+
+pub returns-in-storm-clause-audits : goal.returns-in-storm-clause-audits
+returns-in-storm-clause-audits g c asks =
+    let found : subcommand_in (map string_bytes c.args.words.now) ≡ Some (codes "storm") = search rules in
+    absurd (no-other (codes "storm") (codes "audit") (map string_bytes c.args.words.now) found (audit-in (map string_bytes c.args.words.now) asks) (λ same. let wrong : 115 ≡ 97 = same in omega (arith, wrong)))
+
+pub returns-in_default-name-clause-explains : goal.returns-in_default-name-clause-explains
+returns-in_default-name-clause-explains g c asks =
+    EndsExplain-failed (choice_of (options_in (map string_bytes c.args.words.now))) (g.R.Read.remaining c.args.input) c.fault-in_default-name.result (g.W.Write.contents c.args.output.now)
+    (g.W.Write.contents c.args.output.now) c.fault-in_default-name.ensures refl
+
+-- ---- the subcommand's own promise, at the options that the words give it
+
+pub returns-in-explain-clause-differs : goal.returns-in-explain-clause-differs
+returns-in-explain-clause-differs g c two =
+    let found : subcommand_in (map string_bytes c.args.words.now) ≡ Some (codes "explain") = search rules in
     inr found
 
-pub returns-in-Some-storm-clause-runs : goal.returns-in-Some-storm-clause-runs
-returns-in-Some-storm-clause-runs g c asks =
-    let found : subcommand_in (map string_bytes c.args.words.now) ≡ Some (codes "storm") = search rules in
-    absurd (run-is-not-storm (sym (run-in (map string_bytes c.args.words.now) asks) ∙ found))
+pub returns-in-explain-clause-explains : goal.returns-in-explain-clause-explains
+returns-in-explain-clause-explains g c asks =
+    let given = options-in (app_of c.in-Ok.options) (map string_bytes c.args.words.now) c.in-Ok-try_get_matches_from.matches (rows_of (found_of c.in-Some.options.now)) c.in-Ok.ensures
+    c.in-Ok-try_get_matches_from.ensures.matches c.in-Some.ensures.rows in
+    subst (λ (rows : List Row). IfSome (g.R.Read.remaining c.args.input) (λ text. EndsExplain (choice_of rows) text c.explain_input.result (g.W.Write.contents c.args.output.now)
+    (g.W.Write.contents c.explain_input.new.output))) (sym given) c.explain_input.ensures.explains
 
-pub returns-in-Some-storm-clause-audits : goal.returns-in-Some-storm-clause-audits
-returns-in-Some-storm-clause-audits g c asks =
-    let found : subcommand_in (map string_bytes c.args.words.now) ≡ Some (codes "storm") = search rules in
-    absurd (audit-is-not-storm (sym (audit-in (map string_bytes c.args.words.now) asks) ∙ found))
+pub returns-in-storm-clause-storms : goal.returns-in-storm-clause-storms
+returns-in-storm-clause-storms g c asks =
+    let given = options-in (app_of c.in-Ok.options) (map string_bytes c.args.words.now) c.in-Ok-try_get_matches_from.matches (rows_of (found_of c.in-Some.options.now)) c.in-Ok.ensures
+    c.in-Ok-try_get_matches_from.ensures.matches c.in-Some.ensures.rows in
+    subst (λ (rows : List Row). EndsStorm rows c.make_storm.result (g.W.Write.contents c.args.output.now) (g.W.Write.contents c.make_storm.new.output)) (sym given) c.make_storm.ensures

@@ -1,14 +1,16 @@
-use Rattle.std.proofs.Common.{◌≡◌}
+use Rattle.std.proofs.Common.{◌≡◌, codes, refl}
 use Rattle.std.proofs.lemmas.Result.{IfOk-weaker}
-use Rattle.clap.specs.Words.{AddsSubcommand, app_of}
-use Rattle.pie.specs.Words.{pie_app}
-use Rattle.pie.proofs.WordFacts.{whole-app}
+use Rattle.clap.specs.Words.{AddsSubcommand, app_of, new_app, with_subcommand}
+use Rattle.pie.specs.Words.{explain_app, pie_alone, pie_app, storm_app}
+use Rattle.pie.proofs.WordFacts.{adds_subcommand}
 use Rattle.pie.proofs.options.options.Goals as goal
 
 pub returns : goal.returns
 returns c =
-    let with_run = c.plain-run.ensures c.alone.result c.in_ok-subcommand.field-0 c.in_ok-subcommand.ensures in
-    let with_audit = c.plain-audit.ensures c.in_ok-subcommand.field-0 c.in_ok-subcommand-2.field-0 c.in_ok-subcommand-2.ensures in
-    IfOk-weaker c.subcommand-3.result (λ whole. AddsSubcommand c.in_ok-subcommand-2.field-0 c.in_ok-storm.storm whole) (λ whole. app_of whole ≡ pie_app)
-    (λ whole adds. whole-app (app_of c.alone.result) (app_of c.in_ok-subcommand.field-0) (app_of c.in_ok-subcommand-2.field-0) (app_of whole) c.alone.ensures with_run with_audit
-    (c.in_ok-storm.ensures c.in_ok-subcommand-2.field-0 whole adds)) c.subcommand-3.ensures
+    let one = adds_subcommand pie_alone (new_app (codes "run")) c.alone.ensures c.plain-run.ensures refl c.in_ok-subcommand.ensures in
+    let two = adds_subcommand (with_subcommand pie_alone (new_app (codes "run")).top) (new_app (codes "audit")) one c.plain-audit.ensures refl c.in_ok-subcommand-2.ensures in
+    let three = adds_subcommand (with_subcommand (with_subcommand pie_alone (new_app (codes "run")).top) (new_app (codes "audit")).top) explain_app two c.in_ok-explain.ensures refl
+    c.in_ok-subcommand-3.ensures in
+    IfOk-weaker c.subcommand-4.result (λ whole. AddsSubcommand c.in_ok-subcommand-3.field-0 c.in_ok-storm.storm whole) (λ whole. app_of whole ≡ pie_app)
+    (λ whole adds. adds_subcommand (with_subcommand (with_subcommand (with_subcommand pie_alone (new_app (codes "run")).top) (new_app (codes "audit")).top) explain_app.top) storm_app three
+    c.in_ok-storm.ensures refl adds) c.subcommand-4.ensures

@@ -1,5 +1,5 @@
 use Rattle.std.proofs.Common.{◌≡◌, ◌≤◌, ◌∙◌, ap, max, refl, arith}
-use Rattle.pie_c.proofs.Sound.{Sound-from, Sound-to, later-control, later-rate}
+use Rattle.pie_c.proofs.Sound.{Sound-from, Sound-to, later-control, later-rate, same-activity}
 use Rattle.pie_c.proofs.calls.pie_empty.Goals as goal
 
 pub returns-clause-sound : goal.returns-clause-sound
@@ -14,4 +14,5 @@ returns-clause-sound c = λ sound.
       control = later-control state _ before.control refl refl refl refl later;
       accu = before.accu;
       rate = later-rate state _ before.rate refl refl refl refl refl later;
+      activity = same-activity state _ before.activity refl refl;
     })

@@ -1,6 +1,6 @@
 use Rattle.std.proofs.Common.{◌≡◌, ◌≤◌, ◌∙◌, ap, max, None, arith}
-use Rattle.pie_c.specs.Calls.{flag_of, start_of, count_of}
-use Rattle.pie_c.proofs.Sound.{Sound-from, Sound-to, later-control, rate-new, in_range-by}
+use Rattle.pie_beside.specs.Beside.{flag_of, start_of, count_of}
+use Rattle.pie_c.proofs.Sound.{same-activity, Sound-from, Sound-to, later-control, rate-new, in_range-by}
 use Rattle.pie_c.proofs.calls.pie_set_params.Goals as goal
 
 pub returns-clause-sound : goal.returns-clause-sound
@@ -18,4 +18,5 @@ returns-clause-sound c = λ sound.
       accu = rw (ap (λ s. s.accu) same) before.accu;
       rate = rate-new _ None (rw (ap (λ s. s.average) same) c.store_rate.ensures.average)
           (ap (λ s. s.measuring) same ∙ ap flag_of none) (ap (λ s. s.cycle_start) same ∙ ap start_of none) (ap (λ s. s.cycle_count) same ∙ ap count_of none) tt;
+      activity = same-activity state _ before.activity (ap (λ s. s.profile) same) (ap (λ s. s.active) same);
     })

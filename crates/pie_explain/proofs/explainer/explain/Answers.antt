@@ -1,14 +1,51 @@
-use Rattle.pie_explain.proofs.ExplainFacts.{text-fault, text-heard}
+use Rattle.std.proofs.Common.{◌∙◌, sym}
+use Rattle.std.specs.Prelude.{Err, string_bytes}
+use Rattle.std.specs.Io.KnownBytes.{append_known}
+use Rattle.pie_audit.specs.Finding.{finding}
+use Rattle.pie_explain.specs.declared.fault.ExplainFault.TheVariants.{Trace}
+use Rattle.pie_explain.specs.Output.{header}
+use Rattle.pie_explain.proofs.EndFacts.{fault-promises, heard-promises, promises-answers, promises-audited, promises-writes, same-answered}
+use Rattle.pie_explain.proofs.ExplainFacts.{explains-begun}
 use Rattle.pie_explain.proofs.explainer.explain.Goals as goal
-
-pub returns-in-Err-outcome : goal.returns-in-Err-outcome
-returns-in-Err-outcome g c =
-    text-fault c.in-Ok.opened.1 (g.R.Read.remaining c.args.reader) c.in-Ok.opened.0.coming c.explain_lines-outcome.new.explainer.auditor c.in-Err-outcome.why
-    c.in-Ok.ensures.opens (c.in-Err-outcome.ensures c.in-Ok.opened.1 c.in-Ok-open.ensures.audits)
 
 pub returns-in-Ok-closed : goal.returns-in-Ok-closed
 returns-in-Ok-closed g c =
-    text-heard c.in-Ok.opened.1 (g.R.Read.remaining c.args.reader) c.in-Ok.opened.0.coming c.explain_lines-outcome.new.explainer.auditor c.close-closed.new.self.which
-    c.close-closed.new.self.explained c.finish.result
-    c.in-Ok.ensures.opens (c.in-Ok-outcome.ensures c.in-Ok.opened.1 c.in-Ok-open.ensures.audits)
-    (λ lines audits. c.finish.ensures c.in-Ok.opened.1 lines (rw c.in-Ok-closed.ensures.kept audits))
+    let opening = c.in-Ok.opened.1 in
+    let known = g.R.Read.remaining c.args.reader in
+    let old = g.W.Write.contents c.args.writer.now in
+    let now = g.W.Write.contents c.close-written.new.writer in
+    let all =
+    heard-promises opening c.args.which c.args.form known c.in-Ok.opened.0.coming c.explain_lines-outcome.new.explainer.auditor c.explain_lines-outcome.new.explainer.set_by
+    c.explain_lines-outcome.new.explainer.explained c.explain_lines-outcome.result c.close-written.result c.finish.result old (g.W.Write.contents c.explain_lines-outcome.new.writer) now
+    (string_bytes c.explain_lines-outcome.new.explainer.page) c.in-Ok.ensures.opens
+    (c.explain_lines-outcome.ensures.heard opening (append_known old (header c.args.form))
+    (explains-begun opening c.args.which c.args.form c.in-Ok-open.auditor old (string_bytes c.in-Ok-first_page.page) c.in-Ok-first_page.ensures c.in-Ok-open.ensures.audits))
+    c.close-written.ensures.written (sym c.closed.ensures ∙ c.in-Ok-closed.is)
+    (λ lines audits.
+    c.finish.ensures opening lines (rw c.close-written.ensures.kept.0 audits)
+    ∙ same-answered c.close-written.new.self.which c.args.which c.close-written.new.self.explained c.explain_lines-outcome.new.explainer.explained (finding opening lines)
+    (c.close-written.ensures.kept.1 ∙ c.explain_lines-outcome.ensures.kept) c.close-written.ensures.kept.2) in
+    record {
+      audited = promises-audited c.args.which c.args.form known c.finish.result old now all;
+      answers = promises-answers c.args.which c.args.form known c.finish.result old now all;
+      writes = promises-writes c.args.which c.args.form known c.finish.result old now all;
+    }
+
+pub returns : goal.returns
+returns g c =
+    let opening = c.in-Ok.opened.1 in
+    let known = g.R.Read.remaining c.args.reader in
+    let old = g.W.Write.contents c.args.writer.now in
+    let now = g.W.Write.contents c.close-written.new.writer in
+    let all =
+    fault-promises opening c.args.which c.args.form known c.in-Ok.opened.0.coming c.explain_lines-outcome.new.explainer.auditor c.explain_lines-outcome.new.explainer.set_by
+    c.explain_lines-outcome.new.explainer.explained c.explain_lines-outcome.result c.close-written.result c.in-Err-closed.why old (g.W.Write.contents c.explain_lines-outcome.new.writer) now
+    (string_bytes c.explain_lines-outcome.new.explainer.page) c.in-Ok.ensures.opens
+    (c.explain_lines-outcome.ensures.heard opening (append_known old (header c.args.form))
+    (explains-begun opening c.args.which c.args.form c.in-Ok-open.auditor old (string_bytes c.in-Ok-first_page.page) c.in-Ok-first_page.ensures c.in-Ok-open.ensures.audits))
+    c.close-written.ensures.written c.close-written.ensures.device (sym c.closed.ensures ∙ c.in-Err-closed.is) in
+    record {
+      audited = promises-audited c.args.which c.args.form known (Err (Trace c.in-Err-closed.why)) old now all;
+      answers = promises-answers c.args.which c.args.form known (Err (Trace c.in-Err-closed.why)) old now all;
+      writes = promises-writes c.args.which c.args.form known (Err (Trace c.in-Err-closed.why)) old now all;
+    }

@@ -1,15 +1,22 @@
-use Rattle.std.proofs.Common.{◌≡◌, ◌-◌, ◌^◌, []}
-use Rattle.std.specs.Prelude.{IfSome}
+use Rattle.std.proofs.Common.{◌≡◌, ◌-◌, ◌^◌, [], ℕ, List}
+use Rattle.std.specs.Prelude.{IfSome, Option, string_bytes}
+use Rattle.std.specs.Io.KnownBytes.{append_known}
 use Rattle.pie_book.specs.declared.opening.Opening.{Opening}
 use Rattle.pie_trace.specs.declared.history.Course.TheVariants.{Going}
-use Rattle.pie_audit.specs.Auditor.{Audits}
-use Rattle.pie_audit.specs.Text.{Stands}
+use Rattle.pie_explain.specs.Answer.{Explains, Stands}
 use Rattle.pie_explain.proofs.explainer.explain_lines.Given as goal
 
 abbrev pub invariant-lines : goal.invariant-lines
-invariant-lines g l =
-    (l.lines.course ≡ Going)
-    × ((opening : Opening) → Audits opening l.fn.explainer.auditor [] → IfSome l.fn.lines.coming (λ all. Stands opening all l.lines l.explainer.auditor))
+invariant-lines g l = record {
+  going : l.lines.course ≡ Going;
+  which : l.explainer.which ≡ l.fn.explainer.which;
+  form : l.explainer.form ≡ l.fn.explainer.form;
+  stands : (opening : Opening) (before : Option (List ℕ))
+      → Explains opening l.fn.explainer.which l.fn.explainer.form [] l.fn.explainer.auditor l.fn.explainer.set_by l.fn.explainer.explained before
+      (append_known (g.W.Write.contents l.fn.writer) (string_bytes l.fn.explainer.page))
+      → IfSome l.fn.lines.coming (λ all. Stands opening l.fn.explainer.which l.fn.explainer.form all l.lines l.explainer.auditor l.explainer.set_by l.explainer.explained before
+      (append_known (g.W.Write.contents l.writer) (string_bytes l.explainer.page)));
+}
 
 abbrev pub decreases-lines : goal.decreases-lines
 decreases-lines g l = 2 ^ 32 - l.lines.read

@@ -6,8 +6,10 @@ use Rattle.pie_book.specs.Registers.{registers_after}
 use Rattle.pie_book.specs.Statistics.{stats_after}
 use Rattle.pie_link.specs.Plans.{opening_of, senders}
 use Rattle.pie_link.specs.declared.ending.StormEnd.{StormEnd}
-use Rattle.pie_link.proofs.Closing.{told_by, end_legal, end_shows, end_made, gathered_storm, ok_first}
+use Rattle.pie_link.proofs.Closing.{told_by, end_legal, end_shows, end_made, gathered_storm}
 use Rattle.pie_link.proofs.Working.{folded_is}
+use Rattle.pie_link.proofs.FoldsMade.{folds_are}
+use Rattle.pie_link.specs.Views.{CallerView}
 use Rattle.pie_link.proofs.starter.storm.Goals as goal
 
 pub returns-clause-legal : goal.returns-clause-legal
@@ -56,6 +58,9 @@ returns-clause-made g c =
     c.in-Ok-close.ensures.opening c.in-Ok-close.ensures.same in
     let folded = folded_is c.in-Ok.opened.0 opening (folding.fault ≡ None) folding.events.items caller.front c.in-Ok.ensures.opening c.work_at_once-caller.ensures.folded in
     let n : c.len.result + 5 ≡ senders c.args.plan.now + 5 = omega (arith, c.len.ensures) in
-    let made = gathered_storm c.args.plan.now c.in-Ok.opened.0 c.in-Ok.opened.1 caller c.work_at_once-caller.result.too_soon (c.is_sound.ensures.0 c.if-not-is_sound.false)
-    c.in-Ok.ensures.opening (c.in-Ok.ensures.callers ∙ n) (c.in-Ok.ensures.caller ∙ ap (λ k. first_pass c.in-Ok.opened.0 k) n) c.work_at_once-caller.ensures.stays c.work_at_once-caller.ensures.made c.in-Ok-close.ensures.numbered in
-    end_made c.args.plan.now caller.front c.work_at_once-caller.result.too_soon c.end_of.result made (c.end_of.ensures.events caller.front told.1 folded) (ok_first c.work_at_once-caller.result.too_soon folding.too_many c.end_of.result c.end_of.ensures.counts)
+    let limit : c.in-Ok.opened.1.limit ≡ senders c.args.plan.now + 5 = ap (λ (p : CallerView). p.limit) c.in-Ok.ensures.caller ∙ n in
+    let folds = folds_are c.in-Ok.opened.0 opening (folding.fault ≡ None) c.args.plan.now.folds.items caller.front folding.too_many c.in-Ok.ensures.opening (c.work_at_once-caller.ensures.folds limit) in
+    let made = λ (well : folding.fault ≡ None). gathered_storm c.args.plan.now c.in-Ok.opened.0 c.in-Ok.opened.1 caller c.work_at_once-caller.result.too_soon folding.too_many (c.is_sound.ensures.0 c.if-not-is_sound.false)
+    c.in-Ok.ensures.opening (c.in-Ok.ensures.callers ∙ n) (c.in-Ok.ensures.caller ∙ ap (λ k. first_pass c.in-Ok.opened.0 k) n) c.work_at_once-caller.ensures.stays c.work_at_once-caller.ensures.made c.in-Ok-close.ensures.numbered
+    (folds well) in
+    end_made c.args.plan.now caller.front (folding.fault ≡ None) c.work_at_once-caller.result.too_soon folding.too_many c.end_of.result made (c.end_of.ensures.events caller.front told.1 folded) c.end_of.ensures.counts

@@ -1,7 +1,7 @@
 use Rattle.std.proofs.Common.{◌≡◌, refl}
 use Rattle.std.specs.Prelude.{max}
 use Rattle.pie_book.specs.Deed.{handed_in}
-use Rattle.pie_explain.proofs.ExplainFacts.{explanation-is}
+use Rattle.pie_explain.proofs.ExplanationFacts.{explanation-is}
 use Rattle.pie_explain.proofs.explanation.Explanation.of.Goals as goal
 
 pub returns : goal.returns

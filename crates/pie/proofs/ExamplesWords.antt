@@ -1,0 +1,44 @@
+-- Which words ask for which subcommand, and what they give its options, worked out.
+use Rattle.std.proofs.Common.{◌≡◌, [], ◌∷◌, Some, None, codes, refl}
+use Rattle.clap.specs.Words.{Text}
+use Rattle.clap.proofs.OnLiterals.{clap_on_literals}
+use Rattle.pie_explain.specs.declared.which.Which.TheVariants.{Number, Lost}
+use Rattle.pie.specs.Choice.{choice_of}
+use Rattle.pie.specs.StormEnds.{packets_in, seed_in, senders_in}
+use Rattle.pie.specs.Words.{Asks, options_in}
+
+-- ---- `pie explain`
+
+lost : (name : Text) → Asks (codes "explain") (name ∷ codes "explain" ∷ codes "--lost" ∷ [])
+unfolding clap_on_literals
+lost name = record { taken = refl; found = refl }
+
+lost-chosen : (name : Text) → choice_of (options_in (name ∷ codes "explain" ∷ codes "--lost" ∷ [])) ≡ Some Lost
+unfolding clap_on_literals
+lost-chosen name = refl
+
+event-chosen : (name : Text) → choice_of (options_in (name ∷ codes "explain" ∷ codes "--csv" ∷ codes "--event" ∷ codes "10" ∷ [])) ≡ Some (Number 10)
+unfolding clap_on_literals
+event-chosen name = refl
+
+two-chosen : (name : Text) → choice_of (options_in (name ∷ codes "explain" ∷ codes "--tag=7" ∷ codes "--all" ∷ [])) ≡ None
+unfolding clap_on_literals
+two-chosen name = refl
+
+-- ---- `pie storm`
+
+storm : (name : Text) → Asks (codes "storm") (name ∷ codes "storm" ∷ codes "--senders" ∷ codes "3" ∷ [])
+unfolding clap_on_literals
+storm name = record { taken = refl; found = refl }
+
+storm-senders : (name : Text) → senders_in (options_in (name ∷ codes "storm" ∷ codes "--senders" ∷ codes "3" ∷ [])) ≡ 3
+unfolding clap_on_literals
+storm-senders name = refl
+
+storm-packets : (name : Text) → packets_in (options_in (name ∷ codes "storm" ∷ codes "--senders" ∷ codes "3" ∷ [])) ≡ 100
+unfolding clap_on_literals
+storm-packets name = refl
+
+storm-seed : (name : Text) → seed_in (options_in (name ∷ codes "storm" ∷ codes "--senders" ∷ codes "3" ∷ [])) ≡ 1
+unfolding clap_on_literals
+storm-seed name = refl

@@ -1,0 +1,21 @@
+use Rattle.std.proofs.Common.{inr, map, refl}
+use Rattle.pie_trace.specs.declared.history.Line.TheVariants.{Made}
+use Rattle.pie_link.specs.Plans.{opening_of}
+use Rattle.pie.proofs.StormFacts.{differs-never, fit-legal, writes-history}
+use Rattle.pie.proofs.storming.tell.Goals as goal
+
+pub unreachable-requires : goal.unreachable-requires
+unreachable-requires g c =
+    differs-never c.opening_of-opening.result (opening_of c.args.plan.now) c.args.events.now c.in-Differs.event c.opening_of-opening.ensures c.requires.legal
+    (c.in-Differs.ensures.finding c.opening_of-opening.result (map Made c.args.events.now) c.in-Ok.ensures)
+
+pub write_history-requires-clause-fitting : goal.write_history-requires-clause-fitting
+write_history-requires-clause-fitting g c = fit-legal (opening_of c.args.plan.now) c.args.events.now c.requires.legal
+
+pub returns-in-Ok-write_history : goal.returns-in-Ok-write_history
+returns-in-Ok-write_history g c = inr (
+  refl,
+  writes-history c.args.plan.now c.args.events.now c.in-Ok.auditor c.opening_of-opening.result
+      (g.W.Write.contents c.args.output.now) (g.W.Write.contents c.write_history.new.writer) c.opening_of-opening.ensures c.requires.legal c.requires.limits c.in-Ok.ensures
+      c.in-Ok-write_history.ensures.written c.in-Ok-write_history.ensures.read_back,
+)

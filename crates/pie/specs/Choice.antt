@@ -1,0 +1,18 @@
+-- Which events the words of `pie explain` choose.
+use Rattle.std.specs.Prelude.{ℕ, Bool, true, false, List, Option, Some, None, codes}
+use Rattle.clap.specs.Words.{Row}
+use Rattle.pie.specs.Words.{flag_given, number_given}
+use Rattle.pie_explain.specs.declared.which.Which.{Which}
+use Rattle.pie_explain.specs.declared.which.Which.TheVariants.{Number, Tag, Lost, All}
+
+-- the events that are chosen, where exactly one of the four options chooses some
+abbrev pub chosen : Option ℕ → Option ℕ → Bool → Bool → Option Which
+chosen (Some event) None false false = Some (Number event)
+chosen None (Some tag) false false = Some (Tag tag)
+chosen None None true false = Some Lost
+chosen None None false true = Some All
+chosen _ _ _ _ = None
+
+-- the events that these options choose
+abbrev pub choice_of : List Row → Option Which
+choice_of options = chosen (number_given (codes "event") options) (number_given (codes "tag") options) (flag_given (codes "lost") options) (flag_given (codes "all") options)

@@ -1,0 +1,78 @@
+//! `pie explain`: which events the words choose, and how explaining them ends.
+ghost use Rattle.std.specs.Prelude.{◌≡◌, ◌≤◌, IfSome};
+ghost use Rattle.clap.specs.Words.{found_of, rows_of};
+ghost use Rattle.pie.specs.Choice.{choice_of, chosen};
+ghost use Rattle.pie.specs.Ends.{EndsExplain, fault_status};
+
+use crate::command::{DIFFERS, DONE, FAULT, fault};
+use crate::given::{flag, number};
+use clap::ArgMatches;
+use pie_explain::{ExplainFault, Form, Which, explain};
+use std::alloc::Global;
+use std::io::{Read, Write};
+
+/// What is said where the words don't choose events by exactly one option.
+const NO_CHOICE: &str =
+    "explain takes exactly one of --event N, --tag T, --lost and --all; see pie explain --help";
+
+/// The events that are chosen, where exactly one of the four options chooses some.
+fn chosen(event: Option<u64>, tag: Option<u64>, lost: bool, all: bool) -> Option<Which>
+    ensures { result ≡ chosen event tag lost all }
+{
+    match (event, tag, lost, all) {
+        (Some(event), None, false, false) => Some(Which::Number(event)),
+        (None, Some(tag), false, false) => Some(Which::Tag(tag)),
+        (None, None, true, false) => Some(Which::Lost),
+        (None, None, false, true) => Some(Which::All),
+        _ => None,
+    }
+}
+
+/// The events that these options choose.
+fn choice_of(options: &ArgMatches<'_>) -> Option<Which>
+    ensures { result ≡ choice_of (rows_of (found_of options.now)) }
+{
+    let event = number(options, "event");
+    let tag = number(options, "tag");
+    chosen(event, tag, flag(options, "lost"), flag(options, "all"))
+}
+
+/// The status of a history that was not explained to its end.
+fn status_of(why: ExplainFault) -> u8
+    ensures { result ≡ fault_status why }
+{
+    match why {
+        ExplainFault::Differs { .. } => DIFFERS,
+        ExplainFault::Trace(_) | ExplainFault::NoEvent { .. } | ExplainFault::NoTag { .. } => FAULT,
+    }
+}
+
+/// `pie explain`: writes why the chosen events of a history went as they did. A history with a fault ends with 1, and one in which
+/// an event differs with 2: what stands before it is explained, and the difference is told on `errors`. It ends with 1 where the
+/// words choose no events, where no event is the chosen one, and where the reader, the writer or memory fails.
+pub(crate) fn explain_input<R: Read + Drop, W: Write, E: Write>(
+    alloc: Global,
+    options: &ArgMatches<'_>,
+    input: R,
+    output: &mut W,
+    errors: &mut E,
+) -> u8
+    ensures status { result ≤ 2 }
+    ensures explains { IfSome (R.remaining input) (λ text. EndsExplain (choice_of (rows_of (found_of options.now))) text result (W.contents output.old) (W.contents output.new)) }
+{
+    let Some(which) = choice_of(options) else {
+        return fault(errors, NO_CHOICE);
+    };
+    let form = if flag(options, "csv") {
+        Form::Csv
+    } else {
+        Form::Text
+    };
+    match explain(alloc, input, output, which, form) {
+        Ok(_) => DONE,
+        Err(why) => {
+            let _ = fault(errors, why);
+            status_of(why)
+        }
+    }
+}

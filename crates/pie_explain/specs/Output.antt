@@ -1,0 +1,45 @@
+-- What explaining a history writes.
+use Rattle.std.specs.Prelude.{ℕ, ◌^◌, List, [], ◌∷◌, ◌++◌, Result, Ok, Err, codes}
+use Rattle.std.specs.List.{flat_map}
+use Rattle.pie_book.specs.declared.opening.Opening.{Opening}
+use Rattle.pie_trace.specs.declared.fault.TraceFault.{TraceFault}
+use Rattle.pie_trace.specs.Lines.{history_lines, history_opening}
+use Rattle.pie_trace.specs.Text.{Row}
+use Rattle.pie_explain.specs.declared.explainer.Form.{Form}
+use Rattle.pie_explain.specs.declared.explainer.Form.TheVariants.{Text, Csv}
+use Rattle.pie_explain.specs.declared.explanation.Explanation.{Explanation}
+use Rattle.pie_explain.specs.declared.which.Which.{Which}
+use Rattle.pie_explain.specs.Explanation.{explanations}
+use Rattle.pie_explain.specs.Record.{line_of, record_of}
+use Rattle.pie_explain.specs.Words.{words}
+
+-- the names of the fields of a record
+abbrev pub field_names : List (List ℕ)
+field_names =
+    codes "number" ∷ codes "kind" ∷ codes "caller" ∷ codes "moment" ∷ codes "effective_moment" ∷ codes "tag" ∷ codes "size" ∷ codes "verdict" ∷ codes "cause"
+    ∷ codes "bytes" ∷ codes "packets" ∷ codes "delay" ∷ codes "probability" ∷ codes "accumulated_probability" ∷ codes "burst_allowance" ∷ []
+
+-- what stands before the first explanation: for CSV the header row
+unfoldable pub header : Form → List ℕ
+header Text = []
+header Csv = line_of field_names
+
+-- what is written of an explanation
+unfoldable pub said_of : Form → Explanation → List ℕ
+said_of Text told = words told
+said_of Csv told = line_of (record_of told)
+
+-- .. of each of these, one after the other
+unfoldable pub said : Form → List Explanation → List ℕ
+said form all = flat_map (said_of form) all
+
+-- ---- of a whole history
+
+abbrev pub output_after : Which → Form → List Row → Result Opening TraceFault → List ℕ
+output_after which form rows (Err why) = []
+output_after which form rows (Ok opening) = header form ++ said form (explanations opening which (history_lines (2 ^ 32) rows))
+
+-- what is written of a history of these records: nothing where its opening has a fault, and else the explanations of the chosen
+-- events, in their order, up to the first fault and the first event that differs
+abbrev pub output : Which → Form → List Row → List ℕ
+output which form rows = output_after which form rows (history_opening rows)

@@ -1,0 +1,154 @@
+-- An explanation in words, of some lines: what the event did, what decided it, and the numbers that it met.
+use Rattle.std.specs.Prelude.{ℕ, ◌+◌, ◌-◌, ◌*◌, ◌/◌, ◌%◌, ◌^◌, min, List, [], ◌∷◌, ◌++◌, length, replicate, Option, Some, None, codes}
+use Rattle.std.specs.Fmt.{decimal}
+use Rattle.pie_queue.specs.declared.ecn.Ecn.{Ecn}
+use Rattle.pie_queue.specs.declared.ecn.Ecn.TheVariants.{NotEct, Ect1, Ect0, Ce}
+use Rattle.pie_queue.specs.declared.packet.Packet.{Packet}
+use Rattle.pie_book.specs.declared.cause.Cause.{Cause}
+use Rattle.pie_book.specs.declared.cause.Cause.TheVariants.{NoRoomInBytes, NoRoomInPackets, Inactive, BurstAllowed, LowDelay, ShortQueue, NoProbability, LittleAccumulated, PickedBySum, PickedByWord, WordNotBelow}
+use Rattle.pie_book.specs.declared.cause.Fate.{Fate}
+use Rattle.pie_book.specs.declared.cause.Fate.TheVariants as fate
+use Rattle.pie_book.specs.declared.command.Command.{Command}
+use Rattle.pie_book.specs.declared.command.Command.TheVariants.{Arrive, Depart, Update, Reset, SetParams}
+use Rattle.pie_book.specs.declared.command.Answer.{Answer}
+use Rattle.pie_book.specs.declared.command.Answer.TheVariants.{Enqueued, Marked, DroppedEarly, DroppedBytes, DroppedPackets, Left, Updated}
+use Rattle.pie_book.specs.declared.registers.Registers.{Registers}
+use Rattle.pie_explain.specs.declared.explanation.Explanation.{Explanation}
+
+-- these texts, one after the other
+abbrev pub joined : List (List ℕ) → List ℕ
+joined [] = []
+joined (text ∷ []) = text
+joined (text ∷ (next ∷ texts)) = text ++ joined (next ∷ texts)
+
+-- ---- numbers with their units, the exact whole number in parentheses
+
+-- a number with zeros before it, up to so many digits
+abbrev pub with_zeros : ℕ → ℕ → List ℕ
+with_zeros digits n = replicate (digits - length (decimal n)) 48 ++ decimal n
+
+-- a time in nanoseconds, in milliseconds
+unfoldable pub millis : ℕ → List ℕ
+millis time = joined (decimal (time / 10 ^ 6) ∷ codes "." ∷ with_zeros 6 (time % 10 ^ 6) ∷ codes " ms (" ∷ decimal time ∷ codes " ns)" ∷ [])
+
+-- a part in units of 10^-12, in per cent
+unfoldable pub per_cent : ℕ → List ℕ
+per_cent part = joined (decimal (part / 10 ^ 10) ∷ codes "." ∷ with_zeros 4 (part % 10 ^ 10 / 10 ^ 6) ∷ codes " % (" ∷ decimal part ∷ codes ")" ∷ [])
+
+-- a random word as a part of 2^64, in per cent
+unfoldable pub word_text : ℕ → List ℕ
+word_text word =
+    joined (decimal (word * 10 ^ 6 / 2 ^ 64 / 10 ^ 4) ∷ codes "." ∷ with_zeros 4 (word * 10 ^ 6 / 2 ^ 64 % 10 ^ 4) ∷ codes " % (" ∷ decimal word ∷ codes ")" ∷ [])
+
+-- ---- what an event did
+
+-- an ECN field as RFC 3168 names it
+abbrev pub ecn_name : Ecn → List ℕ
+ecn_name NotEct = codes "Not-ECT"
+ecn_name Ect1 = codes "ECT(1)"
+ecn_name Ect0 = codes "ECT(0)"
+ecn_name Ce = codes "CE"
+
+-- what became of an arriving packet
+abbrev pub verdict_text : Answer → List ℕ
+verdict_text Enqueued = codes "queued"
+verdict_text Marked = codes "queued and marked"
+verdict_text DroppedEarly = codes "DROPPED early"
+verdict_text DroppedBytes = codes "DROPPED, no room in bytes"
+verdict_text DroppedPackets = codes "DROPPED, no room in packets"
+verdict_text _ = codes "-"
+
+-- the beginning of the first line of an event about a packet
+unfoldable pub packet_words : ℕ → Packet → List ℕ
+packet_words number packet =
+    joined (codes "event " ∷ decimal number ∷ codes ": packet " ∷ decimal packet.tag ∷ codes ", " ∷ decimal packet.size ∷ codes " bytes, " ∷ ecn_name packet.ecn ∷ codes ": " ∷ [])
+
+unfoldable pub departure_words : ℕ → Answer → ℕ → List ℕ
+departure_words number (Left packet) waited = joined (packet_words number packet ∷ codes "left\n  it had waited " ∷ millis waited ∷ codes "\n" ∷ [])
+departure_words number _ waited = joined (codes "event " ∷ decimal number ∷ codes ": no packet was there to leave\n" ∷ [])
+
+unfoldable pub update_words : ℕ → Answer → List ℕ
+update_words number (Updated delay prob burst) =
+    joined (codes "event " ∷ decimal number ∷ codes ": an update\n  it took a delay of " ∷ millis delay ∷ codes ", and made the probability " ∷ per_cent prob
+    ∷ codes "\n  and the burst allowance " ∷ millis burst ∷ codes "\n" ∷ [])
+update_words number _ = joined (codes "event " ∷ decimal number ∷ codes ": an update\n" ∷ [])
+
+unfoldable pub deed_words : ℕ → Command → Answer → ℕ → List ℕ
+deed_words number (Arrive moment packet word) answer waited = joined (packet_words number packet ∷ verdict_text answer ∷ codes "\n" ∷ [])
+deed_words number (Depart moment) answer waited = departure_words number answer waited
+deed_words number (Update moment) answer waited = update_words number answer
+deed_words number (Reset moment) answer waited = joined (codes "event " ∷ decimal number ∷ codes ": a reset\n" ∷ [])
+deed_words number (SetParams moment params) answer waited = joined (codes "event " ∷ decimal number ∷ codes ": new parameters\n" ∷ [])
+
+-- when, and by whom
+unfoldable pub when_words : ℕ → ℕ → List ℕ
+when_words moment caller = joined (codes "  at " ∷ millis moment ∷ codes ", by caller " ∷ decimal caller ∷ codes "\n" ∷ [])
+
+-- ---- what decided an arrival
+
+-- why a picked packet was marked or dropped
+unfoldable pub picked_words : Fate → List ℕ
+picked_words (fate.Marked threshold) = joined (codes "  marked: its endpoints understand a mark, and the probability is below " ∷ per_cent threshold ∷ codes "\n" ∷ [])
+picked_words fate.NotCapable = codes "  dropped: its endpoints do not understand a mark\n"
+picked_words (fate.NotBelow threshold) = joined (codes "  dropped, not marked: the probability is not below " ∷ per_cent threshold ∷ codes "\n" ∷ [])
+
+-- what was accumulated, with the probability of this arrival
+unfoldable pub sum_words : ℕ → ℕ → List ℕ
+sum_words accu prob = joined (codes "  the accumulated probability, with this one, is " ∷ per_cent (min (accu + prob) (2 ^ 64 - 1)) ∷ [])
+
+-- how the random word compares with the probability
+unfoldable pub compared_words : ℕ → ℕ → List ℕ → List ℕ → List ℕ
+compared_words word prob outcome compares =
+    joined (codes "\n  " ∷ outcome ∷ codes ": its random word, " ∷ word_text word ∷ codes ", " ∷ compares ∷ codes " the probability, " ∷ per_cent prob ∷ codes "\n" ∷ [])
+
+-- at a probability above 0
+unfoldable pub considered_words : Cause → List ℕ
+considered_words (LittleAccumulated accu prob) = joined (sum_words accu prob ∷ codes ", below 85 %\n" ∷ [])
+considered_words (PickedBySum accu prob picked) = joined (sum_words accu prob ∷ codes ", at least 850 %\n" ∷ picked_words picked ∷ [])
+considered_words (PickedByWord accu prob word picked) = joined (sum_words accu prob ∷ compared_words word prob (codes "picked") (codes "is below") ∷ picked_words picked ∷ [])
+considered_words (WordNotBelow accu prob word) = joined (sum_words accu prob ∷ compared_words word prob (codes "not picked") (codes "is not below") ∷ [])
+considered_words _ = codes ""
+
+unfoldable pub cause_words : Cause → List ℕ
+cause_words (NoRoomInBytes bytes size limit) =
+    joined (codes "  the queue holds " ∷ decimal bytes ∷ codes " bytes: with " ∷ decimal size ∷ codes " more it would be above its limit of " ∷ decimal limit ∷ codes "\n" ∷ [])
+cause_words (NoRoomInPackets packets) = joined (codes "  the ring is full: it holds " ∷ decimal packets ∷ codes " packets\n" ∷ [])
+cause_words Inactive = codes "  the controller is turned off\n"
+cause_words (BurstAllowed burst) = joined (codes "  a burst is allowed: " ∷ millis burst ∷ codes " are left of it\n" ∷ [])
+cause_words (LowDelay old_delay target prob) =
+    joined (codes "  the old delay, " ∷ millis old_delay ∷ codes ", is below half the target of " ∷ millis target
+    ∷ codes ",\n  and the probability, " ∷ per_cent prob ∷ codes ", below 20 %\n" ∷ [])
+cause_words (ShortQueue bytes two_packets) =
+    joined (codes "  the queue is short: " ∷ decimal bytes ∷ codes " bytes, at most two mean packets (" ∷ decimal two_packets ∷ codes " bytes)\n" ∷ [])
+cause_words NoProbability = codes "  the probability is 0\n"
+cause_words cause = considered_words cause
+
+-- nothing of an event that is no arrival
+unfoldable pub reason_words : Option Cause → List ℕ
+reason_words None = codes ""
+reason_words (Some cause) = cause_words cause
+
+-- ---- what the controller held before the event
+
+unfoldable pub setter_words : Option ℕ → Registers → List ℕ
+setter_words None before = joined (codes "  probability " ∷ per_cent before.prob ∷ codes ", with no update yet;" ∷ [])
+setter_words (Some event) before =
+    joined (codes "  probability " ∷ per_cent before.prob ∷ codes ", set by event " ∷ decimal event ∷ codes "; last update at " ∷ millis before.last ∷ codes ";" ∷ [])
+
+unfoldable pub queue_words : ℕ → ℕ → ℕ → List ℕ
+queue_words packets bytes delay =
+    joined (codes "  before it: " ∷ decimal packets ∷ codes " packets, " ∷ decimal bytes ∷ codes " bytes, a delay of " ∷ millis delay ∷ codes "\n" ∷ [])
+
+unfoldable pub burst_words : ℕ → List ℕ
+burst_words burst = joined (codes " burst allowance " ∷ millis burst ∷ codes "\n" ∷ [])
+
+unfoldable pub before_words : Explanation → List ℕ
+before_words told =
+    joined (queue_words told.before.packets told.before.bytes told.delay ∷ setter_words told.set_by told.before ∷ burst_words told.before.burst ∷ [])
+
+-- ---- the whole
+
+unfoldable pub words : Explanation → List ℕ
+words told =
+    joined (deed_words told.number told.event.command told.event.answer told.waited ∷ when_words told.moment told.event.caller
+    ∷ reason_words told.cause ∷ before_words told ∷ [])

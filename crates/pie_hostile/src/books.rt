@@ -1,0 +1,244 @@
+//! The queue, cores, books and folds.
+ghost use Rattle.std.specs.Prelude.{◌≡◌};
+
+use crate::report::begin;
+use pie_book::{
+    Book, Choices, Command, Core, Event, Limits, Mode, OpenRefusal, Profile, Registers, Stats,
+};
+use pie_fixed::Nanos;
+use pie_params::Params;
+use pie_queue::{ByteQueue, Ecn, Memory, Packet};
+use std::alloc::Global;
+use std::io;
+
+/// A ring of four packets, and a tail of eight events.
+pub(crate) fn limits() -> Limits {
+    Limits {
+        packets: 4,
+        tail: 8,
+        events: 100,
+    }
+}
+
+/// A packet of 100 bytes.
+pub(crate) fn packet(tag: u64) -> Packet
+    ensures { result.size ≡ 100 }
+{
+    Packet {
+        tag,
+        size: 100,
+        ecn: Ecn::NotEct,
+    }
+}
+
+/// A packet arrives whose tag is its moment.
+fn arrive(moment: u64) -> Command {
+    Command::Arrive {
+        moment,
+        packet: packet(moment),
+        word: 0,
+    }
+}
+
+/// The queue, cores, books and folds, one after another.
+pub(crate) fn all(rt: &impl Print, alloc: Global) -> io::Result<()> {
+    queue(rt, alloc)?;
+    core(rt, alloc)?;
+    core_with(rt, alloc)?;
+    book(rt, alloc)?;
+    book_with(rt, alloc)?;
+    fold(rt, alloc)?;
+    fold_none(rt, alloc)?;
+    apply(rt, alloc)
+}
+
+/// Whether a packet was queued.
+fn admitted(queue: &mut ByteQueue, tag: u64) -> bool {
+    match Nanos::from_units(0) {
+        Some(since) => queue.admit(packet(tag), since).is_ok(),
+        None => false,
+    }
+}
+
+/// A ring of two packets takes two of three, and gives the first.
+fn queue(rt: &impl Print, alloc: Global) -> io::Result<()> {
+    begin(rt, "ByteQueue::new")?;
+    match ByteQueue::new(alloc, 2) {
+        Ok(mut queue) => {
+            let first = admitted(&mut queue, 1);
+            let second = admitted(&mut queue, 2);
+            let third = admitted(&mut queue, 3);
+            let left = match queue.take() {
+                Some(waiting) => waiting.packet.tag,
+                None => 0,
+            };
+            println!(rt; "ByteQueue::new: {first} {second} {third}, packet {left} left")
+        }
+        Err(Memory) => println!(rt; "ByteQueue::new: Memory"),
+    }
+}
+
+/// Prints what a core that was opened holds after an arrival, or why none was.
+fn tell_core(rt: &impl Print, name: &str, made: Result<Core, OpenRefusal>) -> io::Result<()> {
+    match made {
+        Ok(mut core) => {
+            let answer = core.step(1, arrive(10));
+            let Registers { count, bytes, .. } = core.registers();
+            println!(rt; "{name}: {answer:?}, {count} event, {bytes} bytes")
+        }
+        Err(why) => println!(rt; "{name}: {why:?}"),
+    }
+}
+
+fn core(rt: &impl Print, alloc: Global) -> io::Result<()> {
+    begin(rt, "Core::open")?;
+    let made = Core::open(alloc, limits(), Params::default_profile(), 0);
+    tell_core(rt, "Core::open", made)
+}
+
+fn core_with(rt: &impl Print, alloc: Global) -> io::Result<()> {
+    let params = Params::default_profile();
+    begin(rt, "Core::open_with")?;
+    let made = Core::open_with(alloc, limits(), params, 0, Profile::Two);
+    tell_core(rt, "Core::open_with", made)
+}
+
+/// Prints what a book that was opened holds after an arrival, or why none was.
+fn tell_book(rt: &impl Print, name: &str, made: Result<Book, OpenRefusal>) -> io::Result<()> {
+    match made {
+        Ok(mut book) => {
+            let answer = book.apply(1, arrive(10));
+            let (count, held) = (book.count(), book.tail_len());
+            println!(rt; "{name}: {answer:?}, {count} event, {held} in the tail")
+        }
+        Err(why) => println!(rt; "{name}: {why:?}"),
+    }
+}
+
+fn book(rt: &impl Print, alloc: Global) -> io::Result<()> {
+    begin(rt, "Book::open")?;
+    let made = Book::open(alloc, limits(), Params::default_profile(), 0);
+    tell_book(rt, "Book::open", made)
+}
+
+fn book_with(rt: &impl Print, alloc: Global) -> io::Result<()> {
+    let params = Params::default_profile();
+    let choices = Choices {
+        mode: Mode::Rolling,
+        profile: Profile::Two,
+    };
+    begin(rt, "Book::open_with")?;
+    let made = Book::open_with(alloc, limits(), params, 0, choices);
+    tell_book(rt, "Book::open_with", made)
+}
+
+/// What a book with four events shows of itself.
+#[derive(Clone, Copy, PartialEq, Eq)]
+struct Shown {
+    registers: Registers,
+    stats: Stats,
+    checkpoint: Registers,
+    checkpoint_stats: Stats,
+    tail: usize,
+    waiting: Option<u64>,
+}
+
+/// What a book shows.
+fn look_at(book: &Book) -> Shown {
+    Shown {
+        registers: book.registers(),
+        stats: book.stats(),
+        checkpoint: book.checkpoint(),
+        checkpoint_stats: book.checkpoint_stats(),
+        tail: book.tail_len(),
+        waiting: match book.waiting(0) {
+            Some(waiting) => Some(waiting.packet.tag),
+            None => None,
+        },
+    }
+}
+
+/// The moments of the first two events, 0 where there is none.
+pub(crate) fn moments(events: &[Event]) -> (u64, u64) {
+    let first = match events.first() {
+        Some(event) => event.command.moment(),
+        None => 0,
+    };
+    let second = match events.get(1) {
+        Some(event) => event.command.moment(),
+        None => 0,
+    };
+    (first, second)
+}
+
+/// Three arrivals and a departure, of which one was folded.
+fn four_events(alloc: Global) -> Option<Book> {
+    let Ok(mut book) = Book::open(alloc, limits(), Params::default_profile(), 0) else {
+        return None;
+    };
+    for moment in 1..4 {
+        let _ = book.apply(1, arrive(moment));
+    }
+    let _ = book.apply(2, Command::Depart { moment: 4 });
+    match book.fold(alloc, 1) {
+        Ok(_) => Some(book),
+        Err(_) => None,
+    }
+}
+
+/// A fold that is refused leaves the book as it was, and the next one hands out the same events.
+fn fold(rt: &impl Print, alloc: Global) -> io::Result<()> {
+    let Some(mut book) = four_events(alloc) else {
+        return println!(rt; "Book::fold: there is no book");
+    };
+    let before = look_at(&book);
+    begin(rt, "Book::fold")?;
+    match book.fold(alloc, 2) {
+        Ok(events) => {
+            let (first, second) = moments(events.as_slice());
+            println!(rt; "Book::fold: events at {first} and {second}")?;
+        }
+        Err(why) => {
+            let is_same = look_at(&book) == before;
+            println!(rt; "Book::fold: {why:?}, unchanged: {is_same}")?;
+            match book.fold(alloc, 2) {
+                Ok(events) => {
+                    let (first, second) = moments(events.as_slice());
+                    println!(rt; "and then: events at {first} and {second}")?;
+                }
+                Err(why) => println!(rt; "and then: {why:?}")?,
+            }
+        }
+    }
+    let (held, count) = (book.tail_len(), book.checkpoint().count);
+    println!(rt; "after Book::fold: {held} in the tail, {count} before it")
+}
+
+/// A fold of no event requests no memory.
+fn fold_none(rt: &impl Print, alloc: Global) -> io::Result<()> {
+    let Some(mut book) = four_events(alloc) else {
+        return println!(rt; "Book::fold of none: there is no book");
+    };
+    begin(rt, "Book::fold of none")?;
+    match book.fold(alloc, 0) {
+        Ok(events) => {
+            let count = events.len();
+            println!(rt; "Book::fold of none: {count} events")
+        }
+        Err(why) => println!(rt; "Book::fold of none: {why:?}"),
+    }
+}
+
+/// A book takes its events, and refuses one more, without a request for memory.
+fn apply(rt: &impl Print, alloc: Global) -> io::Result<()> {
+    let Ok(mut book) = Book::open(alloc, limits(), Params::default_profile(), 0) else {
+        return println!(rt; "Book::apply: there is no book");
+    };
+    begin(rt, "Book::apply")?;
+    for moment in 1..9 {
+        let _ = book.apply(1, arrive(moment));
+    }
+    let last = book.apply(1, arrive(9));
+    let (count, packets) = (book.count(), book.registers().packets);
+    println!(rt; "Book::apply: {count} events, {packets} packets wait, and then {last:?}")
+}

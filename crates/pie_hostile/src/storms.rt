@@ -1,0 +1,55 @@
+//! A storm of two senders, with a change and a fold.
+
+use crate::books::{limits, packet};
+use crate::report::begin;
+use pie_link::{Arrival, Change, NoGate, Plan, storm};
+use pie_params::Params;
+use std::alloc::{AllocError, Global};
+use std::io;
+use std::sync::Wait;
+use std::thread::Threads;
+
+/// The storm.
+pub(crate) fn all<R: Threads + Wait + Print + Sync>(rt: &R, alloc: Global) -> io::Result<()> {
+    match plan(alloc) {
+        Ok(plan) => make(rt, alloc, &plan),
+        Err(_) => println!(rt; "storm: there is no plan"),
+    }
+}
+
+/// One packet of a sender.
+fn arrival(alloc: Global, moment: u64) -> Result<Vec<Arrival>, AllocError> {
+    let one = Arrival {
+        moment,
+        packet: packet(moment),
+        word: 0,
+    };
+    Ok(vec![in alloc; one]?)
+}
+
+/// Two senders with a packet each, a departure, an update, a change and a fold.
+fn plan(alloc: Global) -> Result<Plan, AllocError> {
+    let params = Params::default_profile();
+    Ok(Plan {
+        limits: limits(),
+        params,
+        moment: 0,
+        arrivals: vec![in alloc; arrival(alloc, 1)?, arrival(alloc, 2)?]?,
+        departs: vec![in alloc; 3]?,
+        updates: vec![in alloc; 15_000_000]?,
+        changes: vec![in alloc; Change { moment: 4, params }]?,
+        folds: vec![in alloc; 1]?,
+    })
+}
+
+fn make<R: Threads + Wait + Print + Sync>(rt: &R, alloc: Global, plan: &Plan) -> io::Result<()> {
+    begin(rt, "storm")?;
+    match storm(rt, alloc, plan, &NoGate) {
+        Ok(end) => {
+            let events = end.events.len();
+            let (arrivals, changes) = (end.stats.arrivals, end.stats.changes);
+            println!(rt; "storm: {events} events, {arrivals} arrivals, {changes} change")
+        }
+        Err(why) => println!(rt; "storm: {why:?}"),
+    }
+}

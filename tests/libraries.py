@@ -1,0 +1,114 @@
+#!/usr/bin/env python3
+"""Refuses, one after another, each request for memory that a call of the libraries makes: that one alone, and that one with all
+after it. The call answers want of memory in its own form and leaves what it promises. The first run in which nothing is left to
+refuse answers as with ample memory. Other calls answer as ever. Of a storm each start of a thread is refused as well.
+usage: tests/libraries.py PROGRAM      PROGRAM: crates/pie_hostile/out/pie_hostile, as `rt run` builds it there"""
+import os
+import re
+import shutil
+import subprocess
+import sys
+import tempfile
+
+PROGRAM = os.path.abspath(sys.argv[1])
+HERE = os.path.dirname(os.path.abspath(__file__))
+AMPLE = open(f"{HERE}/../crates/pie_hostile/stdout").read()
+
+# What each call answers, and leaves, where a request was refused, as regular expressions; nothing where it makes none.
+REFUSED = {
+    "ByteQueue::new": r"ByteQueue::new: Memory\n",
+    "Core::open": r"Core::open: Memory\n",
+    "Core::open_with": r"Core::open_with: Memory\n",
+    "Book::open": r"Book::open: Memory\n",
+    "Book::open_with": r"Book::open_with: Memory\n",
+    "Book::fold": r"Book::fold: Memory, unchanged: true\nand then: events at 2 and 3\nafter Book::fold: 1 in the tail, 3 before it\n",
+    "Book::fold of none": None,
+    "Book::apply": None,
+    "RuledLock::new": r"RuledLock::new: Memory, back: 0 and 0\nand then: count 1, total 5\n",
+    "RuledLock::try_take": None,
+    "Link::open": r"Link::open: (Book\(Memory\)|Memory)\n",
+    "Link::open_with": r"Link::open_with: (Book\(Memory\)|Memory)\n",
+    "Link::try_arrive": None,
+    "Link::try_fold": r"Link::try_fold: Refused\(Memory\), free and unchanged: true\nand then: events at 1 and 2, number 2\n",
+    "Link::fold": r"Link::fold: Refused\(Memory\), free and unchanged: true\nand then: events at 1 and 2, number 2\n",
+    "storm": r"storm: (Opening\(Book\(Memory\)\)|Opening\(Memory\)|Memory|Thread)\n",
+    "run_trace": r"run_trace: Memory, other bytes: false\n",
+    "run_trace_within": r"run_trace_within: Memory, other bytes: false\n",
+    "HistoryLines::open": r"HistoryLines::open: Memory\n",
+    "next_line": r"next_line: Some\(Memory\), and then Some\(Memory\)\nlines before it: [012]\n",
+    "write_history": r"write_history: Memory, other bytes: false\n",
+    "Auditor::open": r"Auditor::open: Memory\n",
+    "Auditor::feed": None,
+    "audit": r"audit: Memory\n",
+    "explain as CSV": r"explain as CSV: Trace\(Memory\), other bytes: false\n",
+    "explain in words": r"explain in words: Trace\(Memory\), other bytes: false\n",
+}
+# No call makes so many requests.
+MOST = 1000
+
+failures = []
+
+
+def check(holds, *what):
+    if not holds:
+        failures.append(what)
+        print("tests/libraries.py:", *what)
+
+
+def calls_of(text):
+    """What each call printed."""
+    parts = re.split(r"^begin (.*)\n", text, flags=re.MULTILINE)
+    return dict(zip(parts[1::2], parts[2::2]))
+
+
+def run(**environment):
+    done = subprocess.run([PROGRAM, "memory"], capture_output=True, text=True, env={**os.environ, **environment}, timeout=60)
+    return done.returncode, done.stdout, done.stderr
+
+
+def refuse(library, met, name, ample, variable, is_on):
+    """Refuses the first such request of this call, its second, and so on, and says how many it makes."""
+    on = {"REFUSE_ON": "1"} if is_on else {}
+    for place in range(1, MOST):
+        if os.path.exists(met):
+            os.remove(met)
+        after = {"REFUSE_AFTER": f"begin {name}", variable: str(place)}
+        status, output, errors = run(LD_PRELOAD=library, REFUSE_MET=met, **after, **on)
+        told = calls_of(output)
+        where = (name, variable, place, "and all after it" if is_on else "")
+        check((status, errors) == (0, ""), *where, status, errors)
+        others = {call for call in ample if told.get(call) != ample[call]} - {name}
+        check(set(told) == set(ample) and not others, *where, "other calls answered otherwise:", others)
+        if not os.path.exists(met):
+            check(told.get(name) == ample.get(name), *where, "with nothing refused:", told.get(name))
+            return place - 1
+        # (a list that grows asks once more, for less, before it gives up, and a thread that cannot be started is done without)
+        did_without = (not is_on or variable == "REFUSE_THREAD") and told.get(name) == ample.get(name)
+        is_told = REFUSED[name] and re.fullmatch(REFUSED[name], told.get(name, ""))
+        check(is_told or did_without, *where, "answered", repr(told.get(name)))
+    check(False, name, "makes requests without end")
+    return MOST
+
+
+def main():
+    compiler = shutil.which(os.environ.get("CC", "cc"))
+    if not compiler:
+        print("tests/libraries.py: no C compiler here, so no request was refused")
+        return
+    status, output, errors = run()
+    ample = calls_of(output)
+    check((status, errors) == (0, "") and AMPLE.startswith(output), "with ample memory:", status, errors, output)
+    check(set(ample) == set(REFUSED), "other calls than here:", set(ample) ^ set(REFUSED))
+    with tempfile.TemporaryDirectory() as room:
+        library, met = f"{room}/refuse.so", f"{room}/met"
+        subprocess.run([compiler, "-O2", "-Wall", "-Werror", "-shared", "-fPIC", "-o", library, f"{HERE}/refuse.c"], check=True)
+        for name in REFUSED:
+            for variable in ["REFUSE_MEMORY", "REFUSE_THREAD"] if name == "storm" else ["REFUSE_MEMORY"]:
+                counts = [refuse(library, met, name, ample, variable, is_on) for is_on in (False, True)]
+                check((0 in counts) == (REFUSED[name] is None), name, variable, "is met so often:", counts)
+                print(f"tests/libraries.py: {name}: {variable} at {counts[0]} places, and at {counts[1]} with all after it")
+    print(f"tests/libraries.py: {len(failures)} failed")
+    sys.exit(1 if failures else 0)
+
+
+main()

@@ -4,7 +4,7 @@
 usage: bench/overload.py [SEED]
 
 The link carries 10 million bits a second: it sends a packet of 1000 bytes each 0.8 milliseconds. Packets come at random
-moments, at half of that rate; from second 2 to second 6 at 1.4 times that rate, whatever is dropped. At second 1 sixty
+moments, at half of that rate; from second 2 to second 6 at 1.2 times that rate, whatever is dropped. At second 1 sixty
 packets more come at once. A quarter of the packets is ECN-capable. There is an update each 15 milliseconds.
 """
 import random
@@ -19,7 +19,7 @@ BURST = (1_000_000_000, 60)
 def arrivals(words):
     moment = 0.0
     while moment < END:
-        load = 1.4 if OVERLOAD[0] <= moment < OVERLOAD[1] else 0.5
+        load = 1.2 if OVERLOAD[0] <= moment < OVERLOAD[1] else 0.5
         moment += words.expovariate(load / SLOT)
         yield int(moment)
 

@@ -28,7 +28,7 @@ set ylabel "per cent"
 set yrange [0:*]
 plot "$work/updates.csv" using 1:3 with lines lw 2 lc "#b0303a" title "drop probability"
 set ylabel "packets each 0.1 s"
-set xlabel "seconds: 60 packets at once at 1, load 1.4 from 2 to 6, else 0.5"
+set xlabel "seconds: sixty packets at once at 1; load 1.2 from 2 to 6, else 0.5"
 set boxwidth 0.09
 set style fill solid 0.6
 plot "$work/tenths.csv" using 1:2 with boxes lc "#b0303a" title "dropped", "$work/tenths.csv" using 1:3 with boxes lc "#3a8a3a" title "marked"

@@ -69,6 +69,8 @@ static inline int is_sound(const struct pie_state *s) {
         return 0;
     if (s->accu >= 8500000000000 || s->average >> 60)
         return 0;
+    if (s->profile == 1 ? s->active != 1 : s->profile != 2 || s->active > 1)
+        return 0;
     if (s->measuring == 1)
         return s->cycle_start <= s->moment && s->cycle_count < t;
     return s->measuring == 0 && s->cycle_start == 0 && s->cycle_count == 0;

@@ -23,29 +23,27 @@ program, work, runs = sys.argv[1], sys.argv[2], int(sys.argv[3])
 history, output = f"{work}/history", f"{work}/output"
 
 
-def start(words):
-    with open(history, "rb") as reader, open(output, "wb") as writer:
-        return subprocess.Popen([program, *words], stdin=reader, stdout=writer)
-
-
 def seconds(words):
-    """The time by the clock and the processor's time of one run."""
-    begin = time.perf_counter()
-    child = start(words)
-    _, status, used = os.wait4(child.pid, 0)
-    child.returncode = status
+    """The time by the clock and the processor's time of one run; its files are opened, and the earlier output is dropped, before."""
+    with open(history, "rb") as reader, open(output, "wb") as writer:
+        begin = time.perf_counter()
+        child = subprocess.Popen([program, *words], stdin=reader, stdout=writer)
+        _, status, used = os.wait4(child.pid, 0)
+        child.returncode = status
+        clock = time.perf_counter() - begin
     assert status == 0, (words, status)
-    return time.perf_counter() - begin, used.ru_utime + used.ru_stime
+    return clock, used.ru_utime + used.ru_stime
 
 
 def resident(words):
     """The greatest resident memory in KiB, as the system's record of the process has it until shortly before its end."""
-    child, most = start(words), 0
-    while child.poll() is None:
-        with open(f"/proc/{child.pid}/status") as status:
-            lines = [line for line in status if line.startswith("VmHWM")]
-        most = max([most] + [int(line.split()[1]) for line in lines])
-        time.sleep(0.005)
+    with open(history, "rb") as reader, open(output, "wb") as writer:
+        child, most = subprocess.Popen([program, *words], stdin=reader, stdout=writer), 0
+        while child.poll() is None:
+            with open(f"/proc/{child.pid}/status") as status:
+                lines = [line for line in status if line.startswith("VmHWM")]
+            most = max([most] + [int(line.split()[1]) for line in lines])
+            time.sleep(0.005)
     return most
 
 

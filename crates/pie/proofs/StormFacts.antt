@@ -233,11 +233,11 @@ writes-history plan events auditor opening before now is legal same audits appen
     written-own plan events auditor before now legal same (subst (λ (o : Opening). Audits o auditor (map Made events)) is audits)
     (subst (λ (o : Opening). Written o events before now) is (record { appends = appends; back = back }))
 
-pub storm-ends : (options : List Row) (senders packets seed : ℕ) (plan : Plan) (events listed : List Event) (too_soon status : ℕ) (before now : Option (List ℕ))
+pub storm-ends : (options : List Row) (senders packets seed : ℕ) (plan : Plan) (events listed : List Event) (too_soon too_many status : ℕ) (before now : Option (List ℕ))
     → senders ≡ senders_in options → packets ≡ packets_in options → seed ≡ seed_in options → IsStormPlan senders packets seed plan
-    → IsStorm plan events too_soon → IsLegal (opening_of plan) events → listed ≡ events → (status ≡ 1) ⊎ ((status ≡ 0) × WritesHistory plan listed before now)
+    → IsStorm plan events too_soon too_many → IsLegal (opening_of plan) events → listed ≡ events → (status ≡ 1) ⊎ ((status ≡ 0) × WritesHistory plan listed before now)
     → EndsStorm options status before now
-storm-ends options senders packets seed plan events listed too_soon status before now senders_are packets_are seed_is is_plan storm legal same ended = elim ended [
+storm-ends options senders packets seed plan events listed too_soon too_many status before now senders_are packets_are seed_is is_plan storm legal same ended = elim ended [
   | inl one ↦ inl one
   | inr written ↦ inr (
     written.0,
@@ -248,6 +248,7 @@ storm-ends options senders packets seed plan events listed too_soon status befor
       record {
         events = events;
         too_soon = too_soon;
+        too_many = too_many;
         planned = storm;
         legal = legal;
         history = subst (λ (list : List Event). WritesHistory plan list before now) same written.1;

@@ -42,8 +42,9 @@ pub record WritesHistory (plan : Plan) (events : List Event) (before now : Optio
 pub record WritesStorm (plan : Plan) (before now : Option (List ℕ)) : Type 0 where
   pub events : List Event
   pub too_soon : ℕ
+  pub too_many : ℕ
   -- they are those that the plan asks for, but for so many updates that were too soon
-  pub planned : IsStorm plan events too_soon
+  pub planned : IsStorm plan events too_soon too_many
   -- each is what the rules give at its place
   pub legal : IsLegal (opening_of plan) events
   pub history : WritesHistory plan events before now

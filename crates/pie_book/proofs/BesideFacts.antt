@@ -1,5 +1,5 @@
 -- The parts' steps beside a queue decide and hold what a core does.
-use Rattle.std.proofs.Common.{◌≡◌, ◌≤◌, ◌<◌, ◌+◌, ◌-◌, ◌==◌, ◌&&◌, ◌||◌, ℕ, zero, suc, List, [], ◌∷◌, ◌++◌, length, drop, Bool, true, false, not, cond, refl, sym, subst, ap, ◌∙◌, ◌*◌, arith, if◌then◌else◌}
+use Rattle.std.proofs.Common.{◌≡◌, ◌≤◌, ◌<◌, ◌+◌, ◌==◌, ◌&&◌, ◌||◌, ℕ, zero, suc, List, [], ◌∷◌, ◌++◌, length, drop, Bool, true, false, not, refl, sym, subst, ap, ◌∙◌, ◌*◌, arith, if◌then◌else◌}
 use Rattle.std.specs.Prelude.{max, nat_lt, nat_le, Option, Some, None}
 use Rattle.std.specs.Option.{option_to_list}
 use Rattle.std.proofs.lemmas.Bool.{eqb-true, le-leb, lt-leb, ltb-true}
@@ -18,12 +18,11 @@ use Rattle.pie_rate.specs.Estimate.{Begun, Estimate}
 use Rattle.pie_rate.specs.Estimate as Rate
 use Rattle.pie_rate.specs.Step.{after_departure, opened_by, step_from}
 use Rattle.pie_rate.proofs.Steps.{closes, counts, idle, opened}
-use Rattle.pie_control.specs.Events.{ControlEvent, update_at, reset}
-use Rattle.pie_control.specs.Events as Events
+use Rattle.pie_control.specs.Events.{ControlEvent, reset}
 use Rattle.pie_control.specs.History as Control
 use Rattle.pie_control.specs.Parts.{Parts}
 use Rattle.pie_control.proofs.Laws.{Shows-idled, Shows-reset, Shows-updated}
-use Rattle.pie_early.specs.Decision.{choice_of, is_considered, is_picked}
+use Rattle.pie_early.specs.Decision.{is_considered, is_picked}
 use Rattle.pie_early.specs.declared.early.Choice.{Choice}
 use Rattle.pie_early.specs.declared.early.Choice.TheVariants.{Enqueue, Mark, Drop}
 use Rattle.pie_early.specs.Events.{EarlyEvent}
@@ -31,7 +30,6 @@ use Rattle.pie_early.specs.History as Early
 use Rattle.pie_early.proofs.Laws.{shows-clear, shows-grown, shows-pick, shows-unconsidered, shows-zero}
 use Rattle.pie_book.specs.declared.command.Answer.{Answer}
 use Rattle.pie_book.specs.declared.command.Answer.TheVariants.{DroppedBytes, DroppedPackets, Empty, Left, Updated, Done}
-use Rattle.pie_book.specs.declared.command.Command.{Command}
 use Rattle.pie_book.specs.declared.command.Command.TheVariants.{Arrive, Depart, Update, Reset, SetParams}
 use Rattle.pie_book.specs.declared.command.Event.{Event}
 use Rattle.pie_book.specs.declared.opening.Opening.{Opening}

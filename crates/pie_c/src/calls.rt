@@ -1,15 +1,17 @@
 //! The calls on a state.
 ghost use Rattle.std.specs.Prelude.{◌≡◌, ◌==◌, ◌&&◌, true, if◌then◌else◌};
-ghost use Rattle.pie_beside.specs.Beside.{arrived, departed, found_empty, reset, updated, verdict, with_params};
+ghost use Rattle.pie_beside.specs.Beside.{arrived, departed, found_empty, reset, turned_on, updated, verdict, with_params};
 ghost use Rattle.pie_c.specs.Params.{raw_of};
-ghost use Rattle.pie_c.specs.State.{held_in, is_sound};
+ghost use Rattle.pie_c.specs.State.{held_in, is_sound, state_of};
 ghost use Rattle.pie_c.specs.Calls.{arrival_refusal, departure_refusal, ecn_at, kept_if_refused, moment_refusal, params_refusal, unless_refused, update_refusal, updated_by, verdict_number};
 ghost use Rattle.pie_c.specs.History.{Shown, Shows, with_arrival, with_departure, with_params as with_params_shown, with_reset, with_update};
 
-use crate::code::{BAD_ECN, BAD_MOMENT, BAD_PARAMS, BAD_QUEUE, BAD_SIZE, BAD_STATE, DONE, TOO_SOON};
+use crate::checked::{ecn, is_bad_size};
+use crate::code::{
+    BAD_ECN, BAD_MOMENT, BAD_PARAMS, BAD_QUEUE, BAD_SIZE, BAD_STATE, DONE, TOO_SOON,
+};
 use crate::controller::{Controller, cleared};
 use crate::params::PieParams;
-use crate::checked::{ecn, is_bad_size};
 use crate::state::PieState;
 use crate::updated::PieUpdated;
 use pie_fixed::Nanos;
@@ -64,12 +66,27 @@ pub extern "C" fn pie_arrive(
     if !controller.is_turned_on_by(arrival.bytes) {
         return arrival.code;
     }
+    turn_on(state);
+    arrival.code
+}
+
+/// Turns a controller on, which starts it anew (RFC 8033, section 5.3). It is rare, so it stands off the way of a packet.
+#[cold]
+#[inline(never)]
+fn turn_on(state: &mut PieState)
+    requires { is_sound state.old ≡ true }
+    ensures after { state.new ≡ state_of (turned_on (held_in state.old)) }
+    ensures sound { is_sound state.new ≡ true }
+    ensures shows { (shown : Shown) → Shows shown state.old → Shows (with_reset shown (raw_of state.old.params)) state.new }
+{
+    let Some(mut controller) = Controller::of(state) else {
+        return;
+    };
     controller.reset();
     controller.store_control(state);
     controller.store_rate(state);
     state.accu = controller.early.accu().units();
     state.active = 1;
-    arrival.code
 }
 
 /// Takes in a packet that left the queue, with `left` bytes after it (RFC 8033, section 5.2). An inactive controller takes in the

@@ -53,7 +53,14 @@ impl Controller {
     /// What becomes of an arriving packet: tail drop by bytes, then by packets, and else early drop chooses, where the controller
     /// is active.
     #[tactic(auto, unfolding(pie_beside::specs::Beside::verdict_by, pie_beside::specs::Beside::accu_by, pie_beside::specs::Beside::event_by))]
-    pub(crate) fn arrive(&mut self, queued: u64, size: u32, room: u32, ecn: Ecn, word: u64) -> Arrival
+    pub(crate) fn arrive(
+        &mut self,
+        queued: u64,
+        size: u32,
+        room: u32,
+        ecn: Ecn,
+        word: u64,
+    ) -> Arrival
         requires { queued ≤ 2 ^ 30 }
         ensures verdict { result.code ≡ verdict_number (verdict_by self.old.active self.old.params self.old.control self.old.early queued size room ecn word) }
         ensures bytes { result.bytes ≡ bytes_with (verdict_by self.old.active self.old.params self.old.control self.old.early queued size room ecn word) queued size }
@@ -135,8 +142,7 @@ impl Controller {
     pub(crate) fn update(&mut self, queued: u64) -> bool
         requires { queued ≤ 2 ^ 30 }
         ensures step { self.new ≡ record self.old { control = control_after self.old.params self.old.control (delay_of queued self.old.rate.average self.old.params.dq_threshold) self.old.moment } }
-        ensures calm {
-            let delay = delay_of queued self.old.rate.average self.old.params.dq_threshold in
+        ensures calm { let delay = delay_of queued self.old.rate.average self.old.params.dq_threshold in
             result ≡ ends_calm self.old.params (next self.old.params self.old.control.prob delay self.old.control.old_delay) delay self.old.control.old_delay }
         ensures shows { (opening : RawParams) (start : ℕ) (events : List ControlEvent) →
             let delay = delay_of queued self.old.rate.average self.old.params.dq_threshold in

@@ -1,9 +1,10 @@
 //! Why an event of a saved history went as it did: which case of the rules decided it, and on which numbers, in words or as CSV.
 //!
 //! `explain` reads a history as an audit does and decides each event again; it explains the chosen ones from what the core held
-//! before them. The definitions that the contracts cite stand in `specs/`. `Explanation::of` answers, over every history that the
-//! core shows, exactly the look-back's numbers and the first case of the decision that holds there; `Which::chooses` says which
-//! events are chosen; `push_record` writes exactly the CSV record of an explanation.
+//! before them. The definitions that the contracts cite stand in `specs/`. Wherever no reader, writer or memory failed, `explain`
+//! answers exactly what `answer` says of the text, and has written exactly its `output`: the record or the words of each chosen event, in
+//! order. `Explanation::of` answers, over every history that the core shows, exactly the look-back's numbers and the first case of the
+//! decision that holds there; `Which::chooses` says which events are chosen.
 #![tactic(auto)]
 
 pub mod explainer;

@@ -1,4 +1,4 @@
-use Rattle.std.proofs.Common.{◌≡◌, ◌+◌, ◌==◌, Bool, false, nat_lt, refl, rules}
+use Rattle.std.proofs.Common.{◌≡◌, ◌+◌, ◌==◌, false, nat_lt, refl, rules}
 use Rattle.pie_early.proofs.Laws.{shows-unconsidered}
 use Rattle.pie_c.proofs.Arriving.{event-off}
 use Rattle.pie_c.proofs.controller.Controller.arrive.Goals as goal

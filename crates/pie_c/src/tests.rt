@@ -1,6 +1,6 @@
 use crate::calls::{pie_arrive, pie_depart, pie_empty, pie_reset, pie_set_params, pie_update};
-use crate::code::{BAD_PARAMS, DONE, EARLY, MARK, OVER_BYTES, OVER_PACKETS, TOO_SOON};
-use crate::opening::pie_open;
+use crate::code::{BAD_PARAMS, BAD_PROFILE, DONE, EARLY, MARK, OVER_BYTES, OVER_PACKETS, TOO_SOON};
+use crate::opening::{pie_open, pie_open_with};
 use crate::params::{PieParams, pie_check_params, pie_default_params};
 use crate::state::PieState;
 
@@ -128,4 +128,15 @@ fn marks_drops_and_a_lone_enqueue(rt: HostRuntime) {
     assert_eq!(rt; state.burst, 50);
     params.target = 1;
     assert_eq!(rt; pie_set_params(&mut state, &params, 1_001_006), BAD_PARAMS);
+}
+
+#[test]
+fn profile_two_is_turned_on_by_an_arrival(rt: HostRuntime) {
+    let params = few();
+    let mut state = unopened(params);
+    assert_eq!(rt; pie_open_with(&mut state, &params, 0, 3), BAD_PROFILE);
+    assert_eq!(rt; pie_open_with(&mut state, &params, 0, 2), DONE);
+    assert_eq!(rt; state.active, 0);
+    assert_eq!(rt; pie_arrive(&mut state, 33_000, 1000, 1, 0, 0, 0), DONE);
+    assert_eq!(rt; state.active, 1);
 }

@@ -44,6 +44,9 @@ fold,4
 params,5,1001004,1,1,50,850000,0,1,100000,1000000000000,1024
 """
 
+# The same in version two and the second profile, whose controller the third arrival turns on.
+TRACES = [TRACE, TRACE.replace(b"open,", b"open2,2,bounded,").replace(b"100000,1000000000000", b"9000,1000000000000")]
+
 failures = []
 
 
@@ -196,11 +199,16 @@ def cut_or_changed_history(case):
         check(again == found, "migrated history", name, status, errors[:100], *found)
 
 
-def cuts(history):
-    """Each beginning of the trace and of its history, and each with one byte changed."""
-    with ThreadPoolExecutor(os.cpu_count()) as pool:
-        list(pool.map(cut_or_changed_trace, [(name, text, history) for name, text in changed(TRACE)]))
-        list(pool.map(cut_or_changed_history, changed(history)))
+def cuts():
+    """Each beginning of a trace and of its history, and each with one byte changed."""
+    for trace in TRACES:
+        status, history, errors = run(["run"], trace)
+        check((status, errors) == (0, b""), "the trace", trace[:40], status, errors)
+        cases = [(name, text, history) for name, text in changed(trace)]
+        with ThreadPoolExecutor(os.cpu_count()) as pool:
+            list(pool.map(cut_or_changed_trace, cases))
+            list(pool.map(cut_or_changed_history, changed(history)))
+        print(f"tests/hostile.py: {len(cases)} cuts and changes of a trace that begins with {trace.split(b',')[0].decode()}, and of its history")
 
 
 def refused(history):
@@ -285,7 +293,7 @@ def main():
     words()
     malformed()
     small()
-    cuts(history)
+    cuts()
     refused(history)
     storms()
     print(f"tests/hostile.py: {len(failures)} failed")

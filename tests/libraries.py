@@ -40,6 +40,7 @@ REFUSED = {
     "Auditor::open": r"Auditor::open: Memory\n",
     "Auditor::feed": None,
     "audit": r"audit: Memory\n",
+    "migrate": r"migrate: Memory, other bytes: false\n",
     "explain as CSV": r"explain as CSV: Trace\(Memory\), other bytes: false\n",
     "explain in words": r"explain in words: Trace\(Memory\), other bytes: false\n",
 }

@@ -1,10 +1,10 @@
 //! The calls that read or write, over devices that fail at each place in turn.
 
 use crate::failing::{Endless, FailingReader, FailingWriter, Fault};
-use crate::texts::{EXPLAINED, HISTORY, TRACE, write_to};
+use crate::texts::{EXPLAINED, HISTORY, MIGRATED, TRACE, write_to};
 use pie_audit::audit;
 use pie_explain::{ExplainFault, Form, Which, explain};
-use pie_trace::{HistoryLines, TraceFault, run_trace, run_trace_within};
+use pie_trace::{HistoryLines, TraceFault, migrate, run_trace, run_trace_within};
 use std::alloc::Global;
 use std::io;
 
@@ -85,6 +85,18 @@ pub(crate) fn all(rt: &impl Print, alloc: Global) -> io::Result<()> {
         )?;
         tell(
             rt,
+            "migrate: a read",
+            for_good,
+            migrate_reads(alloc, for_good),
+        )?;
+        tell(
+            rt,
+            "migrate: a write",
+            for_good,
+            migrate_writes(alloc, for_good),
+        )?;
+        tell(
+            rt,
             "explain: a read",
             for_good,
             explain_reads(alloc, for_good),
@@ -97,6 +109,8 @@ pub(crate) fn all(rt: &impl Print, alloc: Global) -> io::Result<()> {
         )?;
     }
     flushes(rt, alloc)?;
+    migrated_flushes(rt, alloc)?;
+    explained_flushes(rt, alloc)?;
     endless(rt, alloc)
 }
 
@@ -201,6 +215,60 @@ fn history_writes(alloc: Global, for_good: bool) -> Ends {
     ends
 }
 
+/// A history whose reader fails while it is migrated.
+fn migrate_reads(alloc: Global, for_good: bool) -> Ends {
+    let mut ends = Ends::NONE;
+    for after in 0..=HISTORY.len() {
+        let reader = FailingReader {
+            rest: HISTORY,
+            fault: fault(after, for_good),
+        };
+        let mut writer = FailingWriter::new(MIGRATED, Fault::NONE);
+        let result = migrate(alloc, reader, &mut writer);
+        ends.add(matches!(result, Err(TraceFault::Read)), !writer.differs);
+    }
+    ends
+}
+
+/// A migrated history whose writer fails.
+fn migrate_writes(alloc: Global, for_good: bool) -> Ends {
+    let mut ends = Ends::NONE;
+    for after in 0..MIGRATED.len() {
+        let mut writer = FailingWriter::new(MIGRATED, fault(after, for_good));
+        let result = migrate(alloc, HISTORY, &mut writer);
+        ends.add(matches!(result, Err(TraceFault::Write)), !writer.differs);
+    }
+    ends
+}
+
+/// Prints the fault of a history that is migrated, and the answer where the flush after it fails.
+fn migrated_flush(rt: &impl Print, alloc: Global, text: &[u8]) -> io::Result<()> {
+    let mut writer = FailingWriter::new(MIGRATED, Fault::NONE);
+    let fault = migrate(alloc, text, &mut writer).err();
+    let mut failing = FailingWriter::new(MIGRATED, Fault::NONE);
+    failing.flush_fails = true;
+    let with = migrate(alloc, text, &mut failing).err();
+    let is_same = writer.rest.len() == failing.rest.len() && !writer.differs && !failing.differs;
+    println!(rt;
+        "migrate: {fault:?}, and {with:?} where the flush fails; the same was written: {is_same}"
+    )
+}
+
+/// Each fault of a history that can be met in a short one, and none.
+fn migrated_flushes(rt: &impl Print, alloc: Global) -> io::Result<()> {
+    migrated_flush(rt, alloc, b"")?;
+    migrated_flush(rt, alloc, b"open,0,4,16,100\ndep\n")?;
+    migrated_flush(rt, alloc, b"open,0,4,16,100\ndepart,1\n")?;
+    migrated_flush(rt, alloc, b"open,0,4,16,100\ndepart,01,1,empty\n")?;
+    migrated_flush(rt, alloc, b"open,0,4,16,100\ndepart,1,1,emp\n")?;
+    migrated_flush(rt, alloc, b"open,0,0,16,100\n")?;
+    migrated_flush(
+        rt,
+        alloc,
+        b"open,0,4,16,100\narrive,1,10,7,1500,ect0,0,enqueue\n",
+    )
+}
+
 /// Whether explaining told of this fault of a device.
 fn is_told(answer: Result<u64, ExplainFault>, device: TraceFault) -> bool {
     match answer {
@@ -264,6 +332,30 @@ fn flushes(rt: &impl Print, alloc: Global) -> io::Result<()> {
     flush(rt, alloc, b"open,0,0,16,100\n")?;
     flush(rt, alloc, b"open,1152921504606846976,4,16,100\n")?;
     flush(rt, alloc, b"open,0,4,16,100\narrive,1,10,7,1500,ect0,0\n")
+}
+
+/// Prints what explaining a history comes to, and to what where the flush after it fails.
+fn explained_flush(rt: &impl Print, alloc: Global, text: &[u8]) -> io::Result<()> {
+    let mut writer = FailingWriter::new(EXPLAINED, Fault::NONE);
+    let fault = explain(alloc, text, &mut writer, Which::All, Form::Csv).err();
+    let mut failing = FailingWriter::new(EXPLAINED, Fault::NONE);
+    failing.flush_fails = true;
+    let with = explain(alloc, text, &mut failing, Which::All, Form::Csv).err();
+    let is_same = writer.rest.len() == failing.rest.len() && !writer.differs && !failing.differs;
+    println!(rt;
+        "explain: {fault:?}, and {with:?} where the flush fails; the same was written: {is_same}"
+    )
+}
+
+/// A fault of the text, an event that differs, and neither.
+fn explained_flushes(rt: &impl Print, alloc: Global) -> io::Result<()> {
+    explained_flush(rt, alloc, b"open,0,4,16,100\ndep\n")?;
+    explained_flush(rt, alloc, b"open,0,4,16,100\ndepart,1,1,left,7,1500,ect0\n")?;
+    explained_flush(
+        rt,
+        alloc,
+        b"open,0,4,16,100\narrive,1,10,7,1500,ect0,0,enqueue\n",
+    )
 }
 
 /// The history of 999 departures from a tail of sixteen events.

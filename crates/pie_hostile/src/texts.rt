@@ -11,7 +11,7 @@ use pie_explain::{Form, Which, explain};
 use pie_params::Params;
 use pie_queue::{Ecn, Packet};
 use pie_trace::{
-    HistoryLines, Line, RunEnd, TraceFault, run_trace, run_trace_within, write_history,
+    HistoryLines, Line, RunEnd, TraceFault, migrate, run_trace, run_trace_within, write_history,
 };
 use std::alloc::Global;
 use std::io;
@@ -30,7 +30,14 @@ depart,2,25,left,7,1500,ect0
 depart,2,30,empty
 ";
 
-/// What explains its departures as CSV.
+/// That history in version two.
+pub(crate) const MIGRATED: &[u8] = b"open2,1,bounded,0,4,16,100
+arrive,1,10,7,1500,ect0,0,enqueue
+depart,2,25,left,7,1500,ect0
+depart,2,30,empty
+";
+
+/// What explains its events as CSV.
 pub(crate) const EXPLAINED: &[u8] =
     b"number,kind,caller,moment,effective_moment,tag,size,verdict,cause,bytes,packets,delay,probability,accumulated_probability,burst_allowance
 1,arrive,1,10,10,7,1500,enqueue,burst_allowed,0,0,0,0,0,150000000
@@ -55,6 +62,7 @@ pub(crate) fn all(rt: &impl Print, alloc: Global) -> io::Result<()> {
     open_auditor(rt, alloc)?;
     feed(rt, alloc)?;
     audit_text(rt, alloc)?;
+    migrate_text(rt, alloc)?;
     explain_as(
         rt,
         alloc,
@@ -259,6 +267,17 @@ fn audit_text(rt: &impl Print, alloc: Global) -> io::Result<()> {
     match audit(alloc, HISTORY) {
         Ok(found) => println!(rt; "audit: {found:?}"),
         Err(why) => println!(rt; "audit: {why:?}"),
+    }
+}
+
+fn migrate_text(rt: &impl Print, alloc: Global) -> io::Result<()> {
+    let mut writer = FailingWriter::new(MIGRATED, Fault::NONE);
+    begin(rt, "migrate")?;
+    let result = migrate(alloc, HISTORY, &mut writer);
+    let (written, differs) = (written(&writer), writer.differs);
+    match result {
+        Ok(count) => println!(rt; "migrate: {count} events, {written}"),
+        Err(why) => println!(rt; "migrate: {why:?}, other bytes: {differs}"),
     }
 }
 

@@ -1,3 +1,4 @@
+pub mod MigrationFinding
 pub mod FindingFacts
 pub mod AuditorFacts
 pub mod AuditFacts

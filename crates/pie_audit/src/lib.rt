@@ -8,10 +8,12 @@
 
 pub mod auditor;
 pub mod law;
+pub mod migration;
 pub mod text;
 
 pub use auditor::{Auditor, Finding};
 pub use law::runs_are_clean;
+pub use migration::migration_keeps_the_finding;
 pub use text::audit;
 
 #[cfg(test)]

@@ -25,3 +25,6 @@ pub mod MigrateEnds
 pub mod MigrateBack
 pub mod MigrateFirst
 pub mod MigrateWhole
+pub mod MigrateRun
+pub mod MigrateTrace
+pub mod ExamplesMigration

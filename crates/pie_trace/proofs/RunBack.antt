@@ -192,7 +192,7 @@ pub record Good (most number : ℕ) (row : Row) : Type 0 where
   pub reads : request_of row ≡ Ok request
   pub within : number ≤ most
 
-good : (most number : ℕ) (row : Row) → record_fault most number row ≡ None → Good most number row
+pub good : (most number : ℕ) (row : Row) → record_fault most number row ≡ None → Good most number row
 good most number row e = by (nat_lt most number) (request_of row) refl refl
   where
     by : (late : Bool) (o : Result Request Flaw) → nat_lt most number ≡ late → request_of row ≡ o → Good most number row
@@ -215,15 +215,15 @@ told-one version opening number progress row rows request requests here later =
     TellEach-cons version (history_row version number row (reply opening progress request)) (history_rows version (number + 1) rows (replies opening (after opening progress request) requests))
     (line_told request (reply opening progress request)) (lines_told requests (replies opening (after opening progress request) requests)) here later
 
-before-none : (most number : ℕ) → before_fault most number [] ≡ []
+pub before-none : (most number : ℕ) → before_fault most number [] ≡ []
 unfolding before_fault
 before-none most number = refl
 
-before-here : (most number : ℕ) (row : Row) (rows : List Row) (why : TraceFault) → record_fault most number row ≡ Some why → before_fault most number (row ∷ rows) ≡ []
+pub before-here : (most number : ℕ) (row : Row) (rows : List Row) (why : TraceFault) → record_fault most number row ≡ Some why → before_fault most number (row ∷ rows) ≡ []
 unfolding before_fault
 before-here most number row rows why e = rw e refl
 
-rows-told : (version : Version) (held : Held) (most : ℕ) (opening : Opening) (number : ℕ) (progress : Progress) (rows : List Row) → most ≤ 2 ^ 32 → Opens opening → Sound opening progress
+pub rows-told : (version : Version) (held : Held) (most : ℕ) (opening : Opening) (number : ℕ) (progress : Progress) (rows : List Row) → most ≤ 2 ^ 32 → Opens opening → Sound opening progress
     → RowsTold version opening number progress (before_fault most number rows) (requests_of (before_fault most number rows))
 rows-told version held most opening number progress [] few opens sound =
     subst (λ (l : List Row). RowsTold version opening number progress l (requests_of l)) (sym (before-none most number)) (told-none version opening number progress)
@@ -245,7 +245,7 @@ rows-told version held most opening number progress (row ∷ rows) few opens sou
         (record-told version held number row g.request opening progress (omega arith) opens sound g.reads) (later g.request g.reads)))
 
 -- how many there are
-before-few : (most number : ℕ) (rows : List Row) → number ≤ most + 1 → number + length (before_fault most number rows) ≤ most + 1
+pub before-few : (most number : ℕ) (rows : List Row) → number ≤ most + 1 → number + length (before_fault most number rows) ≤ most + 1
 before-few most number [] within = rw (before-none most number) (omega arith)
 before-few most number (row ∷ rows) within = by (record_fault most number row) refl (λ w. before-few most (number + 1) rows w)
   where
@@ -257,7 +257,7 @@ before-few most number (row ∷ rows) within = by (record_fault most number row)
         let more = later (omega arith) in
         rw (before_fault-later most number row rows e) (omega arith)
 
-rows-few : (version : Version) (number : ℕ) (rows : List Row) (given : List Reply) → length (history_rows version number rows given) ≤ length rows
+pub rows-few : (version : Version) (number : ℕ) (rows : List Row) (given : List Reply) → length (history_rows version number rows given) ≤ length rows
 unfolding history_rows
 rows-few version number [] given = omega arith
 rows-few version number (row ∷ rows) [] = omega arith
@@ -269,7 +269,7 @@ unfolding line_of field_at
 told-field version [] line e = cc
 told-field version (field ∷ rest) line e = omega arith
 
-told-fields : (version : Version) (rows : List Row) (lines : List Line) → TellEach version rows lines → All HasField rows
+pub told-fields : (version : Version) (rows : List Row) (lines : List Line) → TellEach version rows lines → All HasField rows
 unfolding TellEach
 told-fields version [] lines tells = All-nil HasField
 told-fields version (row ∷ rows) [] tells = absurd tells
@@ -305,7 +305,7 @@ pub record Checked (draft : Draft) (opening : Opening) : Type 0 where
   pub accepted : opening_refusal draft.limits draft.moment ≡ None
   pub in_range : first_bad draft.params ≡ None
 
-checked : (draft : Draft) (opening : Opening) → checked_opening (first_bad draft.params) draft ≡ Ok opening → Checked draft opening
+pub checked : (draft : Draft) (opening : Opening) → checked_opening (first_bad draft.params) draft ≡ Ok opening → Checked draft opening
 checked draft opening = by (first_bad draft.params) (opening_refusal draft.limits draft.moment) refl refl
   where
     inner : (why : Option OpenRefusal) → opening_refusal draft.limits draft.moment ≡ why → first_bad draft.params ≡ None → refused_opening why draft ≡ Ok opening → Checked draft opening
@@ -318,7 +318,7 @@ checked draft opening = by (first_bad draft.params) (opening_refusal draft.limit
     by (Some field) why q p e = cc
     by None why q p e = inner (opening_refusal draft.limits draft.moment) refl q e
 
-opened : (row : Row) (opening : Opening) → opening_of row ≡ Ok opening → Opened row opening
+pub opened : (row : Row) (opening : Opening) → opening_of row ≡ Ok opening → Opened row opening
 unfolding opening_of
 opened row opening = by (first_kind row) refl
   where
@@ -334,7 +334,7 @@ opened row opening = by (first_kind row) refl
 
 -- ---- the whole text
 
-sound-start : (held : Held) (opening : Opening) → Sound opening start
+pub sound-start : (held : Held) (opening : Opening) → Sound opening start
 sound-start held opening = record { legal = held.legal_at_first opening; fit = All-nil (λ (e : Event). CommandFits e.command); held = omega arith }
 
 text-rows : (version : Version) (most : ℕ) (opening : Opening) (rows : List Row)
@@ -342,7 +342,7 @@ text-rows : (version : Version) (most : ℕ) (opening : Opening) (rows : List Ro
 unfolding text_left
 text-rows version most opening rows = refl
 
-text-whole : (most : ℕ) (row : Row) (rows : List Row) (opening : Opening) → 0 < most → opening_of row ≡ Ok opening
+pub text-whole : (most : ℕ) (row : Row) (rows : List Row) (opening : Opening) → 0 < most → opening_of row ≡ Ok opening
     → history_text most (row ∷ rows) ≡ rows_text (row ∷ history_rows (version_of row) 2 (before_fault most 2 rows) (replies opening start (requests_of (before_fault most 2 rows))))
 text-whole most row rows opening some opens =
     history_text-read most row rows some ∙ rw opens (rw (text-rows (version_of row) most opening rows)

@@ -20,6 +20,7 @@ pub mod history;
 pub mod law;
 pub mod lines;
 pub mod migration;
+pub mod migration_law;
 mod number;
 mod records;
 mod rows;
@@ -34,6 +35,10 @@ pub use history::Line;
 pub use law::history_texts_are_read_back;
 pub use lines::HistoryLines;
 pub use migration::migrate;
+pub use migration_law::{
+    migrated_histories_are_read_back, migrated_runs_are_runs_of_version_two,
+    migrating_again_changes_nothing,
+};
 pub use run::{RunEnd, run_trace, run_trace_within};
 pub use version::Version;
 pub use write::write_history;

@@ -4,6 +4,7 @@
 mod devices;
 mod faults;
 mod lines;
+mod migration;
 mod parts;
 mod records;
 mod writing;

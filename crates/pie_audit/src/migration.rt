@@ -1,0 +1,17 @@
+//! The law that ties migrations and audits together.
+ghost use Rattle.std.specs.Prelude.{◌≡◌, ◌^◌, ℕ, List, None};
+ghost use Rattle.pie_trace.specs.Migrate.{history_fault, migrated_text};
+ghost use Rattle.pie_trace.specs.Text.{records_of};
+ghost use Rattle.pie_audit.specs.Text.{text_finding};
+
+use pie_trace::migrated_histories_are_read_back;
+
+/// The finding of a history without a fault is that of its migrated text, in either version.
+///
+/// It does nothing: its contract is the law (this project's own).
+pub fn migration_keeps_the_finding()
+    ensures { (text : List ℕ) → history_fault (2 ^ 32) (records_of text) ≡ None
+        → text_finding (records_of (migrated_text (2 ^ 32) (records_of text))) ≡ text_finding (records_of text) }
+{
+    migrated_histories_are_read_back();
+}

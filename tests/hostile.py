@@ -1,6 +1,6 @@
 #!/usr/bin/env python3
 """Runs the built program in hostile surroundings: standard streams that are closed, full or broken, words that are not UTF-8,
-malformed text, and each request for memory, each read and each write refused in turn.
+malformed text, and each request for memory, each read, each write and each start of a thread refused in turn.
 usage: tests/hostile.py PROGRAM      PROGRAM: crates/pie/out/pie, as `rt run` builds it there"""
 import os
 import shutil
@@ -13,6 +13,7 @@ HERE = os.path.dirname(os.path.abspath(__file__))
 HELP = subprocess.run([PROGRAM, "--help"], capture_output=True).stdout
 CAN_AUDIT, CAN_STORM = b"audit" in HELP, b"storm" in HELP
 FULL, READ, WRITE, MEMORY = b"/dev/full", b"pie: cannot read the input\n", b"pie: cannot write the output\n", b"pie: out of memory\n"
+THREAD = b"pie: a thread could not be started\n"
 
 # Every kind of record and nearly every answer.
 TRACE = b"""open,0,8,32,100,2,1,0,850000,0,1,100000,1000000000000,1024
@@ -180,6 +181,7 @@ def refused(history):
                     print(f"tests/hostile.py: {name}: {variable} at {place - 1} places{' and all after them' if on else ''}")
         if CAN_STORM:
             storm_refused(library, met)
+            threads_refused(library, met)
         # A text's fault whose history cannot be flushed: the device is what is told.
         status, output, errors = run(["run"], TRACE + b"dep\n", LD_PRELOAD=library, REFUSE_MET=met, REFUSE_WRITE="1", REFUSE_ON="1")
         check((status, output, errors) == (1, b"", WRITE), "a fault that cannot be flushed", status, errors)
@@ -199,6 +201,21 @@ def storm_refused(library, met):
             is_clean = status == 0 and not errors and run(["audit"], output)[:2] == (0, b"clean,%d\n" % (output.count(b"\n") - 1))
             check(status == 1 and is_error_line(errors) or is_clean and not on, "storm", place, on, status, errors[:100])
         print(f"tests/hostile.py: storm: memory refused at {place - 1} places{' and all after them' if on else ''}")
+
+
+def threads_refused(library, met):
+    """A storm one of whose threads is refused ends with that fault, and with a history where none is."""
+    words = ["storm", "--senders", "3", "--packets", "4"]
+    for on in [{}, {"REFUSE_ON": "1"}]:
+        for place in range(1, 100):
+            if os.path.exists(met):
+                os.remove(met)
+            status, output, errors = run(words, b"", LD_PRELOAD=library, REFUSE_MET=met, REFUSE_THREAD=str(place), **on)
+            if not os.path.exists(met):
+                check((status, errors) == (0, b"") and place == 8, "storm", place, "threads with none refused", status, errors)
+                break
+            check((status, output, errors) == (1, b"", THREAD), "storm", place, on, "a thread refused", status, errors)
+    print(f"tests/hostile.py: storm: a thread refused at {place - 1} places")
 
 
 def storms():

@@ -1,8 +1,11 @@
 /* Loaded before a program (LD_PRELOAD), refuses one of its requests: the n-th for memory (REFUSE_MEMORY=n), the n-th read of standard
- * input (REFUSE_READ=n) or the n-th write of standard output (REFUSE_WRITE=n). With REFUSE_ON=1 those after it are refused as well.
- * A request that was refused makes the file that REFUSE_MET names. */
+ * input (REFUSE_READ=n), the n-th write of standard output (REFUSE_WRITE=n) or the n-th start of a thread (REFUSE_THREAD=n). With
+ * REFUSE_ON=1 those after it are refused as well. A request that was refused makes the file that REFUSE_MET names. */
+#define _GNU_SOURCE
+#include <dlfcn.h>
 #include <errno.h>
 #include <fcntl.h>
+#include <pthread.h>
 #include <stdatomic.h>
 #include <stdlib.h>
 #include <sys/syscall.h>
@@ -11,7 +14,7 @@
 extern void *__libc_malloc(size_t);
 extern void *__libc_realloc(void *, size_t);
 
-static atomic_long asked[3];
+static atomic_long asked[4];
 
 /* Whether this request, of the kind that the variable names, is one to refuse. */
 static int is_refused(int kind, const char *variable) {
@@ -61,4 +64,12 @@ ssize_t write(int file, const void *from, size_t size) {
 
 ssize_t __write(int file, const void *from, size_t size) {
     return write(file, from, size);
+}
+
+typedef int start_thread(pthread_t *, const pthread_attr_t *, void *(*)(void *), void *);
+
+int pthread_create(pthread_t *thread, const pthread_attr_t *attributes, void *(*run)(void *), void *with) {
+    if (is_refused(3, "REFUSE_THREAD"))
+        return EAGAIN;
+    return ((start_thread *)dlsym(RTLD_NEXT, "pthread_create"))(thread, attributes, run, with);
 }

@@ -1,6 +1,6 @@
 #!/usr/bin/env python3
 """Runs the built program in hostile surroundings: standard streams that are closed, full or broken, words that are not UTF-8,
-malformed text, and each request for memory, each read and each write refused in turn.
+malformed text, and each request for memory, each read, each write and each start of a thread refused in turn.
 usage: tests/hostile.py PROGRAM      PROGRAM: crates/pie/out/pie, as `rt run` builds it there"""
 import os
 import re
@@ -16,6 +16,7 @@ HERE = os.path.dirname(os.path.abspath(__file__))
 SOURCE = open(f"{HERE}/../crates/pie/src/options.rt").read()
 READERS = {name: words for name, words in [("audit", ["audit"]), ("explain", ["explain", "--all"]), ("migrate", ["migrate"])] if f'"{name}"' in SOURCE}
 READ, WRITE, MEMORY = b"pie: cannot read the input\n", b"pie: cannot write the output\n", b"pie: out of memory\n"
+THREAD = b"pie: a thread could not be started\n"
 
 # Every kind of record and nearly every answer.
 TRACE = b"""open,0,8,32,100,2,1,0,850000,0,1,100000,1000000000000,1024
@@ -252,7 +253,7 @@ def refused(history):
 def storm_refused(library, met):
     """A storm of which each request for memory, each write and each start of a thread is refused ends: with its fault, or with a history
     that is audited clean where it did without."""
-    told = {"REFUSE_MEMORY": [MEMORY], "REFUSE_WRITE": [WRITE], "REFUSE_THREAD": [MEMORY, b"pie: a thread could not be started\n"]}
+    told = {"REFUSE_MEMORY": [MEMORY, THREAD], "REFUSE_WRITE": [WRITE], "REFUSE_THREAD": [THREAD]}
     for variable, says in told.items():
         # (long enough for several writes)
         words = ["storm", "--senders", "3", "--packets", "500" if variable == "REFUSE_WRITE" else "4"]
@@ -265,10 +266,11 @@ def storm_refused(library, met):
                 if not os.path.exists(met):
                     check(is_clean, "storm", variable, place, "with nothing refused", status, errors)
                     break
-                # (a thread that cannot be started is done without, and a list that grows asks once more, for less)
-                may_do_without = variable == "REFUSE_THREAD" or variable == "REFUSE_MEMORY" and not on
+                # (a list that grows asks once more, for less)
+                may_do_without = variable == "REFUSE_MEMORY" and not on
                 check(status == 1 and errors in says or is_clean and may_do_without, "storm", variable, place, on, status, errors[:100])
             check(place > 1, "storm:", variable, "met nothing")
+            check(place == 8 or variable != "REFUSE_THREAD", "storm: seven threads are started, not", place - 1)
             print(f"tests/hostile.py: storm: {variable} at {place - 1} places{' and all after them' if on else ''}")
 
 

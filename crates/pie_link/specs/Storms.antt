@@ -1,5 +1,5 @@
 -- What the callers of a storm did, and how it ends. A history is the list of all events of the link.
-use Rattle.std.specs.Prelude.{◌≡◌, ◌+◌, ◌<◌, ◌≤◌, ◌⊎◌, ℕ, zero, suc, List, [], ◌∷◌, ◌++◌, Option, Some, None, Result, Ok, Err, min, drop, map, length}
+use Rattle.std.specs.Prelude.{◌≡◌, ◌+◌, ◌<◌, ◌≤◌, ◌^◌, ◌⊎◌, ℕ, zero, suc, List, [], ◌∷◌, ◌++◌, Option, Some, None, Result, Ok, Err, min, drop, map, length}
 use mathlib.Core.List.{IsPrefix}
 use Rattle.pie_lock.specs.Own.{own}
 use Rattle.pie_book.specs.declared.command.Command.{Command}
@@ -17,7 +17,7 @@ use Rattle.pie_book.specs.Decision.{refusal_by_rule}
 use Rattle.pie_link.specs.declared.plan.Plan.{Plan}
 use Rattle.pie_book.specs.declared.command.Command.TheVariants.{Depart, Update}
 use Rattle.pie_link.specs.Plans.{change, commands_of, opening_of, senders, sent}
-use Rattle.pie_link.specs.Views.{LinkView, number_of}
+use Rattle.pie_link.specs.Views.{LinkView, CallerView, number_of}
 
 -- the events of a caller
 abbrev pub events_of : ℕ → List Event → List Event
@@ -134,6 +134,16 @@ refused_by (Err Memory) = 0
 -- at a link, a caller has no events in this history
 unfoldable pub HasNoneAt : LinkView → ℕ → List Event → Type 0
 HasNoneAt link caller front = (opening : Opening) → link.origin ≡ Some opening → events_of caller front ≡ []
+
+-- a worker made all commands of the caller with this number, of which so many were too soon
+unfoldable pub MadeAll : LinkView → Plan → ℕ → CallerView → ℕ → Type 0
+MadeAll link plan number caller too_soon =
+    (caller.lock ≡ link) × (caller.first ≡ number) × (caller.limit ≡ number + 1) × CameAt link plan number caller.front too_soon × (too_soon ≤ 2 ^ 20)
+
+-- and, where it makes them and is well, all folds
+unfoldable pub MadeFolds : LinkView → Plan → ℕ → Type 0 → List Event → ℕ → List Event → Type 0
+MadeFolds link plan number well events too_many front =
+    FoldedAt link well events front × (number ≡ senders plan + 4 → AreFoldedAt link well plan.folds.items front too_many)
 
 -- the commands of these events
 abbrev pub commands_in : List Event → List Command

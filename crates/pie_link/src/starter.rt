@@ -11,7 +11,7 @@ ghost use Rattle.pie_link.specs.declared.plan.Plan.{Plan};
 ghost use Rattle.pie_link.specs.declared.refusal.LinkRefusal.{LinkRefusal};
 ghost use Rattle.pie_link.specs.Opening.{link_refusal};
 ghost use Rattle.pie_link.specs.Plans.{IsSound, opening_of, planned, senders};
-ghost use Rattle.pie_link.specs.Storms.{AllCameAt, AreFoldedAt, CameAt, FoldedAt, IsStorm};
+ghost use Rattle.pie_link.specs.Storms.{AllCameAt, AreFoldedAt, CameAt, FoldedAt, IsStorm, MadeAll, MadeFolds};
 ghost use Rattle.pie_link.specs.Views.{StaysOne};
 
 use crate::caller::Caller;
@@ -23,10 +23,76 @@ use crate::worker::{FoldFault, Folding, Work, make_calls};
 use pie_book::{Book, Event};
 use std::alloc::Global;
 use std::sync::Wait;
-use std::thread::{Threads, join};
+use std::thread;
+use std::thread::{Promise, Scope, Threads};
+
+// What a worker promises: it made all calls of the caller with this number.
+#[derive(Clone, Copy)]
+struct MakesAll<'a> {
+    link: &'a Link,
+    plan: &'a Plan,
+    caller: u16,
+}
+
+impl<'a> Promise<Work> for MakesAll<'a> {
+    ghost kept_by = { λ p work. MadeAll p.link.now p.plan.now p.caller work.caller work.too_soon × MadeFolds p.link.now p.plan.now p.caller (work.folding.fault ≡ None) work.folding.events.items work.folding.too_many work.caller.front };
+}
 
 // Lets the callers with these numbers work at once, each but the first in a thread of its own, and gathers them in order. The
-// first is the starter, which makes no calls.
+// first is the starter, which makes no calls. There is no answer where a thread could not be started; those that were have ended.
+#[tactic(auto, unfolding(crate::specs::Storms::MadeAll, crate::specs::Storms::MadeFolds))]
+fn work_in<'s, E: 's, R: Threads + Wait + Sync, G: Gate + Sync>(
+    scope: &Scope<'s, E>,
+    rt: &'s R,
+    alloc: Global,
+    link: &'s Link,
+    plan: &'s Plan,
+    gate: &'s G,
+    caller: Caller,
+) -> Option<Work>
+    requires own { caller.lock ≡ link.now }
+    requires first { caller.first ≡ 0 }
+    requires new { caller.front ≡ [] }
+    requires sound { IsSound plan.now }
+    requires few { planned plan.now ≤ 2 ^ 20 }
+    ensures stays { IfSome result (λ work. StaysOne caller work.caller) }
+    ensures made { IfSome result (λ work. AllCameAt link.now plan.now caller.limit work.caller.front work.too_soon) }
+    ensures few { IfSome result (λ work. work.too_soon ≤ caller.limit * 2 ^ 20) }
+    ensures folded { IfSome result (λ work. FoldedAt link.now (work.folding.fault ≡ None) work.folding.events.items work.caller.front) }
+    ensures folds { caller.limit ≡ senders plan.now + 5 → IfSome result (λ work. AreFoldedAt link.now (work.folding.fault ≡ None) plan.now.folds.items work.caller.front work.folding.too_many) }
+{
+    let mut rest = caller;
+    let last = match link.share(&mut rest) {
+        Ok(last) => last,
+        Err(_) => {
+            return Some(Work {
+                caller: rest,
+                too_soon: 0,
+                folding: Folding::none(alloc),
+            });
+        }
+    };
+    let promise = MakesAll {
+        link,
+        plan,
+        caller: last.first(),
+    };
+    let Ok(worker) = scope.spawn_with(
+        promise,
+        move || -> Work
+            requires { (last.lock ≡ link.now) × (last.limit ≡ last.first + 1) × (last.front ≡ []) × IsSound plan.now × (planned plan.now ≤ 2 ^ 20) }
+            ensures made { MadeAll link.entry.now plan.entry.now last.first result.caller result.too_soon }
+            ensures folds { MadeFolds link.entry.now plan.entry.now last.first (result.folding.fault ≡ None) result.folding.events.items result.folding.too_many result.caller.front }
+        { make_calls(rt, alloc, link, plan, gate, last) },
+    ) else {
+        return None;
+    };
+    let others = work_in(scope, rt, alloc, link, plan, gate, rest);
+    let theirs = worker.join(rt);
+    Some(both(link, others?, theirs))
+}
+
+// The same in a scope, which ends when all workers have.
 fn work_at_once<R: Threads + Wait + Sync, G: Gate + Sync>(
     rt: &R,
     alloc: Global,
@@ -34,47 +100,28 @@ fn work_at_once<R: Threads + Wait + Sync, G: Gate + Sync>(
     plan: &Plan,
     gate: &G,
     caller: Caller,
-) -> Work
+) -> Option<Work>
     requires own { caller.lock ≡ link.now }
     requires first { caller.first ≡ 0 }
     requires new { caller.front ≡ [] }
     requires sound { IsSound plan.now }
     requires few { planned plan.now ≤ 2 ^ 20 }
-    ensures stays { StaysOne caller result.caller }
-    ensures made { AllCameAt link.now plan.now caller.limit result.caller.front result.too_soon }
-    ensures few { result.too_soon ≤ caller.limit * 2 ^ 20 }
-    ensures folded { FoldedAt link.now (result.folding.fault ≡ None) result.folding.events.items result.caller.front }
-    ensures folds { caller.limit ≡ senders plan.now + 5 → AreFoldedAt link.now (result.folding.fault ≡ None) plan.now.folds.items result.caller.front result.folding.too_many }
+    ensures stays { IfSome result (λ work. StaysOne caller work.caller) }
+    ensures made { IfSome result (λ work. AllCameAt link.now plan.now caller.limit work.caller.front work.too_soon) }
+    ensures folded { IfSome result (λ work. FoldedAt link.now (work.folding.fault ≡ None) work.folding.events.items work.caller.front) }
+    ensures folds { caller.limit ≡ senders plan.now + 5 → IfSome result (λ work. AreFoldedAt link.now (work.folding.fault ≡ None) plan.now.folds.items work.caller.front work.folding.too_many) }
 {
-    let mut rest = caller;
-    let last = match link.share(&mut rest) {
-        Ok(last) => last,
-        Err(_) => {
-            return Work {
-                caller: rest,
-                too_soon: 0,
-                folding: Folding::none(alloc),
-            };
-        }
-    };
-    let (theirs, others) = join(
+    thread::scope(
+        thread::scope_env(),
         rt,
-        || -> Work
-            requires { (last.lock ≡ link.now) × (last.limit ≡ last.first + 1) × (last.front ≡ []) × IsSound plan.now × (planned plan.now ≤ 2 ^ 20) }
-            ensures stays { StaysOne last result.caller }
-            ensures made { CameAt link.entry.now plan.entry.now last.first result.caller.front result.too_soon }
-            ensures few { result.too_soon ≤ 2 ^ 20 }
-            ensures folded { FoldedAt link.entry.now (result.folding.fault ≡ None) result.folding.events.items result.caller.front }
-            ensures folds { last.first ≡ senders plan.entry.now + 4 → AreFoldedAt link.entry.now (result.folding.fault ≡ None) plan.entry.now.folds.items result.caller.front result.folding.too_many }
-        { make_calls(rt, alloc, link, plan, gate, last) },
-        || -> Work
-            requires { IsSync R.row × IsSync G.row × (rest.lock ≡ link.now) × (rest.first ≡ 0) × (rest.front ≡ []) × IsSound plan.now × (planned plan.now ≤ 2 ^ 20) }
-            ensures stays { StaysOne rest result.caller }
-            ensures made { AllCameAt link.entry.now plan.entry.now rest.limit result.caller.front result.too_soon }
-            ensures few { result.too_soon ≤ rest.limit * 2 ^ 20 }
-        { work_at_once(rt, alloc, link, plan, gate, rest) },
-    );
-    both(link, others, theirs)
+        |scope| -> Option<Work>
+            requires { IsSync R.row × IsSync G.row × (caller.lock ≡ link.now) × (caller.first ≡ 0) × (caller.front ≡ []) × IsSound plan.now × (planned plan.now ≤ 2 ^ 20) }
+            ensures stays { IfSome result (λ work. StaysOne caller work.caller) }
+            ensures made { IfSome result (λ work. AllCameAt link.entry.now plan.entry.now caller.limit work.caller.front work.too_soon) }
+            ensures folded { IfSome result (λ work. FoldedAt link.entry.now (work.folding.fault ≡ None) work.folding.events.items work.caller.front) }
+            ensures folds { caller.limit ≡ senders plan.entry.now + 5 → IfSome result (λ work. AreFoldedAt link.entry.now (work.folding.fault ≡ None) plan.entry.now.folds.items work.caller.front work.folding.too_many) }
+        { work_in(scope, rt, alloc, link, plan, gate, caller) },
+    )
 }
 
 // Gathers a worker's caller to those before it, with what both did.
@@ -112,9 +159,8 @@ fn both(link: &Link, work: Work, last: Work) -> Work
 ///
 /// # Errors
 ///
-/// `BadPlan` before anything else, where the plan is not sound; `Opening` where the link is not opened; then `Memory`, or
-/// `Gap`, whichever is met first. All workers have ended then. `Thread` is kept for a start of threads that can be refused:
-/// today a call whose thread cannot be made runs last in the thread at hand.
+/// `BadPlan` before anything else, where the plan is not sound; `Opening` where the link is not opened; `Thread` where a worker's
+/// thread could not be started; then `Memory` or `Gap`, whichever is met first. All workers that were started have ended then.
 pub fn storm<R: Threads + Wait + Sync, G: Gate + Sync>(
     rt: &R,
     alloc: Global,
@@ -136,11 +182,14 @@ pub fn storm<R: Threads + Wait + Sync, G: Gate + Sync>(
         Ok(opened) => opened,
         Err(why) => return Err(StormFault::Opening(why)),
     };
+    let Some(work) = work_at_once(rt, alloc, &link, plan, gate, starter) else {
+        return Err(StormFault::Thread);
+    };
     let Work {
         caller,
         too_soon,
         folding,
-    } = work_at_once(rt, alloc, &link, plan, gate, starter);
+    } = work;
     let Ok(book) = link.close(caller) else {
         unreachable!()
     };

@@ -7,7 +7,7 @@ mod storms;
 mod threads;
 
 use crate::{Caller, Link, LinkRefusal};
-use pie_book::{Choices, Limits, Mode, Profile};
+use pie_book::{Book, Choices, Limits, Mode, Profile};
 use pie_params::Params;
 use pie_queue::{Ecn, Packet};
 use std::alloc::Global;
@@ -42,4 +42,13 @@ fn opened(alloc: Global, tail: u32, callers: u16, mode: Mode) -> Result<(Link, C
         callers,
         choices,
     )
+}
+
+// The book, once these two callers are one that has all numbers.
+fn closed(link: Link, one: Caller, two: Caller) -> Option<Book>
+    requires { (one.lock ≡ link) × (two.lock ≡ link) }
+{
+    let mut one = one;
+    link.gather(&mut one, two).ok()?;
+    link.close(one).ok()
 }

@@ -2,7 +2,7 @@
 ghost use Rattle.std.specs.Prelude.{◌≡◌, ◌≢◌, ◌+◌, ◌^◌, ◌<◌, ◌≤◌, ◌-◌, ◌++◌, ℕ, [], Some, None, Err, IfSome, IfOk, OnErr, unwrap_or, length, vec_len};
 ghost use Rattle.pie_link.specs.Commands.{Answers};
 ghost use Rattle.pie_link.specs.Plans.{IsSound, commands_of, planned, senders};
-ghost use Rattle.pie_link.specs.Storms.{AreFoldedAt, CameAt, EachGoes, FoldedAt, FoldsGoAt, GoesOrEnds, HasNoneAt, added_by, events_of, refused_by};
+ghost use Rattle.pie_link.specs.Storms.{AreFoldedAt, CameAt, EachGoes, FoldedAt, FoldsGoAt, GoesOrEnds, HasNoneAt, MadeAll, MadeFolds, added_by, events_of, refused_by};
 ghost use Rattle.pie_link.specs.Views.{StaysOne};
 
 use crate::caller::Caller;
@@ -275,6 +275,7 @@ fn fold_all<R: Wait, G: Gate>(
 }
 
 /// Makes all calls of a caller with one number.
+#[tactic(auto, unfolding(crate::specs::Storms::MadeAll, crate::specs::Storms::MadeFolds))]
 pub(crate) fn make_calls<R: Wait, G: Gate>(
     rt: &R,
     alloc: Global,
@@ -288,11 +289,8 @@ pub(crate) fn make_calls<R: Wait, G: Gate>(
     requires new { events_of caller.first caller.front ≡ [] }
     requires sound { IsSound plan.now }
     requires few { planned plan.now ≤ 2 ^ 20 }
-    ensures stays { StaysOne caller result.caller }
-    ensures made { CameAt link.now plan.now caller.first result.caller.front result.too_soon }
-    ensures few { result.too_soon ≤ 2 ^ 20 }
-    ensures folded { FoldedAt link.now (result.folding.fault ≡ None) result.folding.events.items result.caller.front }
-    ensures folds { caller.first ≡ senders plan.now + 4 → AreFoldedAt link.now (result.folding.fault ≡ None) plan.now.folds.items result.caller.front result.folding.too_many }
+    ensures made { MadeAll link.now plan.now caller.first result.caller result.too_soon }
+    ensures folds { MadeFolds link.now plan.now caller.first (result.folding.fault ≡ None) result.folding.events.items result.folding.too_many result.caller.front }
 {
     if usize::from(caller.first()) == plan.arrivals.len() + 4 {
         fold_all(rt, alloc, link, plan, gate, caller)

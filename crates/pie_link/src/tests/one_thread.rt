@@ -1,7 +1,10 @@
-use super::{opened, packet};
-use crate::{Link, LinkRefusal, Tried};
+ghost use Rattle.std.specs.Prelude.{◌≡◌, IfOk};
+
+use super::{closed, opened, packet};
+use crate::{Caller, Link, LinkRefusal, Tried};
 use pie_book::{Answer, Command, FoldRefusal, Limits, Mode, OpenRefusal, Refusal};
 use pie_params::Params;
+use std::alloc::Global;
 use std::test::Fail;
 
 #[test]
@@ -28,12 +31,20 @@ fn a_caller_arrives_departs_and_updates(rt: HostRuntime) -> Result<(), Fail> {
     Ok(())
 }
 
-#[test]
-fn a_caller_resets_folds_and_reads_statistics(rt: HostRuntime) -> Result<(), Fail> {
-    let (link, mut caller) = opened(rt.alloc(), 8, 3, Mode::Bounded)?;
+// A link with the events of an arrival, a departure and an update.
+fn with_three_events(alloc: Global) -> Result<(Link, Caller), Fail>
+    ensures { IfOk result (λ made. made.1.lock ≡ made.0) }
+{
+    let (link, mut caller) = opened(alloc, 8, 3, Mode::Bounded)?;
     link.try_arrive(&mut caller, 10, packet(1), 0)?;
     link.try_depart(&mut caller, 20)?;
     link.try_update(&mut caller, 15_000_000)?;
+    Ok((link, caller))
+}
+
+#[test]
+fn a_caller_resets_folds_and_reads_statistics(rt: HostRuntime) -> Result<(), Fail> {
+    let (link, mut caller) = with_three_events(rt.alloc())?;
     let told = link.try_reset(&mut caller, 15_000_000)?;
     assert!(rt; told.answer == Answer::Done && told.number == 4);
     let told = link.try_set_params(&mut caller, 15_000_000, Params::default_profile())?;
@@ -74,10 +85,7 @@ fn the_waiting_calls_answer_the_same(rt: HostRuntime) -> Result<(), Fail> {
 
 #[test]
 fn the_waiting_calls_reset_fold_and_read(rt: HostRuntime) -> Result<(), Fail> {
-    let (link, mut caller) = opened(rt.alloc(), 8, 3, Mode::Bounded)?;
-    link.arrive(&rt, &mut caller, 10, packet(1), 0)?;
-    link.depart(&rt, &mut caller, 20)?;
-    link.update(&rt, &mut caller, 15_000_000)?;
+    let (link, mut caller) = with_three_events(rt.alloc())?;
     let told = link.reset(&rt, &mut caller, 15_000_000)?;
     assert!(rt; told.answer == Answer::Done && told.number == 4);
     let told = link.set_params(&rt, &mut caller, 15_000_000, Params::default_profile())?;
@@ -93,11 +101,19 @@ fn the_waiting_calls_reset_fold_and_read(rt: HostRuntime) -> Result<(), Fail> {
     Ok(())
 }
 
-#[test]
-fn a_full_tail_is_folded(rt: HostRuntime) -> Result<(), Fail> {
-    let (link, mut caller) = opened(rt.alloc(), 2, 1, Mode::Bounded)?;
+// A link whose tail is full: it holds the two events of two arrivals.
+fn with_full_tail(alloc: Global) -> Result<(Link, Caller), Fail>
+    ensures { IfOk result (λ made. made.1.lock ≡ made.0) }
+{
+    let (link, mut caller) = opened(alloc, 2, 1, Mode::Bounded)?;
     link.try_arrive(&mut caller, 1, packet(1), 0)?;
     link.try_arrive(&mut caller, 2, packet(2), 0)?;
+    Ok((link, caller))
+}
+
+#[test]
+fn a_full_tail_is_folded(rt: HostRuntime) -> Result<(), Fail> {
+    let (link, mut caller) = with_full_tail(rt.alloc())?;
     let Err(why) = link.try_arrive(&mut caller, 3, packet(3), 0) else {
         panic!(rt; "the tail is full")
     };
@@ -145,10 +161,7 @@ fn a_caller_reads_what_another_did(rt: HostRuntime) -> Result<(), Fail> {
     assert!(rt; told.answer.count == 1 && told.number == 1);
     let told = link.try_depart(&mut two, 11)?;
     assert!(rt; told.answer == Answer::Left(packet(1)) && told.number == 2);
-    assert!(rt; link.gather(&mut one, two).is_ok());
-    let Ok(book) = link.close(one) else {
-        panic!(rt; "the caller has all numbers")
-    };
+    let book = closed(link, one, two).ok_or("the callers have all numbers")?;
     assert!(rt; book.count() == 2 && book.tail_len() == 2);
     Ok(())
 }

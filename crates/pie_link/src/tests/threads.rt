@@ -2,7 +2,7 @@ ghost use Rattle.std.specs.Prelude.{◌≡◌, ◌<◌, IfOk};
 ghost use denote.Param.Send.{IsSync};
 ghost use Rattle.pie_link.specs.Views.{StaysOne};
 
-use super::{opened, packet};
+use super::{closed, opened, packet};
 use crate::{Caller, Link, LinkRefusal, Told};
 use pie_book::{Answer, Book, Command, Event, Limits, Mode, Refusal};
 use pie_lock::OneNumber;
@@ -115,22 +115,24 @@ fn two_at_once<R: Threads + Wait + Sync>(
     )
 }
 
-#[test]
-fn two_threads_arrive_and_are_gathered(rt: HostRuntime) -> Result<(), Fail> {
-    let (link, mut caller) = opened(rt.alloc(), 8, 3, Mode::Bounded)?;
+// Two threads that make one arrival each, under the numbers 1 and 2; and then the book, once the callers were gathered in order.
+fn book_of_two<R: Threads + Wait + Sync>(rt: &R, alloc: Global) -> Result<Book, Fail> {
+    let (link, mut caller) = opened(alloc, 8, 3, Mode::Bounded)?;
     let two = link.share(&mut caller)?;
     let one = link.share(&mut caller)?;
-    assert!(rt; one.first() == 1 && two.first() == 2);
-    let (one, two) = two_at_once(&rt, &link, (one, Work::Enqueue, 1), (two, Work::Enqueue, 1));
-    assert!(rt; one.1 == 1 && two.1 == 1);
+    let (one, two) = two_at_once(rt, &link, (one, Work::Enqueue, 1), (two, Work::Enqueue, 1));
     let Err(two) = link.gather(&mut caller, two.0) else {
-        panic!(rt; "the ranges do not touch")
+        return Err(Fail::from("the ranges do not touch"));
     };
-    assert!(rt; link.gather(&mut caller, one.0).is_ok());
-    assert!(rt; link.gather(&mut caller, two).is_ok());
-    let Ok(book) = link.close(caller) else {
-        panic!(rt; "the caller has all numbers")
+    let Ok(()) = link.gather(&mut caller, one.0) else {
+        return Err(Fail::from("the ranges touch"));
     };
+    Ok(closed(link, caller, two).ok_or("the callers have all numbers")?)
+}
+
+#[test]
+fn two_threads_arrive_and_are_gathered(rt: HostRuntime) -> Result<(), Fail> {
+    let book = book_of_two(&rt, rt.alloc())?;
     assert!(rt; book.count() == 2 && book.tail_len() == 2);
     let first = book.event(0).ok_or("an event")?;
     let second = book.event(1).ok_or("an event")?;

@@ -1,0 +1,49 @@
+#!/usr/bin/env bash
+# Runs `pie storm`, which makes a storm, writes its history and audits it, and beside it an audit of that history and, from a trace
+# of the same commands in the order in which they came, a run in one thread. Prints the number of events, the least and the median
+# time of each, events a second, and the load.
+# usage: bench/pie_storm.sh PIE [SENDERS] [PACKETS] [RUNS]      PIE: the built program, as crates/pie/out/ has it
+set -eu
+program=$1
+senders=${2:-8}
+packets=${3:-10000}
+runs=${4:-9}
+work=$(mktemp -d)
+trap 'rm -rf "$work"' EXIT
+python3 - "$program" "$work" "$senders" "$packets" "$runs" <<'PY'
+import os, statistics, subprocess, sys, time
+
+program, work, senders, packets, runs = sys.argv[1], sys.argv[2], sys.argv[3], sys.argv[4], int(sys.argv[5])
+calls = {"storm": (["storm", "--senders", senders, "--packets", packets], "/dev/null", "history"), "audit": (["audit"], "history", "finding"), "run": (["run"], "trace", "again")}
+FIELDS = {"open": 5, "arrive": 7, "depart": 3, "update": 3}
+
+
+def seconds(words, source, target):
+    """The time by the clock and the processor's time of one run."""
+    with open(os.path.join(work, source), "rb") as reader, open(f"{work}/{target}", "wb") as writer:
+        begin = time.perf_counter()
+        child = subprocess.Popen([program, *words], stdin=reader, stdout=writer)
+        _, status, used = os.wait4(child.pid, 0)
+        child.returncode = status
+        assert status == 0, (words, status)
+        return time.perf_counter() - begin, used.ru_utime + used.ru_stime
+
+
+times = {word: [] for word in calls}
+for _ in range(runs):
+    for word, files in calls.items():
+        if word == "run":
+            with open(f"{work}/history") as history, open(f"{work}/trace", "w") as trace:
+                for line in history:
+                    fields = line.rstrip().split(",")
+                    trace.write(",".join(fields[: FIELDS[fields[0]]]) + "\n")
+        times[word].append(seconds(*files))
+with open(f"{work}/history", "rb") as history:
+    events = sum(1 for _ in history) - 1
+with open(f"{work}/finding") as finding:
+    print(finding.read().strip())
+for word in calls:
+    clock, used = ([time[i] for time in times[word]] for i in range(2))
+    print(f"{word} events {events} seconds {min(clock):.3f} median {statistics.median(clock):.3f} processor_seconds {min(used):.3f} median {statistics.median(used):.3f} events_a_second {events / min(clock):.0f}")
+print(f"runs {runs} load {os.getloadavg()[0]:.1f}")
+PY

@@ -1,5 +1,5 @@
 -- How the program ends: its exit status, and what it writes to its output.
-use Rattle.std.specs.Prelude.{ℕ, ◌≡◌, ◌≤◌, ◌⊎◌, ◌^◌, List, ◌++◌, Option, Some, None, Result, Ok, Err, codes}
+use Rattle.std.specs.Prelude.{ℕ, ◌≡◌, ◌⊎◌, ◌^◌, List, ◌++◌, Option, Some, None, Result, Ok, Err, codes}
 use Rattle.std.specs.Fmt.{decimal}
 use Rattle.std.specs.Io.KnownBytes.{Appends}
 use Rattle.pie_trace.specs.declared.fault.TraceFault.{TraceFault}
@@ -8,9 +8,12 @@ use Rattle.pie_trace.specs.Text.{records_of}
 use Rattle.pie_audit.specs.declared.auditor.Finding.{Finding}
 use Rattle.pie_audit.specs.declared.auditor.Finding.TheVariants.{Clean, Differs}
 use Rattle.pie_audit.specs.Text.{text_finding}
+use Rattle.pie_explain.specs.declared.explainer.Form.{Form}
 use Rattle.pie_explain.specs.declared.fault.ExplainFault.{ExplainFault}
 use Rattle.pie_explain.specs.declared.fault.ExplainFault.TheVariants as fault
 use Rattle.pie_explain.specs.declared.which.Which.{Which}
+use Rattle.pie_explain.specs.Answer.{answer}
+use Rattle.pie_explain.specs.Output.{output}
 
 -- a subcommand wrote this text and ended with its own status, or ended with 1: then the reader, the writer or memory failed
 abbrev pub WritesOrFails : List ℕ → ℕ → ℕ → Option (List ℕ) → Option (List ℕ) → Type 0
@@ -50,21 +53,17 @@ EndsAudit input = audit_ends (text_finding (records_of input))
 
 -- ---- `pie explain`
 
--- a history with a fault ends with 1, one in which an event differs with 2, and any other with 0; the last two end with 1 where
--- the reader, the writer or memory fails, and the last where no event is the chosen one
-abbrev pub explain_ends : Result Finding TraceFault → ℕ → Type 0
-explain_ends (Err why) status = status ≡ 1
-explain_ends (Ok (Clean events)) status = status ≤ 1
-explain_ends (Ok (Differs event)) status = (status ≡ 1) ⊎ (status ≡ 2)
+-- the exit status of an answer
+abbrev pub answer_status : Result ℕ ExplainFault → ℕ
+answer_status (Ok explained) = 0
+answer_status (Err (fault.Trace why)) = 1
+answer_status (Err (fault.Differs event)) = 2
+answer_status (Err (fault.NoEvent event events)) = 1
+answer_status (Err (fault.NoTag tag)) = 1
 
--- the exit status where a history was not explained to its end
-abbrev pub fault_status : ExplainFault → ℕ
-fault_status (fault.Trace why) = 1
-fault_status (fault.Differs event) = 2
-fault_status (fault.NoEvent event events) = 1
-fault_status (fault.NoTag tag) = 1
-
--- .. the history being this input; words that choose no events end with 1, and nothing is written
-abbrev pub EndsExplain : Option Which → List ℕ → ℕ → Option (List ℕ) → Option (List ℕ) → Type 0
-EndsExplain None input status before now = (status ≡ 1) × (now ≡ before)
-EndsExplain (Some which) input status before now = explain_ends (text_finding (records_of input)) status
+-- a history is explained: what is said of the chosen events is written, up to its first fault and the first event that differs, and the
+-- status is that of the answer. Options that choose no events end with 1, and nothing is written
+abbrev pub EndsExplain : Option Which → Form → List ℕ → ℕ → Option (List ℕ) → Option (List ℕ) → Type 0
+EndsExplain None form input status before now = (status ≡ 1) × (now ≡ before)
+EndsExplain (Some which) form input status before now =
+    WritesOrFails (output which form (records_of input)) (answer_status (answer which (records_of input))) status before now

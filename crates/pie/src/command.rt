@@ -3,7 +3,7 @@ ghost use Rattle.std.specs.Prelude.{◌≡◌, ◌≤◌, ◌⊎◌, Some, IfSom
 ghost use Rattle.std.specs.Io.KnownBytes.{Appends};
 ghost use Rattle.clap.specs.Words.{kind_of};
 ghost use Rattle.clap.specs.declared.error.kind.ErrorKind.{ErrorKind};
-ghost use Rattle.pie.specs.Choice.{choice_of};
+ghost use Rattle.pie.specs.Choice.{choice_of, form_of};
 ghost use Rattle.pie.specs.Ends.{EndsAudit, EndsExplain, EndsRun, finding_line};
 ghost use Rattle.pie.specs.StormEnds.{EndsStorm};
 ghost use Rattle.pie.specs.Words.{AskFor, Asks, options_in, subcommand_in};
@@ -41,9 +41,9 @@ pub(crate) const DIFFERS: u8 = 2;
 /// line of its finding and ends with 0 where it is clean and 2 where an event differs, or ends with 1 where the reader, the
 /// writer or memory fails.
 ///
-/// For any words that ask for `pie explain`, exactly one option chooses events, or the status is 1 and nothing is written. A
-/// history with a fault ends with 1, one in which an event differs with 2, and any other with 0; the last two end with 1 where
-/// the reader, the writer or memory fails, and the last where no event is the chosen one.
+/// For any words that ask for `pie explain`, exactly one option chooses events, or the status is 1 and nothing is written. What
+/// is said of the chosen events is written, up to the first fault and the first event that differs, and the status is 2 where an
+/// event differs, 1 for a fault and where no event is the chosen one, and else 0; or 1, where the reader, the writer or memory fails.
 ///
 /// For any words that ask for `pie storm`, the threads of the runtime make a storm of the plan that the options ask for. Its
 /// history is written, which is legal and clean, and the status is 0; or it is 1, where memory, a thread or the writer fails.
@@ -62,7 +62,7 @@ pub fn command<H: Threads + Wait + Sync, R: Read + Drop, W: Write, E: Write>(
     ensures audits { AskFor (codes "audit") (map string_bytes words.now)
         → IfSome (R.remaining input) (λ text. EndsAudit text result (W.contents output.old) (W.contents output.new)) }
     ensures explains { Asks (codes "explain") (map string_bytes words.now)
-        → IfSome (R.remaining input) (λ text. EndsExplain (choice_of (options_in (map string_bytes words.now))) text result (W.contents output.old) (W.contents output.new)) }
+        → IfSome (R.remaining input) (λ text. EndsExplain (choice_of (options_in (map string_bytes words.now))) (form_of (options_in (map string_bytes words.now))) text result (W.contents output.old) (W.contents output.new)) }
     ensures storms { Asks (codes "storm") (map string_bytes words.now)
         → EndsStorm (options_in (map string_bytes words.now)) result (W.contents output.old) (W.contents output.new) }
 {

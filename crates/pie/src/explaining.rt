@@ -1,8 +1,8 @@
 //! `pie explain`: which events the words choose, and how explaining them ends.
-ghost use Rattle.std.specs.Prelude.{◌≡◌, ◌≤◌, IfSome};
+ghost use Rattle.std.specs.Prelude.{◌≡◌, ◌≤◌, Err, IfSome};
 ghost use Rattle.clap.specs.Words.{found_of, rows_of};
-ghost use Rattle.pie.specs.Choice.{choice_of, chosen};
-ghost use Rattle.pie.specs.Ends.{EndsExplain, fault_status};
+ghost use Rattle.pie.specs.Choice.{choice_of, chosen, form_of};
+ghost use Rattle.pie.specs.Ends.{EndsExplain, answer_status};
 
 use crate::command::{DIFFERS, DONE, FAULT, fault};
 use crate::given::{flag, number};
@@ -37,9 +37,20 @@ fn choice_of(options: &ArgMatches<'_>) -> Option<Which>
     chosen(event, tag, flag(options, "lost"), flag(options, "all"))
 }
 
-/// The status of a history that was not explained to its end.
+/// In which form these options want the explanations.
+fn form_of(options: &ArgMatches<'_>) -> Form
+    ensures { result ≡ form_of (rows_of (found_of options.now)) }
+{
+    if flag(options, "csv") {
+        Form::Csv
+    } else {
+        Form::Text
+    }
+}
+
+/// The status where a history was not explained to its end.
 fn status_of(why: ExplainFault) -> u8
-    ensures { result ≡ fault_status why }
+    ensures { result ≡ answer_status (Err why) }
 {
     match why {
         ExplainFault::Differs { .. } => DIFFERS,
@@ -47,9 +58,22 @@ fn status_of(why: ExplainFault) -> u8
     }
 }
 
-/// `pie explain`: writes why the chosen events of a history went as they did. A history with a fault ends with 1, and one in which
-/// an event differs with 2: what stands before it is explained, and the difference is told on `errors`. It ends with 1 where the
-/// words choose no events, where no event is the chosen one, and where the reader, the writer or memory fails.
+/// The status of what `explain` answers, with a line on `errors` where it is no `Ok`.
+fn ended<E: Write>(errors: &mut E, given: Result<u64, ExplainFault>) -> u8
+    ensures { result ≡ answer_status given }
+{
+    match given {
+        Ok(_) => DONE,
+        Err(why) => {
+            let _ = fault(errors, why);
+            status_of(why)
+        }
+    }
+}
+
+/// `pie explain`: writes what there is to say of the chosen events of a history, up to its first fault and the first event that
+/// differs. Ends with 2 where an event differs, and with 1 where the history has a fault, where the options choose no events, where
+/// no event is the chosen one, and where the reader, the writer or memory fails: each is told on `errors`.
 pub(crate) fn explain_input<R: Read + Drop, W: Write, E: Write>(
     alloc: Global,
     options: &ArgMatches<'_>,
@@ -58,21 +82,11 @@ pub(crate) fn explain_input<R: Read + Drop, W: Write, E: Write>(
     errors: &mut E,
 ) -> u8
     ensures status { result ≤ 2 }
-    ensures explains { IfSome (R.remaining input) (λ text. EndsExplain (choice_of (rows_of (found_of options.now))) text result (W.contents output.old) (W.contents output.new)) }
+    ensures explains { IfSome (R.remaining input) (λ text. EndsExplain (choice_of (rows_of (found_of options.now))) (form_of (rows_of (found_of options.now))) text result (W.contents output.old) (W.contents output.new)) }
 {
     let Some(which) = choice_of(options) else {
         return fault(errors, NO_CHOICE);
     };
-    let form = if flag(options, "csv") {
-        Form::Csv
-    } else {
-        Form::Text
-    };
-    match explain(alloc, input, output, which, form) {
-        Ok(_) => DONE,
-        Err(why) => {
-            let _ = fault(errors, why);
-            status_of(why)
-        }
-    }
+    let given = explain(alloc, input, output, which, form_of(options));
+    ended(errors, given)
 }

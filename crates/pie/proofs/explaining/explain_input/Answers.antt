@@ -1,0 +1,18 @@
+use Rattle.std.proofs.Common.{Option, Some, subst}
+use Rattle.std.specs.Prelude.{IfSome}
+use Rattle.clap.specs.Words.{found_of, rows_of}
+use Rattle.pie_explain.specs.declared.explainer.Form.{Form}
+use Rattle.pie_explain.specs.declared.which.Which.{Which}
+use Rattle.pie.specs.Choice.{form_of}
+use Rattle.pie.specs.Ends.{EndsExplain}
+use Rattle.pie.proofs.EndFacts.{EndsExplain-told}
+use Rattle.pie.proofs.explaining.explain_input.Goals as goal
+
+pub returns-clause-explains : goal.returns-clause-explains
+returns-clause-explains g c =
+    let known = g.R.Read.remaining c.args.input in
+    let before = g.W.Write.contents c.args.output.now in
+    let now = g.W.Write.contents c.explain-given.new.writer in
+    subst (λ (choice : Option Which). IfSome known (λ text. EndsExplain choice (form_of (rows_of (found_of c.args.options.now))) text c.ended.result before now)) c.in-Some.ensures
+    (subst (λ (form : Form). IfSome known (λ text. EndsExplain (Some c.in-Some.which) form text c.ended.result before now)) c.form_of.ensures
+    (EndsExplain-told c.in-Some.which c.form_of.result known c.ended.result before now c.explain-given.result c.ended.ensures c.explain-given.ensures.answers c.explain-given.ensures.writes))

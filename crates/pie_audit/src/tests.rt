@@ -28,6 +28,20 @@ const MARKED: &str = "open,0,8,32,100,2,1,0,850000,0,1,100000,1000000000000,1024
     update,4,1001002,2000000,903954174169,0\n\
     arrive,1,1001003,5,500,ect0,0,mark\n";
 
+/// Of version two and in profile two: the fifth event turns the controller on, and the tenth turns it off.
+const TURNED_ON: &str = "open2,2,bounded,0,8,32,100,2,1,5,850000,0,1,9000,1000000000000,1024\n\
+    arrive,1,0,1,1024,not,0,enqueue\n\
+    shown,1,0,1,1024,0,0,0,5,0,0,0,0\n\
+    arrive,1,0,2,1024,not,0,enqueue\n\
+    depart,1,1,left,1,1024,not\n\
+    arrive,1,1,3,1024,not,0,enqueue\n\
+    arrive,1,1,4,1024,not,0,enqueue\n\
+    depart,1,2,left,2,1024,not\n\
+    depart,1,1002,left,3,1024,not\n\
+    update,1,1002,1000,414208,4\n\
+    reset,1,1003,done\n\
+    update,1,1004,0,0,5\n";
+
 /// A packet is dropped and one waits; then the registers, the statistics, new parameters, a reset, and parameters whose
 /// target is out of its range: four events.
 const AFTER_THE_MARK: &str = "arrive,2,1001003,6,500,not,0,early\n\

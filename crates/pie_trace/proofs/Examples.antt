@@ -1,5 +1,5 @@
 -- The definitions of records on worked rows: each theorem computes.
-use Rattle.std.specs.Prelude.{◌≡◌, [], ◌∷◌, Some, None, Ok, Err, true, codes, map, refl}
+use Rattle.std.specs.Prelude.{ℕ, ◌≡◌, List, [], ◌∷◌, ◌++◌, Bool, false, Some, None, Ok, Err, true, codes, map, refl}
 use Rattle.std.specs.Fmt.{digits}
 use Rattle.csv.specs.Machine.{next_record}
 use Rattle.csv.specs.Reading.{records_from, strip_bom}
@@ -11,14 +11,20 @@ use Rattle.pie_queue.specs.declared.ecn.Ecn.TheVariants as ecn
 use Rattle.pie_book.specs.declared.command.Answer.TheVariants.{Enqueued, Marked, DroppedEarly, DroppedBytes, DroppedPackets, Empty, Left, Updated, Done}
 use Rattle.pie_book.specs.declared.command.Command.TheVariants.{Arrive, Depart, Update, Reset, SetParams}
 use Rattle.pie_book.specs.declared.opening.Mode.TheVariants.{Bounded, Rolling}
-use Rattle.pie_book.specs.declared.opening.Profile.TheVariants.{One}
+use Rattle.pie_book.specs.declared.opening.Mode.{Mode}
+use Rattle.pie_book.specs.declared.opening.Opening.{Opening}
+use Rattle.pie_book.specs.declared.opening.Profile.{Profile}
+use Rattle.pie_book.specs.declared.opening.Profile.TheVariants.{One, Two}
+use Rattle.pie_book.specs.declared.registers.Registers.{Registers}
 use Rattle.pie_book.specs.declared.refusal.Refusal.TheVariants as refusal
 use Rattle.pie_trace.specs.declared.fault.Flaw.TheVariants as flaw
 use Rattle.pie_trace.specs.declared.fault.OpenFault.TheVariants as open_fault
 use Rattle.pie_trace.specs.declared.fault.TraceFault.TheVariants as fault
 use Rattle.pie_trace.specs.declared.fields.Request.TheVariants.{Ask, BadParams, Fold, Show, Tally}
+use Rattle.pie_trace.specs.declared.version.Version.TheVariants as version
 use Rattle.pie_trace.specs.Number.{number}
-use Rattle.pie_trace.specs.Record.{arrive_fields, call_fields, ecn_of, fold_fields, limits_at, mode_of, opening_fields, params_at, params_fields, request_of}
+use Rattle.pie_trace.specs.FirstRecord.{draft_at, first_kind, limits_at, mode_of, profile_of, version_of, version_one_fields, version_two_fields}
+use Rattle.pie_trace.specs.Record.{arrive_fields, call_fields, ecn_of, fold_fields, params_at, params_fields, request_of}
 use Rattle.pie_trace.specs.Reply.{answer_fields, code_of, folded_row, refused_row, shown_row, tallied_row}
 use Rattle.pie_trace.specs.History.{before_fault, fault_of, first_fault, opening_of, record_fault}
 use Rattle.pie_trace.specs.Text.{Row, records_of, text_of}
@@ -75,7 +81,7 @@ requests : map request_of (arrive_row ∷ depart_row ∷ (codes "update" ∷ cod
     ∷ (codes "params" ∷ codes "7" ∷ codes "8" ∷ nine) ∷ (codes "fold" ∷ codes "9" ∷ []) ∷ (codes "show" ∷ []) ∷ (codes "tally" ∷ []) ∷ [])
     ≡ Ok (Ask 1 (Arrive 10 (record { tag = 7; size = 1500; ecn = ecn.Ect0 }) 0)) ∷ Ok (Ask 2 (Depart 25)) ∷ Ok (Ask 3 (Update 4)) ∷ Ok (Ask 5 (Reset 6))
     ∷ Ok (Ask 7 (SetParams 8 nine_params)) ∷ Ok (Fold 9) ∷ Ok Show ∷ Ok Tally ∷ []
-unfolding number ecn_of params_at mode_of limits_at opening_fields arrive_fields call_fields params_fields fold_fields request_of field_at
+unfolding number ecn_of params_at first_kind version_of profile_of mode_of limits_at draft_at version_one_fields version_two_fields arrive_fields call_fields params_fields fold_fields request_of field_at
 requests = refl
 
 -- a parameter out of its range is no flaw, but a number that is no number is
@@ -84,27 +90,62 @@ bad_params : map request_of (
     ∷ (codes "params" ∷ codes "7" ∷ codes "8" ∷ codes "1" ∷ codes "1" ∷ codes "0" ∷ codes "1" ∷ codes "1" ∷ codes "1" ∷ codes "1" ∷ codes "0" ∷ codes "x" ∷ [])
     ∷ [])
     ≡ Ok BadParams ∷ Err flaw.Number ∷ []
-unfolding number ecn_of params_at mode_of limits_at opening_fields arrive_fields call_fields params_fields fold_fields request_of field_at
+unfolding number ecn_of params_at first_kind version_of profile_of mode_of limits_at draft_at version_one_fields version_two_fields arrive_fields call_fields params_fields fold_fields request_of field_at
 bad_params = refl
 
 -- a later opening and any other word are no kind; the number of the fields comes before the fields
-flaws : map request_of (open_row ∷ (codes "rolling" ∷ []) ∷ (codes "shown" ∷ []) ∷ [] ∷ (codes "depart" ∷ codes "x" ∷ []) ∷ (codes "depart" ∷ codes "65536" ∷ codes "1" ∷ []) ∷ [])
-    ≡ Err flaw.Kind ∷ Err flaw.Kind ∷ Err flaw.Kind ∷ Err flaw.Kind ∷ Err flaw.Fields ∷ Err flaw.Number ∷ []
-unfolding number ecn_of params_at mode_of limits_at opening_fields arrive_fields call_fields params_fields fold_fields request_of field_at
+flaws : map request_of (open_row ∷ (codes "rolling" ∷ []) ∷ (codes "open2" ∷ codes "1" ∷ codes "bounded" ∷ codes "0" ∷ codes "4" ∷ codes "16" ∷ codes "100" ∷ []) ∷ (codes "shown" ∷ []) ∷ [] ∷ (codes "depart" ∷ codes "x" ∷ []) ∷ (codes "depart" ∷ codes "65536" ∷ codes "1" ∷ []) ∷ [])
+    ≡ Err flaw.Kind ∷ Err flaw.Kind ∷ Err flaw.Kind ∷ Err flaw.Kind ∷ Err flaw.Kind ∷ Err flaw.Fields ∷ Err flaw.Number ∷ []
+unfolding number ecn_of params_at first_kind version_of profile_of mode_of limits_at draft_at version_one_fields version_two_fields arrive_fields call_fields params_fields fold_fields request_of field_at
 flaws = refl
 
 -- of several bad fields the first counts
 first_flaws : (request_of (codes "arrive" ∷ codes "1" ∷ codes "10" ∷ codes "7" ∷ codes "01" ∷ codes "ect2" ∷ codes "0" ∷ []) ≡ Err flaw.Number)
     × (request_of (codes "arrive" ∷ codes "1" ∷ codes "10" ∷ codes "7" ∷ codes "1" ∷ codes "ect2" ∷ codes "00" ∷ []) ≡ Err flaw.Word)
-unfolding number ecn_of params_at mode_of limits_at opening_fields arrive_fields call_fields params_fields fold_fields request_of field_at
+unfolding number ecn_of params_at first_kind version_of profile_of mode_of limits_at draft_at version_one_fields version_two_fields arrive_fields call_fields params_fields fold_fields request_of field_at
 first_flaws = (refl, refl)
 
 -- the short form has the default parameters, and the long one its own
 opened : (opening_of open_row ≡ Ok (record { moment = 0; limits = record { packets = 4; tail = 16; events = 100 }; params = default_profile; choices = record { mode = Bounded; profile = One } }))
     × (opening_of (codes "rolling" ∷ codes "5" ∷ codes "4" ∷ codes "16" ∷ codes "100" ∷ nine)
     ≡ Ok (record { moment = 5; limits = record { packets = 4; tail = 16; events = 100 }; params = nine_params; choices = record { mode = Rolling; profile = One } }))
-unfolding opening_of number ecn_of params_at mode_of limits_at opening_fields arrive_fields call_fields params_fields fold_fields request_of field_at
+unfolding opening_of number ecn_of params_at first_kind version_of profile_of mode_of limits_at draft_at version_one_fields version_two_fields arrive_fields call_fields params_fields fold_fields request_of field_at
 opened = (refl, refl)
+
+-- version two names the profile and the mode
+abbrev open2_row : List ℕ → List ℕ → Row
+open2_row profile mode = codes "open2" ∷ profile ∷ mode ∷ codes "5" ∷ codes "4" ∷ codes "16" ∷ codes "100" ∷ []
+
+abbrev opening_with : RawParams → Mode → Profile → Opening
+opening_with params mode profile =
+    record { moment = 5; limits = record { packets = 4; tail = 16; events = 100 }; params = params; choices = record { mode = mode; profile = profile } }
+
+opened_in_version_two : (opening_of (open2_row (codes "2") (codes "bounded")) ≡ Ok (opening_with default_profile Bounded Two))
+    × (opening_of (open2_row (codes "1") (codes "rolling")) ≡ Ok (opening_with default_profile Rolling One))
+    × (opening_of (open2_row (codes "2") (codes "rolling") ++ nine) ≡ Ok (opening_with nine_params Rolling Two))
+unfolding opening_of number ecn_of params_at first_kind version_of profile_of mode_of limits_at draft_at version_one_fields version_two_fields request_of field_at
+opened_in_version_two = (refl, refl, refl)
+
+-- the number of the fields, the profile, the mode, and then the numbers
+not_opened_in_version_two : map opening_of (
+    (codes "open2" ∷ codes "1" ∷ codes "bounded" ∷ codes "0" ∷ codes "4" ∷ codes "16" ∷ [])
+    ∷ (open_row ++ open_row)
+    ∷ open2_row (codes "3") (codes "loose")
+    ∷ open2_row (codes "0") (codes "bounded")
+    ∷ open2_row (codes "02") (codes "bounded")
+    ∷ open2_row (codes "1") (codes "loose")
+    ∷ open2_row (codes "bounded") (codes "1")
+    ∷ (codes "open2" ∷ codes "1" ∷ codes "loose" ∷ codes "x" ∷ codes "4" ∷ codes "16" ∷ codes "100" ∷ [])
+    ∷ (codes "open2" ∷ codes "1" ∷ codes "bounded" ∷ codes "x" ∷ codes "4" ∷ codes "16" ∷ codes "100" ∷ [])
+    ∷ [])
+    ≡ Err (fault.Fields 1) ∷ Err (fault.Fields 1) ∷ Err (fault.Number 1) ∷ Err (fault.Number 1) ∷ Err (fault.Number 1) ∷ Err (fault.Word 1) ∷ Err (fault.Number 1)
+    ∷ Err (fault.Word 1) ∷ Err (fault.Number 1) ∷ []
+unfolding opening_of number ecn_of params_at first_kind version_of profile_of mode_of limits_at draft_at version_one_fields version_two_fields request_of field_at
+not_opened_in_version_two = refl
+
+versions : map version_of (open_row ∷ (codes "rolling" ∷ []) ∷ open2_row (codes "1") (codes "bounded") ∷ []) ≡ version.One ∷ version.One ∷ version.Two ∷ []
+unfolding version_of field_at
+versions = refl
 
 -- another kind, the number of the fields, a field, the limits, the moment
 not_opened : (opening_of depart_row ≡ Err fault.NoOpen)
@@ -112,23 +153,23 @@ not_opened : (opening_of depart_row ≡ Err fault.NoOpen)
     × (opening_of (codes "open" ∷ codes "00" ∷ codes "0" ∷ codes "4" ∷ codes "2" ∷ []) ≡ Err (fault.Number 1))
     × (opening_of (codes "open" ∷ codes "1152921504606846976" ∷ codes "0" ∷ codes "4" ∷ codes "2" ∷ []) ≡ Err (fault.Opening open_fault.Limits))
     × (opening_of (codes "open" ∷ codes "1152921504606846976" ∷ codes "4" ∷ codes "4" ∷ codes "2" ∷ []) ≡ Err (fault.Opening open_fault.Moment))
-unfolding opening_of number ecn_of params_at mode_of limits_at opening_fields arrive_fields call_fields params_fields fold_fields request_of field_at
+unfolding opening_of number ecn_of params_at first_kind version_of profile_of mode_of limits_at draft_at version_one_fields version_two_fields arrive_fields call_fields params_fields fold_fields request_of field_at
 not_opened = (refl, refl, refl, refl, refl)
 
 -- a record past the greatest number is that fault, whatever it says
 too_long : (record_fault 3 4 (codes "shown" ∷ []) ≡ Some fault.TooLong) × (record_fault 4 4 (codes "shown" ∷ []) ≡ Some (fault.Kind 4)) × (record_fault 4 4 depart_row ≡ None)
-unfolding record_fault number ecn_of params_at mode_of limits_at opening_fields arrive_fields call_fields params_fields fold_fields request_of field_at
+unfolding record_fault number ecn_of params_at first_kind version_of profile_of mode_of limits_at draft_at version_one_fields version_two_fields arrive_fields call_fields params_fields fold_fields request_of field_at
 too_long = (refl, refl, refl)
 
 faults : (fault_of 9 [] ≡ Some fault.NoOpen) × (fault_of 0 [] ≡ Some fault.NoOpen) × (fault_of 9 (depart_row ∷ open_row ∷ []) ≡ Some fault.NoOpen)
     × (fault_of 0 (open_row ∷ []) ≡ Some fault.TooLong) × (fault_of 1 (open_row ∷ depart_row ∷ []) ≡ Some fault.TooLong)
     × (fault_of 2 (open_row ∷ depart_row ∷ []) ≡ None) × (fault_of 9 (open_row ∷ depart_row ∷ open_row ∷ []) ≡ Some (fault.Kind 3))
     × (fault_of 9 (open_row ∷ depart_row ∷ (codes "depart" ∷ []) ∷ open_row ∷ []) ≡ Some (fault.Fields 3))
-unfolding fault_of first_fault record_fault opening_of number ecn_of params_at mode_of limits_at opening_fields arrive_fields call_fields params_fields fold_fields request_of field_at
+unfolding fault_of first_fault record_fault opening_of number ecn_of params_at first_kind version_of profile_of mode_of limits_at draft_at version_one_fields version_two_fields arrive_fields call_fields params_fields fold_fields request_of field_at
 faults = (refl, refl, refl, refl, refl, refl, refl, refl)
 
 up_to_the_fault : before_fault 9 2 (depart_row ∷ open_row ∷ late_row ∷ []) ≡ depart_row ∷ []
-unfolding before_fault record_fault number ecn_of params_at mode_of limits_at opening_fields arrive_fields call_fields params_fields fold_fields request_of field_at
+unfolding before_fault record_fault number ecn_of params_at first_kind version_of profile_of mode_of limits_at draft_at version_one_fields version_two_fields arrive_fields call_fields params_fields fold_fields request_of field_at
 up_to_the_fault = refl
 
 -- history records
@@ -148,7 +189,8 @@ folds : folded_row 18446744073709551615 ≡ codes "folded" ∷ codes "1844674407
 unfolding folded_row digits
 folds = refl
 
-registers_as_text : text_of (shown_row (record {
+abbrev registers : Bool → Bool → Registers
+registers measuring active = record {
   count = 1;
   moment = 2;
   packets = 3;
@@ -159,12 +201,17 @@ registers_as_text : text_of (shown_row (record {
   burst = 8;
   last = 9;
   average = 10;
-  measuring = true;
+  measuring = measuring;
   params = default_profile;
-  active = true;
-})) ≡ codes "shown,1,2,3,4,5,6,7,8,9,10,1\n"
+  active = active;
+}
+
+-- version two says whether the controller works
+registers_as_text : (text_of (shown_row version.One (registers true true)) ≡ codes "shown,1,2,3,4,5,6,7,8,9,10,1\n")
+    × (text_of (shown_row version.Two (registers true false)) ≡ codes "shown,1,2,3,4,5,6,7,8,9,10,1,0\n")
+    × (text_of (shown_row version.Two (registers false true)) ≡ codes "shown,1,2,3,4,5,6,7,8,9,10,0,1\n")
 unfolding shown_row digits fields_text is_blank
-registers_as_text = refl
+registers_as_text = (refl, refl, refl)
 
 -- the time waited may need more than 64 bits
 statistics_as_text : text_of (tallied_row (record {

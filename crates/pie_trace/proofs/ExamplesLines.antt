@@ -18,17 +18,20 @@ use Rattle.pie_book.specs.declared.command.Event.{Event}
 use Rattle.pie_book.specs.declared.opening.Mode.{Mode}
 use Rattle.pie_book.specs.declared.opening.Mode.TheVariants.{Bounded, Rolling}
 use Rattle.pie_book.specs.declared.opening.Opening.{Opening}
-use Rattle.pie_book.specs.declared.opening.Profile.TheVariants.{One}
+use Rattle.pie_book.specs.declared.opening.Profile.{Profile}
+use Rattle.pie_book.specs.declared.opening.Profile.TheVariants.{One, Two}
 use Rattle.pie_trace.specs.declared.fault.TraceFault.{TraceFault}
 use Rattle.pie_trace.specs.declared.fault.TraceFault.TheVariants as fault
 use Rattle.pie_trace.specs.declared.history.Line.{Line}
 use Rattle.pie_trace.specs.declared.history.Line.TheVariants.{Made, Unmakeable, Note}
+use Rattle.pie_trace.specs.declared.version.Version.TheVariants as version
 use Rattle.pie_trace.specs.Number.{number}
-use Rattle.pie_trace.specs.Record.{ecn_of, limits_at, mode_of, opening_fields, params_at}
+use Rattle.pie_trace.specs.FirstRecord.{draft_at, first_kind, limits_at, mode_of, profile_of, version_of, version_one_fields, version_two_fields}
+use Rattle.pie_trace.specs.Record.{ecn_of, params_at}
 use Rattle.pie_trace.specs.Reply.{answer_fields}
 use Rattle.pie_trace.specs.History.{opening_of, rows_text}
-use Rattle.pie_trace.specs.Line.{arrival_line, call_at, departure_line, line_of, note_line, numbers_at, packet_at, params_line, reset_line, update_line, verdict_of}
-use Rattle.pie_trace.specs.Lines.{after_opening, fault_from, history_lines, history_opening, later_fault, lines_from, told_by}
+use Rattle.pie_trace.specs.Line.{arrival_line, call_at, departure_line, line_of, note_line, numbers_at, packet_at, params_line, reset_line, shown_line, update_line, verdict_of}
+use Rattle.pie_trace.specs.Lines.{after_opening, fault_from, history_lines, history_opening, history_version, later_fault, lines_from, told_by}
 use Rattle.pie_trace.specs.Text.{records_of}
 use Rattle.pie_trace.specs.Write.{command_fields, opening_row, written_rows}
 
@@ -60,9 +63,9 @@ one_arrival = codes "open,0,4,16,100\narrive,1,10,7,1500,ect0,0,enqueue\ndepart,
 one_arrival-lines : (history_opening (records_of one_arrival) ≡ Ok (opened_as Bounded default_profile))
     × (lines_of one_arrival ≡ Made (arrival Enqueued) ∷ Made (event 2 (Depart 25) (Left (packet ecn.Ect0))) ∷ Made (event 2 (Depart 30) Empty) ∷ [])
     × (fault_in one_arrival ≡ None)
-unfolding records_from next_record strip_bom field_at digits fields_text is_blank number ecn_of params_at mode_of limits_at opening_fields
+unfolding records_from next_record strip_bom field_at digits fields_text is_blank number ecn_of params_at first_kind version_of profile_of mode_of limits_at draft_at version_one_fields version_two_fields
     opening_of rows_text answer_fields verdict_of call_at packet_at arrival_line departure_line update_line reset_line params_line numbers_at
-    note_line line_of told_by lines_from fault_from history_opening after_opening opening_row command_fields
+    note_line shown_line line_of told_by lines_from fault_from history_opening history_version after_opening opening_row command_fields
 one_arrival-lines = (refl, refl, refl)
 
 -- updates, resets, parameters, verdicts and notes; parameters of which one is out of its range cannot be made
@@ -82,9 +85,9 @@ kinds-lines : lines_of (
     ++ codes "tallied,1,2,3,4,5,6,7,8,9,10,11,12,13,14,340282366920938463463374607431768211455\n")
     ≡ Made (event 3 (Update 4) (Updated 5 6 7)) ∷ Made (event 1 (Reset 2) Done) ∷ Made (event 1 (SetParams 2 default_profile) Done) ∷ Unmakeable
     ∷ Made (arrival Marked) ∷ Made (arrival DroppedEarly) ∷ Made (arrival DroppedBytes) ∷ Made (arrival DroppedPackets) ∷ Note ∷ Note ∷ Note ∷ Note ∷ []
-unfolding records_from next_record strip_bom field_at digits fields_text is_blank number ecn_of params_at mode_of limits_at opening_fields
+unfolding records_from next_record strip_bom field_at digits fields_text is_blank number ecn_of params_at first_kind version_of profile_of mode_of limits_at draft_at version_one_fields version_two_fields
     opening_of rows_text answer_fields verdict_of call_at packet_at arrival_line departure_line update_line reset_line params_line numbers_at
-    note_line line_of told_by lines_from fault_from history_opening after_opening opening_row command_fields
+    note_line shown_line line_of told_by lines_from fault_from history_opening history_version after_opening opening_row command_fields
 kinds-lines = refl
 
 -- the fault of a record of a history
@@ -104,21 +107,36 @@ faults-in : map (λ last. fault_in (codes "open,0,4,16,100\ndepart,1,1,empty\n" 
     ∷ [])
     ≡ Some (fault.Kind 3) ∷ Some (fault.Kind 3) ∷ Some (fault.Fields 3) ∷ Some (fault.Word 3) ∷ Some (fault.Word 3) ∷ Some (fault.Word 3)
     ∷ Some (fault.Number 3) ∷ Some (fault.Word 3) ∷ Some (fault.Word 3) ∷ Some (fault.Number 3) ∷ Some (fault.Number 3) ∷ Some (fault.Number 3) ∷ []
-unfolding records_from next_record strip_bom field_at digits fields_text is_blank number ecn_of params_at mode_of limits_at opening_fields
+unfolding records_from next_record strip_bom field_at digits fields_text is_blank number ecn_of params_at first_kind version_of profile_of mode_of limits_at draft_at version_one_fields version_two_fields
     opening_of rows_text answer_fields verdict_of call_at packet_at arrival_line departure_line update_line reset_line params_line numbers_at
-    note_line line_of told_by lines_from fault_from history_opening after_opening opening_row command_fields
+    note_line shown_line line_of told_by lines_from fault_from history_opening history_version after_opening opening_row command_fields
 faults-in = refl
 
 -- lines before a fault stand; a record past the greatest number is that fault
 faulty-lines : (lines_of (codes "open,0,4,16,100\nrefused,1,1\ndep\nrefused,1,1\n") ≡ Note ∷ [])
-    × (lines_from 3 2 (records_of (codes "refused,1,1\nrefused,1,1\ndep\n")) ≡ Note ∷ Note ∷ [])
-    × (fault_from 3 2 (records_of (codes "refused,1,1\nrefused,1,1\ndep\n")) ≡ Some fault.TooLong)
-    × (fault_from 4 2 (records_of (codes "refused,1,1\nrefused,1,1\ndep\n")) ≡ Some (fault.Kind 4))
+    × (lines_from version.One 3 2 (records_of (codes "refused,1,1\nrefused,1,1\ndep\n")) ≡ Note ∷ Note ∷ [])
+    × (fault_from version.One 3 2 (records_of (codes "refused,1,1\nrefused,1,1\ndep\n")) ≡ Some fault.TooLong)
+    × (fault_from version.One 4 2 (records_of (codes "refused,1,1\nrefused,1,1\ndep\n")) ≡ Some (fault.Kind 4))
     × (history_opening [] ≡ Err fault.NoOpen)
-unfolding records_from next_record strip_bom field_at digits fields_text is_blank number ecn_of params_at mode_of limits_at opening_fields
+unfolding records_from next_record strip_bom field_at digits fields_text is_blank number ecn_of params_at first_kind version_of profile_of mode_of limits_at draft_at version_one_fields version_two_fields
     opening_of rows_text answer_fields verdict_of call_at packet_at arrival_line departure_line update_line reset_line params_line numbers_at
-    note_line line_of told_by lines_from fault_from history_opening after_opening opening_row command_fields
+    note_line shown_line line_of told_by lines_from fault_from history_opening history_version after_opening opening_row command_fields
 faulty-lines = (refl, refl, refl, refl, refl)
+
+-- `shown` has one field more in version two; a later `open2` is no kind
+shown-lines : map (λ last. fault_in (codes "open2,2,bounded,0,4,16,100\n" ++ last)) (
+    codes "shown,1,2,3,4,5,6,7,8,9,10,1,0\n"
+    ∷ codes "shown,1,2,3,4,5,6,7,8,9,10,0,1\n"
+    ∷ codes "shown,1,2,3,4,5,6,7,8,9,10,1\n"
+    ∷ codes "shown,1,2,3,4,5,6,7,8,9,10,1,2\n"
+    ∷ codes "shown,1,2,3,4,5,6,7,8,9,10,2,1\n"
+    ∷ codes "open2,2,bounded,0,4,16,100\n"
+    ∷ [])
+    ≡ None ∷ None ∷ Some (fault.Fields 2) ∷ Some (fault.Number 2) ∷ Some (fault.Number 2) ∷ Some (fault.Kind 2) ∷ []
+unfolding records_from next_record strip_bom field_at digits fields_text is_blank number ecn_of params_at first_kind version_of profile_of mode_of limits_at draft_at version_one_fields version_two_fields
+    opening_of rows_text answer_fields verdict_of call_at packet_at arrival_line departure_line update_line reset_line params_line numbers_at
+    note_line shown_line line_of told_by lines_from fault_from history_opening history_version after_opening opening_row command_fields
+shown-lines = refl
 
 -- ---- writing
 
@@ -140,9 +158,9 @@ kinds-written : rows_text (written_rows (opened_as Bounded default_profile) (
     ++ codes "update,3,4,5,6,7\n"
     ++ codes "reset,65535,2,done\n"
     ++ codes "params,0,2,15000000,15000000,150000000,125,1250,1024,262144,100000000000,16384,done\n"
-unfolding records_from next_record strip_bom field_at digits fields_text is_blank number ecn_of params_at mode_of limits_at opening_fields
+unfolding records_from next_record strip_bom field_at digits fields_text is_blank number ecn_of params_at first_kind version_of profile_of mode_of limits_at draft_at version_one_fields version_two_fields
     opening_of rows_text answer_fields verdict_of call_at packet_at arrival_line departure_line update_line reset_line params_line numbers_at
-    note_line line_of told_by lines_from fault_from history_opening after_opening opening_row command_fields
+    note_line shown_line line_of told_by lines_from fault_from history_opening history_version after_opening opening_row command_fields
 kinds-written = refl
 
 abbrev with_beta : ℕ → RawParams
@@ -166,7 +184,22 @@ openings-written : map (λ opening. rows_text (opening_row opening ∷ []))
     ∷ codes "rolling,0,4,16,100\n"
     ∷ codes "rolling,0,4,16,100,15000000,15000000,150000000,125,0,1024,262144,100000000000,16384\n"
     ∷ []
-unfolding records_from next_record strip_bom field_at digits fields_text is_blank number ecn_of params_at mode_of limits_at opening_fields
+unfolding records_from next_record strip_bom field_at digits fields_text is_blank number ecn_of params_at first_kind version_of profile_of mode_of limits_at draft_at version_one_fields version_two_fields
     opening_of rows_text answer_fields verdict_of call_at packet_at arrival_line departure_line update_line reset_line params_line numbers_at
-    note_line line_of told_by lines_from fault_from history_opening after_opening opening_row command_fields
+    note_line shown_line line_of told_by lines_from fault_from history_opening history_version after_opening opening_row command_fields
 openings-written = refl
+
+-- version two exactly where the profile is two
+abbrev opened_in : Profile → Mode → RawParams → Opening
+opened_in profile mode params = record { moment = 0; limits = record { packets = 4; tail = 16; events = 100 }; params = params; choices = record { mode = mode; profile = profile } }
+
+versions-written : map (λ opening. rows_text (opening_row opening ∷ []))
+    (opened_in One Rolling (with_beta 1250) ∷ opened_in Two Bounded (with_beta 1250) ∷ opened_in Two Rolling (with_beta 0) ∷ [])
+    ≡ codes "rolling,0,4,16,100\n"
+    ∷ codes "open2,2,bounded,0,4,16,100\n"
+    ∷ codes "open2,2,rolling,0,4,16,100,15000000,15000000,150000000,125,0,1024,262144,100000000000,16384\n"
+    ∷ []
+unfolding records_from next_record strip_bom field_at digits fields_text is_blank number ecn_of params_at first_kind version_of profile_of mode_of limits_at draft_at version_one_fields version_two_fields
+    opening_of rows_text answer_fields verdict_of call_at packet_at arrival_line departure_line update_line reset_line params_line numbers_at
+    note_line shown_line line_of told_by lines_from fault_from history_opening history_version after_opening opening_row command_fields
+versions-written = refl

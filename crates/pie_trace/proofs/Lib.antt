@@ -20,3 +20,8 @@ pub mod RunBack
 pub mod Examples
 pub mod ExamplesRuns
 pub mod ExamplesLines
+pub mod MigrateFacts
+pub mod MigrateEnds
+pub mod MigrateBack
+pub mod MigrateFirst
+pub mod MigrateWhole

@@ -11,7 +11,9 @@ use Rattle.pie_book.specs.declared.registers.Registers.{Registers}
 use Rattle.pie_book.specs.declared.stats.Stats.{Stats}
 use Rattle.pie_book.specs.Ranges.{RegistersFit, StatsFit}
 use Rattle.pie_trace.specs.declared.history.Line.TheVariants as line
-use Rattle.pie_trace.specs.Line.{line_of, most_u128, note_line, numbers_at}
+use Rattle.pie_trace.specs.declared.version.Version.{Version}
+use Rattle.pie_trace.specs.declared.version.Version.TheVariants.{One, Two}
+use Rattle.pie_trace.specs.Line.{line_of, most_u128, note_line, numbers_at, shown_line}
 use Rattle.pie_trace.specs.Number.{number}
 use Rattle.pie_trace.specs.Record.{most_u64}
 use Rattle.pie_trace.specs.Reply.{flag, folded_row, refused_row, shown_row, tallied_row}
@@ -42,21 +44,21 @@ back-long n fits =
 
 -- ---- notes
 
-pub refused-note : (record_number code : ℕ) → record_number < 2 ^ 64 → code < 2 ^ 64 → line_of (refused_row record_number code) ≡ Ok line.Note
+pub refused-note : (version : Version) (record_number code : ℕ) → record_number < 2 ^ 64 → code < 2 ^ 64 → line_of version (refused_row record_number code) ≡ Ok line.Note
 unfolding line_of note_line numbers_at field_at refused_row
-refused-note record_number code a b = rw (back record_number a, back code b) refl
+refused-note version record_number code a b = rw (back record_number a, back code b) refl
 
-pub folded-note : (n : ℕ) → n < 2 ^ 64 → line_of (folded_row n) ≡ Ok line.Note
+pub folded-note : (version : Version) (n : ℕ) → n < 2 ^ 64 → line_of version (folded_row n) ≡ Ok line.Note
 unfolding line_of note_line numbers_at field_at folded_row
-folded-note n a = rw (back n a) refl
+folded-note version n a = rw (back n a) refl
 
 back-flag : (b : Bool) → number 1 (decimal (flag b)) ≡ Some (flag b)
 back-flag true = number-decimal 1 1 (omega arith) (omega arith)
 back-flag false = number-decimal 1 0 (omega arith) (omega arith)
 
-pub shown-note : (r : Registers) → RegistersFit r → line_of (shown_row r) ≡ Ok line.Note
-unfolding line_of note_line numbers_at field_at shown_row
-shown-note r f =
+pub shown-note : (version : Version) (r : Registers) → RegistersFit r → line_of version (shown_row version r) ≡ Ok line.Note
+unfolding line_of shown_line note_line numbers_at field_at shown_row
+shown-note One r f =
     rw (
       back r.count f.count,
       back r.moment f.moment,
@@ -70,10 +72,25 @@ shown-note r f =
       back r.average f.average,
       back-flag r.measuring,
     ) refl
+shown-note Two r f =
+    rw (
+      back r.count f.count,
+      back r.moment f.moment,
+      back r.packets f.packets,
+      back r.bytes f.bytes,
+      back r.prob f.prob,
+      back r.old f.old,
+      back r.accu f.accu,
+      back r.burst f.burst,
+      back r.last f.last,
+      back r.average f.average,
+      back-flag r.measuring,
+      back-flag r.active,
+    ) refl
 
-pub tallied-note : (s : Stats) → StatsFit s → line_of (tallied_row s) ≡ Ok line.Note
+pub tallied-note : (version : Version) (s : Stats) → StatsFit s → line_of version (tallied_row s) ≡ Ok line.Note
 unfolding line_of note_line numbers_at field_at tallied_row
-tallied-note s f =
+tallied-note version s f =
     rw (
       back s.arrivals f.arrivals,
       back s.enqueued f.enqueued,

@@ -1,23 +1,30 @@
 -- The record of an opening is read back as that opening.
-use Rattle.std.proofs.Common.{◌≡◌, ◌≤◌, ◌<◌, ◌^◌, ◌==◌, ◌&&◌, nat_le, ℕ, [], ◌∷◌, ◌++◌, map, Bool, true, false, decimal, refl, sym, ap, ◌∙◌, arith, if◌then◌else◌}
-use Rattle.std.specs.Prelude.{Some, None, Ok}
+use Rattle.std.proofs.Common.{◌≡◌, ◌≤◌, ◌<◌, ◌^◌, ◌==◌, ◌&&◌, nat_le, ℕ, List, [], ◌∷◌, ◌++◌, map, Bool, true, false, decimal, refl, sym, ap, ◌∙◌, arith, if◌then◌else◌}
+use Rattle.std.specs.Prelude.{Some, None, Result, Ok, codes}
 use Rattle.std.proofs.lemmas.Bool.{eqb-true}
 use Rattle.std.proofs.lemmas.Bool.Decides.{nat_tests}
 use Rattle.csv.specs.Records.{field_at}
 use Rattle.pie_params.specs.Profile.{default_profile}
 use Rattle.pie_params.specs.declared.raw.RawParams.{RawParams}
+use Rattle.pie_params.specs.Range.{first_bad}
+use Rattle.pie_book.specs.declared.opening.Choices.{Choices}
 use Rattle.pie_book.specs.declared.opening.Limits.{Limits}
 use Rattle.pie_book.specs.declared.opening.Mode.{Mode}
 use Rattle.pie_book.specs.declared.opening.Mode.TheVariants.{Bounded, Rolling}
 use Rattle.pie_book.specs.declared.opening.Opening.{Opening}
 use Rattle.pie_book.specs.declared.opening.Profile.{Profile}
-use Rattle.pie_book.specs.declared.opening.Profile.TheVariants.{One}
+use Rattle.pie_book.specs.declared.opening.Profile.TheVariants.{One, Two}
 use Rattle.pie_book.specs.declared.refusal.OpenRefusal.TheVariants as refusal
 use Rattle.pie_book.specs.Opening.{are_in_range, last_moment, opening_refusal}
-use Rattle.pie_trace.specs.History.{opening_of}
 use Rattle.pie_book.specs.Ranges.{ParamsFit}
-use Rattle.pie_trace.specs.Record.{limits_at, mode_of, opening_fields, params_at}
-use Rattle.pie_trace.specs.Write.{are_default, mode_word, nine_of, opening_row}
+use Rattle.pie_trace.specs.declared.fault.Flaw.{Flaw}
+use Rattle.pie_trace.specs.declared.fault.TraceFault.{TraceFault}
+use Rattle.pie_trace.specs.declared.first_record.Draft.{Draft}
+use Rattle.pie_trace.specs.FirstRecord.{draft_at, first_kind, limits_at, mode_of, profile_of, version_one_fields, version_two_fields}
+use Rattle.pie_trace.specs.History.{opening_of, opening_read}
+use Rattle.pie_trace.specs.Record.{params_at}
+use Rattle.pie_trace.specs.Text.{Row}
+use Rattle.pie_trace.specs.Write.{are_default, choices_row, nine_of, opening_row}
 use Rattle.pie_trace.proofs.EventBack.{back_u32, back_u64}
 
 both : (a b : Bool) → a && b ≡ true → (a ≡ true) × (b ≡ true)
@@ -93,12 +100,19 @@ accepted_fits limits moment = by (are_in_range limits) (nat_le moment last_momen
 
 -- ---- the record
 
-long-back : (mode : Mode) (moment : ℕ) (limits : Limits) (params : RawParams) → opening_refusal limits moment ≡ None → ParamsFit params
-    → opening_of (mode_word mode ∷ (map decimal (moment ∷ limits.packets ∷ limits.tail ∷ limits.events ∷ []) ++ map decimal (nine_of params)))
-    ≡ Ok (record { moment = moment; limits = limits; params = params; choices = record { mode = mode; profile = One } })
-unfolding opening_of mode_of opening_fields limits_at params_at field_at
-long-back Bounded moment limits params accepted set =
-    let fits = accepted_fits limits moment accepted in
+-- the numbers of an opening, and then its parameters or nothing
+abbrev numbers_row : ℕ → Limits → Row → Row
+numbers_row moment limits params = map decimal (moment ∷ limits.packets ∷ limits.tail ∷ limits.events ∷ []) ++ params
+
+-- what they say
+abbrev drafted : ℕ → Limits → RawParams → Choices → Result Draft Flaw
+drafted moment limits params choices = Ok (record { moment = moment; limits = limits; params = params; choices = choices })
+
+-- .. after one field, which is the kind
+long-one : (kind : List ℕ) (choices : Choices) (moment : ℕ) (limits : Limits) (params : RawParams) → OpeningFits limits moment → ParamsFit params
+    → draft_at (kind ∷ numbers_row moment limits (map decimal (nine_of params))) 1 choices ≡ drafted moment limits params choices
+unfolding draft_at limits_at params_at field_at
+long-one kind choices moment limits params fits set =
     rw (
       back_u64 moment (let m = fits.within in omega arith),
       back_u32 limits.packets fits.packets,
@@ -113,11 +127,19 @@ long-back Bounded moment limits params accepted set =
       back_u64 params.limit_bytes set.limit_bytes,
       back_u64 params.mark_ecnth set.mark_ecnth,
       back_u64 params.dq_threshold set.dq_threshold,
-      set.in_range,
-      accepted,
     ) refl
-long-back Rolling moment limits params accepted set =
-    let fits = accepted_fits limits moment accepted in
+
+short-one : (kind : List ℕ) (choices : Choices) (moment : ℕ) (limits : Limits) → OpeningFits limits moment
+    → draft_at (kind ∷ numbers_row moment limits []) 1 choices ≡ drafted moment limits default_profile choices
+unfolding draft_at limits_at field_at
+short-one kind choices moment limits fits =
+    rw (back_u64 moment (let m = fits.within in omega arith), back_u32 limits.packets fits.packets, back_u32 limits.tail fits.tail, back_u64 limits.events (let m = fits.events in omega arith)) refl
+
+-- .. after the kind, the profile and the mode
+long-two : (kind profile mode : List ℕ) (choices : Choices) (moment : ℕ) (limits : Limits) (params : RawParams) → OpeningFits limits moment → ParamsFit params
+    → draft_at (kind ∷ profile ∷ mode ∷ numbers_row moment limits (map decimal (nine_of params))) 3 choices ≡ drafted moment limits params choices
+unfolding draft_at limits_at params_at field_at
+long-two kind profile mode choices moment limits params fits set =
     rw (
       back_u64 moment (let m = fits.within in omega arith),
       back_u32 limits.packets fits.packets,
@@ -132,32 +154,57 @@ long-back Rolling moment limits params accepted set =
       back_u64 params.limit_bytes set.limit_bytes,
       back_u64 params.mark_ecnth set.mark_ecnth,
       back_u64 params.dq_threshold set.dq_threshold,
-      set.in_range,
-      accepted,
     ) refl
 
-short-back : (mode : Mode) (moment : ℕ) (limits : Limits) → opening_refusal limits moment ≡ None
-    → opening_of (mode_word mode ∷ (map decimal (moment ∷ limits.packets ∷ limits.tail ∷ limits.events ∷ []) ++ []))
-    ≡ Ok (record { moment = moment; limits = limits; params = default_profile; choices = record { mode = mode; profile = One } })
-unfolding opening_of mode_of opening_fields limits_at field_at
-short-back Bounded moment limits accepted =
-    let fits = accepted_fits limits moment accepted in
-    rw (back_u64 moment (let m = fits.within in omega arith), back_u32 limits.packets fits.packets, back_u32 limits.tail fits.tail, back_u64 limits.events (let m = fits.events in omega arith), accepted) refl
-short-back Rolling moment limits accepted =
-    let fits = accepted_fits limits moment accepted in
-    rw (back_u64 moment (let m = fits.within in omega arith), back_u32 limits.packets fits.packets, back_u32 limits.tail fits.tail, back_u64 limits.events (let m = fits.events in omega arith), accepted) refl
+short-two : (kind profile mode : List ℕ) (choices : Choices) (moment : ℕ) (limits : Limits) → OpeningFits limits moment
+    → draft_at (kind ∷ profile ∷ mode ∷ numbers_row moment limits []) 3 choices ≡ drafted moment limits default_profile choices
+unfolding draft_at limits_at field_at
+short-two kind profile mode choices moment limits fits =
+    rw (back_u64 moment (let m = fits.within in omega arith), back_u32 limits.packets fits.packets, back_u32 limits.tail fits.tail, back_u64 limits.events (let m = fits.events in omega arith)) refl
 
--- this opening with these parameters and this profile
-abbrev made : Opening → RawParams → Profile → Opening
-made o params profile = record { moment = o.moment; limits = o.limits; params = params; choices = record { mode = o.choices.mode; profile = profile } }
+-- a draft that is accepted opens what it says
+accepted_draft : (moment : ℕ) (limits : Limits) (params : RawParams) (choices : Choices) → opening_refusal limits moment ≡ None → first_bad params ≡ None
+    → opening_read (drafted moment limits params choices) ≡ Ok (record { moment = moment; limits = limits; params = params; choices = choices })
+accepted_draft moment limits params choices accepted good = rw (good, accepted) refl
 
-pub opening-back : (o : Opening) → o.choices.profile ≡ One → opening_refusal o.limits o.moment ≡ None → ParamsFit o.params → opening_of (opening_row o) ≡ Ok o
+abbrev chosen : Profile → Mode → Choices
+chosen profile mode = record { mode = mode; profile = profile }
+
+-- the whole record, once its numbers and its parameters read well
+abbrev Reads : Profile → Mode → Row → Result Draft Flaw → Type 0
+Reads profile mode rest draft = opening_of (choices_row profile mode ++ rest) ≡ opening_read draft
+
+long-back : (profile : Profile) (mode : Mode) (moment : ℕ) (limits : Limits) (params : RawParams) → OpeningFits limits moment → ParamsFit params
+    → Reads profile mode (numbers_row moment limits (map decimal (nine_of params))) (drafted moment limits params (chosen profile mode))
+unfolding opening_of first_kind version_one_fields version_two_fields profile_of mode_of field_at
+long-back One Bounded moment limits params fits set = ap opening_read (long-one (codes "open") (chosen One Bounded) moment limits params fits set)
+long-back One Rolling moment limits params fits set = ap opening_read (long-one (codes "rolling") (chosen One Rolling) moment limits params fits set)
+long-back Two Bounded moment limits params fits set = ap opening_read (long-two (codes "open2") (codes "2") (codes "bounded") (chosen Two Bounded) moment limits params fits set)
+long-back Two Rolling moment limits params fits set = ap opening_read (long-two (codes "open2") (codes "2") (codes "rolling") (chosen Two Rolling) moment limits params fits set)
+
+short-back : (profile : Profile) (mode : Mode) (moment : ℕ) (limits : Limits) → OpeningFits limits moment
+    → Reads profile mode (numbers_row moment limits []) (drafted moment limits default_profile (chosen profile mode))
+unfolding opening_of first_kind version_one_fields version_two_fields profile_of mode_of field_at
+short-back One Bounded moment limits fits = ap opening_read (short-one (codes "open") (chosen One Bounded) moment limits fits)
+short-back One Rolling moment limits fits = ap opening_read (short-one (codes "rolling") (chosen One Rolling) moment limits fits)
+short-back Two Bounded moment limits fits = ap opening_read (short-two (codes "open2") (codes "2") (codes "bounded") (chosen Two Bounded) moment limits fits)
+short-back Two Rolling moment limits fits = ap opening_read (short-two (codes "open2") (codes "2") (codes "rolling") (chosen Two Rolling) moment limits fits)
+
+-- this opening with these parameters
+abbrev made : Opening → RawParams → Opening
+made o params = record { moment = o.moment; limits = o.limits; params = params; choices = o.choices }
+
+pub opening-back : (o : Opening) → opening_refusal o.limits o.moment ≡ None → ParamsFit o.params → opening_of (opening_row o) ≡ Ok o
 unfolding opening_row
-opening-back o one accepted set = by (are_default o.params) refl
+opening-back o accepted set = by (are_default o.params) refl
   where
     by : (b : Bool) → are_default o.params ≡ b
-        → opening_of (mode_word o.choices.mode ∷ (map decimal (o.moment ∷ o.limits.packets ∷ o.limits.tail ∷ o.limits.events ∷ []) ++ (if b then [] else map decimal (nine_of o.params)))) ≡ Ok o
+        → opening_of (choices_row o.choices.profile o.choices.mode ++ numbers_row o.moment o.limits (if b then [] else map decimal (nine_of o.params))) ≡ Ok o
     by true same =
-        short-back o.choices.mode o.moment o.limits accepted ∙ ap (λ (params : RawParams). Ok (made o params One)) (sym (are_default-true o.params same))
-        ∙ ap (λ (profile : Profile). Ok (made o o.params profile)) (sym one)
-    by false other = long-back o.choices.mode o.moment o.limits o.params accepted set ∙ ap (λ (profile : Profile). Ok (made o o.params profile)) (sym one)
+        let default : o.params ≡ default_profile = are_default-true o.params same in
+        short-back o.choices.profile o.choices.mode o.moment o.limits (accepted_fits o.limits o.moment accepted)
+        ∙ accepted_draft o.moment o.limits default_profile o.choices accepted (rw default at set.in_range)
+        ∙ ap (λ (params : RawParams). let opened : Result Opening TraceFault = Ok (made o params) in opened) (sym default)
+    by false other =
+        long-back o.choices.profile o.choices.mode o.moment o.limits o.params (accepted_fits o.limits o.moment accepted) set
+        ∙ accepted_draft o.moment o.limits o.params o.choices accepted set.in_range

@@ -30,25 +30,28 @@ use Rattle.pie_book.specs.Statistics.{stats_after}
 use Rattle.pie_trace.specs.declared.fault.Flaw.{Flaw}
 use Rattle.pie_trace.specs.declared.fault.TraceFault.{TraceFault}
 use Rattle.pie_trace.specs.declared.fault.TraceFault.TheVariants as fault
-use Rattle.pie_trace.specs.declared.fields.Draft.{Draft}
 use Rattle.pie_trace.specs.declared.fields.Request.{Request}
 use Rattle.pie_trace.specs.declared.fields.Request.TheVariants.{Ask, BadParams, Fold, Show, Tally}
+use Rattle.pie_trace.specs.declared.first_record.Draft.{Draft}
+use Rattle.pie_trace.specs.declared.first_record.FirstKind.{FirstKind}
+use Rattle.pie_trace.specs.declared.first_record.FirstKind.TheVariants as kinds
 use Rattle.pie_trace.specs.declared.history.Line.{Line}
+use Rattle.pie_trace.specs.declared.version.Version.{Version}
 use Rattle.pie_trace.specs.Fault.{fault_at}
 use Rattle.pie_trace.specs.History.{before_fault, checked_opening, history_rows, history_text, opening_by, opening_in, opening_of, opening_read, record_fault, refused_opening, replies, requests_of, rows_text, text_left}
 use Rattle.pie_trace.specs.Line.{line_of}
 use Rattle.pie_trace.specs.ReadBack.{TellsHistory, line_told, lines_told, run_lines}
-use Rattle.pie_trace.specs.Record.{is_kind, mode_of, opening_fields, request_of}
+use Rattle.pie_trace.specs.FirstRecord.{first_fields, first_kind, version_of}
+use Rattle.pie_trace.specs.Record.{is_kind, request_of}
 use Rattle.pie_trace.specs.Reply.{Reply, after, code_of, history_row, reply, reply_to_command, reply_to_fold}
 use Rattle.pie_trace.specs.Text.{Row}
-use Rattle.pie_trace.specs.Write.{mode_word}
 use Rattle.pie_trace.proofs.EndFacts.{history_text-read}
 use Rattle.pie_trace.proofs.EventBack.{line-back}
-use Rattle.pie_trace.proofs.HistoryBack.{TellEach, TellEach-cons, TellEach-none, history-told}
+use Rattle.pie_trace.proofs.HistoryBack.{Begins, TellEach, TellEach-cons, TellEach-none, history-told}
 use Rattle.pie_trace.proofs.HistoryFacts.{before_fault-later, flawed-record, long-record, requests_of-cons}
 use Rattle.pie_trace.proofs.NotesBack.{folded-note, refused-note, shown-note, tallied-note}
 use Rattle.pie_trace.proofs.RequestBack.{kind-word, request-asks}
-use Rattle.pie_trace.proofs.TextBack.{HasField, rows_text-cons}
+use Rattle.pie_trace.proofs.TextBack.{HasField, kind_word, rows_text-cons}
 
 -- what pie_book promises of all histories
 pub record Held : Type 0 where
@@ -91,23 +94,23 @@ code-small refusal.HistoryFull = omega arith
 
 -- ---- one record
 
-ask-told : (held : Held) (number : ℕ) (row : Row) (caller : ℕ) (command : Command) (opening : Opening) (progress : Progress) → number < 2 ^ 64 → Opens opening → Sound opening progress → request_of row ≡ Ok (Ask caller command)
-    → line_of (history_row number row (reply opening progress (Ask caller command))) ≡ Ok (line_told (Ask caller command) (reply opening progress (Ask caller command)))
-ask-told held number row caller command opening progress small opens sound reads =
+ask-told : (version : Version) (held : Held) (number : ℕ) (row : Row) (caller : ℕ) (command : Command) (opening : Opening) (progress : Progress) → number < 2 ^ 64 → Opens opening → Sound opening progress → request_of row ≡ Ok (Ask caller command)
+    → line_of version (history_row version number row (reply opening progress (Ask caller command))) ≡ Ok (line_told (Ask caller command) (reply opening progress (Ask caller command)))
+ask-told version held number row caller command opening progress small opens sound reads =
     by (refusal_by_rule opening progress.history command) (is_refused_full opening.choices.mode (progress.held == opening.limits.tail)) refl
   where
     by : (o : Option Refusal) (full : Bool) → refusal_by_rule opening progress.history command ≡ o
-        → line_of (history_row number row (reply_to_command (refused_or (or_full o full) (decision opening progress.history command))))
+        → line_of version (history_row version number row (reply_to_command (refused_or (or_full o full) (decision opening progress.history command))))
         ≡ Ok (line_told (Ask caller command) (reply_to_command (refused_or (or_full o full) (decision opening progress.history command))))
     by None false free =
         let asks = request-asks row caller command held.params reads in
-        ap (λ (r : Row). line_of (history_row number r (reply_to_command (Ok (decision opening progress.history command))))) asks.is
-        ∙ line-back caller command (decision opening progress.history command) (held.kinds opening progress.history command) asks.caller asks.fits
+        ap (λ (r : Row). line_of version (history_row version number r (reply_to_command (Ok (decision opening progress.history command))))) asks.is
+        ∙ line-back version caller command (decision opening progress.history command) (held.kinds opening progress.history command) asks.caller asks.fits
         (held.answers opening progress.history command opens.accepted opens.params sound.legal sound.fit free)
-    by None true free = refused-note number 5 small (omega arith)
-    by (Some why) full free = refused-note number (code_of why) small (code-small why)
+    by None true free = refused-note version number 5 small (omega arith)
+    by (Some why) full free = refused-note version number (code_of why) small (code-small why)
 
-ltb-false : (a b : ℕ) → nat_lt a b ≡ false → b ≤ a
+pub ltb-false : (a b : ℕ) → nat_lt a b ≡ false → b ≤ a
 ltb-false a b e = grind (arith, nat_tests)
 
 fold-enough : (progress : Progress) (n : ℕ) (events : List Event) → fold_outcome progress n ≡ Ok events → n ≤ progress.held
@@ -117,27 +120,27 @@ fold-enough progress n events = by (nat_lt progress.held n) refl
     by true f e = cc
     by false f e = ltb-false progress.held n f
 
-fold-told : (held : Held) (number : ℕ) (row : Row) (n : ℕ) (opening : Opening) (progress : Progress) → number < 2 ^ 64 → Opens opening → Sound opening progress
-    → line_of (history_row number row (reply opening progress (Fold n))) ≡ Ok (line_told (Fold n) (reply opening progress (Fold n)))
-fold-told held number row n opening progress small opens sound = by (fold_outcome progress n) refl
+fold-told : (version : Version) (held : Held) (number : ℕ) (row : Row) (n : ℕ) (opening : Opening) (progress : Progress) → number < 2 ^ 64 → Opens opening → Sound opening progress
+    → line_of version (history_row version number row (reply opening progress (Fold n))) ≡ Ok (line_told (Fold n) (reply opening progress (Fold n)))
+fold-told version held number row n opening progress small opens sound = by (fold_outcome progress n) refl
   where
-    by : (o : Result (List Event) FoldRefusal) → fold_outcome progress n ≡ o → line_of (history_row number row (reply_to_fold n o)) ≡ Ok (line_told (Fold n) (reply_to_fold n o))
-    by (Err why) e = refused-note number 6 small (omega arith)
+    by : (o : Result (List Event) FoldRefusal) → fold_outcome progress n ≡ o → line_of version (history_row version number row (reply_to_fold n o)) ≡ Ok (line_told (Fold n) (reply_to_fold n o))
+    by (Err why) e = refused-note version number 6 small (omega arith)
     by (Ok events) e =
         let enough = fold-enough progress n events e in
         let within = sound.held in
         let count = count-small held opening progress opens sound in
-        folded-note n (omega arith)
+        folded-note version n (omega arith)
 
-record-told : (held : Held) (number : ℕ) (row : Row) (request : Request) (opening : Opening) (progress : Progress) → number < 2 ^ 64 → Opens opening → Sound opening progress → request_of row ≡ Ok request
-    → line_of (history_row number row (reply opening progress request)) ≡ Ok (line_told request (reply opening progress request))
-record-told held number row (Ask caller command) opening progress small opens sound reads = ask-told held number row caller command opening progress small opens sound reads
-record-told held number row BadParams opening progress small opens sound reads = refused-note number 7 small (omega arith)
-record-told held number row (Fold n) opening progress small opens sound reads = fold-told held number row n opening progress small opens sound
-record-told held number row Show opening progress small opens sound reads =
-    shown-note (registers_after opening progress.history) (held.registers opening progress.history opens.accepted opens.params sound.legal sound.fit)
-record-told held number row Tally opening progress small opens sound reads =
-    tallied-note (stats_after opening progress.history) (held.stats opening progress.history opens.accepted opens.params sound.legal sound.fit)
+record-told : (version : Version) (held : Held) (number : ℕ) (row : Row) (request : Request) (opening : Opening) (progress : Progress) → number < 2 ^ 64 → Opens opening → Sound opening progress → request_of row ≡ Ok request
+    → line_of version (history_row version number row (reply opening progress request)) ≡ Ok (line_told request (reply opening progress request))
+record-told version held number row (Ask caller command) opening progress small opens sound reads = ask-told version held number row caller command opening progress small opens sound reads
+record-told version held number row BadParams opening progress small opens sound reads = refused-note version number 7 small (omega arith)
+record-told version held number row (Fold n) opening progress small opens sound reads = fold-told version held number row n opening progress small opens sound
+record-told version held number row Show opening progress small opens sound reads =
+    shown-note version (registers_after opening progress.history) (held.registers opening progress.history opens.accepted opens.params sound.legal sound.fit)
+record-told version held number row Tally opening progress small opens sound reads =
+    tallied-note version (stats_after opening progress.history) (held.stats opening progress.history opens.accepted opens.params sound.legal sound.fit)
 
 -- where the run stands after it
 with-one : (mode : Mode) (most held : ℕ) → held_with_one mode most held ≤ held + 1
@@ -197,19 +200,19 @@ good most number row e = by (nat_lt most number) (request_of row) refl refl
     by false (Ok request) l r = record { request = request; reads = r; within = ltb-false most number l }
     by false (Err what) l r = let wrong : None ≡ Some (fault_at number what) = sym e ∙ flawed-record most number row what (ltb-false most number l) r in cc
 
-abbrev pub RowsTold : Opening → ℕ → Progress → List Row → List Request → Type 0
-RowsTold opening number progress rows requests = TellEach (history_rows number rows (replies opening progress requests)) (lines_told requests (replies opening progress requests))
+abbrev pub RowsTold : Version → Opening → ℕ → Progress → List Row → List Request → Type 0
+RowsTold version opening number progress rows requests = TellEach version (history_rows version number rows (replies opening progress requests)) (lines_told requests (replies opening progress requests))
 
-told-none : (opening : Opening) (number : ℕ) (progress : Progress) → RowsTold opening number progress [] (requests_of [])
+told-none : (version : Version) (opening : Opening) (number : ℕ) (progress : Progress) → RowsTold version opening number progress [] (requests_of [])
 unfolding requests_of replies history_rows lines_told
-told-none opening number progress = TellEach-none
+told-none version opening number progress = TellEach-none version
 
-told-one : (opening : Opening) (number : ℕ) (progress : Progress) (row : Row) (rows : List Row) (request : Request) (requests : List Request)
-    → line_of (history_row number row (reply opening progress request)) ≡ Ok (line_told request (reply opening progress request))
-    → RowsTold opening (number + 1) (after opening progress request) rows requests → RowsTold opening number progress (row ∷ rows) (request ∷ requests)
+told-one : (version : Version) (opening : Opening) (number : ℕ) (progress : Progress) (row : Row) (rows : List Row) (request : Request) (requests : List Request)
+    → line_of version (history_row version number row (reply opening progress request)) ≡ Ok (line_told request (reply opening progress request))
+    → RowsTold version opening (number + 1) (after opening progress request) rows requests → RowsTold version opening number progress (row ∷ rows) (request ∷ requests)
 unfolding replies history_rows lines_told
-told-one opening number progress row rows request requests here later =
-    TellEach-cons (history_row number row (reply opening progress request)) (history_rows (number + 1) rows (replies opening (after opening progress request) requests))
+told-one version opening number progress row rows request requests here later =
+    TellEach-cons version (history_row version number row (reply opening progress request)) (history_rows version (number + 1) rows (replies opening (after opening progress request) requests))
     (line_told request (reply opening progress request)) (lines_told requests (replies opening (after opening progress request) requests)) here later
 
 before-none : (most number : ℕ) → before_fault most number [] ≡ []
@@ -220,26 +223,26 @@ before-here : (most number : ℕ) (row : Row) (rows : List Row) (why : TraceFaul
 unfolding before_fault
 before-here most number row rows why e = rw e refl
 
-rows-told : (held : Held) (most : ℕ) (opening : Opening) (number : ℕ) (progress : Progress) (rows : List Row) → most ≤ 2 ^ 32 → Opens opening → Sound opening progress
-    → RowsTold opening number progress (before_fault most number rows) (requests_of (before_fault most number rows))
-rows-told held most opening number progress [] few opens sound =
-    subst (λ (l : List Row). RowsTold opening number progress l (requests_of l)) (sym (before-none most number)) (told-none opening number progress)
-rows-told held most opening number progress (row ∷ rows) few opens sound =
-    by (record_fault most number row) refl (λ request reads. rows-told held most opening (number + 1) (after opening progress request) rows few opens (after-sound held opening progress row request reads sound))
+rows-told : (version : Version) (held : Held) (most : ℕ) (opening : Opening) (number : ℕ) (progress : Progress) (rows : List Row) → most ≤ 2 ^ 32 → Opens opening → Sound opening progress
+    → RowsTold version opening number progress (before_fault most number rows) (requests_of (before_fault most number rows))
+rows-told version held most opening number progress [] few opens sound =
+    subst (λ (l : List Row). RowsTold version opening number progress l (requests_of l)) (sym (before-none most number)) (told-none version opening number progress)
+rows-told version held most opening number progress (row ∷ rows) few opens sound =
+    by (record_fault most number row) refl (λ request reads. rows-told version held most opening (number + 1) (after opening progress request) rows few opens (after-sound held opening progress row request reads sound))
   where
     by : (o : Option TraceFault) → record_fault most number row ≡ o
-        → ((request : Request) → request_of row ≡ Ok request → RowsTold opening (number + 1) (after opening progress request) (before_fault most (number + 1) rows) (requests_of (before_fault most (number + 1) rows)))
-        → RowsTold opening number progress (before_fault most number (row ∷ rows)) (requests_of (before_fault most number (row ∷ rows)))
+        → ((request : Request) → request_of row ≡ Ok request → RowsTold version opening (number + 1) (after opening progress request) (before_fault most (number + 1) rows) (requests_of (before_fault most (number + 1) rows)))
+        → RowsTold version opening number progress (before_fault most number (row ∷ rows)) (requests_of (before_fault most number (row ∷ rows)))
     by (Some why) e later =
-        subst (λ (l : List Row). RowsTold opening number progress l (requests_of l)) (sym (before-here most number row rows why e)) (told-none opening number progress)
+        subst (λ (l : List Row). RowsTold version opening number progress l (requests_of l)) (sym (before-here most number row rows why e)) (told-none version opening number progress)
     by None e later =
         let g = good most number row e in
         let within = g.within in
         let rest = before_fault most (number + 1) rows in
-        subst (λ (l : List Row). RowsTold opening number progress l (requests_of l)) (sym (before_fault-later most number row rows e))
-        (subst (λ (asked : List Request). RowsTold opening number progress (row ∷ before_fault most (number + 1) rows) asked) (sym (requests_of-cons row (before_fault most (number + 1) rows) g.request g.reads))
-        (told-one opening number progress row (before_fault most (number + 1) rows) g.request (requests_of (before_fault most (number + 1) rows))
-        (record-told held number row g.request opening progress (omega arith) opens sound g.reads) (later g.request g.reads)))
+        subst (λ (l : List Row). RowsTold version opening number progress l (requests_of l)) (sym (before_fault-later most number row rows e))
+        (subst (λ (asked : List Request). RowsTold version opening number progress (row ∷ before_fault most (number + 1) rows) asked) (sym (requests_of-cons row (before_fault most (number + 1) rows) g.request g.reads))
+        (told-one version opening number progress row (before_fault most (number + 1) rows) g.request (requests_of (before_fault most (number + 1) rows))
+        (record-told version held number row g.request opening progress (omega arith) opens sound g.reads) (later g.request g.reads)))
 
 -- how many there are
 before-few : (most number : ℕ) (rows : List Row) → number ≤ most + 1 → number + length (before_fault most number rows) ≤ most + 1
@@ -254,52 +257,48 @@ before-few most number (row ∷ rows) within = by (record_fault most number row)
         let more = later (omega arith) in
         rw (before_fault-later most number row rows e) (omega arith)
 
-rows-few : (number : ℕ) (rows : List Row) (given : List Reply) → length (history_rows number rows given) ≤ length rows
+rows-few : (version : Version) (number : ℕ) (rows : List Row) (given : List Reply) → length (history_rows version number rows given) ≤ length rows
 unfolding history_rows
-rows-few number [] given = omega arith
-rows-few number (row ∷ rows) [] = omega arith
-rows-few number (row ∷ rows) (reply ∷ given) = let more = rows-few (number + 1) rows given in omega arith
+rows-few version number [] given = omega arith
+rows-few version number (row ∷ rows) [] = omega arith
+rows-few version number (row ∷ rows) (reply ∷ given) = let more = rows-few version (number + 1) rows given in omega arith
 
 -- a row that tells a line has a field
-told-field : (row : Row) (line : Line) → line_of row ≡ Ok line → HasField row
+pub told-field : (version : Version) (row : Row) (line : Line) → line_of version row ≡ Ok line → HasField row
 unfolding line_of field_at
-told-field [] line e = cc
-told-field (field ∷ rest) line e = omega arith
+told-field version [] line e = cc
+told-field version (field ∷ rest) line e = omega arith
 
-told-fields : (rows : List Row) (lines : List Line) → TellEach rows lines → All HasField rows
+told-fields : (version : Version) (rows : List Row) (lines : List Line) → TellEach version rows lines → All HasField rows
 unfolding TellEach
-told-fields [] lines tells = All-nil HasField
-told-fields (row ∷ rows) [] tells = absurd tells
-told-fields (row ∷ rows) (line ∷ lines) tells = All-cons HasField row rows (told-field row line tells.0) (told-fields rows lines tells.1)
+told-fields version [] lines tells = All-nil HasField
+told-fields version (row ∷ rows) [] tells = absurd tells
+told-fields version (row ∷ rows) (line ∷ lines) tells = All-cons HasField row rows (told-field version row line tells.0) (told-fields version rows lines tells.1)
 
 -- ---- the first record
 
 pub record Opened (row : Row) (opening : Opening) : Type 0 where
-  pub mode : Mode
-  pub rest : Row
-  pub is : row ≡ mode_word mode ∷ rest
+  pub begins : Begins row
   pub accepted : opening_refusal opening.limits opening.moment ≡ None
   pub in_range : first_bad opening.params ≡ None
 
-pub record Word (row : Row) (mode : Mode) : Type 0 where
-  pub rest : Row
-  pub is : row ≡ mode_word mode ∷ rest
-
-word-of : (row : Row) (mode : Mode) (word : List ℕ) → word ≡ mode_word mode → is_kind row word ≡ true → Word row mode
+word-of : (row : Row) (kind : FirstKind) (word : List ℕ) → word ≡ kind_word kind → is_kind row word ≡ true → Begins row
 unfolding field_at
-word-of [] mode word same e = cc
-word-of (first ∷ rest) mode word same e =
+word-of [] kind word same e = cc
+word-of (first ∷ rest) kind word same e =
     let is = kind-word (first ∷ rest) word first rest refl e in
-    record { rest = rest; is = ap (λ (f : List ℕ). f ∷ rest) (is ∙ same) }
+    record { kind = kind; rest = rest; is = ap (λ (f : List ℕ). f ∷ rest) (is ∙ same) }
 
-mode-word : (row : Row) (mode : Mode) → mode_of row ≡ Some mode → Word row mode
-unfolding mode_of
-mode-word row mode = by (is_kind row (codes "open")) (is_kind row (codes "rolling")) refl refl
+begins : (row : Row) (kind : FirstKind) → first_kind row ≡ Some kind → Begins row
+unfolding first_kind
+begins row kind = by (is_kind row (codes "open")) (is_kind row (codes "rolling")) (is_kind row (codes "open2")) refl refl refl
   where
-    by : (a b : Bool) → is_kind row (codes "open") ≡ a → is_kind row (codes "rolling") ≡ b → (if a then Some Bounded else if b then Some Rolling else None) ≡ Some mode → Word row mode
-    by true b p q e = let same : Bounded ≡ mode = cc in word-of row mode (codes "open") (ap mode_word same) p
-    by false true p q e = let same : Rolling ≡ mode = cc in word-of row mode (codes "rolling") (ap mode_word same) q
-    by false false p q e = cc
+    by : (a b c : Bool) → is_kind row (codes "open") ≡ a → is_kind row (codes "rolling") ≡ b → is_kind row (codes "open2") ≡ c
+        → (if a then Some kinds.Open else if b then Some kinds.Rolling else if c then Some kinds.Open2 else None) ≡ Some kind → Begins row
+    by true b c p q r e = word-of row kinds.Open (codes "open") refl p
+    by false true c p q r e = word-of row kinds.Rolling (codes "rolling") refl q
+    by false false true p q r e = word-of row kinds.Open2 (codes "open2") refl r
+    by false false false p q r e = cc
 
 pub record Checked (draft : Draft) (opening : Opening) : Type 0 where
   pub same : opening_in draft ≡ opening
@@ -321,34 +320,33 @@ checked draft opening = by (first_bad draft.params) (opening_refusal draft.limit
 
 opened : (row : Row) (opening : Opening) → opening_of row ≡ Ok opening → Opened row opening
 unfolding opening_of
-opened row opening = by (mode_of row) refl
+opened row opening = by (first_kind row) refl
   where
-    read : (mode : Mode) → mode_of row ≡ Some mode → (o : Result Draft Flaw) → opening_read o ≡ Ok opening → Opened row opening
-    read mode is (Err what) e = cc
-    read mode is (Ok draft) e =
-        let word = mode-word row mode is in
+    read : (kind : FirstKind) → first_kind row ≡ Some kind → (o : Result Draft Flaw) → opening_read o ≡ Ok opening → Opened row opening
+    read kind is (Err what) e = cc
+    read kind is (Ok draft) e =
         let c = checked draft opening e in
-        subst (λ (o : Opening). Opened row o) c.same (record { mode = mode; rest = word.rest; is = word.is; accepted = c.accepted; in_range = c.in_range })
+        subst (λ (o : Opening). Opened row o) c.same (record { begins = begins row kind is; accepted = c.accepted; in_range = c.in_range })
 
-    by : (o : Option Mode) → mode_of row ≡ o → opening_by o row ≡ Ok opening → Opened row opening
+    by : (o : Option FirstKind) → first_kind row ≡ o → opening_by o row ≡ Ok opening → Opened row opening
     by None is e = cc
-    by (Some mode) is e = read mode is (opening_fields row mode) e
+    by (Some kind) is e = read kind is (first_fields row kind) e
 
 -- ---- the whole text
 
 sound-start : (held : Held) (opening : Opening) → Sound opening start
 sound-start held opening = record { legal = held.legal_at_first opening; fit = All-nil (λ (e : Event). CommandFits e.command); held = omega arith }
 
-text-rows : (most : ℕ) (opening : Opening) (rows : List Row)
-    → text_left most opening 2 start rows ≡ rows_text (history_rows 2 (before_fault most 2 rows) (replies opening start (requests_of (before_fault most 2 rows))))
+text-rows : (version : Version) (most : ℕ) (opening : Opening) (rows : List Row)
+    → text_left version most opening 2 start rows ≡ rows_text (history_rows version 2 (before_fault most 2 rows) (replies opening start (requests_of (before_fault most 2 rows))))
 unfolding text_left
-text-rows most opening rows = refl
+text-rows version most opening rows = refl
 
 text-whole : (most : ℕ) (row : Row) (rows : List Row) (opening : Opening) → 0 < most → opening_of row ≡ Ok opening
-    → history_text most (row ∷ rows) ≡ rows_text (row ∷ history_rows 2 (before_fault most 2 rows) (replies opening start (requests_of (before_fault most 2 rows))))
+    → history_text most (row ∷ rows) ≡ rows_text (row ∷ history_rows (version_of row) 2 (before_fault most 2 rows) (replies opening start (requests_of (before_fault most 2 rows))))
 text-whole most row rows opening some opens =
-    let R = history_rows 2 (before_fault most 2 rows) (replies opening start (requests_of (before_fault most 2 rows))) in
-    history_text-read most row rows some ∙ rw opens (rw (text-rows most opening rows) (sym (rows_text-cons row (history_rows 2 (before_fault most 2 rows) (replies opening start (requests_of (before_fault most 2 rows)))))))
+    history_text-read most row rows some ∙ rw opens (rw (text-rows (version_of row) most opening rows)
+    (sym (rows_text-cons row (history_rows (version_of row) 2 (before_fault most 2 rows) (replies opening start (requests_of (before_fault most 2 rows)))))))
 
 pub run-told : (held : Held) (most : ℕ) (row : Row) (rows : List Row) (opening : Opening) → 0 < most → most ≤ 2 ^ 32 → opening_of row ≡ Ok opening
     → TellsHistory (history_text most (row ∷ rows)) opening (run_lines most opening rows)
@@ -356,13 +354,14 @@ unfolding run_lines
 run-told held most row rows opening some few opens =
     let is = opened row opening opens in
     let fit : Opens opening = record { accepted = is.accepted; params = held.params opening.params is.in_range } in
-    let told : TellEach (history_rows 2 (before_fault most 2 rows) (replies opening start (requests_of (before_fault most 2 rows)))) (lines_told (requests_of (before_fault most 2 rows)) (replies opening start (requests_of (before_fault most 2 rows)))) =
-    rows-told held most opening 2 start rows few fit (sound-start held opening) in
+    let first : Row = kind_word is.begins.kind ∷ is.begins.rest in
+    let told : TellEach (version_of first) (history_rows (version_of first) 2 (before_fault most 2 rows) (replies opening start (requests_of (before_fault most 2 rows)))) (lines_told (requests_of (before_fault most 2 rows)) (replies opening start (requests_of (before_fault most 2 rows)))) =
+    rows-told (version_of first) held most opening 2 start rows few fit (sound-start held opening) in
     let count = before-few most 2 rows (omega arith) in
-    let fewer = rows-few 2 (before_fault most 2 rows) (replies opening start (requests_of (before_fault most 2 rows))) in
+    let fewer = rows-few (version_of first) 2 (before_fault most 2 rows) (replies opening start (requests_of (before_fault most 2 rows))) in
     subst (λ (text : List ℕ). TellsHistory text opening (lines_told (requests_of (before_fault most 2 rows)) (replies opening start (requests_of (before_fault most 2 rows))))) (sym (text-whole most row rows opening some opens))
-    (subst (λ (first : Row). TellsHistory (rows_text (first ∷ history_rows 2 (before_fault most 2 rows) (replies opening start (requests_of (before_fault most 2 rows))))) opening
-    (lines_told (requests_of (before_fault most 2 rows)) (replies opening start (requests_of (before_fault most 2 rows))))) (sym is.is)
-    (history-told is.mode is.rest (history_rows 2 (before_fault most 2 rows) (replies opening start (requests_of (before_fault most 2 rows)))) opening
-    (lines_told (requests_of (before_fault most 2 rows)) (replies opening start (requests_of (before_fault most 2 rows)))) (ap opening_of (sym is.is) ∙ opens)
-    (told-fields _ _ told) told (omega arith)))
+    (subst (λ (first : Row). TellsHistory (rows_text (first ∷ history_rows (version_of first) 2 (before_fault most 2 rows) (replies opening start (requests_of (before_fault most 2 rows))))) opening
+    (lines_told (requests_of (before_fault most 2 rows)) (replies opening start (requests_of (before_fault most 2 rows))))) (sym is.begins.is)
+    (history-told is.begins.kind is.begins.rest (history_rows (version_of first) 2 (before_fault most 2 rows) (replies opening start (requests_of (before_fault most 2 rows)))) opening
+    (lines_told (requests_of (before_fault most 2 rows)) (replies opening start (requests_of (before_fault most 2 rows)))) (ap opening_of (sym is.begins.is) ∙ opens)
+    (told-fields (version_of first) _ _ told) told (omega arith)))

@@ -1,6 +1,6 @@
 -- Rows that were written are read back as the same records.
 use Rattle.std.proofs.Common.{◌≡◌, ◌<◌, ℕ, List, [], ◌∷◌, ◌++◌, length, refl, sym, ap, subst, ◌∙◌, arith}
-use Rattle.std.specs.Prelude.{All, Some}
+use Rattle.std.specs.Prelude.{All, Some, codes}
 use Rattle.std.proofs.lemmas.List.Concat.{flat_map-cons}
 use Rattle.std.proofs.lemmas.List.Elements.{All-cons, All-head, All-tail}
 use Rattle.csv.specs.Machine.{next_record}
@@ -8,12 +8,11 @@ use Rattle.csv.specs.Reading.{default_config, strip_bom}
 use Rattle.csv.specs.Writing.{default_writer, escaped, field_text, fields_text, is_blank, read_back, row_text}
 use Rattle.csv.specs.declared.parser.State.TheVariants as st
 use Rattle.csv.proofs.RoundTrip.{read-write}
-use Rattle.pie_book.specs.declared.opening.Mode.{Mode}
-use Rattle.pie_book.specs.declared.opening.Mode.TheVariants.{Bounded, Rolling}
+use Rattle.pie_trace.specs.declared.first_record.FirstKind.{FirstKind}
+use Rattle.pie_trace.specs.declared.first_record.FirstKind.TheVariants as kinds
 use Rattle.pie_trace.specs.History.{rows_text}
 use Rattle.pie_trace.specs.Rows.{rows_setup}
 use Rattle.pie_trace.specs.Text.{Row, records_left, records_of, text_of}
-use Rattle.pie_trace.specs.Write.{mode_word}
 use Rattle.pie_trace.proofs.RecordFacts.{records_left-next, records_left-none}
 
 -- ---- free lengths change no text
@@ -76,16 +75,23 @@ records_left-written (row ∷ rows) some =
 
 -- ---- a whole text, which begins with no byte order mark
 
-strip_bom-word : (mode : Mode) (rest : Row) (tail : List ℕ) → strip_bom (text_of (mode_word mode ∷ rest) ++ tail) ≡ text_of (mode_word mode ∷ rest) ++ tail
+-- the word of a kind of first record
+abbrev pub kind_word : FirstKind → List ℕ
+kind_word kinds.Open = codes "open"
+kind_word kinds.Rolling = codes "rolling"
+kind_word kinds.Open2 = codes "open2"
+
+strip_bom-word : (kind : FirstKind) (rest : Row) (tail : List ℕ) → strip_bom (text_of (kind_word kind ∷ rest) ++ tail) ≡ text_of (kind_word kind ∷ rest) ++ tail
 unfolding strip_bom
-strip_bom-word Bounded rest tail = refl
-strip_bom-word Rolling rest tail = refl
+strip_bom-word kinds.Open rest tail = refl
+strip_bom-word kinds.Rolling rest tail = refl
+strip_bom-word kinds.Open2 rest tail = refl
 
-no_mark : (mode : Mode) (rest : Row) (rows : List Row) → strip_bom (rows_text ((mode_word mode ∷ rest) ∷ rows)) ≡ rows_text ((mode_word mode ∷ rest) ∷ rows)
-no_mark mode rest rows =
-    ap strip_bom (rows_text-cons (mode_word mode ∷ rest) rows) ∙ strip_bom-word mode rest (rows_text rows) ∙ sym (rows_text-cons (mode_word mode ∷ rest) rows)
+no_mark : (kind : FirstKind) (rest : Row) (rows : List Row) → strip_bom (rows_text ((kind_word kind ∷ rest) ∷ rows)) ≡ rows_text ((kind_word kind ∷ rest) ∷ rows)
+no_mark kind rest rows =
+    ap strip_bom (rows_text-cons (kind_word kind ∷ rest) rows) ∙ strip_bom-word kind rest (rows_text rows) ∙ sym (rows_text-cons (kind_word kind ∷ rest) rows)
 
-pub records_of-written : (mode : Mode) (rest : Row) (rows : List Row) → All HasField rows → records_of (rows_text ((mode_word mode ∷ rest) ∷ rows)) ≡ (mode_word mode ∷ rest) ∷ rows
-records_of-written mode rest rows some =
-    ap (λ (t : List ℕ). records_left st.StartRecord t) (no_mark mode rest rows)
-    ∙ records_left-written ((mode_word mode ∷ rest) ∷ rows) (All-cons HasField (mode_word mode ∷ rest) rows (omega arith) some)
+pub records_of-written : (kind : FirstKind) (rest : Row) (rows : List Row) → All HasField rows → records_of (rows_text ((kind_word kind ∷ rest) ∷ rows)) ≡ (kind_word kind ∷ rest) ∷ rows
+records_of-written kind rest rows some =
+    ap (λ (t : List ℕ). records_left st.StartRecord t) (no_mark kind rest rows)
+    ∙ records_left-written ((kind_word kind ∷ rest) ∷ rows) (All-cons HasField (kind_word kind ∷ rest) rows (omega arith) some)

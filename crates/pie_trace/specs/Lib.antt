@@ -2,6 +2,7 @@ pub mod Number
 pub mod Fault
 pub mod Text
 pub mod Record
+pub mod FirstRecord
 pub mod Line
 pub mod Reply
 pub mod History
@@ -11,3 +12,4 @@ pub mod Records
 pub mod Lines
 pub mod Write
 pub mod ReadBack
+pub mod Migrate

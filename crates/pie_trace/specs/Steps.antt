@@ -9,6 +9,7 @@ use Rattle.pie_book.specs.Run.{Progress, start, progress_after}
 use Rattle.pie_trace.specs.declared.fault.TraceFault.{TraceFault}
 use Rattle.pie_trace.specs.declared.fields.Request.{Request}
 use Rattle.pie_trace.specs.declared.run.RunEnd.{RunEnd}
+use Rattle.pie_trace.specs.declared.version.Version.{Version}
 use Rattle.pie_trace.specs.Fault.{is_device}
 use Rattle.pie_trace.specs.Text.{Row, text_of}
 use Rattle.pie_trace.specs.History.{end_of, fault_of, first_fault, history_text, progress_at_end, refused_count, replies, requests_of, steps_of, text_left}
@@ -21,11 +22,11 @@ pub record IsAt (book : BookView) (opening : Opening) (progress : Progress) : Ty
   pub tells : Tells book progress.history
   pub held : length book.tail ≡ progress.held
 
--- of the records after the first, `rows` are left, the first of them with this number; `text` is the history text so
+-- of the records after the first in a text of this version, `rows` are left, the first of them with this number; `text` is the history text so
 -- far, and `refused` were refused
-pub record HasCome (most : ℕ) (opening : Opening) (all : List Row) (number : ℕ) (progress : Progress) (rows : List Row) (text : List ℕ) (refused : ℕ) : Type 0 where
+pub record HasCome (version : Version) (most : ℕ) (opening : Opening) (all : List Row) (number : ℕ) (progress : Progress) (rows : List Row) (text : List ℕ) (refused : ℕ) : Type 0 where
   pub fault : first_fault most 2 all ≡ first_fault most number rows
-  pub written : text_left most opening 2 start all ≡ text ++ text_left most opening number progress rows
+  pub written : text_left version most opening 2 start all ≡ text ++ text_left version most opening number progress rows
   pub ended : progress_at_end opening (requests_of all) ≡ progress_after opening progress (steps_of (requests_of rows))
   pub refusals : refused_count (replies opening start (requests_of all)) ≡ refused + refused_count (replies opening progress (requests_of rows))
 
@@ -34,44 +35,44 @@ abbrev pub refusals_in : Reply → ℕ
 refusals_in given = cond (is_refused given) 1 0
 
 -- what a request did: the book stands where the run stands after it, a refusal is counted, and the row is its history record
-pub record IsReplied (number : ℕ) (row : Row) (request : Request) (opening : Opening) (new : BookView) (refused refused_then : ℕ) (row_then : Row) (progress : Progress) : Type 0 where
+pub record IsReplied (version : Version) (number : ℕ) (row : Row) (request : Request) (opening : Opening) (new : BookView) (refused refused_then : ℕ) (row_then : Row) (progress : Progress) : Type 0 where
   pub stands : IsAt new opening (after opening progress request)
   pub refusals : refused_then ≡ refused + refusals_in (reply opening progress request)
-  pub made : row_then ≡ history_row number row (reply opening progress request)
+  pub made : row_then ≡ history_row version number row (reply opening progress request)
 
 -- .. wherever the run stood
-abbrev pub Replies : ℕ → Row → Request → BookView → BookView → ℕ → ℕ → Row → Type 0
-Replies number row request old new refused refused_then row_then =
-    (progress : Progress) → IsAt old old.opening progress → IsReplied number row request old.opening new refused refused_then row_then progress
+abbrev pub Replies : Version → ℕ → Row → Request → BookView → BookView → ℕ → ℕ → Row → Type 0
+Replies version number row request old new refused refused_then row_then =
+    (progress : Progress) → IsAt old old.opening progress → IsReplied version number row request old.opening new refused refused_then row_then progress
 
 -- what a record after the first did, where it reads well: its request is answered after the run so far, and its history
 -- record joins the text
-pub record IsAnswered (number : ℕ) (row : Row) (request : Request) (opening : Opening) (new : BookView) (refused refused_then : ℕ) (text text_then : List ℕ) (progress : Progress) : Type 0 where
+pub record IsAnswered (version : Version) (number : ℕ) (row : Row) (request : Request) (opening : Opening) (new : BookView) (refused refused_then : ℕ) (text text_then : List ℕ) (progress : Progress) : Type 0 where
   pub stands : IsAt new opening (after opening progress request)
   pub refusals : refused_then ≡ refused + refusals_in (reply opening progress request)
-  pub written : text_then ≡ text ++ text_of (history_row number row (reply opening progress request))
+  pub written : text_then ≡ text ++ text_of (history_row version number row (reply opening progress request))
 
 -- where a run stands among all records after the first: some are left, and the text of the others was written
-pub record Stands (most : ℕ) (opening : Opening) (all : List Row) (number : ℕ) (book : BookView) (refused : ℕ) (left : Option (List Row)) (before now : Option (List ℕ)) : Type 0 where
+pub record Stands (version : Version) (most : ℕ) (opening : Opening) (all : List Row) (number : ℕ) (book : BookView) (refused : ℕ) (left : Option (List Row)) (before now : Option (List ℕ)) : Type 0 where
   pub rows : List Row
   pub progress : Progress
   pub text : List ℕ
   pub remain : left ≡ Some rows
   pub stands : IsAt book opening progress
-  pub come : HasCome most opening all number progress rows text refused
+  pub come : HasCome version most opening all number progress rows text refused
   pub written : Appends before now text
 
 -- the steps of a trace ended with their last record, with no fault
-pub record AreDone (most : ℕ) (opening : Opening) (all : List Row) (book : BookView) (refused : ℕ) (before now : Option (List ℕ)) : Type 0 where
+pub record AreDone (version : Version) (most : ℕ) (opening : Opening) (all : List Row) (book : BookView) (refused : ℕ) (before now : Option (List ℕ)) : Type 0 where
   pub sound : first_fault most 2 all ≡ None
   pub stands : IsAt book opening (progress_at_end opening (requests_of all))
   pub refusals : refused ≡ refused_count (replies opening start (requests_of all))
-  pub written : Appends before now (text_left most opening 2 start all)
+  pub written : Appends before now (text_left version most opening 2 start all)
 
 -- they ended at the first fault
-pub record AreStopped (most : ℕ) (opening : Opening) (all : List Row) (why : TraceFault) (before now : Option (List ℕ)) : Type 0 where
+pub record AreStopped (version : Version) (most : ℕ) (opening : Opening) (all : List Row) (why : TraceFault) (before now : Option (List ℕ)) : Type 0 where
   pub first : first_fault most 2 all ≡ Some why
-  pub written : Appends before now (text_left most opening 2 start all)
+  pub written : Appends before now (text_left version most opening 2 start all)
 
 -- how a run of a whole trace ends, where neither the reader, the writer nor memory failed
 abbrev pub Ends : ℕ → List Row → Result RunEnd TraceFault → Option (List ℕ) → Option (List ℕ) → Type 0
@@ -79,13 +80,13 @@ Ends most all (Ok end) before now = (fault_of most all ≡ None) × (end_of all 
 Ends most all (Err why) before now = is_device why ≡ false → (fault_of most all ≡ Some why) × Appends before now (history_text most all)
 
 -- neither the reader, the writer nor memory failed
-abbrev pub IsTold : Result RunEnd TraceFault → Type 0
+abbrev pub IsTold : {A : Type 0} → Result A TraceFault → Type 0
 IsTold (Ok end) = ⊤
 IsTold (Err why) = is_device why ≡ false
 
 -- what the answer is where the last rows were written out, or could not be: a device or memory that failed before stays the
 -- answer, and any other answer gives way to what failed now
-abbrev pub closed : Result RunEnd TraceFault → Result (Unit {0}) TraceFault → Result RunEnd TraceFault
+abbrev pub closed : {A : Type 0} → Result A TraceFault → Result (Unit {0}) TraceFault → Result A TraceFault
 closed result (Ok written) = result
 closed (Ok end) (Err why) = Err why
 closed (Err first) (Err why) = if is_device first then Err first else Err why

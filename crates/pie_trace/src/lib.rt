@@ -1,4 +1,4 @@
-//! Traces of commands, and the history text that a run of a trace writes.
+//! Traces of commands, and the history text that a run of a trace writes, in two versions.
 //!
 //! The definitions that the contracts cite stand in `specs/`: the records of a text, its first fault, and its history
 //! text.
@@ -15,22 +15,27 @@
 mod answer;
 pub mod fault;
 mod fields;
+mod first_record;
 pub mod history;
 pub mod law;
 pub mod lines;
+pub mod migration;
 mod number;
 mod records;
 mod rows;
 pub mod run;
 mod session;
 mod typed;
+pub mod version;
 pub mod write;
 
 pub use fault::{Flaw, OpenFault, TraceFault};
 pub use history::Line;
 pub use law::history_texts_are_read_back;
 pub use lines::HistoryLines;
+pub use migration::migrate;
 pub use run::{RunEnd, run_trace, run_trace_within};
+pub use version::Version;
 pub use write::write_history;
 
 #[cfg(test)]

@@ -1,6 +1,6 @@
 //! Whole histories: the first event that the rules do not give, or the first fault.
 
-use super::{AFTER_THE_MARK, MARKED, ONE_ARRIVAL, clean, differs, marks};
+use super::{AFTER_THE_MARK, MARKED, ONE_ARRIVAL, TURNED_ON, clean, differs, marks};
 use crate::audit;
 use pie_params::Field;
 use pie_trace::{OpenFault, TraceFault};
@@ -76,6 +76,7 @@ fn whole_histories(rt: HostRuntime) {
         (ONE_ARRIVAL, clean(3)),
         (falling, clean(3)),
         (MARKED, clean(10)),
+        (TURNED_ON, clean(10)),
         // The tail holds one event, which is not judged; two events are the most of the last.
         (
             "open,0,4,1,100\ndepart,1,1,empty\ndepart,1,1,empty\n",

@@ -18,6 +18,18 @@ fn faulty_openings(rt: HostRuntime) {
         ("show\n", TraceFault::NoOpen),
         ("opening,0,4,16,100\n", TraceFault::NoOpen),
         ("open,0,4,16,100,1\n", TraceFault::Fields { row: 1 }),
+        // Of version two: the number of the fields, the profile, the mode.
+        ("open2,1,bounded,0,4,16\n", TraceFault::Fields { row: 1 }),
+        ("open2,3,loose,0,4,16,100\n", TraceFault::Number { row: 1 }),
+        ("open2,1,loose,0,4,16,100\n", TraceFault::Word { row: 1 }),
+        (
+            "open2,bounded,1,0,4,16,100\n",
+            TraceFault::Number { row: 1 },
+        ),
+        (
+            "open2,2,rolling,0,0,16,100\n",
+            TraceFault::Opening(OpenFault::Limits),
+        ),
         ("rolling\n", TraceFault::Fields { row: 1 }),
         ("open,0,4,16\n", TraceFault::Fields { row: 1 }),
         ("open,0,4,016,100\n", TraceFault::Number { row: 1 }),
@@ -73,6 +85,7 @@ fn faulty_records(rt: HostRuntime) -> Result<(), Fail> {
         ("dep,1,1", TraceFault::Kind { row: 3 }),
         ("open,0,4,16,100", TraceFault::Kind { row: 3 }),
         ("rolling,0,4,16,100", TraceFault::Kind { row: 3 }),
+        ("open2,1,bounded,0,4,16,100", TraceFault::Kind { row: 3 }),
         ("Show", TraceFault::Kind { row: 3 }),
         ("shown", TraceFault::Kind { row: 3 }),
         ("show,1", TraceFault::Fields { row: 3 }),

@@ -9,9 +9,13 @@ use pie_queue::{Ecn, Packet};
 use std::alloc::Global;
 use std::test::Fail;
 
-/// What the only record after a short opening says.
-fn line_of(alloc: Global, record: &str) -> Result<Result<Option<Line>, TraceFault>, Fail> {
-    let text = format!(in alloc; "open,0,4,16,100\n{record}\n")?;
+/// What the only record after this one says.
+fn line_after(
+    alloc: Global,
+    opening: &str,
+    record: &str,
+) -> Result<Result<Option<Line>, TraceFault>, Fail> {
+    let text = format!(in alloc; "{opening}\n{record}\n")?;
     let (mut lines, _) = HistoryLines::open(alloc, text.as_bytes())?;
     Ok(lines.next_line())
 }
@@ -94,6 +98,7 @@ fn records_that_tell_no_event(rt: HostRuntime) -> Result<(), Fail> {
         ("refused,2", fields),
         ("folded,2,3", fields),
         ("shown,1,2,3,4,5,6,7,8,9,10", fields),
+        ("shown,1,2,3,4,5,6,7,8,9,10,1,1", fields),
         ("depart,1,1", fields),
         ("depart,1,1,left", word),
         ("depart,1,1,empty,1,1,not", word),
@@ -107,7 +112,33 @@ fn records_that_tell_no_event(rt: HostRuntime) -> Result<(), Fail> {
         ("fold,1", kind),
     ];
     for (record, want) in cases {
-        assert_eq!(rt; line_of(rt.alloc(), record)?, want, "{record}");
+        let line = line_after(rt.alloc(), "open,0,4,16,100", record)?;
+        assert_eq!(rt; line, want, "{record}");
+    }
+    Ok(())
+}
+
+/// In version two `shown` ends with whether the controller works.
+#[test]
+fn registers_in_version_two(rt: HostRuntime) -> Result<(), Fail> {
+    let number = Err(TraceFault::Number { row: 2 });
+    let cases = [
+        ("shown,1,2,3,4,5,6,7,8,9,10,1,0", Ok(Some(Line::Note))),
+        ("shown,1,2,3,4,5,6,7,8,9,10,0,1", Ok(Some(Line::Note))),
+        (
+            "shown,1,2,3,4,5,6,7,8,9,10,1",
+            Err(TraceFault::Fields { row: 2 }),
+        ),
+        ("shown,1,2,3,4,5,6,7,8,9,10,2,1", number),
+        ("shown,1,2,3,4,5,6,7,8,9,10,1,2", number),
+        (
+            "open2,2,bounded,0,4,16,100",
+            Err(TraceFault::Kind { row: 2 }),
+        ),
+    ];
+    for (record, want) in cases {
+        let line = line_after(rt.alloc(), "open2,2,bounded,0,4,16,100", record)?;
+        assert_eq!(rt; line, want, "{record}");
     }
     Ok(())
 }

@@ -102,6 +102,26 @@ fn ends(alloc: Global, trace: &str) -> (Result<(u64, u64), TraceFault>, Vec<u8>)
     (result.map(|end| (end.events, end.refused)), out)
 }
 
+/// Of version two and in profile two: the third arrival, after which a third of the byte limit waits, turns the controller on.
+#[test]
+fn a_controller_that_turns_itself_on(rt: HostRuntime) {
+    let trace = "open2,2,bounded,0,8,32,100,2,1,5,850000,0,1,9000,1000000000000,1024\n\
+        arrive,1,0,1,1024,not,0\n\
+        show\n\
+        arrive,1,0,1,1024,not,0\n\
+        arrive,1,0,1,1024,not,0\n\
+        show\n";
+    let history = "open2,2,bounded,0,8,32,100,2,1,5,850000,0,1,9000,1000000000000,1024\n\
+        arrive,1,0,1,1024,not,0,enqueue\n\
+        shown,1,0,1,1024,0,0,0,5,0,0,0,0\n\
+        arrive,1,0,1,1024,not,0,enqueue\n\
+        arrive,1,0,1,1024,not,0,enqueue\n\
+        shown,3,0,3,3072,0,0,0,5,0,0,0,1\n";
+    let (ended, out) = ends(rt.alloc(), trace);
+    assert_eq!(rt; ended, Ok((3, 0)));
+    assert_eq!(rt; out.as_slice(), history.as_bytes());
+}
+
 /// The effective moment is shown, and the moment as handed in is written; an update comes too soon.
 #[test]
 fn moments_that_fall(rt: HostRuntime) {

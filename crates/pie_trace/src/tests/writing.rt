@@ -1,6 +1,4 @@
 //! Histories that are written from an opening and events, and read back.
-ghost use Rattle.std.specs.Prelude.{◌≡◌};
-ghost use Rattle.pie_book.specs.declared.opening.Profile.TheVariants.{One};
 
 use crate::{HistoryLines, Line, TraceFault, write_history};
 use pie_book::{Answer, Choices, Command, Event, Limits, Mode, Opening, Profile};
@@ -10,9 +8,7 @@ use std::alloc::Global;
 use std::test::Fail;
 
 /// A book of four packets and sixteen events in its tail, opened at moment 0.
-pub(super) fn opened(mode: Mode, params: Params) -> Opening
-    ensures { result.choices.profile ≡ One }
-{
+pub(super) fn opened(mode: Mode, params: Params) -> Opening {
     Opening {
         moment: 0,
         limits: Limits {
@@ -166,9 +162,7 @@ fn raw_of(nine: [u64; 9]) -> RawParams {
 fn opening_alone(
     alloc: Global,
     opening: &Opening,
-) -> Result<(Vec<u8>, Result<Opening, TraceFault>), Fail>
-    requires { opening.now.choices.profile ≡ One }
-{
+) -> Result<(Vec<u8>, Result<Opening, TraceFault>), Fail> {
     let mut out = Vec::new(alloc);
     write_history(alloc, &mut out, opening, &[])?;
     let read = HistoryLines::open(alloc, out.as_slice()).map(|(_, opening)| opening);
@@ -177,11 +171,17 @@ fn opening_alone(
 
 #[test]
 fn openings_with_the_default_parameters(rt: HostRuntime) -> Result<(), Fail> {
-    for (mode, want) in [
-        (Mode::Bounded, b"open,0,4,16,100\n".as_slice()),
-        (Mode::Rolling, b"rolling,0,4,16,100\n".as_slice()),
-    ] {
-        let opening = opened(mode, Params::default_profile());
+    let cases: [(Profile, Mode, &[u8]); 4] = [
+        (Profile::One, Mode::Bounded, b"open,0,4,16,100\n"),
+        (Profile::One, Mode::Rolling, b"rolling,0,4,16,100\n"),
+        (Profile::Two, Mode::Bounded, b"open2,2,bounded,0,4,16,100\n"),
+        (Profile::Two, Mode::Rolling, b"open2,2,rolling,0,4,16,100\n"),
+    ];
+    for (profile, mode, want) in cases {
+        let opening = Opening {
+            choices: Choices { mode, profile },
+            ..opened(mode, Params::default_profile())
+        };
         let (out, read) = opening_alone(rt.alloc(), &opening)?;
         assert_eq!(rt; out.as_slice(), want);
         assert_eq!(rt; read, Ok(opening));

@@ -28,6 +28,8 @@ expect() {
 expect 'a run' 0 'open,0,4,16,100\ndepart,1,9,empty\n' '' 'open,0,4,16,100\ndepart,1,9\n' run
 expect 'a refused record is no fault' 0 'open,0,4,1,100\ndepart,1,1,empty\nrefused,3,5\n' '' \
     'open,0,4,1,100\ndepart,1,1\ndepart,1,1\n' run
+expect 'a run of version two' 0 'open2,2,rolling,0,4,16,100\nshown,0,0,0,0,0,0,0,150000000,0,0,0,0\n' '' \
+    'open2,2,rolling,0,4,16,100\nshow\n' run
 # The first session of the README, which is the example of `pie run --help` too.
 trace='open,0,8,32,100,2,1,0,850000,0,1,100000,1000000000000,1024
 arrive,1,0,1,1024,not,0
@@ -88,6 +90,14 @@ expect 'a fault of an explained history' 1 '' 'pie: record 15: wrong number of f
 expect 'no choice' 1 '' "$choice" "$history" explain
 expect 'no choice but a form' 1 '' "$choice" "$history" explain --csv
 expect 'two choices' 1 '' "$choice" "$history" explain --lost --all
+# Migration: the same history in version two, which is found the same.
+one='open,0,4,16,100\ndepart,1,9,empty\ndepart,1,5,empty\nshown,2,9,0,0,0,0,0,150000000,0,0,0\nrefused,5,3\nupdate,2,15000000,0,0,150000000\nrefused,7,1\n'
+two='open2,1,bounded,0,4,16,100\ndepart,1,9,empty\ndepart,1,5,empty\nshown,2,9,0,0,0,0,0,150000000,0,0,0,1\nrefused,5,3\nupdate,2,15000000,0,0,150000000\nrefused,7,1\n'
+expect 'a migration' 0 "$two" '' "$one" migrate
+expect 'a migration of a migration' 0 "$two" '' "$two" migrate
+expect 'an audit of a migration' 0 'clean,3\n' '' "$two" audit
+expect 'a fault of a migrated history' 1 'open2,1,rolling,0,4,16,100\ndepart,1,9,empty\n' 'pie: record 3: unknown kind\n' \
+    'rolling,0,4,16,100\ndepart,1,9,empty\ndep,1,10\n' migrate
 expect 'a version' 0 'pie 0.1.0\n' '' '' --version
 
 "$program" > "$work/output" 2> "$work/errors" < /dev/null
@@ -114,6 +124,16 @@ fi
 got=$?
 if [ "$got" != 1 ] || [ -s "$work/output" ] || [ "$(cat "$work/errors")" != 'pie: cannot read the input' ]; then
     echo "tests/pie.sh: an audit of a directory: status $got, $(cat "$work/errors")"
+    failed=1
+fi
+printf "$one" | "$program" migrate > /dev/full 2> "$work/errors"
+got=$?
+if [ "$got" != 1 ] || [ "$(cat "$work/errors")" != 'pie: cannot write the output' ]; then
+    echo "tests/pie.sh: a migration on a full device: status $got, $(cat "$work/errors")"
+    failed=1
+fi
+if [ "$("$program" run < "$(dirname "$0")/../crates/pie/stdin" | "$program" migrate | "$program" audit)" != clean,3 ]; then
+    echo "tests/pie.sh: the migrated history of the stored trace is not clean"
     failed=1
 fi
 # The two commands as a pipe, over the program's stored trace, and as the help has them.

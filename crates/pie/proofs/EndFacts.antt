@@ -1,9 +1,10 @@
 -- How the program ends where memory is wanting before a subcommand begins, and where a history is explained.
-use Rattle.std.proofs.Common.{◌≡◌, ◌∙◌, ◌^◌, ℕ, List, Option, Some, None, ap, inl, inr}
+use Rattle.std.proofs.Common.{◌≡◌, ◌∙◌, ◌^◌, ℕ, List, Option, Some, None, ap, inl, inr, refl}
 use Rattle.std.specs.Prelude.{IfSome, Result, Ok, Err}
 use Rattle.std.specs.Io.KnownBytes.{Appends}
 use Rattle.pie_trace.specs.declared.fault.TraceFault.{TraceFault}
 use Rattle.pie_trace.specs.History.{fault_of, history_text}
+use Rattle.pie_trace.specs.Migrate.{history_events, history_fault, migrated_text}
 use Rattle.pie_trace.specs.Text.{records_of}
 use Rattle.pie_audit.specs.declared.auditor.Finding.{Finding}
 use Rattle.pie_audit.specs.Text.{text_finding}
@@ -13,7 +14,7 @@ use Rattle.pie_explain.specs.declared.fault.ExplainFault.TheVariants as fault
 use Rattle.pie_explain.specs.declared.which.Which.{Which}
 use Rattle.pie_explain.specs.Answer.{IsTold, answer}
 use Rattle.pie_explain.specs.Output.{output}
-use Rattle.pie.specs.Ends.{EndsAudit, EndsExplain, EndsRun, WritesOrFails, answer_status, audit_ends, run_ends}
+use Rattle.pie.specs.Ends.{EndsAudit, EndsExplain, EndsMigrate, EndsRun, WritesOrFails, answer_status, audit_ends, run_ends}
 
 run_ends-failed : (why : Option TraceFault) (history : List ℕ) (status : ℕ) (before now : Option (List ℕ)) → status ≡ 1 → run_ends why history status before now
 run_ends-failed None history status before now one = inl one
@@ -56,3 +57,15 @@ pub EndsExplain-told : (which : Which) (form : Form) (known : Option (List ℕ))
 EndsExplain-told which form None status before now given is answers writes = tt
 EndsExplain-told which form (Some text) status before now given is answers writes =
     explained-so (output which form (records_of text)) status before now given (answer which (records_of text)) is answers writes
+
+-- ---- `pie migrate`
+
+pub EndsMigrate-failed : (known : Option (List ℕ)) (status : ℕ) (before now : Option (List ℕ)) → status ≡ 1 → IfSome known (λ text. EndsMigrate text status before now)
+EndsMigrate-failed None status before now one = tt
+EndsMigrate-failed (Some text) status before now one = run_ends-failed (history_fault (2 ^ 32) (records_of text)) (migrated_text (2 ^ 32) (records_of text)) status before now one
+
+pub EndsMigrate-done : (known : Option (List ℕ)) (events : ℕ) (before now : Option (List ℕ))
+    → IfSome known (λ text. (history_fault (2 ^ 32) (records_of text) ≡ None) × (events ≡ history_events (2 ^ 32) (records_of text)))
+    → IfSome known (λ text. Appends before now (migrated_text (2 ^ 32) (records_of text))) → IfSome known (λ text. EndsMigrate text 0 before now)
+EndsMigrate-done None events before now ends writes = tt
+EndsMigrate-done (Some text) events before now ends writes = rw ends.0 (inr (refl, writes))

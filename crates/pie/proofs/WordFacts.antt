@@ -46,6 +46,13 @@ run-taken app words is asks = rw (is, asks.1) (run_words-taken asks.0)
 pub audit-taken : (app : App) (words : List Text) → app ≡ pie_app → AskFor (codes "audit") words → takes app words ≡ true
 audit-taken app words is asks = rw (is, asks.1) (audit_words-taken asks.0)
 
+migrate_words-taken : (name : Text) → takes pie_app (name ∷ codes "migrate" ∷ []) ≡ true
+unfolding clap_on_literals
+migrate_words-taken name = refl
+
+pub migrate-taken : (app : App) (words : List Text) → app ≡ pie_app → AskFor (codes "migrate") words → takes app words ≡ true
+migrate-taken app words is asks = rw (is, asks.1) (migrate_words-taken asks.0)
+
 pub asked-taken : (app : App) (subcommand : Text) (words : List Text) → app ≡ pie_app → Asks subcommand words → takes app words ≡ true
 asked-taken app subcommand words is asks = subst (λ (a : App). takes a words ≡ true) (sym is) asks.taken
 
@@ -59,11 +66,18 @@ audit_words-in : (name : Text) → subcommand_in (name ∷ codes "audit" ∷ [])
 unfolding clap_on_literals
 audit_words-in name = refl
 
+migrate_words-in : (name : Text) → subcommand_in (name ∷ codes "migrate" ∷ []) ≡ Some (codes "migrate")
+unfolding clap_on_literals
+migrate_words-in name = refl
+
 pub run-in : (words : List Text) → AskFor (codes "run") words → subcommand_in words ≡ Some (codes "run")
 run-in words asks = rw asks.1 (run_words-in asks.0)
 
 pub audit-in : (words : List Text) → AskFor (codes "audit") words → subcommand_in words ≡ Some (codes "audit")
 audit-in words asks = rw asks.1 (audit_words-in asks.0)
+
+pub migrate-in : (words : List Text) → AskFor (codes "migrate") words → subcommand_in words ≡ Some (codes "migrate")
+migrate-in words asks = rw asks.1 (migrate_words-in asks.0)
 
 -- ---- and what its options are given
 

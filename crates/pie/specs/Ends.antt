@@ -4,6 +4,7 @@ use Rattle.std.specs.Fmt.{decimal}
 use Rattle.std.specs.Io.KnownBytes.{Appends}
 use Rattle.pie_trace.specs.declared.fault.TraceFault.{TraceFault}
 use Rattle.pie_trace.specs.History.{fault_of, history_text}
+use Rattle.pie_trace.specs.Migrate.{history_fault, migrated_text}
 use Rattle.pie_trace.specs.Text.{records_of}
 use Rattle.pie_audit.specs.declared.auditor.Finding.{Finding}
 use Rattle.pie_audit.specs.declared.auditor.Finding.TheVariants.{Clean, Differs}
@@ -67,3 +68,9 @@ abbrev pub EndsExplain : Option Which → Form → List ℕ → ℕ → Option (
 EndsExplain None form input status before now = (status ≡ 1) × (now ≡ before)
 EndsExplain (Some which) form input status before now =
     WritesOrFails (output which form (records_of input)) (answer_status (answer which (records_of input))) status before now
+
+-- ---- `pie migrate`
+
+-- a history with a fault ends with 1; any other is written in version two, and ends with 0
+abbrev pub EndsMigrate : List ℕ → ℕ → Option (List ℕ) → Option (List ℕ) → Type 0
+EndsMigrate input = run_ends (history_fault (2 ^ 32) (records_of input)) (migrated_text (2 ^ 32) (records_of input))

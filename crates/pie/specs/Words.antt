@@ -32,8 +32,8 @@ storm_app = with_rule (with_rule (with_rule (new_app (codes "storm")) (number_ru
 
 -- .. `pie` with its subcommands
 abbrev pub pie_app : App
-pie_app = with_subcommand (with_subcommand (with_subcommand (with_subcommand pie_alone (new_app (codes "run")).top) (new_app (codes "audit")).top)
-    explain_app.top) storm_app.top
+pie_app = with_subcommand (with_subcommand (with_subcommand (with_subcommand (with_subcommand pie_alone (new_app (codes "run")).top) (new_app (codes "audit")).top)
+    explain_app.top) (new_app (codes "migrate")).top) storm_app.top
 
 -- ---- subcommands
 

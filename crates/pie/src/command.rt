@@ -4,7 +4,7 @@ ghost use Rattle.std.specs.Io.KnownBytes.{Appends};
 ghost use Rattle.clap.specs.Words.{kind_of};
 ghost use Rattle.clap.specs.declared.error.kind.ErrorKind.{ErrorKind};
 ghost use Rattle.pie.specs.Choice.{choice_of, form_of};
-ghost use Rattle.pie.specs.Ends.{EndsAudit, EndsExplain, EndsRun, finding_line};
+ghost use Rattle.pie.specs.Ends.{EndsAudit, EndsExplain, EndsMigrate, EndsRun, finding_line};
 ghost use Rattle.pie.specs.StormEnds.{EndsStorm};
 ghost use Rattle.pie.specs.Words.{AskFor, Asks, options_in, subcommand_in};
 
@@ -14,7 +14,7 @@ use crate::storming::make_storm;
 use clap::Error;
 use clap::error::ErrorKind;
 use pie_audit::{Finding, audit};
-use pie_trace::run_trace;
+use pie_trace::{migrate, run_trace};
 use std::alloc::Global;
 use std::fmt::Display;
 use std::io;
@@ -41,6 +41,9 @@ pub(crate) const DIFFERS: u8 = 2;
 /// line of its finding and ends with 0 where it is clean and 2 where an event differs, or ends with 1 where the reader, the
 /// writer or memory fails.
 ///
+/// For the words `pie migrate` a history with a fault ends with 1; any other is written in version two and ends with 0, or ends with
+/// 1 where the reader, the writer or memory fails.
+///
 /// For any words that ask for `pie explain`, exactly one option chooses events, or the status is 1 and nothing is written. What
 /// is said of the chosen events is written, up to the first fault and the first event that differs, and the status is 2 where an
 /// event differs, 1 for a fault and where no event is the chosen one, and else 0; or 1, where the reader, the writer or memory fails.
@@ -63,6 +66,8 @@ pub fn command<H: Threads + Wait + Sync, R: Read + Drop, W: Write, E: Write>(
         → IfSome (R.remaining input) (λ text. EndsAudit text result (W.contents output.old) (W.contents output.new)) }
     ensures explains { Asks (codes "explain") (map string_bytes words.now)
         → IfSome (R.remaining input) (λ text. EndsExplain (choice_of (options_in (map string_bytes words.now))) (form_of (options_in (map string_bytes words.now))) text result (W.contents output.old) (W.contents output.new)) }
+    ensures migrates { AskFor (codes "migrate") (map string_bytes words.now)
+        → IfSome (R.remaining input) (λ text. EndsMigrate text result (W.contents output.old) (W.contents output.new)) }
     ensures storms { Asks (codes "storm") (map string_bytes words.now)
         → EndsStorm (options_in (map string_bytes words.now)) result (W.contents output.old) (W.contents output.new) }
 {
@@ -80,6 +85,7 @@ pub fn command<H: Threads + Wait + Sync, R: Read + Drop, W: Write, E: Write>(
     match name {
         "run" => run_input(alloc, input, output, errors),
         "audit" => audit_input(alloc, input, output, errors),
+        "migrate" => migrate_input(alloc, input, output, errors),
         "explain" => explain_input(alloc, options, input, output, errors),
         "storm" => make_storm(rt, alloc, options, output, errors),
         _ => fault(errors, "unknown subcommand"),
@@ -124,6 +130,23 @@ fn audit_input<R: Read + Drop, W: Write, E: Write>(
     match found {
         Finding::Clean { .. } => DONE,
         Finding::Differs { .. } => DIFFERS,
+    }
+}
+
+/// `pie migrate`: a history with a fault ends with 1; any other is written in version two and ends with 0, or with 1 where the
+/// reader, the writer or memory fails.
+fn migrate_input<R: Read + Drop, W: Write, E: Write>(
+    alloc: Global,
+    input: R,
+    output: &mut W,
+    errors: &mut E,
+) -> u8
+    ensures status { result ≤ 1 }
+    ensures migrates { IfSome (R.remaining input) (λ text. EndsMigrate text result (W.contents output.old) (W.contents output.new)) }
+{
+    match migrate(alloc, input, output) {
+        Ok(_) => DONE,
+        Err(why) => fault(errors, why),
     }
 }
 

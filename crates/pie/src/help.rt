@@ -18,6 +18,9 @@ The first record opens the controller:
       how many packets the ring holds (1 to 65536), how many events the tail holds (1 to 1048576), and how
       many events there may be in all (1 to 1099511627776)
   rolling,..  the same; where its tail is full, the oldest event leaves it, and no command is refused for it
+  open2,<profile>,<mode>,<moment>,<packets>,<tail>,<events>[,<nine>]
+      the same in version two: <mode> is bounded (as open) or rolling; <profile> is 1, or 2: then the controller is off
+      at first, on once a third of limit_bytes waits, and off by an update with probability 0 and low delays (section 5.3)
 
 <nine> is target,t_update,max_burst,alpha,beta,mean_pkt,limit_bytes,mark_ecnth,dq_threshold (RFC 8033):
   target        the wanted queueing delay in ns, 2 to 10^10                      (default 15000000)
@@ -39,7 +42,7 @@ Then, in any order:
   params,<caller>,<moment>,<nine>   new parameters: done
   fold,<n>                      the oldest <n> events leave the tail: folded,<n>
   show    shown,<count>,<moment>,<packets>,<bytes>,<prob>,<old delay>,<accumulated prob>,<burst>,<last update>,
-          <average>,<measuring>
+          <average>,<measuring>; and in version two <active>, 1 while the controller is on and else 0
   tally   tallied,<arrivals>,<enqueued>,<marked>,<early>,<over bytes>,<over packets>,<left>,<left bytes>,<empty>,
           <updates>,<resets>,<parameter changes>,<largest queue>,<largest delay>,<time waited>
 
@@ -77,7 +80,8 @@ One line is written:
   differs,<event>   the first event that is not: its command would have been refused there, it has another answer, or it
                     sets parameters that are out of range; status 2
 
-A full tail is no reason to refuse a command here, since a fold may have made room at any time. A record that cannot be
+A full tail is no reason to refuse a command here, since a fold may have made room at any time. A history of version two,
+which begins with open2, is decided by the profile that it names, and any other by profile 1. A record that cannot be
 read ends the audit with status 1 and no finding, also where an event before it differs; pie run --help says how records
 are written.
 
@@ -120,6 +124,28 @@ writes why the last packet of that trace was dropped:
     dropped: its endpoints do not understand a mark
     before it: 3 packets, 2548 bytes, a delay of 2.488281 ms (2488281 ns)
     probability 90.3954 % (903954174169), set by event 9; last update at 1.001002 ms (1001002 ns); burst allowance 0.000000 ms (0 ns)";
+
+/// What `pie migrate` is for.
+pub(crate) const MIGRATE_ABOUT: &str =
+    "Reads a history from standard input and writes the same history in version two";
+
+/// What `pie migrate --help` says below its options.
+pub(crate) const MIGRATE_HELP: &str =
+    "A history of version one begins with open or rolling. In version two it begins with open2,1,bounded or open2,1,rolling, each
+shown ends with 1, since its controller is always active, and all else stays. A history of version two is written as it is.
+pie audit finds the same in both, and pie run --help says how records are written.
+
+A record that cannot be read ends it with status 1; the records before it have been written.
+
+Example:
+
+  printf 'open,0,4,16,100\\narrive,1,10,7,1500,ect0,0\\nshow\\n' | pie run | pie migrate
+
+writes
+
+  open2,1,bounded,0,4,16,100
+  arrive,1,10,7,1500,ect0,0,enqueue
+  shown,1,10,1,1500,0,0,0,150000000,0,0,0,1";
 
 /// What `pie storm` is for.
 pub(crate) const STORM_ABOUT: &str =

@@ -1,4 +1,5 @@
 mod explaining;
+mod migrating;
 mod storming;
 
 use crate::command::{command, mistake};
@@ -174,11 +175,12 @@ fn tells_a_mistake(rt: HostRuntime) -> Result<(), Fail> {
 /// A request for help is answered on the output.
 #[test]
 fn gives_help(rt: HostRuntime) -> Result<(), Fail> {
-    let lists: [&[&str]; 6] = [
+    let lists: [&[&str]; 7] = [
         &["pie", "--help"],
         &["pie", "run", "--help"],
         &["pie", "audit", "--help"],
         &["pie", "explain", "--help"],
+        &["pie", "migrate", "--help"],
         &["pie", "storm", "--help"],
         &["pie", "help"],
     ];

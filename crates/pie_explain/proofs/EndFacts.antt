@@ -6,7 +6,7 @@ use Rattle.pie_book.specs.declared.opening.Opening.{Opening}
 use Rattle.pie_trace.specs.declared.fault.TraceFault.{TraceFault}
 use Rattle.pie_trace.specs.declared.history.Line.{Line}
 use Rattle.pie_trace.specs.Fault.{is_device}
-use Rattle.pie_trace.specs.Lines.{Coming, after_opening, coming_from, history_lines, history_opening, later_fault}
+use Rattle.pie_trace.specs.Lines.{Coming, coming_after, history_lines, history_opening, later_fault}
 use Rattle.pie_trace.specs.Text.{Row, records_of}
 use Rattle.pie_audit.specs.declared.auditor.Finding.{Finding}
 use Rattle.pie_audit.specs.declared.auditor.Finding.TheVariants.{Clean, Differs}
@@ -91,7 +91,7 @@ pub record Told (which : Which) (form : Form) (text : List ℕ) (result : Result
 
 -- how a text was opened
 abbrev pub Opens : Opening → Option Coming → List ℕ → Type 0
-Opens opening coming text = (history_opening (records_of text) ≡ Ok opening) × (coming ≡ Some (coming_from 4294967296 2 (after_opening (records_of text))))
+Opens opening coming text = (history_opening (records_of text) ≡ Ok opening) × (coming ≡ Some (coming_after 4294967296 (records_of text)))
 
 -- all lines were read
 text-heard : (opening : Opening) (which : Which) (form : Form) (text : List ℕ) (coming : Option Coming) (auditor : AuditorView) (set_by : Option ℕ) (explained : ℕ) (outcome written : Result (Unit {0}) TraceFault)
@@ -101,7 +101,7 @@ text-heard : (opening : Opening) (which : Which) (form : Form) (text : List ℕ)
     → ((lines : List Line) → Audits opening auditor lines → result ≡ answered which explained (finding opening lines))
     → Told which form text result old now
 text-heard opening which form text coming auditor set_by explained outcome written result old mid now page opens heard wrote closed-is ends =
-    let all : Coming = coming_from 4294967296 2 (after_opening (records_of text)) in
+    let all : Coming = coming_after 4294967296 (records_of text) in
     let both = closed-ok outcome written closed-is in
     let done : Heard opening which form all (Ok tt) auditor set_by explained (append_known old (header form)) (append_known mid page) = rw (opens.1, both.0) at heard in
     let last : Appends mid now page = rw both.1 at wrote in
@@ -117,7 +117,7 @@ text-fault : (opening : Opening) (which : Which) (form : Form) (text : List ℕ)
     → OnOk written (Appends mid now page) → IfErr written (λ why. is_device why ≡ true) → closed outcome written ≡ Err why → is_device why ≡ false
     → Told which form text (Err (Trace why)) old now
 text-fault opening which form text coming auditor set_by explained outcome written why old mid now page opens heard wrote device closed-is told =
-    let all : Coming = coming_from 4294967296 2 (after_opening (records_of text)) in
+    let all : Coming = coming_after 4294967296 (records_of text) in
     let both = closed-told outcome written why closed-is told device in
     let met : Heard opening which form all (Err why) auditor set_by explained (append_known old (header form)) (append_known mid page) = rw (opens.1, both.0) at heard in
     let last : Appends mid now page = rw both.1 at wrote in

@@ -1,8 +1,8 @@
 use Rattle.std.proofs.Common.{◌≡◌, Some, List, arith, codes, inl, inr, map, refl, rules, string_bytes, sym, subst}
 use Rattle.std.specs.Prelude.{IfSome}
 use Rattle.clap.specs.Words.{Row, app_of, found_of, rows_of}
-use Rattle.pie.proofs.EndFacts.{EndsAudit-failed, EndsExplain-failed, EndsRun-failed}
-use Rattle.pie.proofs.WordFacts.{asked-taken, audit-in, audit-taken, no-other, options-in, run-in, run-taken}
+use Rattle.pie.proofs.EndFacts.{EndsAudit-failed, EndsExplain-failed, EndsMigrate-failed, EndsRun-failed}
+use Rattle.pie.proofs.WordFacts.{asked-taken, audit-in, audit-taken, migrate-in, migrate-taken, no-other, options-in, run-in, run-taken}
 use Rattle.pie.specs.Choice.{choice_of, form_of}
 use Rattle.pie.specs.Ends.{EndsExplain}
 use Rattle.pie.specs.StormEnds.{EndsStorm}
@@ -27,6 +27,12 @@ returns-in-Err-try_get_matches_from-clause-audits g c asks =
     let taken = audit-taken (app_of c.in-Ok.options) (map string_bytes c.args.words.now) c.in-Ok.ensures asks in
     let failed = c.mistake.ensures.memory (c.in-Err-try_get_matches_from.ensures.passes taken) in
     EndsAudit-failed (g.R.Read.remaining c.args.input) c.mistake.result (g.W.Write.contents c.args.output.now) (g.W.Write.contents c.mistake.new.output) failed.0 failed.1
+
+pub returns-in-Err-try_get_matches_from-clause-migrates : goal.returns-in-Err-try_get_matches_from-clause-migrates
+returns-in-Err-try_get_matches_from-clause-migrates g c asks =
+    let taken = migrate-taken (app_of c.in-Ok.options) (map string_bytes c.args.words.now) c.in-Ok.ensures asks in
+    let failed = c.mistake.ensures.memory (c.in-Err-try_get_matches_from.ensures.passes taken) in
+    EndsMigrate-failed (g.R.Read.remaining c.args.input) c.mistake.result (g.W.Write.contents c.args.output.now) (g.W.Write.contents c.mistake.new.output) failed.0
 
 pub returns-in-Err-try_get_matches_from-clause-explains : goal.returns-in-Err-try_get_matches_from-clause-explains
 returns-in-Err-try_get_matches_from-clause-explains g c asks =
@@ -72,6 +78,36 @@ pub returns-in-storm-clause-audits : goal.returns-in-storm-clause-audits
 returns-in-storm-clause-audits g c asks =
     let found : subcommand_in (map string_bytes c.args.words.now) ≡ Some (codes "storm") = search rules in
     absurd (no-other (codes "storm") (codes "audit") (map string_bytes c.args.words.now) found (audit-in (map string_bytes c.args.words.now) asks) (λ same. let wrong : 115 ≡ 97 = same in omega (arith, wrong)))
+
+pub returns-in-migrate-clause-runs : goal.returns-in-migrate-clause-runs
+returns-in-migrate-clause-runs g c asks =
+    let found : subcommand_in (map string_bytes c.args.words.now) ≡ Some (codes "migrate") = search rules in
+    absurd (no-other (codes "migrate") (codes "run") (map string_bytes c.args.words.now) found (run-in (map string_bytes c.args.words.now) asks) (λ same. let wrong : 109 ≡ 114 = same in omega (arith, wrong)))
+
+pub returns-in-migrate-clause-audits : goal.returns-in-migrate-clause-audits
+returns-in-migrate-clause-audits g c asks =
+    let found : subcommand_in (map string_bytes c.args.words.now) ≡ Some (codes "migrate") = search rules in
+    absurd (no-other (codes "migrate") (codes "audit") (map string_bytes c.args.words.now) found (audit-in (map string_bytes c.args.words.now) asks) (λ same. let wrong : 109 ≡ 97 = same in omega (arith, wrong)))
+
+pub returns-in-run-clause-migrates : goal.returns-in-run-clause-migrates
+returns-in-run-clause-migrates g c asks =
+    let found : subcommand_in (map string_bytes c.args.words.now) ≡ Some (codes "run") = search rules in
+    absurd (no-other (codes "run") (codes "migrate") (map string_bytes c.args.words.now) found (migrate-in (map string_bytes c.args.words.now) asks) (λ same. let wrong : 114 ≡ 109 = same in omega (arith, wrong)))
+
+pub returns-in-audit-clause-migrates : goal.returns-in-audit-clause-migrates
+returns-in-audit-clause-migrates g c asks =
+    let found : subcommand_in (map string_bytes c.args.words.now) ≡ Some (codes "audit") = search rules in
+    absurd (no-other (codes "audit") (codes "migrate") (map string_bytes c.args.words.now) found (migrate-in (map string_bytes c.args.words.now) asks) (λ same. let wrong : 97 ≡ 109 = same in omega (arith, wrong)))
+
+pub returns-in-explain-clause-migrates : goal.returns-in-explain-clause-migrates
+returns-in-explain-clause-migrates g c asks =
+    let found : subcommand_in (map string_bytes c.args.words.now) ≡ Some (codes "explain") = search rules in
+    absurd (no-other (codes "explain") (codes "migrate") (map string_bytes c.args.words.now) found (migrate-in (map string_bytes c.args.words.now) asks) (λ same. let wrong : 101 ≡ 109 = same in omega (arith, wrong)))
+
+pub returns-in-storm-clause-migrates : goal.returns-in-storm-clause-migrates
+returns-in-storm-clause-migrates g c asks =
+    let found : subcommand_in (map string_bytes c.args.words.now) ≡ Some (codes "storm") = search rules in
+    absurd (no-other (codes "storm") (codes "migrate") (map string_bytes c.args.words.now) found (migrate-in (map string_bytes c.args.words.now) asks) (λ same. let wrong : 115 ≡ 109 = same in omega (arith, wrong)))
 
 pub returns-in_default-name-clause-explains : goal.returns-in_default-name-clause-explains
 returns-in_default-name-clause-explains g c asks =

@@ -11,6 +11,7 @@ returns c =
     let two = adds_subcommand (with_subcommand pie_alone (new_app (codes "run")).top) (new_app (codes "audit")) one c.plain-audit.ensures refl c.in_ok-subcommand-2.ensures in
     let three = adds_subcommand (with_subcommand (with_subcommand pie_alone (new_app (codes "run")).top) (new_app (codes "audit")).top) explain_app two c.in_ok-explain.ensures refl
     c.in_ok-subcommand-3.ensures in
-    IfOk-weaker c.subcommand-4.result (λ whole. AddsSubcommand c.in_ok-subcommand-3.field-0 c.in_ok-storm.storm whole) (λ whole. app_of whole ≡ pie_app)
-    (λ whole adds. adds_subcommand (with_subcommand (with_subcommand (with_subcommand pie_alone (new_app (codes "run")).top) (new_app (codes "audit")).top) explain_app.top) storm_app three
-    c.in_ok-storm.ensures refl adds) c.subcommand-4.ensures
+    let explained = with_subcommand (with_subcommand (with_subcommand pie_alone (new_app (codes "run")).top) (new_app (codes "audit")).top) explain_app.top in
+    let four = adds_subcommand explained (new_app (codes "migrate")) three c.plain-migrate.ensures refl c.in_ok-subcommand-4.ensures in
+    IfOk-weaker c.subcommand-5.result (λ whole. AddsSubcommand c.in_ok-subcommand-4.field-0 c.in_ok-storm.storm whole) (λ whole. app_of whole ≡ pie_app)
+    (λ whole adds. adds_subcommand (with_subcommand explained (new_app (codes "migrate")).top) storm_app four c.in_ok-storm.ensures refl adds) c.subcommand-5.ensures

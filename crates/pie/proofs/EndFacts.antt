@@ -1,6 +1,6 @@
 -- How the program ends where memory is wanting before a subcommand begins, and where a history is explained.
 use Rattle.std.proofs.Common.{◌≡◌, ◌∙◌, ◌^◌, ℕ, List, Option, Some, None, ap, inl, inr, refl}
-use Rattle.std.specs.Prelude.{IfSome, Result, Ok, Err}
+use Rattle.std.specs.Prelude.{⊤, IfSome, Result, Ok, Err}
 use Rattle.std.specs.Io.KnownBytes.{Appends}
 use Rattle.pie_trace.specs.declared.fault.TraceFault.{TraceFault}
 use Rattle.pie_trace.specs.History.{fault_of, history_text}
@@ -66,6 +66,6 @@ EndsMigrate-failed (Some text) status before now one = run_ends-failed (history_
 
 pub EndsMigrate-done : (known : Option (List ℕ)) (events : ℕ) (before now : Option (List ℕ))
     → IfSome known (λ text. (history_fault (2 ^ 32) (records_of text) ≡ None) × (events ≡ history_events (2 ^ 32) (records_of text)))
-    → IfSome known (λ text. Appends before now (migrated_text (2 ^ 32) (records_of text))) → IfSome known (λ text. EndsMigrate text 0 before now)
+    → IfSome known (λ text. ⊤ → Appends before now (migrated_text (2 ^ 32) (records_of text))) → IfSome known (λ text. EndsMigrate text 0 before now)
 EndsMigrate-done None events before now ends writes = tt
-EndsMigrate-done (Some text) events before now ends writes = rw ends.0 (inr (refl, writes))
+EndsMigrate-done (Some text) events before now ends writes = rw ends.0 (inr (refl, writes tt))

@@ -146,7 +146,7 @@ fn migrate_input<R: Read + Drop, W: Write, E: Write>(
 {
     match migrate(alloc, input, output) {
         Ok(_) => DONE,
-        Err(why) => fault(errors, why),
+        Err(reason) => fault(errors, reason),
     }
 }
 

@@ -71,12 +71,14 @@ returns-in-explain-clause-audits g c asks =
 
 pub returns-in-storm-clause-runs : goal.returns-in-storm-clause-runs
 returns-in-storm-clause-runs g c asks =
-    let found : subcommand_in (map string_bytes c.args.words.now) ≡ Some (codes "storm") = search rules in
+    let found : subcommand_in (map string_bytes c.args.words.now) ≡ Some (codes "storm") =
+    search (rules, c.in-storm.is, c.in-Some.ensures.name, c.in-Ok.ensures, c.in-Ok-try_get_matches_from.ensures.matches) in
     absurd (no-other (codes "storm") (codes "run") (map string_bytes c.args.words.now) found (run-in (map string_bytes c.args.words.now) asks) (λ same. let wrong : 115 ≡ 114 = same in omega (arith, wrong)))
 
 pub returns-in-storm-clause-audits : goal.returns-in-storm-clause-audits
 returns-in-storm-clause-audits g c asks =
-    let found : subcommand_in (map string_bytes c.args.words.now) ≡ Some (codes "storm") = search rules in
+    let found : subcommand_in (map string_bytes c.args.words.now) ≡ Some (codes "storm") =
+    search (rules, c.in-storm.is, c.in-Some.ensures.name, c.in-Ok.ensures, c.in-Ok-try_get_matches_from.ensures.matches) in
     absurd (no-other (codes "storm") (codes "audit") (map string_bytes c.args.words.now) found (audit-in (map string_bytes c.args.words.now) asks) (λ same. let wrong : 115 ≡ 97 = same in omega (arith, wrong)))
 
 pub returns-in-migrate-clause-runs : goal.returns-in-migrate-clause-runs
@@ -106,7 +108,8 @@ returns-in-explain-clause-migrates g c asks =
 
 pub returns-in-storm-clause-migrates : goal.returns-in-storm-clause-migrates
 returns-in-storm-clause-migrates g c asks =
-    let found : subcommand_in (map string_bytes c.args.words.now) ≡ Some (codes "storm") = search rules in
+    let found : subcommand_in (map string_bytes c.args.words.now) ≡ Some (codes "storm") =
+    search (rules, c.in-storm.is, c.in-Some.ensures.name, c.in-Ok.ensures, c.in-Ok-try_get_matches_from.ensures.matches) in
     absurd (no-other (codes "storm") (codes "migrate") (map string_bytes c.args.words.now) found (migrate-in (map string_bytes c.args.words.now) asks) (λ same. let wrong : 115 ≡ 109 = same in omega (arith, wrong)))
 
 pub returns-in_default-name-clause-explains : goal.returns-in_default-name-clause-explains

@@ -9,8 +9,8 @@ unreachable-requires g c =
     differs-never c.opening_of-opening.result (opening_of c.args.plan.now) c.args.events.now c.in-Differs.event c.opening_of-opening.ensures c.requires.legal
     (c.in-Differs.ensures.finding c.opening_of-opening.result (map Made c.args.events.now) c.in-Ok.ensures)
 
-pub write_history-requires-clause-fitting : goal.write_history-requires-clause-fitting
-write_history-requires-clause-fitting g c = fit-legal (opening_of c.args.plan.now) c.args.events.now c.requires.legal
+pub write_history-requires : goal.write_history-requires
+write_history-requires g c = fit-legal (opening_of c.args.plan.now) c.args.events.now c.requires.legal
 
 pub returns-in-Ok-write_history : goal.returns-in-Ok-write_history
 returns-in-Ok-write_history g c = inr (

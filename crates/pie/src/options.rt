@@ -32,6 +32,9 @@ The first record opens the controller:
       how many packets the ring holds (1 to 65536), how many events the tail holds (1 to 1048576), and how
       many events there may be in all (1 to 1099511627776)
   rolling,..  the same; where its tail is full, the oldest event leaves it, and no command is refused for it
+  open2,<profile>,<mode>,<moment>,<packets>,<tail>,<events>[,<nine>]
+      the same in version two: <mode> is bounded (as open) or rolling; <profile> is 1, or 2: then the controller is off
+      at first, on once a third of limit_bytes waits, and off by an update with probability 0 and low delays (section 5.3)
 
 <nine> is target,t_update,max_burst,alpha,beta,mean_pkt,limit_bytes,mark_ecnth,dq_threshold (RFC 8033):
   target        the wanted queueing delay in ns, 2 to 10^10                      (default 15000000)
@@ -53,7 +56,7 @@ Then, in any order:
   params,<caller>,<moment>,<nine>   new parameters: done
   fold,<n>                      the oldest <n> events leave the tail: folded,<n>
   show    shown,<count>,<moment>,<packets>,<bytes>,<prob>,<old delay>,<accumulated prob>,<burst>,<last update>,
-          <average>,<measuring>
+          <average>,<measuring>; and in version two <active>, 1 while the controller is on and else 0
   tally   tallied,<arrivals>,<enqueued>,<marked>,<early>,<over bytes>,<over packets>,<left>,<left bytes>,<empty>,
           <updates>,<resets>,<parameter changes>,<largest queue>,<largest delay>,<time waited>
 

@@ -1,7 +1,6 @@
 //! `pie storm`: a storm on a plan of its own, whose history is written and audited.
 ghost use Rattle.std.specs.Prelude.{◌≡◌, ◌≤◌, ◌↔◌, All, IsTrue, true};
 ghost use Rattle.pie_book.specs.Deed.{fits};
-ghost use Rattle.pie_book.specs.declared.opening.Profile.TheVariants.{One};
 
 use crate::command::{DIFFERS, DONE, fault};
 use crate::plan::storm_plan;
@@ -69,9 +68,7 @@ pub(crate) fn make_storm<H: Threads + Wait + Sync, W: Write, E: Write>(
 }
 
 /// What the book of a storm is opened with.
-fn opening_of(plan: &Plan) -> Opening
-    ensures profile { result.choices.profile ≡ One }
-{
+fn opening_of(plan: &Plan) -> Opening {
     Opening {
         moment: plan.moment,
         limits: plan.limits,
@@ -91,7 +88,6 @@ fn tell<W: Write, E: Write>(
     output: &mut W,
     errors: &mut E,
 ) -> u8
-    requires profile { opening.now.choices.profile ≡ One }
     ensures status { result ≤ 2 }
 {
     if !events.iter().all(|event| event.fits()) {

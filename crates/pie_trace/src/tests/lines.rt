@@ -112,8 +112,11 @@ fn records_that_tell_no_event(rt: HostRuntime) -> Result<(), Fail> {
         ("fold,1", kind),
     ];
     for (record, want) in cases {
-        let line = line_after(rt.alloc(), "open,0,4,16,100", record)?;
-        assert_eq!(rt; line, want, "{record}");
+        assert_eq!(rt;
+            line_after(rt.alloc(), "open,0,4,16,100", record)?,
+            want,
+            "{record}"
+        );
     }
     Ok(())
 }
@@ -137,8 +140,11 @@ fn registers_in_version_two(rt: HostRuntime) -> Result<(), Fail> {
         ),
     ];
     for (record, want) in cases {
-        let line = line_after(rt.alloc(), "open2,2,bounded,0,4,16,100", record)?;
-        assert_eq!(rt; line, want, "{record}");
+        assert_eq!(rt;
+            line_after(rt.alloc(), "open2,2,bounded,0,4,16,100", record)?,
+            want,
+            "{record}"
+        );
     }
     Ok(())
 }

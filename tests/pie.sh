@@ -180,7 +180,6 @@ if [ "$got" != 0 ] || [ "$(head -n 1 "$work/output")" != open,0,1024,5,5 ] || [ 
     cat "$work/output" "$work/errors"
     failed=1
 fi
-# 50 packets of 8 senders: 400 arrivals, 400 departures and 4 updates, of which those that come too soon are no events.
 # 15 packets of 8 senders: 120 arrivals, 120 departures and 2 updates, neither of which can be too soon.
 for _ in 1 2 3; do
     found=$("$program" storm --senders 8 --packets 15 | "$program" audit)
@@ -189,6 +188,7 @@ for _ in 1 2 3; do
         failed=1
     fi
 done
+# 50 packets of 8 senders: 400 arrivals, 400 departures and 4 updates, of which those that come too soon are no events.
 for _ in 1 2; do
     found=$("$program" storm --senders 8 --packets 50 --seed 7 | "$program" audit)
     case $found in

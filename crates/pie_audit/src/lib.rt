@@ -3,7 +3,7 @@
 //! The definitions that the contracts cite stand in `specs/`: `finding` looks at each event with all lines before it.
 //!
 //! `runs_are_clean` is the law that ties runs and audits together: the history text of every trace is found clean, with as many events as
-//! the run recorded.
+//! the run recorded. `migration_keeps_the_finding`: a history in version two is found what it was found before.
 #![tactic(auto)]
 
 pub mod auditor;

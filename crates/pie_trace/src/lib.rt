@@ -10,6 +10,10 @@
 //!
 //! `write_history`: what was written is the opening's record and a record for each event (clause `written`), and it is read back as the same
 //! opening and events (`read_back`). `history_texts_are_read_back` is the same law of what a run writes.
+//!
+//! `migrate`: the history of either version in version two (`writes`), which tells the same opening and lines (`same`), or the
+//! history's first fault (`faults`). Laws: `migrated_histories_are_read_back`, `migrating_again_changes_nothing`,
+//! `migrated_runs_are_runs_of_version_two`.
 #![tactic(auto)]
 
 mod answer;

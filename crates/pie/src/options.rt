@@ -4,7 +4,8 @@ ghost use Rattle.clap.specs.Words.{app_of, new_app, rule_of};
 ghost use Rattle.pie.specs.Words.{explain_app, flag_rule, number_rule, pie_alone, pie_app, storm_app};
 
 use crate::help::{
-    AUDIT_HELP, EXPLAIN_ABOUT, EXPLAIN_HELP, MIGRATE_ABOUT, MIGRATE_HELP, PIE_HELP, RUN_HELP, STORM_ABOUT, STORM_HELP,
+    AUDIT_HELP, EXPLAIN_ABOUT, EXPLAIN_HELP, MIGRATE_ABOUT, MIGRATE_HELP, PIE_HELP, RUN_HELP,
+    STORM_ABOUT, STORM_HELP,
 };
 use clap::builder::ValueParser;
 use clap::{Arg, ArgAction, Command};

@@ -13,7 +13,12 @@ fn migrates_a_history(rt: HostRuntime) -> Result<(), Fail> {
     assert_eq!(rt; outcome.status, 0);
     assert_eq!(rt; outcome.output.as_slice(), two.as_slice());
     assert!(rt; outcome.errors.is_empty());
-    let faulty = pie(&rt, rt.alloc(), &["pie", "migrate"], b"open,0,4,16,100\ndep\n")?;
+    let faulty = pie(
+        &rt,
+        rt.alloc(),
+        &["pie", "migrate"],
+        b"open,0,4,16,100\ndep\n",
+    )?;
     let text = b"pie: record 2: unknown kind\n".as_slice();
     assert_eq!(rt; (faulty.status, faulty.errors.as_slice()), (1, text));
     Ok(())

@@ -10,7 +10,7 @@ unreachable-requires g c =
     (c.in-Differs.ensures.finding c.opening_of-opening.result (map Made c.args.events.now) c.in-Ok.ensures)
 
 pub write_history-requires : goal.write_history-requires
-write_history-requires g c = fit-legal (opening_of c.args.plan.now) c.args.events.now c.requires.legal
+write_history-requires g c = record { fitting = fit-legal (opening_of c.args.plan.now) c.args.events.now c.requires.legal }
 
 pub returns-in-Ok-write_history : goal.returns-in-Ok-write_history
 returns-in-Ok-write_history g c = inr (

@@ -1,5 +1,4 @@
 mod explaining;
-mod migrating;
 mod storming;
 
 use crate::command::{command, mistake};

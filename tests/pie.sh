@@ -87,6 +87,8 @@ expect 'an event before a changed verdict' 2 "${header}1,arrive,1,0,0,1,1024,enq
 expect 'an event that is not there' 1 '' 'pie: there is no event 12: the history has 11 events\n' "$history" explain --event 12
 expect 'a tag that is not there' 1 "$header" 'pie: no packet has the tag 9\n' "$history" explain --csv --tag 9
 expect 'a fault of an explained history' 1 '' 'pie: record 15: wrong number of fields\n' "${changed}shown\n" explain --lost
+expect 'a controller that is off' 0 "${header}1,arrive,1,1,1,1,100,enqueue,inactive,0,0,0,0,0,150000000\n2,depart,2,5,5,1,100,left,,100,1,0,0,0,150000000\n" '' \
+    'open2,2,bounded,0,4,16,100\narrive,1,1,1,100,not,0,enqueue\ndepart,2,5,left,1,100,not\n' explain --all --csv
 expect 'no choice' 1 '' "$choice" "$history" explain
 expect 'no choice but a form' 1 '' "$choice" "$history" explain --csv
 expect 'two choices' 1 '' "$choice" "$history" explain --lost --all

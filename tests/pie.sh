@@ -89,6 +89,19 @@ expect 'a tag that is not there' 1 "$header" 'pie: no packet has the tag 9\n' "$
 expect 'a fault of an explained history' 1 '' 'pie: record 15: wrong number of fields\n' "${changed}shown\n" explain --lost
 expect 'a controller that is off' 0 "${header}1,arrive,1,1,1,1,100,enqueue,inactive,0,0,0,0,0,150000000\n2,depart,2,5,5,1,100,left,,100,1,0,0,0,150000000\n" '' \
     'open2,2,bounded,0,4,16,100\narrive,1,1,1,100,not,0,enqueue\ndepart,2,5,left,1,100,not\n' explain --all --csv
+# The probability is 0.903954174169: not below a threshold of 0.9 for marks; and with nine packets let through by their words it makes
+# a sum above 8.5 with the tenth.
+begun='arrive,1,0,1,1024,not,0\narrive,1,0,2,1024,not,0\narrive,1,0,3,1024,not,0\narrive,1,0,4,1024,not,0\n'
+begun="${begun}depart,3,1000\ndepart,3,1001000\nupdate,4,1001000\nupdate,4,1001001\nupdate,4,1001002\n"
+printf "open,0,32,64,100,2,1,0,850000,0,1,100000,900000000000,1024\n${begun}arrive,1,1001003,5,500,ect0,0\n" | "$program" run > "$work/below"
+expect 'a mark that is not given' 0 "${header}10,arrive,1,1001003,1001003,5,500,early,picked_by_word_not_below,2048,2,2000000,903954174169,0,0\n" '' \
+    "$(cat "$work/below")" explain --csv --event 10
+{
+    printf "open,0,32,64,100,2,1,0,850000,0,1,100000,1000000000000,1024\n$begun"
+    for tag in 1 2 3 4 5 6 7 8 9 10; do echo "arrive,1,1001003,$tag,500,ect0,18446744073709551615"; done
+} | "$program" run > "$work/sum"
+expect 'a mark by the sum' 0 "${header}19,arrive,1,1001003,1001003,10,500,mark,picked_by_sum,6548,11,6394531,903954174169,8135587567521,0\n" '' \
+    "$(cat "$work/sum")" explain --csv --event 19
 expect 'no choice' 1 '' "$choice" "$history" explain
 expect 'no choice but a form' 1 '' "$choice" "$history" explain --csv
 expect 'two choices' 1 '' "$choice" "$history" explain --lost --all

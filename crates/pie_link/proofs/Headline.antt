@@ -42,12 +42,11 @@ pub while_free : LookBack → (opening : Opening) (numbers : ℕ) (lock : LockSt
     → WhileFree number_of (λ (book : BookView). book.opening) Tells opening numbers history lock
     → (book : BookView) × LiesIn lock book × ((h : List Event) × IsOneHistory opening book (callers_of lock.views) h)
 while_free look_back opening numbers lock history agreed free =
-    let lodged = free.2.0 in
-    let book = lodged.state in
+    let book = free.2.0 in
     let opened = free.2.2 in
     let told = free.2.3 in (
       book,
-      (lodged, free.2.1, refl),
+      free.2.1,
       (
         history,
         record {

@@ -9,7 +9,6 @@ use Rattle.atomic_table.specs.Table.{State}
 use Rattle.pie_lock.specs.declared.view.Shown.{Shown}
 use Rattle.pie_lock.specs.declared.view.Place.{Place}
 use Rattle.pie_lock.specs.declared.view.Place.TheVariants.{Spent, Waits, Holds, Meets}
-use Rattle.pie_lock.specs.declared.view.SlotValue.{SlotValue}
 use Rattle.pie_lock.specs.Own.{own}
 use Rattle.pie_lock.specs.Rule.{Ruled}
 use Rattle.pie_book.specs.declared.command.Event.{Event}
@@ -74,7 +73,7 @@ callers_of (seat ∷ seats) = callers_at seat ++ callers_of seats
 
 -- what a lock over a book consists of: its word, its slot, and what its callers have been shown
 abbrev pub LockState : Type 0
-LockState = State (Option (SlotValue BookView Event)) (Place Event Opening)
+LockState = State (Option BookView) (Place Event Opening)
 
 -- the rule of the lock, over a book with this opening and so many numbers: each step of each caller keeps it
 abbrev pub IsRuled : Opening → ℕ → LockState → Type 0
@@ -86,7 +85,7 @@ IsFree lock = slice_index lock.words 0 ≡ 0
 
 -- the book lies in the lock's slot
 abbrev pub LiesIn : LockState → BookView → Type 0
-LiesIn lock book = (lodged : SlotValue BookView Event) × (get_elem? lock.homes 0 ≡ some (some (Some lodged))) × (lodged.state ≡ book)
+LiesIn lock book = get_elem? lock.homes 0 ≡ some (some (Some book))
 
 -- whenever the lock is free there is one history
 unfoldable pub KeepsOneHistory : LinkView → Type 0

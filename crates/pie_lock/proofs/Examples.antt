@@ -7,7 +7,6 @@ use Rattle.atomic_table.specs.Table.{State}
 use Rattle.pie_lock.specs.declared.view.Shown.{Shown}
 use Rattle.pie_lock.specs.declared.view.Place.{Place}
 use Rattle.pie_lock.specs.declared.view.Place.TheVariants.{Waits, Holds, Meets}
-use Rattle.pie_lock.specs.declared.view.SlotValue.{SlotValue}
 use Rattle.pie_lock.specs.declared.lock.TheConstants.{WORD, SLOT, FREE, HELD}
 use Rattle.pie_lock.specs.declared.counter.CounterEntry.{CounterEntry}
 use Rattle.pie_lock.specs.Own.{own}
@@ -52,11 +51,8 @@ pass number front = record { front = front; first = number; limit = number + 1; 
 abbrev views : List (Place CounterEntry (Unit {0}))
 views = Waits (pass 0 (entry 0 5 ∷ [])) ∷ Waits (pass 1 history) ∷ Waits (pass 2 []) ∷ []
 
-abbrev stored : SlotValue Tally CounterEntry
-stored = record { state = tally; added = Some (entry 1 7) }
-
-abbrev free : State (Option (SlotValue Tally CounterEntry)) (Place CounterEntry (Unit {0}))
-free = record { words = 0 ∷ []; homes = some (Some stored) ∷ []; views = views }
+abbrev free : State (Option Tally) (Place CounterEntry (Unit {0}))
+free = record { words = 0 ∷ []; homes = some (Some tally) ∷ []; views = views }
 
 abbrev number : CounterEntry → ℕ
 number e = e.caller
@@ -116,6 +112,6 @@ free_is_ruled = (
       apart_within = one_pass_each;
       entries_below = All-cons (λ e. number e < 3) (entry 0 5) (entry 1 7 ∷ []) (omega arith) (All-cons (λ e. number e < 3) (entry 1 7) [] (omega arith) (All-nil (λ e. number e < 3)));
     },
-    inl (refl, nobody_holds, (stored, refl, refl, told)),
+    inl (refl, nobody_holds, (tally, refl, refl, told)),
   ),
 )

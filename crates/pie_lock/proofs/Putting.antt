@@ -9,38 +9,36 @@ use Rattle.atomic_table.proofs.Lists.{at_set}
 use Rattle.pie_lock.specs.declared.view.Shown.{Shown}
 use Rattle.pie_lock.specs.declared.view.Place.{Place}
 use Rattle.pie_lock.specs.declared.view.Place.TheVariants.{Waits, Holds}
-use Rattle.pie_lock.specs.declared.view.SlotValue.{SlotValue}
 use Rattle.pie_lock.specs.Rule.{EachPass, Follows, WhileHeld, Ruled}
 use Rattle.pie_lock.specs.Steps.{with_front, pass_at, freed}
 use Rattle.pie_lock.proofs.Following.{follows_whole, each_longer, below_longer}
 use Rattle.pie_lock.proofs.Seats.{set_at, agreed_set, apart_as_before}
 
 module _ {S E O : Type 0} (number : E → ℕ) (origin_of : S → O) (tells : S → List E → Type 0) (origin : O) (numbers : ℕ) where
-  abbrev Rule : State (Option (SlotValue S E)) (Place E O) → Type 0
+  abbrev Rule : State (Option S) (Place E O) → Type 0
   Rule s = Ruled number origin_of tells origin numbers s
 
   -- the seat's front is the history
-  front_is : (id : ℕ) (p : Shown E O) (s : State (Option (SlotValue S E)) (Place E O)) (history : List E) → get_elem? s.views id ≡ some (Holds p)
+  front_is : (id : ℕ) (p : Shown E O) (s : State (Option S) (Place E O)) (history : List E) → get_elem? s.views id ≡ some (Holds p)
       → WhileHeld number origin_of tells origin numbers history s → p.front ≡ history
   front_is id p s history at held =
       let same : id ≡ held.1.0 = held.1.4 id p at in
       let e : Holds p ≡ Holds held.1.1 = some-injective (Holds p) (Holds held.1.1) (sym at ∙ (ap (get_elem? s.views) same ∙ held.1.2)) in
       ap (λ v. (pass_at v).front) e ∙ held.1.3
 
-  pub frees_keep : (slots id : ℕ) (p : Shown E O) (stored : SlotValue S E) → p.origin ≡ Some (origin_of stored.state)
-      → tells stored.state (p.front ++ option_to_list stored.added) → IfSome stored.added (λ e. number e ≡ p.first)
-      → Allows Rule slots id (Holds p, (0, Some stored) ∷ []) 0 (λ _. 0) (λ _. freed (step slots 0 0 0 none) (Holds p, (0, Some stored) ∷ []) 0)
-  frees_keep slots id p stored from told mine s rule sized at wide =
+  pub frees_keep : (slots id : ℕ) (p : Shown E O) (stored : S) (added : Option E) → p.origin ≡ Some (origin_of stored)
+      → tells stored (p.front ++ option_to_list added) → IfSome added (λ e. number e ≡ p.first)
+      → Allows Rule slots id (Holds p, (0, Some stored) ∷ []) 0 (λ _. 0) (λ _. freed added (step slots 0 0 0 none) (Holds p, (0, Some stored) ∷ []) 0)
+  frees_keep slots id p stored added from told mine s rule sized at wide =
       let history : List E = rule.1.0 in
       let agreed = rule.1.1 in
       let held : WhileHeld number origin_of tells origin numbers history s = ⊎_elim (λ free. absurd (free.1 id p at)) (λ h. h) rule.1.2 in
       let same : p.front ≡ history = front_is id p s history at held in
       let f : Follows number origin numbers history p = agreed.each_follows id (Holds p) at in
-      let added : Option E = stored.added in
       let next : List E = p.front ++ option_to_list added in
       let next_is : history ++ option_to_list added ≡ next = ap (λ l. l ++ option_to_list added) (sym same) in
       let w : Place E O = Waits (with_front p next) in
-      let owner : Some (origin_of stored.state) ≡ Some origin = sym from ∙ f.of_origin in
+      let owner : Some (origin_of stored) ≡ Some origin = sym from ∙ f.of_origin in
       let low = f.nonempty in let high = f.below in (
         w,
         gives,

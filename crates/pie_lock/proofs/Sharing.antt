@@ -7,7 +7,6 @@ use Rattle.atomic_table.proofs.Lists.{at_set, set_else}
 use Rattle.pie_lock.specs.declared.view.Shown.{Shown}
 use Rattle.pie_lock.specs.declared.view.Place.{Place}
 use Rattle.pie_lock.specs.declared.view.Place.TheVariants.{Spent, Waits, Meets}
-use Rattle.pie_lock.specs.declared.view.SlotValue.{SlotValue}
 use Rattle.pie_lock.specs.Rule.{IsNumberAt, EachPass, Follows, Agreed, NoneHolds, OneHolds, WhileFree, WhileHeld, Ruled}
 use Rattle.pie_lock.specs.Steps.{with_numbers, all_but_highest, highest, meeting, made_one, AreAdjacent, merged}
 use Rattle.pie_lock.proofs.Following.{follows_fewer, follows_both, in_either}
@@ -34,7 +33,7 @@ module _ {E O : Type 0} where
 
 module _ {S E O : Type 0} (number : E → ℕ) (origin_of : S → O) (tells : S → List E → Type 0) (origin : O) (numbers : ℕ) where
   abbrev Table : Type 0
-  Table = State (Option (SlotValue S E)) (Place E O)
+  Table = State (Option S) (Place E O)
 
   abbrev Rule : Table → Type 0
   Rule s = Ruled number origin_of tells origin numbers s

@@ -12,7 +12,6 @@ use Rattle.atomic_table.proofs.Lists.{at_set, set_again, exchanged}
 use Rattle.pie_lock.specs.declared.view.Shown.{Shown}
 use Rattle.pie_lock.specs.declared.view.Place.{Place}
 use Rattle.pie_lock.specs.declared.view.Place.TheVariants.{Waits, Holds}
-use Rattle.pie_lock.specs.declared.view.SlotValue.{SlotValue}
 use Rattle.pie_lock.specs.Own.{is_within}
 use Rattle.pie_lock.specs.Rule.{Follows, Agreed, WhileFree, WhileHeld, Ruled}
 use Rattle.pie_lock.specs.Steps.{with_front, HasAll, Won, taken}
@@ -28,7 +27,7 @@ word_again (x ∷ y ∷ xs) e = absurd (omega arith)
 
 module _ {S E O : Type 0} (number : E → ℕ) (origin_of : S → O) (tells : S → List E → Type 0) (origin : O) (numbers : ℕ) where
   abbrev Table : Type 0
-  Table = State (Option (SlotValue S E)) (Place E O)
+  Table = State (Option S) (Place E O)
 
   abbrev Rule : Table → Type 0
   Rule s = Ruled number origin_of tells origin numbers s
@@ -41,7 +40,7 @@ module _ {S E O : Type 0} (number : E → ℕ) (origin_of : S → O) (tells : S 
 
   wins : (id : ℕ) (p : Shown E O) (s : Table) (history : List E) → length s.words ≡ 1 → get_elem? s.views id ≡ some (Waits p) → Agreed number origin numbers history s.views
       → WhileFree number origin_of tells origin numbers history s
-      → (w : Place E O) × (a : Act (Option (SlotValue S E))) × Valid s.homes [] a × Rule (stepped s 0 1 id [] w a) × Won number origin_of tells p (w, carried_after [] a)
+      → (w : Place E O) × (a : Act (Option S)) × Valid s.homes [] a × Rule (stepped s 0 1 id [] w a) × Won number origin_of tells p (w, carried_after [] a)
   wins id p s history one at agreed free =
       let stored = free.2.0 in
       let w : Place E O = Holds (with_front p history) in
@@ -98,7 +97,7 @@ module _ {S E O : Type 0} (number : E → ℕ) (origin_of : S → O) (tells : S 
       agreed.apart holder id (Holds q) (Waits p) q.first ne there at (omega arith, omega arith) (omega arith, omega arith))
 
   loses : (id : ℕ) (p : Shown E O) (s : Table) → Rule s → get_elem? s.views id ≡ some (Waits p) → (n : ℕ) → get_or s.words 0 0 ≡ n → n ≢ 0
-      → (w : Place E O) × (a : Act (Option (SlotValue S E))) × Valid s.homes [] a × Rule (stepped s 0 n id [] w a) × (◌≡◌ {A = Me (Option (SlotValue S E)) (Place E O)} (w, carried_after [] a) (Waits p, [])) × (HasAll p → ⊥)
+      → (w : Place E O) × (a : Act (Option S)) × Valid s.homes [] a × Rule (stepped s 0 n id [] w a) × (◌≡◌ {A = Me (Option S) (Place E O)} (w, carried_after [] a) (Waits p, [])) × (HasAll p → ⊥)
   loses id p s rule at n is ne =
       let words : set s.words 0 n ≡ s.words = subst (λ (k : ℕ). set s.words 0 k ≡ s.words) is (word_again s.words rule.0) in
       let views : set s.views id (Waits p) ≡ s.views = set_again s.views id (Waits p) at in
@@ -116,11 +115,11 @@ module _ {S E O : Type 0} (number : E → ℕ) (origin_of : S → O) (tells : S 
   takes_keep slots id p s rule sized at wide =
       let n : ℕ = get_or s.words 0 0 in
       let F : ℕ → Type 0 = λ k.
-      (w : Place E O) × (a : Act (Option (SlotValue S E))) × Valid s.homes [] a × Rule (stepped s 0 k id [] w a)
+      (w : Place E O) × (a : Act (Option S)) × Valid s.homes [] a × Rule (stepped s 0 k id [] w a)
       × taken number origin_of tells (step slots 0 0 1 none) (Waits p, []) n (w, carried_after [] a) in
       exchanged n 0 1 F
       (λ hit.
-      let won : (w : Place E O) × (a : Act (Option (SlotValue S E))) × Valid s.homes [] a × Rule (stepped s 0 1 id [] w a) × Won number origin_of tells p (w, carried_after [] a) =
+      let won : (w : Place E O) × (a : Act (Option S)) × Valid s.homes [] a × Rule (stepped s 0 1 id [] w a) × Won number origin_of tells p (w, carried_after [] a) =
       ⊎_elim (λ free. wins id p s rule.1.0 rule.0 at rule.1.1 free) (λ held. let one = held.0 in absurd (omega arith)) rule.1.2 in
       (won.0, won.1, won.2, won.3, (λ _. won.4, λ ne. absurd (ne hit))))
       (λ miss. let lost = loses id p s rule at n refl miss in (lost.0, lost.1, lost.2, lost.3, (λ e. absurd (miss e), λ _. (lost.4, lost.5))))

@@ -8,7 +8,6 @@ use Rattle.atomic_table.specs.Table.{State}
 use Rattle.pie_lock.specs.declared.view.Shown.{Shown}
 use Rattle.pie_lock.specs.declared.view.Place.{Place}
 use Rattle.pie_lock.specs.declared.view.Place.TheVariants.{Spent, Waits, Holds, Meets}
-use Rattle.pie_lock.specs.declared.view.SlotValue.{SlotValue}
 use Rattle.pie_lock.specs.Own.{own}
 
 module _ {E O : Type 0} where
@@ -71,17 +70,17 @@ module _ {E O : Type 0} where
 
 module _ {S E O : Type 0} (number : E → ℕ) (origin_of : S → O) (tells : S → List E → Type 0) (origin : O) (numbers : ℕ) where
   -- while the word is FREE: the state is in the slot, has the lock's origin and tells the history
-  abbrev pub WhileFree : List E → State (Option (SlotValue S E)) (Place E O) → Type 0
+  abbrev pub WhileFree : List E → State (Option S) (Place E O) → Type 0
   WhileFree history s =
       (slice_index s.words 0 ≡ 0) × NoneHolds s.views
-      × ((stored : SlotValue S E) × (get_elem? s.homes 0 ≡ some (some (Some stored))) × (origin_of stored.state ≡ origin) × tells stored.state history)
+      × ((stored : S) × (get_elem? s.homes 0 ≡ some (some (Some stored))) × (origin_of stored ≡ origin) × tells stored history)
 
   -- while it is HELD: the slot is out to one seat, whose front is the history
-  abbrev pub WhileHeld : List E → State (Option (SlotValue S E)) (Place E O) → Type 0
+  abbrev pub WhileHeld : List E → State (Option S) (Place E O) → Type 0
   WhileHeld history s = (slice_index s.words 0 ≡ 1) × OneHolds history s.views × (get_elem? s.homes 0 ≡ some none)
 
   -- there is one history, which agrees with all live passes
-  abbrev pub Ruled : State (Option (SlotValue S E)) (Place E O) → Type 0
+  abbrev pub Ruled : State (Option S) (Place E O) → Type 0
   Ruled s =
       (length s.words ≡ 1)
       × ((history : List E) × Agreed number origin numbers history s.views × (WhileFree history s ⊎ WhileHeld history s))

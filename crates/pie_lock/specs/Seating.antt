@@ -1,12 +1,12 @@
 -- The view of a lock, a pass and a held, from their fields.
-use Rattle.std.specs.Prelude.{◌≡◌, ℕ, ◌<◌, [], ◌∷◌, Option, None}
+use Rattle.std.specs.Prelude.{◌≡◌, ℕ, ◌<◌, List, [], ◌∷◌, ◌++◌, Option, Some, None, IfSome}
+use Rattle.std.specs.Option.{option_to_list}
 use Rattle.atomic_table.specs.Table.{Me}
 use Rattle.atomic_table.specs.Seated.{TableId}
 use Rattle.atomic_table.specs.declared.shared.Seat.{Seat}
 use Rattle.pie_lock.specs.declared.view.Shown.{Shown}
 use Rattle.pie_lock.specs.declared.view.Place.{Place}
 use Rattle.pie_lock.specs.declared.view.Place.TheVariants.{Waits, Holds}
-use Rattle.pie_lock.specs.declared.view.SlotValue.{SlotValue}
 use Rattle.pie_lock.specs.Steps.{pass_at, made_one, longer, GoesOn}
 use Rattle.pie_lock.specs.Views.{LockView, PassView, HeldView}
 
@@ -21,32 +21,40 @@ pub record HasNumbers {E O : Type 0} (first limit : ℕ) (p : Shown E O) : Type 
   pub nonempty : first < limit
 
 module _ {S E O : Type 0} where
-  abbrev pub pass_of_seat : ℕ → ℕ → Seat (Option (SlotValue S E)) (Place E O) → PassView E O
+  abbrev pub pass_of_seat : ℕ → ℕ → Seat (Option S) (Place E O) → PassView E O
   pass_of_seat first limit seat =
       record { lock = lock_of seat.table_id (pass_at seat.me.0); front = (pass_at seat.me.0).front; first = first; limit = limit }
 
-  abbrev pub held_of_seat : ℕ → ℕ → Seat (Option (SlotValue S E)) (Place E O) → S → HeldView S E O
+  abbrev pub held_of_seat : ℕ → ℕ → Seat (Option S) (Place E O) → S → HeldView S E O
   held_of_seat first limit seat state =
       record { lock = lock_of seat.table_id (pass_at seat.me.0); front = (pass_at seat.me.0).front; first = first; limit = limit; state = state }
 
 -- the seat has a pass with these numbers, and no slot
-pub record IsWaiting {S E O : Type 0} (first limit : ℕ) (me : Me (Option (SlotValue S E)) (Place E O)) : Type 0 where
-  pub waits : ◌≡◌ {A = Me (Option (SlotValue S E)) (Place E O)} me (Waits (pass_at me.0), [])
+pub record IsWaiting {S E O : Type 0} (first limit : ℕ) (me : Me (Option S) (Place E O)) : Type 0 where
+  pub waits : ◌≡◌ {A = Me (Option S) (Place E O)} me (Waits (pass_at me.0), [])
   pub has : HasNumbers first limit (pass_at me.0)
 
 -- the seat has a pass with these numbers, and the slot, out of which the state was taken
-pub record IsHolding {S E O : Type 0} (first limit : ℕ) (me : Me (Option (SlotValue S E)) (Place E O)) : Type 0 where
-  pub holds : ◌≡◌ {A = Me (Option (SlotValue S E)) (Place E O)} me (Holds (pass_at me.0), (0, None) ∷ [])
+pub record IsHolding {S E O : Type 0} (first limit : ℕ) (me : Me (Option S) (Place E O)) : Type 0 where
+  pub holds : ◌≡◌ {A = Me (Option S) (Place E O)} me (Holds (pass_at me.0), (0, None) ∷ [])
   pub has : HasNumbers first limit (pass_at me.0)
 
+-- the seat has a pass and the slot with this state in it, which has the lock's origin and tells the front with this entry, if there is one;
+-- the entry stands under the pass's first number
+pub record IsLeaving {S E O : Type 0} (number : E → ℕ) (origin_of : S → O) (tells : S → List E → Type 0) (added : Option E) (state : S) (me : Me (Option S) (Place E O)) : Type 0 where
+  pub holds : ◌≡◌ {A = Me (Option S) (Place E O)} me (Holds (pass_at me.0), (0, Some state) ∷ [])
+  pub origin : (pass_at me.0).origin ≡ Some (origin_of state)
+  pub told : tells state ((pass_at me.0).front ++ option_to_list added)
+  pub own : IfSome added (λ e. number e ≡ (pass_at me.0).first)
+
 -- the seat has a pass, and no slot
-abbrev pub IsIdle : {S E O : Type 0} → Me (Option (SlotValue S E)) (Place E O) → Type 0
-IsIdle {S} {E} {O} me = ◌≡◌ {A = Me (Option (SlotValue S E)) (Place E O)} me (Waits (pass_at me.0), [])
+abbrev pub IsIdle : {S E O : Type 0} → Me (Option S) (Place E O) → Type 0
+IsIdle {S} {E} {O} me = ◌≡◌ {A = Me (Option S) (Place E O)} me (Waits (pass_at me.0), [])
 
 -- one seat made of two: it has one pass of their two, and the longer front goes on where each of theirs ends
-abbrev pub IsMerged : {S E O : Type 0} → (E → ℕ) → Me (Option (SlotValue S E)) (Place E O) → Me (Option (SlotValue S E)) (Place E O) → Me (Option (SlotValue S E)) (Place E O) → Type 0
+abbrev pub IsMerged : {S E O : Type 0} → (E → ℕ) → Me (Option S) (Place E O) → Me (Option S) (Place E O) → Me (Option S) (Place E O) → Type 0
 IsMerged {S} {E} {O} number one other made =
     let p = pass_at one.0 in let q = pass_at other.0 in
-    ((◌≡◌ {A = Me (Option (SlotValue S E)) (Place E O)} made (Waits (made_one p q), []))
+    ((◌≡◌ {A = Me (Option S) (Place E O)} made (Waits (made_one p q), []))
     × GoesOn number p.first p.limit p.front (longer p.front q.front)
     × GoesOn number q.first q.limit q.front (longer p.front q.front))

@@ -7,7 +7,6 @@ use Rattle.atomic_table.specs.Table.{Me, Step}
 use Rattle.pie_lock.specs.declared.view.Shown.{Shown}
 use Rattle.pie_lock.specs.declared.view.Place.{Place}
 use Rattle.pie_lock.specs.declared.view.Place.TheVariants.{Spent, Waits, Holds, Meets}
-use Rattle.pie_lock.specs.declared.view.SlotValue.{SlotValue}
 use Rattle.pie_lock.specs.Own.{own}
 
 -- the longer of two lists
@@ -73,40 +72,29 @@ GoesOn number first limit front longer_front =
 
 module _ {S E O : Type 0} (number : E → ℕ) (origin_of : S → O) (tells : S → List E → Type 0) where
   -- the lock was won by the pass p: the slot came to the seat, whose front is now the history that the state tells
-  abbrev pub Won : Shown E O → Me (Option (SlotValue S E)) (Place E O) → Type 0
+  abbrev pub Won : Shown E O → Me (Option S) (Place E O) → Type 0
   Won p after =
-      (stored : SlotValue S E) × (history : List E)
+      (stored : S) × (history : List E)
       × (after ≡ (Holds (with_front p history), (0, Some stored) ∷ []))
       × GoesOn number p.first p.limit p.front history
-      × (p.origin ≡ Some (origin_of stored.state))
-      × tells stored.state history
+      × (p.origin ≡ Some (origin_of stored))
+      × tells stored history
       × All (λ e. number e < p.numbers) history
       × (HasAll p → history ≡ p.front)
 
   -- the exchange of FREE for HELD: won, or lost and nothing changed. A pass with all numbers does not lose it
-  abbrev pub taken : Step (Option (SlotValue S E)) → Me (Option (SlotValue S E)) (Place E O) → ℕ → Me (Option (SlotValue S E)) (Place E O) → Type 0
+  abbrev pub taken : Step (Option S) → Me (Option S) (Place E O) → ℕ → Me (Option S) (Place E O) → Type 0
   taken step before found after =
       (found ≡ 0 → Won (pass_at before.0) after) × (found ≢ 0 → (after ≡ before) × (HasAll (pass_at before.0) → ⊥))
 
-module _ {S E : Type 0} where
-  -- the entry that a slot's value adds, if it adds one
-  abbrev pub added_of : Option (SlotValue S E) → List E
-  added_of None = []
-  added_of (Some stored) = option_to_list stored.added
-
-  -- .. of the slot that a seat took last
-  abbrev pub added_in : List (ℕ × Option (SlotValue S E)) → List E
-  added_in [] = []
-  added_in (x ∷ xs) = added_of x.1
-
 module _ {S E O : Type 0} where
-  -- the store of FREE: the slot is given back, and the entry that lies in it beside the state joins the seat's front
-  abbrev pub freed : Step (Option (SlotValue S E)) → Me (Option (SlotValue S E)) (Place E O) → ℕ → Me (Option (SlotValue S E)) (Place E O) → Type 0
-  freed step before found after =
-      after ≡ (Waits (with_front (pass_at before.0) ((pass_at before.0).front ++ added_in before.1)), [])
+  -- the store of FREE by a put that adds this entry, if it adds one: the slot is given back, and the entry joins the seat's front
+  abbrev pub freed : Option E → Step (Option S) → Me (Option S) (Place E O) → ℕ → Me (Option S) (Place E O) → Type 0
+  freed added step before found after =
+      after ≡ (Waits (with_front (pass_at before.0) ((pass_at before.0).front ++ option_to_list added)), [])
 
   -- the load after two seats were joined: of the two fronts the one goes on where the other ends, and the seat has one pass
-  abbrev pub merged : (E → ℕ) → Step (Option (SlotValue S E)) → Me (Option (SlotValue S E)) (Place E O) → ℕ → Me (Option (SlotValue S E)) (Place E O) → Type 0
+  abbrev pub merged : (E → ℕ) → Step (Option S) → Me (Option S) (Place E O) → ℕ → Me (Option S) (Place E O) → Type 0
   merged number step before found after =
       let p = pass_at before.0 in let q = other_at before.0 in
       ((after ≡ (Waits (made_one p q), []))

@@ -4,12 +4,12 @@ ghost use Rattle.std.specs.Prelude.{◌≡◌, ◌≢◌, ◌+◌, ◌<◌, ◌�
 use crate::kept::Kept;
 use crate::pass::{Held, Pass};
 use crate::refusal::{LockRefusal, OneNumber, StillHeld};
-use crate::rule::{FreeStep, JoinTwo, LockRule, MergeStep, SplitHighest, TakeStep};
-use crate::view::{LockOpening, Place, SlotValue};
+use crate::rule::{Adding, FreeStep, JoinTwo, LockRule, MergeStep, SplitHighest, TakeStep};
+use crate::view::{LockOpening, Place};
 use atomic_table::{Refused, Seat, Table};
 use crossbeam_utils::Backoff;
 use std::alloc::Global;
-use std::marker::Model;
+use std::marker::{Brand, Model};
 use std::snapshot::Snapshot;
 use std::sync::Wait;
 use std::sync::atomic::{AtomicU64, Ordering};
@@ -36,13 +36,7 @@ const AWAITED: u64 = 1;
 /// Contracts see it as which lock it is, the origin of the state that it was opened with, and how many numbers it has.
 #[derive(Drop)]
 pub struct RuledLock<S: Kept> {
-    table: Table<
-        Option<SlotValue<S, S::Entry>>,
-        Place<S::Entry, S::Origin>,
-        LockOpening<S>,
-        LockRule,
-        Global,
-    >,
+    table: Table<Option<S>, Place<S::Entry, S::Origin>, LockOpening<S>, LockRule, Global>,
     // AWAITED where a pass may sleep until a put. No clause speaks of it.
     awaited: AtomicU64,
 }
@@ -61,10 +55,10 @@ impl<S: Kept> Model for RuledLock<S> {
 impl<S: Kept> RuledLock<S> {
     ghost use Rattle.std.specs.Option.{option_to_list};
     ghost use Rattle.pie_lock.specs.Views.{HoldsAll};
-    ghost use Rattle.pie_lock.specs.Steps.{GoesOn, pass_at, AreAdjacent};
-    ghost use Rattle.pie_lock.specs.Seating.{IsIdle, IsMerged};
+    ghost use Rattle.pie_lock.specs.Steps.{GoesOn, pass_at, with_front, AreAdjacent};
+    ghost use Rattle.pie_lock.specs.declared.view.Place.TheVariants.{Waits};
+    ghost use Rattle.pie_lock.specs.Seating.{IsIdle, IsLeaving, IsMerged};
     ghost use Rattle.pie_lock.specs.Promises.{first_pass, IsOfPass, pass_after, without_highest, highest_alone, IsBeside, IsBothOf};
-    ghost use Rattle.pie_lock.specs.declared.view.SlotValue.{SlotValue};
 
     /// A lock over `state`, and a pass with the numbers `0..numbers`.
     ///
@@ -95,7 +89,7 @@ impl<S: Kept> RuledLock<S> {
         let Ok(mut slots) = Vec::with_capacity(alloc, 1) else {
             return Err((state, LockRefusal::Memory));
         };
-        slots.push_reserved(Some(SlotValue { state, added: None }));
+        slots.push_reserved(Some(state));
         match Table::new(alloc, &[FREE], slots, &opening) {
             Ok((table, seat)) => {
                 let pass = Pass {
@@ -111,40 +105,45 @@ impl<S: Kept> RuledLock<S> {
     }
 
     // Takes the state out of the slot that the seat has.
-    fn take_from_slot(
-        &self,
-        seat: &mut Seat<Option<SlotValue<S, S::Entry>>, Place<S::Entry, S::Origin>>,
-    ) -> S
+    fn take_from_slot(&self, seat: &mut Seat<Option<S>, Place<S::Entry, S::Origin>>) -> S
         requires table { seat.old.table_id ≡ self.now.id }
-        requires slot { (stored : SlotValue S S.Entry) × (seat.old.me.1 ≡ (0, Some stored) ∷ []) }
+        requires slot { (stored : S) × (seat.old.me.1 ≡ (0, Some stored) ∷ []) }
         ensures seat { (seat.new.table_id ≡ seat.old.table_id) × (seat.new.id ≡ seat.old.id) × (seat.new.me ≡ (seat.old.me.0, (0, None) ∷ [])) }
-        ensures state { (stored : SlotValue S S.Entry) → seat.old.me.1 ≡ (0, Some stored) ∷ [] → result ≡ stored.state }
+        ensures state { (stored : S) → seat.old.me.1 ≡ (0, Some stored) ∷ [] → result ≡ stored }
     {
-        let Some(stored) = self.table.shared.exchange(seat, SLOT, None) else {
+        let Some(state) = self.table.shared.exchange(seat, SLOT, None) else {
             unreachable!()
         };
-        stored.state
+        state
     }
 
-    // Puts the state into the slot that the seat has, beside the entry that the seat's front is to gain.
-    fn put_into_slot(
-        &self,
-        seat: &mut Seat<Option<SlotValue<S, S::Entry>>, Place<S::Entry, S::Origin>>,
-        state: S,
-        entry: Option<S::Entry>,
-    )
+    // Puts the state into the slot that the seat has.
+    fn put_into_slot(&self, seat: &mut Seat<Option<S>, Place<S::Entry, S::Origin>>, state: S)
         requires table { seat.old.table_id ≡ self.now.id }
         requires slot { seat.old.me.1 ≡ (0, None) ∷ [] }
         ensures seat { (seat.new.table_id ≡ seat.old.table_id) × (seat.new.id ≡ seat.old.id) }
-        ensures slot { (stored : SlotValue S S.Entry) × (stored.state ≡ state) × (stored.added ≡ entry) × (seat.new.me ≡ (seat.old.me.0, (0, Some stored) ∷ [])) }
+        ensures slot { seat.new.me ≡ (seat.old.me.0, (0, Some state) ∷ []) }
     {
-        let stored = SlotValue {
-            state,
-            added: entry,
-        };
-        let None = self.table.shared.exchange(seat, SLOT, Some(stored)) else {
+        let None = self.table.shared.exchange(seat, SLOT, Some(state)) else {
             unreachable!()
         };
+    }
+
+    // Frees the lock whose state lies in the slot that the seat has, and adds the entry to the seat's front. The entry is not
+    // stored: it names the step.
+    fn free<J: Adding<S::Entry>>(
+        &self,
+        seat: &mut Seat<Option<S>, Place<S::Entry, S::Origin>>,
+        entry: &Option<S::Entry>,
+    )
+        requires table { seat.old.table_id ≡ self.now.id }
+        requires entry { J.added ≡ entry.now }
+        requires slot { (state : S) × IsLeaving S.number_of S.origin_of S.tells entry.now state seat.old.me }
+        ensures seat { (seat.new.table_id ≡ seat.old.table_id) × (seat.new.id ≡ seat.old.id) }
+        ensures front { seat.new.me ≡ (Waits (with_front (pass_at seat.old.me.0) ((pass_at seat.old.me.0).front ++ option_to_list entry.now)), []) }
+    {
+        let _ = entry;
+        self.table.shared.store::<FreeStep<J>>(seat, WORD, FREE);
     }
 
     /// Takes the state. It never blocks.
@@ -228,8 +227,8 @@ impl<S: Kept> RuledLock<S> {
             limit,
             mut seat,
         } = held;
-        self.put_into_slot(&mut seat, state, entry);
-        self.table.shared.store::<FreeStep>(&mut seat, WORD, FREE);
+        self.put_into_slot(&mut seat, state);
+        self.free::<Brand>(&mut seat, &entry);
         if self.awaited.load(Ordering::SeqCst) == AWAITED {
             self.awaited.store(NOT_AWAITED, Ordering::SeqCst);
             self.awaited.wake_one();
@@ -288,8 +287,8 @@ impl<S: Kept> RuledLock<S> {
     // Makes one seat of two whose passes have adjacent ranges.
     fn join(
         &self,
-        seat: &mut Seat<Option<SlotValue<S, S::Entry>>, Place<S::Entry, S::Origin>>,
-        other: Seat<Option<SlotValue<S, S::Entry>>, Place<S::Entry, S::Origin>>,
+        seat: &mut Seat<Option<S>, Place<S::Entry, S::Origin>>,
+        other: Seat<Option<S>, Place<S::Entry, S::Origin>>,
     )
         requires tables { (seat.old.table_id ≡ self.now.id) × (other.table_id ≡ self.now.id) }
         requires waiting { IsIdle seat.old.me × IsIdle other.me }
@@ -332,12 +331,12 @@ impl<S: Kept> RuledLock<S> {
 }
 
 // The state that lies in the one slot.
-fn state_of<S: Drop, E: Drop>(mut slots: Vec<Option<SlotValue<S, E>>>) -> S
-    requires { (stored : SlotValue S E) × (slots.items ≡ Some stored ∷ []) }
-    ensures { (stored : SlotValue S E) → slots.items ≡ Some stored ∷ [] → result ≡ stored.state }
+fn state_of<S: Drop>(mut slots: Vec<Option<S>>) -> S
+    requires { (state : S) × (slots.items ≡ Some state ∷ []) }
+    ensures { (state : S) → slots.items ≡ Some state ∷ [] → result ≡ state }
 {
-    let Some(Some(stored)) = slots.pop() else {
+    let Some(Some(state)) = slots.pop() else {
         unreachable!()
     };
-    stored.state
+    state
 }

@@ -2,7 +2,7 @@
 ghost use Rattle.std.specs.Prelude.{◌≡◌, ◌<◌};
 
 use crate::kept::Kept;
-use crate::view::{Place, SlotValue};
+use crate::view::Place;
 use atomic_table::Seat;
 use std::marker::Model;
 
@@ -14,7 +14,7 @@ use std::marker::Model;
 pub struct Pass<S: Kept> {
     pub(crate) first: u16,
     pub(crate) limit: u16,
-    pub(crate) seat: Seat<Option<SlotValue<S, S::Entry>>, Place<S::Entry, S::Origin>>,
+    pub(crate) seat: Seat<Option<S>, Place<S::Entry, S::Origin>>,
 }
 
 impl<S: Kept> Model for Pass<S> {
@@ -52,7 +52,7 @@ pub struct Held<S: Kept> {
     pub(crate) state: S,
     pub(crate) first: u16,
     pub(crate) limit: u16,
-    pub(crate) seat: Seat<Option<SlotValue<S, S::Entry>>, Place<S::Entry, S::Origin>>,
+    pub(crate) seat: Seat<Option<S>, Place<S::Entry, S::Origin>>,
 }
 
 impl<S: Kept> Model for Held<S> {

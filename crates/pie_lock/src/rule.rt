@@ -1,16 +1,17 @@
 //! The rule of the lock's table, and what its steps tell.
+ghost use Rattle.std.specs.Prelude.{Option, None};
 ghost use Rattle.pie_lock.specs.Steps.{taken, freed, merged, all_but_highest, highest, meeting};
 ghost use Rattle.pie_lock.specs.declared.view.Place.TheVariants.{Spent};
 
 use crate::kept::Kept;
-use crate::view::{LockOpening, Place, SlotValue};
+use crate::view::{LockOpening, Place};
 use atomic_table::{Join, Play, Split, TableRule};
+use std::marker::{Brand, PhantomData};
 
 /// The lock's rule.
 pub struct LockRule;
 
-impl<S: Kept> TableRule<Option<SlotValue<S, S::Entry>>, Place<S::Entry, S::Origin>, LockOpening<S>>
-    for LockRule {
+impl<S: Kept> TableRule<Option<S>, Place<S::Entry, S::Origin>, LockOpening<S>> for LockRule {
     ghost use Rattle.pie_lock.specs.Rule.{Ruled, opened};
 
     ghost holds = { λ key. Ruled S.number_of S.origin_of S.tells (S.origin_of key.state.value) key.numbers };
@@ -21,21 +22,30 @@ impl<S: Kept> TableRule<Option<SlotValue<S, S::Entry>>, Place<S::Entry, S::Origi
 /// The step that takes the lock: the exchange of FREE for HELD.
 pub(crate) struct TakeStep;
 
-impl<S: Kept> Play<Option<SlotValue<S, S::Entry>>, Place<S::Entry, S::Origin>> for TakeStep {
+impl<S: Kept> Play<Option<S>, Place<S::Entry, S::Origin>> for TakeStep {
     ghost then = { taken S.number_of S.origin_of S.tells };
 }
 
-/// The step that frees the lock: the store of FREE.
-pub(crate) struct FreeStep;
+/// The entry that a put adds to the history, if it adds one. It is known to the prover alone: each put names its own.
+pub(crate) trait Adding<E> {
+    ghost added: { Option E };
+}
 
-impl<S: Kept> Play<Option<SlotValue<S, S::Entry>>, Place<S::Entry, S::Origin>> for FreeStep {
-    ghost then = { freed };
+impl<E> Adding<E> for Brand {
+    ghost added = { None };
+}
+
+/// The step that frees the lock: the store of FREE, by a put that adds this entry.
+pub(crate) struct FreeStep<J>(PhantomData<J>);
+
+impl<S: Kept, J: Adding<S::Entry>> Play<Option<S>, Place<S::Entry, S::Origin>> for FreeStep<J> {
+    ghost then = { freed J.added };
 }
 
 /// The step that makes one pass of the two that a seat has: a load.
 pub(crate) struct MergeStep;
 
-impl<S: Kept> Play<Option<SlotValue<S, S::Entry>>, Place<S::Entry, S::Origin>> for MergeStep {
+impl<S: Kept> Play<Option<S>, Place<S::Entry, S::Origin>> for MergeStep {
     ghost then = { merged S.number_of };
 }
 

@@ -23,13 +23,6 @@ pub enum Place<E, O> {
     Meets(Shown<E, O>, Shown<E, O>),
 }
 
-/// What lies in the lock's slot: the state, and the entry that its last put adds.
-#[derive(Drop)]
-pub struct SlotValue<S, E> {
-    pub state: S,
-    pub added: Option<E>,
-}
-
 /// What the lock is opened with: the first state, and how many numbers there are.
 #[derive(Drop)]
 pub struct LockOpening<S> {

@@ -3,7 +3,6 @@ use mathlib.Core.Option.{none}
 use Rattle.atomic_table.specs.Table.{Me, step, Allows, Joins}
 use Rattle.pie_lock.specs.declared.view.Place.{Place}
 use Rattle.pie_lock.specs.declared.view.Place.TheVariants.{Spent, Waits, Meets}
-use Rattle.pie_lock.specs.declared.view.SlotValue.{SlotValue}
 use Rattle.pie_lock.specs.Rule.{Ruled}
 use Rattle.pie_lock.specs.Steps.{pass_at, meeting, merged}
 use Rattle.pie_lock.proofs.Sharing.{joins_keep, merges_keep}
@@ -39,7 +38,7 @@ load-requires g c =
     let p = pass_at one.me.0 in
     let q = pass_at other.me.0 in
     let seat = c.join_seat.new.seat in
-    let P : Me (Option (SlotValue g.row.S.Denot g.row.S-Entry.Denot)) (Place g.row.S-Entry.Denot g.row.S-Origin.Denot) → Type 0 =
+    let P : Me (Option g.row.S.Denot) (Place g.row.S-Entry.Denot g.row.S-Origin.Denot) → Type 0 =
     λ m. Allows (Ruled k.number_of k.origin_of k.tells origin key.numbers) slots seat.id m 0 (λ n. n) (merged k.number_of (step slots 0 0 0 none) m) in
     let at_seat : P (Meets p q, []) = merges_keep k.number_of k.origin_of k.tells origin key.numbers slots seat.id p q c.requires.beside in
     let at_slots : P (Meets p q, one.me.1) = subst (λ l. P (Meets p q, l)) (sym (ap (λ m. m.1) c.requires.waiting.0)) at_seat in

@@ -3,7 +3,6 @@ use mathlib.Core.Option.{none}
 use prog.Atomic.{either}
 use Rattle.atomic_table.specs.Table.{Me, step, Allows}
 use Rattle.pie_lock.specs.declared.view.Place.{Place}
-use Rattle.pie_lock.specs.declared.view.SlotValue.{SlotValue}
 use Rattle.pie_lock.specs.Rule.{Ruled}
 use Rattle.pie_lock.specs.Steps.{pass_at, taken}
 use Rattle.pie_lock.proofs.Taking.{takes_keep}
@@ -16,7 +15,7 @@ compare_exchange-found-requires g c =
     let origin = k.origin_of key.state.value in
     let slots = c.self.inside.table.shared.table_id.slots in
     let seat = c.pass.inside.seat in
-    let P : Me (Option (SlotValue g.row.S.Denot g.row.S-Entry.Denot)) (Place g.row.S-Entry.Denot g.row.S-Origin.Denot) → Type 0 =
+    let P : Me (Option g.row.S.Denot) (Place g.row.S-Entry.Denot g.row.S-Origin.Denot) → Type 0 =
     λ m. Allows (Ruled k.number_of k.origin_of k.tells origin key.numbers) slots seat.id m 0 (λ n. either (n == 0) 1 n) (taken k.number_of k.origin_of k.tells (step slots 0 0 1 none) m) in
     (search rules, search rules, subst P (sym c.pass.invariant.waits) (takes_keep k.number_of k.origin_of k.tells origin key.numbers slots seat.id (pass_at seat.me.0)))
 

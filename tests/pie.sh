@@ -89,6 +89,14 @@ expect 'a tag that is not there' 1 "$header" 'pie: no packet has the tag 9\n' "$
 expect 'a fault of an explained history' 1 '' 'pie: record 15: wrong number of fields\n' "${changed}shown\n" explain --lost
 expect 'a controller that is off' 0 "${header}1,arrive,1,1,1,1,100,enqueue,inactive,0,0,0,0,0,150000000\n2,depart,2,5,5,1,100,left,,100,1,0,0,0,150000000\n" '' \
     'open2,2,bounded,0,4,16,100\narrive,1,1,1,100,not,0,enqueue\ndepart,2,5,left,1,100,not\n' explain --all --csv
+# What set the probability in profile two: an arrival that turns the controller on, which a calm update turns off, and no update
+# while it is off.
+set_by=$(printf 'open2,2,bounded,0,8,32,100,2,1,0,850000,0,1,1500,1000000000000,1024\narrive,1,0,1,400,not,0\nupdate,4,1\narrive,1,1,2,100,not,0\nupdate,4,2\narrive,1,3,3,100,not,0\ndepart,3,4\nreset,4,5\ndepart,3,6\n' |
+    "$program" run | "$program" explain --all | grep -o 'as at the opening\|set by event [0-9]*' | tr '\n' ';')
+if [ "$set_by" != 'as at the opening;as at the opening;as at the opening;set by event 3;set by event 4;set by event 5;set by event 5;set by event 7;' ]; then
+    echo "tests/pie.sh: what set the probability: $set_by"
+    failed=1
+fi
 # The probability is 0.903954174169: not below a threshold of 0.9 for marks; and with nine packets let through by their words it makes
 # a sum above 8.5 with the tenth.
 begun='arrive,1,0,1,1024,not,0\narrive,1,0,2,1024,not,0\narrive,1,0,3,1024,not,0\narrive,1,0,4,1024,not,0\n'

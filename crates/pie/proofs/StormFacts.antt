@@ -34,7 +34,8 @@ use Rattle.pie_trace.specs.Write.{written_rows}
 use Rattle.pie_audit.specs.declared.auditor.Finding.{Finding}
 use Rattle.pie_audit.specs.declared.auditor.Finding.TheVariants.{Clean, Differs}
 use Rattle.pie_audit.specs.Auditor.{Audits, AuditorView}
-use Rattle.pie_audit.specs.Finding.{LinePlace, after_line, agrees, differs_at, event_count, events_of, finding, first_difference, is_same_answer, is_same_ecn, is_event, line_places}
+use Rattle.pie_trace.specs.Migrate.{event_count, is_event}
+use Rattle.pie_audit.specs.Finding.{LinePlace, after_line, agrees, differs_at, events_of, finding, first_difference, is_same_answer, is_same_ecn, line_places}
 use Rattle.pie_audit.specs.Text.{finding_after, judged, text_finding}
 use Rattle.pie_link.specs.declared.plan.Plan.{Plan}
 use Rattle.pie_link.specs.Plans.{opening_of}

@@ -12,7 +12,8 @@ use Rattle.pie_audit.specs.declared.auditor.Finding.{Finding}
 use Rattle.pie_audit.specs.declared.auditor.Finding.TheVariants.{Clean, Differs}
 use Rattle.pie_audit.specs.Auditor.{Audits, AuditorView}
 use Rattle.pie_audit.specs.Text.{finding_after, judged, text_finding}
-use Rattle.pie_audit.specs.Finding.{event_count, finding, finding_by, first_difference}
+use Rattle.pie_trace.specs.Migrate.{event_count}
+use Rattle.pie_audit.specs.Finding.{finding, finding_by, first_difference}
 use Rattle.pie_explain.specs.declared.explainer.Form.{Form}
 use Rattle.pie_explain.specs.declared.fault.ExplainFault.{ExplainFault}
 use Rattle.pie_explain.specs.declared.fault.ExplainFault.TheVariants as fault

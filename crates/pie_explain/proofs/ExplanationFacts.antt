@@ -7,7 +7,7 @@ use Rattle.pie_book.specs.declared.command.Event.{Event}
 use Rattle.pie_book.specs.declared.registers.Registers.{Registers}
 use Rattle.pie_book.specs.Cause.{cause_after}
 use Rattle.pie_book.specs.Deed.{deed_of, handed_in}
-use Rattle.pie_book.specs.Estimates.{delay_after}
+use Rattle.pie_book.specs.Estimates.{active_after, delay_after}
 use Rattle.pie_book.specs.History.{effective_moment, waiting_after}
 use Rattle.pie_book.specs.Registers.{registers_after}
 use Rattle.pie_book.specs.Statistics.{wait_of}
@@ -30,6 +30,10 @@ the_explanation number event now before delay cause waited set_by = record {
 moment-registers : (opening : Opening) (history : List Event) → (registers_after opening history).moment ≡ effective_moment opening history
 unfolding registers_after
 moment-registers opening history = refl
+
+pub active-registers : (opening : Opening) (history : List Event) → (registers_after opening history).active ≡ active_after opening history
+unfolding registers_after
+active-registers opening history = refl
 
 -- the parts of an explanation make it
 pub explanation-is : (opening : Opening) (history : List Event) (number : ℕ) (event : Event) (set_by : Option ℕ) (now : ℕ) (before : Registers) (delay : ℕ) (cause : Option Cause) (waited : ℕ)

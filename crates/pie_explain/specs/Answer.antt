@@ -11,7 +11,8 @@ use Rattle.pie_audit.specs.declared.auditor.Finding.{Finding}
 use Rattle.pie_audit.specs.declared.auditor.Finding.TheVariants.{Clean}
 use Rattle.pie_audit.specs.declared.auditor.Finding.TheVariants as finding
 use Rattle.pie_audit.specs.Auditor.{Audits, AuditorView}
-use Rattle.pie_audit.specs.Finding.{event_count, finding as finding_of}
+use Rattle.pie_trace.specs.Migrate.{event_count}
+use Rattle.pie_audit.specs.Finding.{finding as finding_of}
 use Rattle.pie_explain.specs.declared.explainer.Form.{Form}
 use Rattle.pie_explain.specs.declared.fault.ExplainFault.{ExplainFault}
 use Rattle.pie_explain.specs.declared.fault.ExplainFault.TheVariants.{Trace, Differs, NoEvent, NoTag}
@@ -69,7 +70,7 @@ closed (Err first) (Err why) = if is_device first then Err first else Err why
 -- these lines were looked at: where none differs, what set the probability is known, and how many events were explained
 pub record Follows (opening : Opening) (which : Which) (lines : List Line) (auditor : AuditorView) (set_by : Option ℕ) (explained : ℕ) : Type 0 where
   pub audits : Audits opening auditor lines
-  pub setter : auditor.differs ≡ None → set_by ≡ setter_after lines
+  pub setter : auditor.differs ≡ None → set_by ≡ setter_after opening lines
   pub counted : auditor.differs ≡ None → explained ≡ length (explanations opening which lines)
   pub few : auditor.differs ≡ None → explained ≤ event_count lines
 

@@ -1,19 +1,20 @@
 -- What there is to say of an event after a history: the numbers that it met, and what decided it.
-use Rattle.std.specs.Prelude.{ℕ, ◌+◌, max, Bool, true, false, List, [], ◌∷◌, ◌++◌, Option, Some, None, if◌then◌else◌}
+use Rattle.std.specs.Prelude.{ℕ, ◌+◌, max, Bool, true, false, not, ◌&&◌, List, [], ◌∷◌, ◌++◌, Option, Some, None, if◌then◌else◌}
 use Rattle.std.specs.List.{filter_map, last_or}
 use Rattle.pie_book.specs.declared.command.Command.{Command}
-use Rattle.pie_book.specs.declared.command.Command.TheVariants.{Update, Reset}
+use Rattle.pie_book.specs.declared.command.Command.TheVariants.{Arrive, Depart, Update, Reset, SetParams}
 use Rattle.pie_book.specs.declared.command.Event.{Event}
 use Rattle.pie_book.specs.declared.opening.Opening.{Opening}
 use Rattle.pie_book.specs.Deed.{deed_of, handed_in}
 use Rattle.pie_book.specs.History.{effective_moment, waiting_after}
-use Rattle.pie_book.specs.Estimates.{delay_after}
+use Rattle.pie_book.specs.Estimates.{active_after, delay_after}
 use Rattle.pie_book.specs.Registers.{registers_after}
 use Rattle.pie_book.specs.Statistics.{wait_of}
 use Rattle.pie_book.specs.Cause.{cause_after}
 use Rattle.pie_trace.specs.declared.history.Line.{Line}
 use Rattle.pie_trace.specs.declared.history.Line.TheVariants.{Made, Unmakeable, Note}
-use Rattle.pie_audit.specs.Finding.{LinePlace, event_count, events_of, first_difference, line_places, number_of}
+use Rattle.pie_trace.specs.Migrate.{event_count}
+use Rattle.pie_audit.specs.Finding.{LinePlace, events_of, first_difference, line_places, number_of}
 use Rattle.pie_explain.specs.declared.explanation.Explanation.{Explanation}
 use Rattle.pie_explain.specs.declared.which.Which.{Which}
 use Rattle.pie_explain.specs.Which.{chooses}
@@ -37,29 +38,40 @@ explanation opening history number event set_by = record {
 
 -- ---- which event set the probability
 
--- an event sets the probability: an update or a reset
-abbrev pub is_setting : Command → Bool
-is_setting (Update moment) = true
-is_setting (Reset moment) = true
-is_setting _ = false
+-- an event sets the probability, where the controller was active before it or not, and is active after it or not: an update
+-- while it is active, a reset, and an arrival that turns it on (RFC 8033, section 5.3)
+abbrev pub is_setting : Bool → Command → Bool → Bool
+is_setting was (Arrive moment packet word) is = not was && is
+is_setting was (Depart moment) is = false
+is_setting was (Update moment) is = was
+is_setting was (Reset moment) is = true
+is_setting was (SetParams moment params) is = false
 
 -- a line tells such an event
-abbrev pub sets_probability : Line → Bool
-sets_probability (Made event) = is_setting event.command
-sets_probability Unmakeable = false
-sets_probability Note = false
+abbrev pub sets_probability : Bool → Line → Bool → Bool
+sets_probability was (Made event) is = is_setting was event.command is
+sets_probability was Unmakeable is = false
+sets_probability was Note is = false
+
+-- the controller is active after the events of these lines
+abbrev pub is_active_after : Opening → List Line → Bool
+is_active_after opening lines = active_after opening (events_of lines)
+
+-- a line after these sets it
+abbrev pub sets_after : Opening → List Line → Line → Bool
+sets_after opening lines line = sets_probability (is_active_after opening lines) line (is_active_after opening (lines ++ line ∷ []))
 
 -- the number of the event of a place, where it sets the probability
-abbrev pub setter_at : LinePlace → Option ℕ
-setter_at place = if sets_probability place.line then Some (number_of place) else None
+abbrev pub setter_at : Opening → LinePlace → Option ℕ
+setter_at opening place = if sets_after opening place.before place.line then Some (number_of place) else None
 
 -- the number of the last such event among these lines
-unfoldable pub setter_after : List Line → Option ℕ
-setter_after lines = last_or None (filter_map setter_at (line_places lines))
+unfoldable pub setter_after : Opening → List Line → Option ℕ
+setter_after opening lines = last_or None (filter_map (setter_at opening) (line_places lines))
 
 -- .. with this line, where these events were counted with it
-abbrev pub setter_with : Line → ℕ → Option ℕ → Option ℕ
-setter_with line events before = if sets_probability line then Some events else before
+abbrev pub setter_with : Bool → Line → Bool → ℕ → Option ℕ → Option ℕ
+setter_with was line is events before = if sets_probability was line is then Some events else before
 
 -- ---- of the lines of a history
 
@@ -86,7 +98,7 @@ told_unless_differs opening lines told = told_unless (first_difference opening l
 -- what there is to say at a place, where no event up to it, itself included, differs
 abbrev pub told_at : Opening → Which → LinePlace → Option Explanation
 told_at opening which place =
-    told_unless_differs opening (place.before ++ place.line ∷ []) (told_after opening which place.before (setter_after place.before) place.line)
+    told_unless_differs opening (place.before ++ place.line ∷ []) (told_after opening which place.before (setter_after opening place.before) place.line)
 
 -- what there is to say of the chosen events of these lines, in their order
 unfoldable pub explanations : Opening → Which → List Line → List Explanation

@@ -131,7 +131,7 @@ reason_words (Some cause) = cause_words cause
 -- ---- what the controller held before the event
 
 unfoldable pub setter_words : Option ℕ → Registers → List ℕ
-setter_words None before = joined (codes "  probability " ∷ per_cent before.prob ∷ codes ", with no update yet;" ∷ [])
+setter_words None before = joined (codes "  probability " ∷ per_cent before.prob ∷ codes ", as at the opening;" ∷ [])
 setter_words (Some event) before =
     joined (codes "  probability " ∷ per_cent before.prob ∷ codes ", set by event " ∷ decimal event ∷ codes "; last update at " ∷ millis before.last ∷ codes ";" ∷ [])
 

@@ -264,7 +264,7 @@ fn push_setter(page: &mut String, set_by: Option<u64>, before: &Registers) -> Re
                 "  probability {prob}, set by event {event}; last update at {last};"
             )
         }
-        None => write!(page, "  probability {prob}, with no update yet;"),
+        None => write!(page, "  probability {prob}, as at the opening;"),
     }
 }
 

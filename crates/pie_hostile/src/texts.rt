@@ -49,7 +49,7 @@ pub(crate) const EXPLAINED: &[u8] =
 pub(crate) const IN_WORDS: &[u8] = b"event 3: no packet was there to leave
   at 0.000030 ms (30 ns), by caller 2
   before it: 0 packets, 0 bytes, a delay of 0.000000 ms (0 ns)
-  probability 0.0000 % (0), with no update yet; burst allowance 150.000000 ms (150000000 ns)
+  probability 0.0000 % (0), as at the opening; burst allowance 150.000000 ms (150000000 ns)
 ";
 
 /// The calls over texts, one after another.

@@ -1,6 +1,7 @@
 #!/usr/bin/env bash
 # Runs each worked trace of tests/rows, and compares its history, byte for byte, with the one beside it, which was worked out by
-# hand. The audit of each is clean, with as many events as its history has lines that are no notes.
+# hand. The audit of each is clean, with as many events as its history has lines that are no notes. Of a history that no run writes,
+# tests/rows/NAME.history, the audit says NAME.finding: its finding, or its fault.
 # usage: tests/rows.sh PROGRAM      PROGRAM: crates/pie/out/pie, as `rt run` builds it there
 set -u
 program=$1
@@ -27,6 +28,15 @@ for trace in "$rows"/*.in; do
         failed=1
     fi
     tried=$((tried + 1))
+done
+for history in "$rows"/*.history; do
+    name=$(basename "$history" .history)
+    "$program" audit < "$history" > "$work/finding" 2>&1
+    if ! cmp -s "$work/finding" "$rows/$name.finding"; then
+        echo "tests/rows.sh: $name: its audit is another:"
+        diff "$rows/$name.finding" "$work/finding"
+        failed=1
+    fi
 done
 if [ "$tried" -lt 18 ]; then
     echo "tests/rows.sh: $tried rows, where 18 or more are wanted"

@@ -30,7 +30,7 @@ use Rattle.pie_trace.specs.FirstRecord.{draft_at, first_kind, limits_at, mode_of
 use Rattle.pie_trace.specs.Record.{ecn_of, params_at}
 use Rattle.pie_trace.specs.Reply.{answer_fields}
 use Rattle.pie_trace.specs.History.{opening_of, rows_text}
-use Rattle.pie_trace.specs.Line.{arrival_line, call_at, departure_line, line_of, note_line, numbers_at, packet_at, params_line, reset_line, shown_line, update_line, verdict_of}
+use Rattle.pie_trace.specs.Line.{arrival_line, call_at, departure_line, line_of, note_line, numbers_at, packet_at, params_line, registers_at, reset_line, shown_line, update_line, verdict_of}
 use Rattle.pie_trace.specs.Lines.{after_opening, fault_from, history_lines, history_opening, history_version, later_fault, lines_from, told_by}
 use Rattle.pie_trace.specs.Text.{records_of}
 use Rattle.pie_trace.specs.Write.{command_fields, opening_row, written_rows}
@@ -64,7 +64,7 @@ one_arrival-lines : (history_opening (records_of one_arrival) ≡ Ok (opened_as 
     × (lines_of one_arrival ≡ Made (arrival Enqueued) ∷ Made (event 2 (Depart 25) (Left (packet ecn.Ect0))) ∷ Made (event 2 (Depart 30) Empty) ∷ [])
     × (fault_in one_arrival ≡ None)
 unfolding records_from next_record strip_bom field_at digits fields_text is_blank number ecn_of params_at first_kind version_of profile_of mode_of limits_at draft_at version_one_fields version_two_fields
-    opening_of rows_text answer_fields verdict_of call_at packet_at arrival_line departure_line update_line reset_line params_line numbers_at
+    opening_of rows_text answer_fields verdict_of call_at packet_at arrival_line departure_line update_line reset_line params_line numbers_at registers_at
     note_line shown_line line_of told_by lines_from fault_from history_opening history_version after_opening opening_row command_fields
 one_arrival-lines = (refl, refl, refl)
 
@@ -86,7 +86,7 @@ kinds-lines : lines_of (
     ≡ Made (event 3 (Update 4) (Updated 5 6 7)) ∷ Made (event 1 (Reset 2) Done) ∷ Made (event 1 (SetParams 2 default_profile) Done) ∷ Unmakeable
     ∷ Made (arrival Marked) ∷ Made (arrival DroppedEarly) ∷ Made (arrival DroppedBytes) ∷ Made (arrival DroppedPackets) ∷ Note ∷ Note ∷ Note ∷ Note ∷ []
 unfolding records_from next_record strip_bom field_at digits fields_text is_blank number ecn_of params_at first_kind version_of profile_of mode_of limits_at draft_at version_one_fields version_two_fields
-    opening_of rows_text answer_fields verdict_of call_at packet_at arrival_line departure_line update_line reset_line params_line numbers_at
+    opening_of rows_text answer_fields verdict_of call_at packet_at arrival_line departure_line update_line reset_line params_line numbers_at registers_at
     note_line shown_line line_of told_by lines_from fault_from history_opening history_version after_opening opening_row command_fields
 kinds-lines = refl
 
@@ -108,7 +108,7 @@ faults-in : map (λ last. fault_in (codes "open,0,4,16,100\ndepart,1,1,empty\n" 
     ≡ Some (fault.Kind 3) ∷ Some (fault.Kind 3) ∷ Some (fault.Fields 3) ∷ Some (fault.Word 3) ∷ Some (fault.Word 3) ∷ Some (fault.Word 3)
     ∷ Some (fault.Number 3) ∷ Some (fault.Word 3) ∷ Some (fault.Word 3) ∷ Some (fault.Number 3) ∷ Some (fault.Number 3) ∷ Some (fault.Number 3) ∷ []
 unfolding records_from next_record strip_bom field_at digits fields_text is_blank number ecn_of params_at first_kind version_of profile_of mode_of limits_at draft_at version_one_fields version_two_fields
-    opening_of rows_text answer_fields verdict_of call_at packet_at arrival_line departure_line update_line reset_line params_line numbers_at
+    opening_of rows_text answer_fields verdict_of call_at packet_at arrival_line departure_line update_line reset_line params_line numbers_at registers_at
     note_line shown_line line_of told_by lines_from fault_from history_opening history_version after_opening opening_row command_fields
 faults-in = refl
 
@@ -119,7 +119,7 @@ faulty-lines : (lines_of (codes "open,0,4,16,100\nrefused,1,1\ndep\nrefused,1,1\
     × (fault_from version.One 4 2 (records_of (codes "refused,1,1\nrefused,1,1\ndep\n")) ≡ Some (fault.Kind 4))
     × (history_opening [] ≡ Err fault.NoOpen)
 unfolding records_from next_record strip_bom field_at digits fields_text is_blank number ecn_of params_at first_kind version_of profile_of mode_of limits_at draft_at version_one_fields version_two_fields
-    opening_of rows_text answer_fields verdict_of call_at packet_at arrival_line departure_line update_line reset_line params_line numbers_at
+    opening_of rows_text answer_fields verdict_of call_at packet_at arrival_line departure_line update_line reset_line params_line numbers_at registers_at
     note_line shown_line line_of told_by lines_from fault_from history_opening history_version after_opening opening_row command_fields
 faulty-lines = (refl, refl, refl, refl, refl)
 
@@ -134,7 +134,7 @@ shown-lines : map (λ last. fault_in (codes "open2,2,bounded,0,4,16,100\n" ++ la
     ∷ [])
     ≡ None ∷ None ∷ Some (fault.Fields 2) ∷ Some (fault.Number 2) ∷ Some (fault.Number 2) ∷ Some (fault.Kind 2) ∷ []
 unfolding records_from next_record strip_bom field_at digits fields_text is_blank number ecn_of params_at first_kind version_of profile_of mode_of limits_at draft_at version_one_fields version_two_fields
-    opening_of rows_text answer_fields verdict_of call_at packet_at arrival_line departure_line update_line reset_line params_line numbers_at
+    opening_of rows_text answer_fields verdict_of call_at packet_at arrival_line departure_line update_line reset_line params_line numbers_at registers_at
     note_line shown_line line_of told_by lines_from fault_from history_opening history_version after_opening opening_row command_fields
 shown-lines = refl
 
@@ -159,7 +159,7 @@ kinds-written : rows_text (written_rows (opened_as Bounded default_profile) (
     ++ codes "reset,65535,2,done\n"
     ++ codes "params,0,2,15000000,15000000,150000000,125,1250,1024,262144,100000000000,16384,done\n"
 unfolding records_from next_record strip_bom field_at digits fields_text is_blank number ecn_of params_at first_kind version_of profile_of mode_of limits_at draft_at version_one_fields version_two_fields
-    opening_of rows_text answer_fields verdict_of call_at packet_at arrival_line departure_line update_line reset_line params_line numbers_at
+    opening_of rows_text answer_fields verdict_of call_at packet_at arrival_line departure_line update_line reset_line params_line numbers_at registers_at
     note_line shown_line line_of told_by lines_from fault_from history_opening history_version after_opening opening_row command_fields
 kinds-written = refl
 
@@ -185,7 +185,7 @@ openings-written : map (λ opening. rows_text (opening_row opening ∷ []))
     ∷ codes "rolling,0,4,16,100,15000000,15000000,150000000,125,0,1024,262144,100000000000,16384\n"
     ∷ []
 unfolding records_from next_record strip_bom field_at digits fields_text is_blank number ecn_of params_at first_kind version_of profile_of mode_of limits_at draft_at version_one_fields version_two_fields
-    opening_of rows_text answer_fields verdict_of call_at packet_at arrival_line departure_line update_line reset_line params_line numbers_at
+    opening_of rows_text answer_fields verdict_of call_at packet_at arrival_line departure_line update_line reset_line params_line numbers_at registers_at
     note_line shown_line line_of told_by lines_from fault_from history_opening history_version after_opening opening_row command_fields
 openings-written = refl
 
@@ -200,6 +200,6 @@ versions-written : map (λ opening. rows_text (opening_row opening ∷ []))
     ∷ codes "open2,2,rolling,0,4,16,100,15000000,15000000,150000000,125,0,1024,262144,100000000000,16384\n"
     ∷ []
 unfolding records_from next_record strip_bom field_at digits fields_text is_blank number ecn_of params_at first_kind version_of profile_of mode_of limits_at draft_at version_one_fields version_two_fields
-    opening_of rows_text answer_fields verdict_of call_at packet_at arrival_line departure_line update_line reset_line params_line numbers_at
+    opening_of rows_text answer_fields verdict_of call_at packet_at arrival_line departure_line update_line reset_line params_line numbers_at registers_at
     note_line shown_line line_of told_by lines_from fault_from history_opening history_version after_opening opening_row command_fields
 versions-written = refl

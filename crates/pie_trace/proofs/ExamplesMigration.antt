@@ -9,7 +9,7 @@ use Rattle.pie_trace.specs.Number.{number}
 use Rattle.pie_trace.specs.FirstRecord.{draft_at, first_kind, limits_at, mode_of, profile_of, version_of, version_one_fields, version_two_fields}
 use Rattle.pie_trace.specs.Record.{ecn_of, params_at}
 use Rattle.pie_trace.specs.History.{opening_of, rows_text}
-use Rattle.pie_trace.specs.Line.{arrival_line, call_at, departure_line, line_of, note_line, numbers_at, packet_at, params_line, reset_line, shown_line, update_line, verdict_of}
+use Rattle.pie_trace.specs.Line.{arrival_line, call_at, departure_line, line_of, note_line, numbers_at, packet_at, params_line, registers_at, reset_line, shown_line, update_line, verdict_of}
 use Rattle.pie_trace.specs.Lines.{after_opening, fault_from, history_opening, history_version, lines_from, told_by}
 use Rattle.pie_trace.specs.Migrate.{event_count, first_in_two, history_events, history_fault, later_in_two, migrated, migrated_text, told_rows}
 use Rattle.pie_trace.specs.Text.{records_of}
@@ -25,7 +25,7 @@ three_events-migrated : (migrated_text (2 ^ 32) (records_of three_events)
     ++ codes "refused,5,3\nupdate,2,15000000,0,0,150000000\nrefused,7,1\n")
     × (history_fault (2 ^ 32) (records_of three_events) ≡ None) × (history_events (2 ^ 32) (records_of three_events) ≡ 3)
 unfolding records_from next_record strip_bom field_at fields_text is_blank number ecn_of params_at first_kind version_of profile_of mode_of limits_at draft_at version_one_fields version_two_fields
-    opening_of rows_text verdict_of call_at packet_at arrival_line departure_line update_line reset_line params_line numbers_at note_line shown_line line_of told_by lines_from fault_from
+    opening_of rows_text verdict_of call_at packet_at arrival_line departure_line update_line reset_line params_line numbers_at registers_at note_line shown_line line_of told_by lines_from fault_from
     history_opening history_version after_opening first_in_two later_in_two told_rows migrated history_fault event_count history_events
 three_events-migrated = (refl, refl, refl)
 
@@ -36,6 +36,6 @@ cut_short = codes "rolling,0,4,16,100\nfolded,0\nshown,1,9\n"
 cut_short-migrated : (migrated_text (2 ^ 32) (records_of cut_short) ≡ codes "open2,1,rolling,0,4,16,100\nfolded,0\n")
     × (history_fault (2 ^ 32) (records_of cut_short) ≡ Some (fault.Fields 3))
 unfolding records_from next_record strip_bom field_at fields_text is_blank number ecn_of params_at first_kind version_of profile_of mode_of limits_at draft_at version_one_fields version_two_fields
-    opening_of rows_text verdict_of call_at packet_at arrival_line departure_line update_line reset_line params_line numbers_at note_line shown_line line_of told_by lines_from fault_from
+    opening_of rows_text verdict_of call_at packet_at arrival_line departure_line update_line reset_line params_line numbers_at registers_at note_line shown_line line_of told_by lines_from fault_from
     history_opening history_version after_opening first_in_two later_in_two told_rows migrated history_fault event_count history_events
 cut_short-migrated = (refl, refl)

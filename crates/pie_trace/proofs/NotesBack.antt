@@ -13,14 +13,17 @@ use Rattle.pie_book.specs.Ranges.{RegistersFit, StatsFit}
 use Rattle.pie_trace.specs.declared.history.Line.TheVariants as line
 use Rattle.pie_trace.specs.declared.version.Version.{Version}
 use Rattle.pie_trace.specs.declared.version.Version.TheVariants.{One, Two}
-use Rattle.pie_trace.specs.Line.{line_of, most_u128, note_line, numbers_at, shown_line}
+use Rattle.pie_trace.specs.Line.{line_of, most_u128, note_line, numbers_at, registers_at, shown_line}
 use Rattle.pie_trace.specs.Number.{number}
-use Rattle.pie_trace.specs.Record.{most_u64}
+use Rattle.pie_trace.specs.Record.{most_u32, most_u64}
 use Rattle.pie_trace.specs.Reply.{flag, folded_row, refused_row, shown_row, tallied_row}
 use Rattle.pie_trace.proofs.NumberFacts.{number-decimal, number-value}
 
 back : (n : ℕ) → n < 2 ^ 64 → number most_u64 (decimal n) ≡ Some n
 back n fits = number-decimal most_u64 n (omega arith) (omega arith)
+
+back-short : (n : ℕ) → n < 2 ^ 32 → number most_u32 (decimal n) ≡ Some n
+back-short n fits = number-decimal most_u32 n (omega arith) (omega arith)
 
 -- ---- numbers of 128 bits
 
@@ -57,12 +60,12 @@ back-flag true = number-decimal 1 1 (omega arith) (omega arith)
 back-flag false = number-decimal 1 0 (omega arith) (omega arith)
 
 pub shown-note : (version : Version) (r : Registers) → RegistersFit r → line_of version (shown_row version r) ≡ Ok line.Note
-unfolding line_of shown_line note_line numbers_at field_at shown_row
+unfolding line_of shown_line registers_at numbers_at field_at shown_row
 shown-note One r f =
     rw (
       back r.count f.count,
       back r.moment f.moment,
-      back r.packets f.packets,
+      back-short r.packets f.packets,
       back r.bytes f.bytes,
       back r.prob f.prob,
       back r.old f.old,
@@ -76,7 +79,7 @@ shown-note Two r f =
     rw (
       back r.count f.count,
       back r.moment f.moment,
-      back r.packets f.packets,
+      back-short r.packets f.packets,
       back r.bytes f.bytes,
       back r.prob f.prob,
       back r.old f.old,

@@ -2,10 +2,10 @@
 use Rattle.std.specs.Prelude.{ℕ, ◌≡◌, ◌⊎◌, ◌^◌, List, ◌++◌, Option, Some, None, Result, Ok, Err, codes}
 use Rattle.std.specs.Fmt.{decimal}
 use Rattle.std.specs.Io.KnownBytes.{Appends}
-use Rattle.pie_trace.specs.declared.fault.TraceFault.{TraceFault}
+use Rattle.pie_record.specs.declared.fault.TraceFault.{TraceFault}
 use Rattle.pie_trace.specs.History.{fault_of, history_text}
 use Rattle.pie_trace.specs.Migrate.{history_fault, migrated_text}
-use Rattle.pie_trace.specs.Text.{records_of}
+use Rattle.pie_record.specs.Text.{records_of}
 use Rattle.pie_audit.specs.declared.auditor.Finding.{Finding}
 use Rattle.pie_audit.specs.declared.auditor.Finding.TheVariants.{Clean, Differs}
 use Rattle.pie_audit.specs.Text.{text_finding}

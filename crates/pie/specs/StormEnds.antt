@@ -4,9 +4,9 @@ use Rattle.std.specs.Io.KnownBytes.{Appends}
 use Rattle.clap.specs.Words.{Row, Text}
 use Rattle.pie_book.specs.declared.command.Event.{Event}
 use Rattle.pie_book.specs.Decision.{IsLegal}
-use Rattle.pie_trace.specs.History.{rows_text}
-use Rattle.pie_trace.specs.Text.{records_of}
-use Rattle.pie_trace.specs.Write.{written_rows}
+use Rattle.pie_record.specs.Text.{rows_text}
+use Rattle.pie_record.specs.Text.{records_of}
+use Rattle.pie_record.specs.Write.{written_rows}
 use Rattle.pie_audit.specs.declared.auditor.Finding.TheVariants.{Clean}
 use Rattle.pie_audit.specs.Text.{text_finding}
 use Rattle.pie_link.specs.declared.plan.Plan.{Plan}

@@ -2,7 +2,7 @@
 ghost use Rattle.std.specs.Prelude.{◌≡◌, ◌≤◌, ◌⊎◌, IfOk, map};
 ghost use Rattle.clap.specs.Words.{found_of, rows_of};
 ghost use Rattle.pie_book.specs.Decision.{IsLegal};
-ghost use Rattle.pie_trace.specs.declared.history.Line.TheVariants.{Made};
+ghost use Rattle.pie_record.specs.declared.history.Line.TheVariants.{Made};
 ghost use Rattle.pie_audit.specs.Auditor.{Audits};
 ghost use Rattle.pie_link.specs.Plans.{opening_of};
 ghost use Rattle.pie.specs.StormEnds.{EndsStorm, WritesHistory, number_or};

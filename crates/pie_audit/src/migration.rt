@@ -1,7 +1,7 @@
 //! The law that ties migrations and audits together.
 ghost use Rattle.std.specs.Prelude.{◌≡◌, ◌^◌, ℕ, List, None};
 ghost use Rattle.pie_trace.specs.Migrate.{history_fault, migrated_text};
-ghost use Rattle.pie_trace.specs.Text.{records_of};
+ghost use Rattle.pie_record.specs.Text.{records_of};
 ghost use Rattle.pie_audit.specs.Text.{text_finding};
 
 use pie_trace::migrated_histories_are_read_back;

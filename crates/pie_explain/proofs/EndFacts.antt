@@ -3,16 +3,16 @@ use Rattle.std.proofs.Common.{◌≡◌, ◌==◌, ℕ, List, ◌++◌, length, 
 use Rattle.std.specs.Prelude.{Option, Some, None, Result, Ok, Err, IfSome, IfErr, OnOk, if◌then◌else◌}
 use Rattle.std.specs.Io.KnownBytes.{Appends, append_known}
 use Rattle.pie_book.specs.declared.opening.Opening.{Opening}
-use Rattle.pie_trace.specs.declared.fault.TraceFault.{TraceFault}
-use Rattle.pie_trace.specs.declared.history.Line.{Line}
-use Rattle.pie_trace.specs.Fault.{is_device}
-use Rattle.pie_trace.specs.Lines.{Coming, coming_after, history_lines, history_opening, later_fault}
-use Rattle.pie_trace.specs.Text.{Row, records_of}
+use Rattle.pie_record.specs.declared.fault.TraceFault.{TraceFault}
+use Rattle.pie_record.specs.declared.history.Line.{Line}
+use Rattle.pie_record.specs.Fault.{is_device, closed}
+use Rattle.pie_record.specs.Lines.{Coming, coming_after, history_lines, history_opening, later_fault}
+use Rattle.pie_record.specs.Text.{Row, records_of}
 use Rattle.pie_audit.specs.declared.auditor.Finding.{Finding}
 use Rattle.pie_audit.specs.declared.auditor.Finding.TheVariants.{Clean, Differs}
 use Rattle.pie_audit.specs.Auditor.{Audits, AuditorView}
 use Rattle.pie_audit.specs.Text.{finding_after, judged, text_finding}
-use Rattle.pie_trace.specs.Migrate.{event_count}
+use Rattle.pie_record.specs.Lines.{event_count}
 use Rattle.pie_audit.specs.Finding.{finding, finding_by, first_difference}
 use Rattle.pie_explain.specs.declared.explainer.Form.{Form}
 use Rattle.pie_explain.specs.declared.fault.ExplainFault.{ExplainFault}
@@ -20,7 +20,7 @@ use Rattle.pie_explain.specs.declared.fault.ExplainFault.TheVariants as fault
 use Rattle.pie_explain.specs.declared.fault.ExplainFault.TheVariants.{Trace}
 use Rattle.pie_explain.specs.declared.which.Which.{Which}
 use Rattle.pie_explain.specs.declared.which.Which.TheVariants.{Number, Tag, Lost, All}
-use Rattle.pie_explain.specs.Answer.{Follows, Heard, IsAsAudited, IsTold, answer, answer_after, answer_by, answered, closed}
+use Rattle.pie_explain.specs.Answer.{Follows, Heard, IsAsAudited, IsTold, answer, answer_after, answer_by, answered}
 use Rattle.pie_explain.specs.Explanation.{explanations}
 use Rattle.pie_explain.specs.Output.{header, output, said}
 use Rattle.pie_explain.proofs.ExplainFacts.{appends-nothing}

@@ -2,16 +2,16 @@
 use Rattle.std.specs.Prelude.{ℕ, ◌≡◌, ◌^◌, ◌==◌, ◌≤◌, List, ◌++◌, length, false, Option, Some, None, Result, Ok, Err, ⊤, if◌then◌else◌}
 use Rattle.std.specs.Io.KnownBytes.{Appends}
 use Rattle.pie_book.specs.declared.opening.Opening.{Opening}
-use Rattle.pie_trace.specs.declared.fault.TraceFault.{TraceFault}
-use Rattle.pie_trace.specs.declared.history.Line.{Line}
-use Rattle.pie_trace.specs.Fault.{is_device}
-use Rattle.pie_trace.specs.Lines.{Coming, LinesView, history_lines, history_opening, later_fault}
-use Rattle.pie_trace.specs.Text.{Row}
+use Rattle.pie_record.specs.declared.fault.TraceFault.{TraceFault}
+use Rattle.pie_record.specs.declared.history.Line.{Line}
+use Rattle.pie_record.specs.Fault.{is_device}
+use Rattle.pie_record.specs.Lines.{Coming, LinesView, history_lines, history_opening, later_fault}
+use Rattle.pie_record.specs.Text.{Row}
 use Rattle.pie_audit.specs.declared.auditor.Finding.{Finding}
 use Rattle.pie_audit.specs.declared.auditor.Finding.TheVariants.{Clean}
 use Rattle.pie_audit.specs.declared.auditor.Finding.TheVariants as finding
 use Rattle.pie_audit.specs.Auditor.{Audits, AuditorView}
-use Rattle.pie_trace.specs.Migrate.{event_count}
+use Rattle.pie_record.specs.Lines.{event_count}
 use Rattle.pie_audit.specs.Finding.{finding as finding_of}
 use Rattle.pie_explain.specs.declared.explainer.Form.{Form}
 use Rattle.pie_explain.specs.declared.fault.ExplainFault.{ExplainFault}
@@ -57,13 +57,6 @@ IsAsAudited audited (Err (Trace why)) = is_device why ≡ false → audited ≡ 
 IsAsAudited audited (Err (Differs event)) = audited ≡ Ok (finding.Differs event)
 IsAsAudited audited (Err (NoEvent event events)) = audited ≡ Ok (Clean events)
 IsAsAudited audited (Err (NoTag tag)) = (events : ℕ) × (audited ≡ Ok (Clean events))
-
--- what failed first, reading and explaining or writing the last page: a device or memory that failed before stays the answer, and
--- any other answer gives way to a write that fails
-abbrev pub closed : Result (Unit {0}) TraceFault → Result (Unit {0}) TraceFault → Result (Unit {0}) TraceFault
-closed outcome (Ok done) = outcome
-closed (Ok done) (Err why) = Err why
-closed (Err first) (Err why) = if is_device first then Err first else Err why
 
 -- ---- how far explaining has come
 

@@ -1,18 +1,18 @@
 -- Histories in version two: each theorem computes.
-use Rattle.std.specs.Prelude.{◌≡◌, ◌^◌, ℕ, List, ◌++◌, Option, Some, None, codes, refl}
+use Rattle.std.specs.Prelude.{◌≡◌, ◌^◌, ℕ, List, ◌++◌, Some, None, codes, refl}
 use Rattle.csv.specs.Machine.{next_record}
 use Rattle.csv.specs.Reading.{records_from, strip_bom}
 use Rattle.csv.specs.Records.{field_at}
 use Rattle.csv.specs.Writing.{fields_text, is_blank}
-use Rattle.pie_trace.specs.declared.fault.TraceFault.TheVariants as fault
-use Rattle.pie_trace.specs.Number.{number}
-use Rattle.pie_trace.specs.FirstRecord.{draft_at, first_kind, limits_at, mode_of, profile_of, version_of, version_one_fields, version_two_fields}
-use Rattle.pie_trace.specs.Record.{ecn_of, params_at}
-use Rattle.pie_trace.specs.History.{opening_of, rows_text}
-use Rattle.pie_trace.specs.Line.{arrival_line, call_at, departure_line, line_of, note_line, numbers_at, packet_at, params_line, registers_at, reset_line, shown_line, update_line, verdict_of}
-use Rattle.pie_trace.specs.Lines.{after_opening, fault_from, history_opening, history_version, lines_from, told_by}
-use Rattle.pie_trace.specs.Migrate.{event_count, first_in_two, history_events, history_fault, later_in_two, migrated, migrated_text, told_rows}
-use Rattle.pie_trace.specs.Text.{records_of}
+use Rattle.pie_record.specs.declared.fault.TraceFault.TheVariants as fault
+use Rattle.pie_record.specs.Number.{number}
+use Rattle.pie_record.specs.FirstRecord.{draft_at, first_kind, limits_at, mode_of, profile_of, version_of, version_one_fields, version_two_fields}
+use Rattle.pie_record.specs.Record.{ecn_of, params_at, call_at}
+use Rattle.pie_record.specs.Opening.{opening_of}
+use Rattle.pie_record.specs.Text.{rows_text, records_of}
+use Rattle.pie_record.specs.Line.{arrival_line, departure_line, line_of, note_line, numbers_at, packet_at, params_line, registers_at, reset_line, shown_line, update_line, verdict_of}
+use Rattle.pie_record.specs.Lines.{after_opening, fault_from, history_opening, history_version, lines_from, told_by, event_count}
+use Rattle.pie_trace.specs.Migrate.{first_in_two, history_events, history_fault, later_in_two, migrated, migrated_text, told_rows}
 
 abbrev three_events : List ℕ
 three_events =

@@ -21,15 +21,16 @@ use Rattle.pie_book.specs.Estimates.{active_after, departures_after, delay_after
 use Rattle.pie_book.specs.Registers.{registers_after}
 use Rattle.pie_book.specs.Statistics.{largest_queue, largest_delay, waited, no_stats, stats_after}
 use Rattle.pie_book.specs.Run.{progress_after}
-use Rattle.pie_trace.specs.declared.fault.OpenFault.TheVariants as open_fault
-use Rattle.pie_trace.specs.declared.fault.TraceFault.{TraceFault}
-use Rattle.pie_trace.specs.declared.fault.TraceFault.TheVariants as fault
-use Rattle.pie_trace.specs.Number.{number}
-use Rattle.pie_trace.specs.FirstRecord.{draft_at, first_kind, limits_at, mode_of, profile_of, version_of, version_one_fields, version_two_fields}
-use Rattle.pie_trace.specs.Record.{arrive_fields, call_fields, ecn_of, fold_fields, params_at, params_fields, request_of}
-use Rattle.pie_trace.specs.Reply.{answer_fields, folded_row, refused_row, shown_row, tallied_row}
-use Rattle.pie_trace.specs.History.{before_fault, end_of, fault_of, first_fault, history_rows, history_text, opening_of, record_fault, replies, requests_of, rows_text, steps_of, text_left}
-use Rattle.pie_trace.specs.Text.{records_of}
+use Rattle.pie_record.specs.declared.fault.OpenFault.TheVariants as open_fault
+use Rattle.pie_record.specs.declared.fault.TraceFault.{TraceFault}
+use Rattle.pie_record.specs.declared.fault.TraceFault.TheVariants as fault
+use Rattle.pie_record.specs.Number.{number}
+use Rattle.pie_record.specs.FirstRecord.{draft_at, first_kind, limits_at, mode_of, profile_of, version_of, version_one_fields, version_two_fields}
+use Rattle.pie_record.specs.Record.{arrive_fields, call_at, call_fields, ecn_of, fold_fields, params_at, params_fields, request_of}
+use Rattle.pie_record.specs.Answer.{answer_fields, folded_row, refused_row, shown_row, tallied_row}
+use Rattle.pie_trace.specs.History.{before_fault, end_of, fault_of, first_fault, history_rows, history_text, record_fault, replies, requests_of, steps_of, text_left}
+use Rattle.pie_record.specs.Opening.{opening_of}
+use Rattle.pie_record.specs.Text.{rows_text, records_of}
 
 -- the history text of a trace of at most a thousand records, and its first fault
 abbrev history_of : List ℕ → List ℕ
@@ -49,7 +50,7 @@ bare-history =
 
 bare-runs : history_of bare ≡ bare-history
 unfolding record_fault first_fault before_fault requests_of steps_of replies history_rows rows_text text_left fault_of history_text end_of number
-    ecn_of params_at first_kind version_of profile_of mode_of limits_at draft_at version_one_fields version_two_fields arrive_fields call_fields params_fields fold_fields request_of opening_of records_from
+    ecn_of params_at first_kind version_of profile_of mode_of limits_at draft_at version_one_fields version_two_fields arrive_fields call_at call_fields params_fields fold_fields request_of opening_of records_from
     next_record strip_bom field_at answer_fields refused_row folded_row shown_row tallied_row digits fields_text is_blank progress_after
     registers_after stats_after largest_queue largest_delay waited accu_after early_events accumulated is_considered is_picked parts_after
     control_events delay_after delay_of departures_after params_after last_or places effective_moment greatest waiting_after departed_count admitted
@@ -74,7 +75,7 @@ one_arrival-history =
 
 one_arrival-runs : history_of one_arrival ≡ one_arrival-history
 unfolding record_fault first_fault before_fault requests_of steps_of replies history_rows rows_text text_left fault_of history_text end_of number
-    ecn_of params_at first_kind version_of profile_of mode_of limits_at draft_at version_one_fields version_two_fields arrive_fields call_fields params_fields fold_fields request_of opening_of records_from
+    ecn_of params_at first_kind version_of profile_of mode_of limits_at draft_at version_one_fields version_two_fields arrive_fields call_at call_fields params_fields fold_fields request_of opening_of records_from
     next_record strip_bom field_at answer_fields refused_row folded_row shown_row tallied_row digits fields_text is_blank progress_after
     registers_after stats_after largest_queue largest_delay waited accu_after early_events accumulated is_considered is_picked parts_after
     control_events delay_after delay_of departures_after params_after last_or places effective_moment greatest waiting_after departed_count admitted
@@ -105,7 +106,7 @@ falling-history =
 
 falling-runs : history_of falling ≡ falling-history
 unfolding record_fault first_fault before_fault requests_of steps_of replies history_rows rows_text text_left fault_of history_text end_of number
-    ecn_of params_at first_kind version_of profile_of mode_of limits_at draft_at version_one_fields version_two_fields arrive_fields call_fields params_fields fold_fields request_of opening_of records_from
+    ecn_of params_at first_kind version_of profile_of mode_of limits_at draft_at version_one_fields version_two_fields arrive_fields call_at call_fields params_fields fold_fields request_of opening_of records_from
     next_record strip_bom field_at answer_fields refused_row folded_row shown_row tallied_row digits fields_text is_blank progress_after
     registers_after stats_after largest_queue largest_delay waited accu_after early_events accumulated is_considered is_picked parts_after
     control_events delay_after delay_of departures_after params_after last_or places effective_moment greatest waiting_after departed_count admitted
@@ -136,7 +137,7 @@ small_limit-history =
 
 small_limit-runs : history_of small_limit ≡ small_limit-history
 unfolding record_fault first_fault before_fault requests_of steps_of replies history_rows rows_text text_left fault_of history_text end_of number
-    ecn_of params_at first_kind version_of profile_of mode_of limits_at draft_at version_one_fields version_two_fields arrive_fields call_fields params_fields fold_fields request_of opening_of records_from
+    ecn_of params_at first_kind version_of profile_of mode_of limits_at draft_at version_one_fields version_two_fields arrive_fields call_at call_fields params_fields fold_fields request_of opening_of records_from
     next_record strip_bom field_at answer_fields refused_row folded_row shown_row tallied_row digits fields_text is_blank progress_after
     registers_after stats_after largest_queue largest_delay waited accu_after early_events accumulated is_considered is_picked parts_after
     control_events delay_after delay_of departures_after params_after last_or places effective_moment greatest waiting_after departed_count admitted
@@ -179,7 +180,7 @@ rates-history =
 
 rates-runs : history_of rates ≡ rates-history
 unfolding record_fault first_fault before_fault requests_of steps_of replies history_rows rows_text text_left fault_of history_text end_of number
-    ecn_of params_at first_kind version_of profile_of mode_of limits_at draft_at version_one_fields version_two_fields arrive_fields call_fields params_fields fold_fields request_of opening_of records_from
+    ecn_of params_at first_kind version_of profile_of mode_of limits_at draft_at version_one_fields version_two_fields arrive_fields call_at call_fields params_fields fold_fields request_of opening_of records_from
     next_record strip_bom field_at answer_fields refused_row folded_row shown_row tallied_row digits fields_text is_blank progress_after
     registers_after stats_after largest_queue largest_delay waited accu_after early_events accumulated is_considered is_picked parts_after
     control_events delay_after delay_of departures_after params_after last_or places effective_moment greatest waiting_after departed_count admitted
@@ -235,7 +236,7 @@ marks_rest-history =
 
 marks-runs : history_of (codes "open,0,8,32,100,2,1,0,850000,0,1,100000,1000000000000,1024\n" ++ marks_rest) ≡ codes "open,0,8,32,100,2,1,0,850000,0,1,100000,1000000000000,1024\n" ++ marks_rest-history
 unfolding record_fault first_fault before_fault requests_of steps_of replies history_rows rows_text text_left fault_of history_text end_of number
-    ecn_of params_at first_kind version_of profile_of mode_of limits_at draft_at version_one_fields version_two_fields arrive_fields call_fields params_fields fold_fields request_of opening_of records_from
+    ecn_of params_at first_kind version_of profile_of mode_of limits_at draft_at version_one_fields version_two_fields arrive_fields call_at call_fields params_fields fold_fields request_of opening_of records_from
     next_record strip_bom field_at answer_fields refused_row folded_row shown_row tallied_row digits fields_text is_blank progress_after
     registers_after stats_after largest_queue largest_delay waited accu_after early_events accumulated is_considered is_picked parts_after
     control_events delay_after delay_of departures_after params_after last_or places effective_moment greatest waiting_after departed_count admitted
@@ -246,7 +247,7 @@ marks-runs = refl
 -- the same in a rolling book whose tail holds one event: the first record alone is another
 marks_rolling-runs : history_of (codes "rolling,0,8,1,100,2,1,0,850000,0,1,100000,1000000000000,1024\n" ++ marks_rest) ≡ codes "rolling,0,8,1,100,2,1,0,850000,0,1,100000,1000000000000,1024\n" ++ marks_rest-history
 unfolding record_fault first_fault before_fault requests_of steps_of replies history_rows rows_text text_left fault_of history_text end_of number
-    ecn_of params_at first_kind version_of profile_of mode_of limits_at draft_at version_one_fields version_two_fields arrive_fields call_fields params_fields fold_fields request_of opening_of records_from
+    ecn_of params_at first_kind version_of profile_of mode_of limits_at draft_at version_one_fields version_two_fields arrive_fields call_at call_fields params_fields fold_fields request_of opening_of records_from
     next_record strip_bom field_at answer_fields refused_row folded_row shown_row tallied_row digits fields_text is_blank progress_after
     registers_after stats_after largest_queue largest_delay waited accu_after early_events accumulated is_considered is_picked parts_after
     control_events delay_after delay_of departures_after params_after last_or places effective_moment greatest waiting_after departed_count admitted
@@ -275,7 +276,7 @@ rolling-history =
 
 rolling-runs : history_of rolling ≡ rolling-history
 unfolding record_fault first_fault before_fault requests_of steps_of replies history_rows rows_text text_left fault_of history_text end_of number
-    ecn_of params_at first_kind version_of profile_of mode_of limits_at draft_at version_one_fields version_two_fields arrive_fields call_fields params_fields fold_fields request_of opening_of records_from
+    ecn_of params_at first_kind version_of profile_of mode_of limits_at draft_at version_one_fields version_two_fields arrive_fields call_at call_fields params_fields fold_fields request_of opening_of records_from
     next_record strip_bom field_at answer_fields refused_row folded_row shown_row tallied_row digits fields_text is_blank progress_after
     registers_after stats_after largest_queue largest_delay waited accu_after early_events accumulated is_considered is_picked parts_after
     control_events delay_after delay_of departures_after params_after last_or places effective_moment greatest waiting_after departed_count admitted
@@ -300,7 +301,7 @@ exhausted-history =
 
 exhausted-runs : history_of exhausted ≡ exhausted-history
 unfolding record_fault first_fault before_fault requests_of steps_of replies history_rows rows_text text_left fault_of history_text end_of number
-    ecn_of params_at first_kind version_of profile_of mode_of limits_at draft_at version_one_fields version_two_fields arrive_fields call_fields params_fields fold_fields request_of opening_of records_from
+    ecn_of params_at first_kind version_of profile_of mode_of limits_at draft_at version_one_fields version_two_fields arrive_fields call_at call_fields params_fields fold_fields request_of opening_of records_from
     next_record strip_bom field_at answer_fields refused_row folded_row shown_row tallied_row digits fields_text is_blank progress_after
     registers_after stats_after largest_queue largest_delay waited accu_after early_events accumulated is_considered is_picked parts_after
     control_events delay_after delay_of departures_after params_after last_or places effective_moment greatest waiting_after departed_count admitted
@@ -333,7 +334,7 @@ full_tail-history =
 
 full_tail-runs : history_of full_tail ≡ full_tail-history
 unfolding record_fault first_fault before_fault requests_of steps_of replies history_rows rows_text text_left fault_of history_text end_of number
-    ecn_of params_at first_kind version_of profile_of mode_of limits_at draft_at version_one_fields version_two_fields arrive_fields call_fields params_fields fold_fields request_of opening_of records_from
+    ecn_of params_at first_kind version_of profile_of mode_of limits_at draft_at version_one_fields version_two_fields arrive_fields call_at call_fields params_fields fold_fields request_of opening_of records_from
     next_record strip_bom field_at answer_fields refused_row folded_row shown_row tallied_row digits fields_text is_blank progress_after
     registers_after stats_after largest_queue largest_delay waited accu_after early_events accumulated is_considered is_picked parts_after
     control_events delay_after delay_of departures_after params_after last_or places effective_moment greatest waiting_after departed_count admitted
@@ -363,7 +364,7 @@ turns_on-history active =
 turns_on-runs : (history_of (codes "open2,2" ++ turns_on_rest) ≡ codes "open2,2" ++ turns_on-history (codes "0"))
     × (history_of (codes "open2,1" ++ turns_on_rest) ≡ codes "open2,1" ++ turns_on-history (codes "1"))
 unfolding record_fault first_fault before_fault requests_of steps_of replies history_rows rows_text text_left fault_of history_text end_of number
-    ecn_of params_at first_kind version_of profile_of mode_of limits_at draft_at version_one_fields version_two_fields arrive_fields call_fields params_fields fold_fields request_of opening_of records_from
+    ecn_of params_at first_kind version_of profile_of mode_of limits_at draft_at version_one_fields version_two_fields arrive_fields call_at call_fields params_fields fold_fields request_of opening_of records_from
     next_record strip_bom field_at answer_fields refused_row folded_row shown_row tallied_row digits fields_text is_blank progress_after
     registers_after stats_after largest_queue largest_delay waited accu_after early_events accumulated is_considered is_picked parts_after
     control_events delay_after delay_of departures_after params_after last_or places effective_moment greatest waiting_after departed_count admitted
@@ -393,7 +394,7 @@ first_record_faults : map first_fault_of (
     ∷ Some (fault.Opening (open_fault.Param Target)) ∷ Some (fault.Opening (open_fault.Param DqThreshold))
     ∷ Some (fault.Opening open_fault.Limits) ∷ Some (fault.Opening open_fault.Moment) ∷ None
     ∷ Some (fault.Number 1) ∷ Some (fault.Word 1) ∷ Some (fault.Fields 1) ∷ Some (fault.Opening (open_fault.Param Target)) ∷ Some (fault.Opening open_fault.Limits) ∷ []
-unfolding fault_of first_fault record_fault number ecn_of params_at first_kind version_of profile_of mode_of limits_at draft_at version_one_fields version_two_fields arrive_fields call_fields params_fields
+unfolding fault_of first_fault record_fault number ecn_of params_at first_kind version_of profile_of mode_of limits_at draft_at version_one_fields version_two_fields arrive_fields call_at call_fields params_fields
     fold_fields request_of opening_of records_from next_record strip_bom field_at
 first_record_faults = refl
 
@@ -415,14 +416,14 @@ later_record_faults : map (λ line. first_fault_of (codes "open,0,4,16,100\n" ++
     ∷ [])
     ≡ Some (fault.Kind 2) ∷ Some (fault.Kind 2) ∷ Some (fault.Kind 2) ∷ Some (fault.Fields 2) ∷ Some (fault.Fields 2) ∷ Some (fault.Fields 2) ∷ Some (fault.Number 2)
     ∷ Some (fault.Number 2) ∷ Some (fault.Fields 2) ∷ Some (fault.Fields 2) ∷ Some (fault.Number 2) ∷ Some (fault.Word 2) ∷ None ∷ []
-unfolding fault_of first_fault record_fault number ecn_of params_at first_kind version_of profile_of mode_of limits_at draft_at version_one_fields version_two_fields arrive_fields call_fields params_fields
+unfolding fault_of first_fault record_fault number ecn_of params_at first_kind version_of profile_of mode_of limits_at draft_at version_one_fields version_two_fields arrive_fields call_at call_fields params_fields
     fold_fields request_of opening_of records_from next_record strip_bom field_at
 later_record_faults = refl
 
 -- up to the faulty record, the history stands
 faulty-runs : history_of (codes "open,0,4,16,100\ndepart,1,1\ndep,1,1\ndepart,1,2\n") ≡ codes "open,0,4,16,100\ndepart,1,1,empty\n"
 unfolding record_fault first_fault before_fault requests_of steps_of replies history_rows rows_text text_left fault_of history_text end_of number
-    ecn_of params_at first_kind version_of profile_of mode_of limits_at draft_at version_one_fields version_two_fields arrive_fields call_fields params_fields fold_fields request_of opening_of records_from
+    ecn_of params_at first_kind version_of profile_of mode_of limits_at draft_at version_one_fields version_two_fields arrive_fields call_at call_fields params_fields fold_fields request_of opening_of records_from
     next_record strip_bom field_at answer_fields refused_row folded_row shown_row tallied_row digits fields_text is_blank progress_after
     registers_after stats_after largest_queue largest_delay waited accu_after early_events accumulated is_considered is_picked parts_after
     control_events delay_after delay_of departures_after params_after last_or places effective_moment greatest waiting_after departed_count admitted
@@ -452,7 +453,7 @@ bare-ends : end_of (records_of bare) ≡ Some (record {
   stats = no_stats;
 })
 unfolding record_fault first_fault before_fault requests_of steps_of replies history_rows rows_text text_left fault_of history_text end_of number
-    ecn_of params_at first_kind version_of profile_of mode_of limits_at draft_at version_one_fields version_two_fields arrive_fields call_fields params_fields fold_fields request_of opening_of records_from
+    ecn_of params_at first_kind version_of profile_of mode_of limits_at draft_at version_one_fields version_two_fields arrive_fields call_at call_fields params_fields fold_fields request_of opening_of records_from
     next_record strip_bom field_at answer_fields refused_row folded_row shown_row tallied_row digits fields_text is_blank progress_after
     registers_after stats_after largest_queue largest_delay waited accu_after early_events accumulated is_considered is_picked parts_after
     control_events delay_after delay_of departures_after params_after last_or places effective_moment greatest waiting_after departed_count admitted

@@ -2,7 +2,6 @@
 use Rattle.std.proofs.Common.{◌≡◌, ◌≤◌, ◌<◌, ◌+◌, ◌-◌, ◌^◌, ◌==◌, ℕ, List, [], ◌∷◌, ◌++◌, length, Bool, true, false, refl, sym, ap, subst, ◌∙◌, arith, length-append, if◌then◌else◌}
 use Rattle.std.specs.Prelude.{All, nat_lt, take, Option, Some, None, Result, Ok, Err, codes}
 use Rattle.std.proofs.lemmas.Bool.{ltb-true}
-use Rattle.std.proofs.lemmas.Bool.Decides.{nat_tests}
 use Rattle.std.proofs.lemmas.List.Elements.{All-append, All-cons, All-nil}
 use Rattle.csv.specs.Records.{field_at}
 use Rattle.pie_params.specs.Range.{first_bad}
@@ -27,31 +26,34 @@ use Rattle.pie_book.specs.Ranges.{AnswerFits, CommandFits, ParamsFit, RegistersF
 use Rattle.pie_book.specs.Registers.{registers_after}
 use Rattle.pie_book.specs.Run.{Progress, event_of, fold_outcome, held_with_one, recorded, refused_or, start}
 use Rattle.pie_book.specs.Statistics.{stats_after}
-use Rattle.pie_trace.specs.declared.fault.Flaw.{Flaw}
-use Rattle.pie_trace.specs.declared.fault.TraceFault.{TraceFault}
-use Rattle.pie_trace.specs.declared.fault.TraceFault.TheVariants as fault
-use Rattle.pie_trace.specs.declared.fields.Request.{Request}
-use Rattle.pie_trace.specs.declared.fields.Request.TheVariants.{Ask, BadParams, Fold, Show, Tally}
-use Rattle.pie_trace.specs.declared.first_record.Draft.{Draft}
-use Rattle.pie_trace.specs.declared.first_record.FirstKind.{FirstKind}
-use Rattle.pie_trace.specs.declared.first_record.FirstKind.TheVariants as kinds
-use Rattle.pie_trace.specs.declared.history.Line.{Line}
-use Rattle.pie_trace.specs.declared.version.Version.{Version}
-use Rattle.pie_trace.specs.Fault.{fault_at}
-use Rattle.pie_trace.specs.History.{before_fault, checked_opening, history_rows, history_text, opening_by, opening_in, opening_of, opening_read, record_fault, refused_opening, replies, requests_of, rows_text, text_left}
-use Rattle.pie_trace.specs.Line.{line_of}
-use Rattle.pie_trace.specs.ReadBack.{TellsHistory, line_told, lines_told, run_lines}
-use Rattle.pie_trace.specs.FirstRecord.{first_fields, first_kind, version_of}
-use Rattle.pie_trace.specs.Record.{is_kind, request_of}
-use Rattle.pie_trace.specs.Reply.{Reply, after, code_of, history_row, reply, reply_to_command, reply_to_fold}
-use Rattle.pie_trace.specs.Text.{Row}
+use Rattle.pie_record.specs.declared.fault.Flaw.{Flaw}
+use Rattle.pie_record.specs.declared.fault.TraceFault.{TraceFault}
+use Rattle.pie_record.specs.declared.fault.TraceFault.TheVariants as fault
+use Rattle.pie_record.specs.declared.fields.Request.{Request}
+use Rattle.pie_record.specs.declared.fields.Request.TheVariants.{Ask, BadParams, Fold, Show, Tally}
+use Rattle.pie_record.specs.declared.first_record.Draft.{Draft}
+use Rattle.pie_record.specs.declared.first_record.FirstKind.{FirstKind}
+use Rattle.pie_record.specs.declared.first_record.FirstKind.TheVariants as kinds
+use Rattle.pie_record.specs.declared.history.Line.{Line}
+use Rattle.pie_record.specs.declared.version.Version.{Version}
+use Rattle.pie_record.specs.Fault.{fault_at}
+use Rattle.pie_trace.specs.History.{before_fault, history_rows, history_text, record_fault, replies, requests_of, text_left}
+use Rattle.pie_record.specs.Opening.{checked_opening, opening_by, opening_in, opening_of, opening_read, refused_opening}
+use Rattle.pie_record.specs.Text.{rows_text, Row}
+use Rattle.pie_record.specs.Line.{line_of}
+use Rattle.pie_record.specs.ReadBack.{TellsHistory}
+use Rattle.pie_trace.specs.RunLines.{line_told, lines_told, run_lines}
+use Rattle.pie_record.specs.FirstRecord.{first_fields, first_kind, version_of}
+use Rattle.pie_record.specs.Record.{is_kind, request_of}
+use Rattle.pie_trace.specs.Reply.{Reply, after, history_row, reply, reply_to_command, reply_to_fold}
+use Rattle.pie_record.specs.Answer.{code_of}
 use Rattle.pie_trace.proofs.EndFacts.{history_text-read}
-use Rattle.pie_trace.proofs.EventBack.{line-back}
-use Rattle.pie_trace.proofs.HistoryBack.{Begins, TellEach, TellEach-cons, TellEach-none, history-told}
+use Rattle.pie_record.proofs.EventBack.{line-back}
+use Rattle.pie_record.proofs.HistoryBack.{Begins, TellEach, TellEach-cons, TellEach-none, history-told, ltb-false, told-field}
 use Rattle.pie_trace.proofs.HistoryFacts.{before_fault-later, flawed-record, long-record, requests_of-cons}
-use Rattle.pie_trace.proofs.NotesBack.{folded-note, refused-note, shown-note, tallied-note}
-use Rattle.pie_trace.proofs.RequestBack.{kind-word, request-asks}
-use Rattle.pie_trace.proofs.TextBack.{HasField, kind_word, rows_text-cons}
+use Rattle.pie_record.proofs.NotesBack.{folded-note, refused-note, shown-note, tallied-note}
+use Rattle.pie_record.proofs.RequestBack.{kind-word, request-asks}
+use Rattle.pie_record.proofs.TextBack.{HasField, kind_word, rows_text-cons}
 
 -- what pie_book promises of all histories
 pub record Held : Type 0 where
@@ -109,9 +111,6 @@ ask-told version held number row caller command opening progress small opens sou
         (held.answers opening progress.history command opens.accepted opens.params sound.legal sound.fit free)
     by None true free = refused-note version number 5 small (omega arith)
     by (Some why) full free = refused-note version number (code_of why) small (code-small why)
-
-pub ltb-false : (a b : ℕ) → nat_lt a b ≡ false → b ≤ a
-ltb-false a b e = grind (arith, nat_tests)
 
 fold-enough : (progress : Progress) (n : ℕ) (events : List Event) → fold_outcome progress n ≡ Ok events → n ≤ progress.held
 fold-enough progress n events = by (nat_lt progress.held n) refl
@@ -262,12 +261,6 @@ unfolding history_rows
 rows-few version number [] given = omega arith
 rows-few version number (row ∷ rows) [] = omega arith
 rows-few version number (row ∷ rows) (reply ∷ given) = let more = rows-few version (number + 1) rows given in omega arith
-
--- a row that tells a line has a field
-pub told-field : (version : Version) (row : Row) (line : Line) → line_of version row ≡ Ok line → HasField row
-unfolding line_of field_at
-told-field version [] line e = cc
-told-field version (field ∷ rest) line e = omega arith
 
 pub told-fields : (version : Version) (rows : List Row) (lines : List Line) → TellEach version rows lines → All HasField rows
 unfolding TellEach

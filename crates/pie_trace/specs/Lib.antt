@@ -1,15 +1,5 @@
-pub mod Number
-pub mod Fault
-pub mod Text
-pub mod Record
-pub mod FirstRecord
-pub mod Line
 pub mod Reply
 pub mod History
 pub mod Steps
-pub mod Rows
-pub mod Records
-pub mod Lines
-pub mod Write
-pub mod ReadBack
+pub mod RunLines
 pub mod Migrate

@@ -1,17 +1,17 @@
 -- How far the run of a trace has come: what was done so far and what the records that are left will do make up what all
 -- of them do.
-use Rattle.std.specs.Prelude.{ℕ, ◌≡◌, ◌+◌, List, ◌++◌, length, false, Option, Some, None, Result, Ok, Err, ⊤, cond, if◌then◌else◌}
+use Rattle.std.specs.Prelude.{ℕ, ◌≡◌, ◌+◌, List, ◌++◌, length, false, Option, Some, None, Result, Ok, Err, cond}
 use Rattle.std.specs.Io.KnownBytes.{Appends}
 use Rattle.pie_book.specs.declared.opening.Opening.{Opening}
 use Rattle.pie_book.specs.Book.{BookView, Tells}
 use Rattle.pie_book.specs.Opening.{opening_refusal}
 use Rattle.pie_book.specs.Run.{Progress, start, progress_after}
-use Rattle.pie_trace.specs.declared.fault.TraceFault.{TraceFault}
-use Rattle.pie_trace.specs.declared.fields.Request.{Request}
+use Rattle.pie_record.specs.declared.fault.TraceFault.{TraceFault}
+use Rattle.pie_record.specs.declared.fields.Request.{Request}
 use Rattle.pie_trace.specs.declared.run.RunEnd.{RunEnd}
-use Rattle.pie_trace.specs.declared.version.Version.{Version}
-use Rattle.pie_trace.specs.Fault.{is_device}
-use Rattle.pie_trace.specs.Text.{Row, text_of}
+use Rattle.pie_record.specs.declared.version.Version.{Version}
+use Rattle.pie_record.specs.Fault.{is_device}
+use Rattle.pie_record.specs.Text.{Row, text_of}
 use Rattle.pie_trace.specs.History.{end_of, fault_of, first_fault, history_text, progress_at_end, refused_count, replies, requests_of, steps_of, text_left}
 use Rattle.pie_trace.specs.Reply.{Reply, after, history_row, is_refused, reply}
 
@@ -78,15 +78,3 @@ pub record AreStopped (version : Version) (most : ℕ) (opening : Opening) (all 
 abbrev pub Ends : ℕ → List Row → Result RunEnd TraceFault → Option (List ℕ) → Option (List ℕ) → Type 0
 Ends most all (Ok end) before now = (fault_of most all ≡ None) × (end_of all ≡ Some end) × Appends before now (history_text most all)
 Ends most all (Err why) before now = is_device why ≡ false → (fault_of most all ≡ Some why) × Appends before now (history_text most all)
-
--- neither the reader, the writer nor memory failed
-abbrev pub IsTold : {A : Type 0} → Result A TraceFault → Type 0
-IsTold (Ok end) = ⊤
-IsTold (Err why) = is_device why ≡ false
-
--- what the answer is where the last rows were written out, or could not be: a device or memory that failed before stays the
--- answer, and any other answer gives way to what failed now
-abbrev pub closed : {A : Type 0} → Result A TraceFault → Result (Unit {0}) TraceFault → Result A TraceFault
-closed result (Ok written) = result
-closed (Ok end) (Err why) = Err why
-closed (Err first) (Err why) = if is_device first then Err first else Err why

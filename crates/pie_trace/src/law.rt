@@ -1,9 +1,11 @@
 //! The law of history texts: they are read back.
 ghost use Rattle.std.specs.Prelude.{◌≡◌, ◌<◌, ◌≤◌, ◌^◌, ◌∷◌, ℕ, List, Ok};
 ghost use Rattle.pie_book.specs.declared.opening.Opening.{Opening};
-ghost use Rattle.pie_trace.specs.History.{history_text, opening_of};
-ghost use Rattle.pie_trace.specs.ReadBack.{TellsHistory, run_lines};
-ghost use Rattle.pie_trace.specs.Text.{Row};
+ghost use Rattle.pie_trace.specs.History.{history_text};
+ghost use Rattle.pie_record.specs.Opening.{opening_of};
+ghost use Rattle.pie_record.specs.ReadBack.{TellsHistory};
+ghost use Rattle.pie_trace.specs.RunLines.{run_lines};
+ghost use Rattle.pie_record.specs.Text.{Row};
 
 use pie_book::all_numbers_are_held;
 

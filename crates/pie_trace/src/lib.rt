@@ -1,6 +1,6 @@
 //! Traces of commands, and the history text that a run of a trace writes, in two versions.
 //!
-//! The definitions that the contracts cite stand in `specs/`: the records of a text, its first fault, and its history
+//! The definitions that the contracts cite stand in `specs/`, and for records in those of pie_record: a trace's first fault, and its history
 //! text.
 //!
 //! `run_trace_within` and `run_trace`, over any reader and writer that tell their bytes, where the answer is not `Read`,
@@ -16,35 +16,22 @@
 //! `migrated_runs_are_runs_of_version_two`.
 #![tactic(auto)]
 
-mod answer;
-pub mod fault;
-mod fields;
-mod first_record;
-pub mod history;
 pub mod law;
-pub mod lines;
 pub mod migration;
 pub mod migration_law;
-mod number;
-mod records;
-mod rows;
 pub mod run;
 mod session;
 mod typed;
-pub mod version;
 pub mod write;
 
-pub use fault::{Flaw, OpenFault, TraceFault};
-pub use history::Line;
 pub use law::history_texts_are_read_back;
-pub use lines::HistoryLines;
 pub use migration::migrate;
 pub use migration_law::{
     migrated_histories_are_read_back, migrated_runs_are_runs_of_version_two,
     migrating_again_changes_nothing,
 };
+pub use pie_record::{Flaw, HistoryLines, Line, OpenFault, TraceFault, Version};
 pub use run::{RunEnd, run_trace, run_trace_within};
-pub use version::Version;
 pub use write::write_history;
 
 #[cfg(test)]

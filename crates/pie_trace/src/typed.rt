@@ -2,9 +2,9 @@
 //! say it of values in hand.
 ghost use Rattle.std.specs.Prelude.{◌≡◌, ◌<◌, ◌≤◌, ◌^◌, true};
 ghost use Rattle.pie_book.specs.Deed.{fits};
-ghost use Rattle.pie_trace.specs.Record.{most_u16};
+ghost use Rattle.pie_record.specs.Record.{most_u16};
 ghost use Rattle.pie_book.specs.Ranges.{AnswerFits, CommandFits, PacketFits, ParamsFit};
-ghost use Rattle.pie_trace.specs.ReadBack.{EventFits};
+ghost use Rattle.pie_record.specs.ReadBack.{EventFits};
 
 use pie_book::{Answer, Command, Event};
 use pie_params::Params;

@@ -3,11 +3,11 @@
 use super::ONE_ARRIVAL_HISTORY;
 use super::records::{EVERY_KIND, EVERY_KIND_HISTORY};
 use super::writing::{departed, opened};
-use crate::rows::CHUNK;
 use crate::{HistoryLines, TraceFault, run_trace, run_trace_within, write_history};
 use pie_book::Mode;
 use pie_params::Params;
 use pie_queue::Ecn;
+use pie_record::rows::CHUNK;
 use std::alloc::Global;
 use std::io;
 use std::io::{ErrorKind, Read, Write};

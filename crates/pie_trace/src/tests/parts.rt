@@ -1,8 +1,9 @@
 //! Numbers in fields, and rows on their way to a writer.
 
-use crate::number::{end_fields, number, push_bytes, push_long_number, push_number, push_numbers};
-use crate::rows::{CHUNK, Rows};
 use csv::ByteRecord;
+use pie_record::long::push_long_number;
+use pie_record::number::{end_fields, number, push_bytes, push_number, push_numbers};
+use pie_record::rows::{CHUNK, Rows};
 use std::alloc::AllocError;
 
 #[test]

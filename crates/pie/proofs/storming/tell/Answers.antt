@@ -1,5 +1,5 @@
 use Rattle.std.proofs.Common.{inr, map, refl}
-use Rattle.pie_trace.specs.declared.history.Line.TheVariants.{Made}
+use Rattle.pie_record.specs.declared.history.Line.TheVariants.{Made}
 use Rattle.pie_link.specs.Plans.{opening_of}
 use Rattle.pie.proofs.StormFacts.{differs-never, fit-legal, writes-history}
 use Rattle.pie.proofs.storming.tell.Goals as goal

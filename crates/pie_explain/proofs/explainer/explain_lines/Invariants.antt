@@ -2,7 +2,7 @@ use Rattle.std.proofs.Common.{◌≡◌, ◌-◌, ◌^◌, [], ℕ, List}
 use Rattle.std.specs.Prelude.{IfSome, Option, string_bytes}
 use Rattle.std.specs.Io.KnownBytes.{append_known}
 use Rattle.pie_book.specs.declared.opening.Opening.{Opening}
-use Rattle.pie_trace.specs.declared.history.Course.TheVariants.{Going}
+use Rattle.pie_record.specs.declared.history.Course.TheVariants.{Going}
 use Rattle.pie_explain.specs.Answer.{Explains, Stands}
 use Rattle.pie_explain.proofs.explainer.explain_lines.Given as goal
 

@@ -1,0 +1,178 @@
+-- A text of an opening's record and of records that each tell a line is read back as that opening and those lines.
+use Rattle.std.proofs.Common.{◌≡◌, ◌≤◌, ◌<◌, ◌+◌, ◌^◌, ℕ, suc, List, [], ◌∷◌, ◌++◌, map, length, false, refl, sym, ap, subst, ◌∙◌, arith}
+use Rattle.std.specs.Prelude.{All, nat_lt, Option, Some, None, Result, Ok, Err, IfSome, OnOk, ⊤}
+use Rattle.std.specs.Io.KnownBytes.{Appends}
+use Rattle.std.proofs.lemmas.Bool.Decides.{nat_tests}
+use Rattle.std.proofs.lemmas.List.Elements.{All-cons, All-head, All-nil, All-tail}
+use Rattle.csv.specs.Records.{field_at}
+use Rattle.pie_book.specs.declared.command.Command.{Command}
+use Rattle.pie_book.specs.declared.command.Command.TheVariants.{Arrive, Depart, Update, Reset, SetParams}
+use Rattle.pie_book.specs.declared.command.Event.{Event}
+use Rattle.pie_book.specs.declared.opening.Mode.{Mode}
+use Rattle.pie_book.specs.declared.opening.Mode.TheVariants.{Bounded, Rolling}
+use Rattle.pie_book.specs.declared.opening.Opening.{Opening}
+use Rattle.pie_book.specs.declared.opening.Profile.{Profile}
+use Rattle.pie_book.specs.declared.opening.Profile.TheVariants.{One, Two}
+use Rattle.pie_book.specs.Opening.{opening_refusal}
+use Rattle.pie_record.specs.declared.fault.TraceFault.{TraceFault}
+use Rattle.pie_record.specs.declared.first_record.FirstKind.{FirstKind}
+use Rattle.pie_record.specs.declared.first_record.FirstKind.TheVariants as kinds
+use Rattle.pie_record.specs.declared.history.Line.{Line}
+use Rattle.pie_record.specs.declared.history.Line.TheVariants.{Made}
+use Rattle.pie_record.specs.declared.version.Version.{Version}
+use Rattle.pie_record.specs.Opening.{opening_of}
+use Rattle.pie_record.specs.Text.{rows_text, Row}
+use Rattle.pie_record.specs.Line.{line_of}
+use Rattle.pie_record.specs.FirstRecord.{version_of}
+use Rattle.pie_record.specs.Lines.{Coming, after_opening, coming_after, coming_from, fault_from, history_opening, history_version, lines_from, told_by}
+use Rattle.pie_book.specs.Ranges.{ParamsFit}
+use Rattle.pie_record.specs.ReadBack.{EventFits, TellsHistory}
+use Rattle.pie_record.specs.Write.{choices_row, command_fields, event_row, opening_row, written_rows}
+use Rattle.pie_record.specs.Words.{mode_word, profile_number}
+use Rattle.pie_record.proofs.EventBack.{line-back}
+use Rattle.pie_record.proofs.LinesFacts.{told_by-line}
+use Rattle.pie_record.proofs.OpeningBack.{opening-back}
+use Rattle.pie_record.proofs.TextBack.{HasField, kind_word, records_of-written}
+
+-- ---- rows that tell lines
+
+-- in a text of this version each of these rows tells the line at its place
+unfoldable pub TellEach : Version → List Row → List Line → Type 0
+TellEach version [] [] = ⊤
+TellEach version [] (line ∷ lines) = ⊥
+TellEach version (row ∷ rows) [] = ⊥
+TellEach version (row ∷ rows) (line ∷ lines) = (line_of version row ≡ Ok line) × TellEach version rows lines
+
+pub TellEach-none : (version : Version) → TellEach version [] []
+unfolding TellEach
+TellEach-none version = tt
+
+pub TellEach-cons : (version : Version) (row : Row) (rows : List Row) (line : Line) (lines : List Line) → line_of version row ≡ Ok line → TellEach version rows lines → TellEach version (row ∷ rows) (line ∷ lines)
+unfolding TellEach
+TellEach-cons version row rows line lines tells others = (tells, others)
+
+coming : List Line → Option TraceFault → Coming
+coming lines fault = record { lines = lines; fault = fault }
+
+coming-line : (version : Version) (most number : ℕ) (row : Row) (rows : List Row) (line : Line) (lines : List Line) → told_by version most number row ≡ Ok line
+    → coming_from version most (number + 1) rows ≡ record { lines = lines; fault = None } → coming_from version most number (row ∷ rows) ≡ record { lines = line ∷ lines; fault = None }
+unfolding lines_from fault_from
+coming-line version most number row rows line lines tells later =
+    rw tells (ap (λ (c : Coming). let more : Coming = record { lines = line ∷ c.lines; fault = c.fault } in more) later)
+
+coming-none : (version : Version) (most number : ℕ) → coming_from version most number [] ≡ record { lines = []; fault = None }
+unfolding lines_from fault_from
+coming-none version most number = refl
+
+pub coming-told : (version : Version) (most number : ℕ) (rows : List Row) (lines : List Line) → number + length rows ≤ most + 1 → TellEach version rows lines
+    → coming_from version most number rows ≡ record { lines = lines; fault = None }
+unfolding TellEach
+coming-told version most number [] [] within tells = coming-none version most number
+coming-told version most number [] (line ∷ lines) within tells = absurd tells
+coming-told version most number (row ∷ rows) [] within tells = absurd tells
+coming-told version most number (row ∷ rows) (line ∷ lines) within tells =
+    coming-line version most number row rows line lines (told_by-line version most number row line (omega arith) tells.0) (coming-told version most (number + 1) rows lines (omega arith) tells.1)
+
+-- ---- a whole text
+
+opens-there : (row : Row) (rows : List Row) → history_opening (row ∷ rows) ≡ opening_of row
+unfolding history_opening
+opens-there row rows = refl
+
+after-there : (row : Row) (rows : List Row) → after_opening (row ∷ rows) ≡ rows
+unfolding after_opening
+after-there row rows = refl
+
+version-there : (row : Row) (rows : List Row) → history_version (row ∷ rows) ≡ version_of row
+unfolding history_version
+version-there row rows = refl
+
+-- a text of a record that opens so, and then of rows that tell these lines
+pub history-told : (kind : FirstKind) (rest : Row) (rows : List Row) (opening : Opening) (lines : List Line) → opening_of (kind_word kind ∷ rest) ≡ Ok opening
+    → All HasField rows → TellEach (version_of (kind_word kind ∷ rest)) rows lines → length rows < 2 ^ 32 → TellsHistory (rows_text ((kind_word kind ∷ rest) ∷ rows)) opening lines
+history-told kind rest rows opening lines opens some tells few =
+    let records = records_of-written kind rest rows some in
+    let first : Row = kind_word kind ∷ rest in
+    record {
+      opens = ap history_opening records ∙ opens-there first rows ∙ opens;
+      tells = ap (λ (all : List Row). coming_after (2 ^ 32) all) records
+          ∙ ap (λ (version : Version). coming_from version (2 ^ 32) 2 (after_opening (first ∷ rows))) (version-there first rows)
+          ∙ ap (λ (all : List Row). coming_from (version_of first) (2 ^ 32) 2 all) (after-there first rows)
+          ∙ coming-told (version_of first) (2 ^ 32) 2 rows lines (omega arith) tells;
+    }
+
+-- ---- what a history is written as
+
+fields-some : (caller : ℕ) (command : Command) (more : Row) → HasField (command_fields caller command ++ more)
+unfolding command_fields
+fields-some caller (Arrive moment packet word) more = omega arith
+fields-some caller (Depart moment) more = omega arith
+fields-some caller (Update moment) more = omega arith
+fields-some caller (Reset moment) more = omega arith
+fields-some caller (SetParams moment params) more = omega arith
+
+events-some : (events : List Event) → All HasField (map event_row events)
+events-some [] = All-nil HasField
+events-some (event ∷ events) = All-cons HasField (event_row event) (map event_row events) (fields-some event.caller event.command _) (events-some events)
+
+events-tell : (version : Version) (events : List Event) → All EventFits events → TellEach version (map event_row events) (map Made events)
+events-tell version [] fit = TellEach-none version
+events-tell version (event ∷ events) fit =
+    let fits = All-head EventFits event events fit in
+    TellEach-cons version (event_row event) (map event_row events) (Made event) (map Made events)
+    (line-back version event.caller event.command event.answer fits.kind fits.caller fits.command fits.answer) (events-tell version events (All-tail EventFits event events fit))
+
+rows-many : (events : List Event) → length (map event_row events) ≡ length events
+rows-many [] = refl
+rows-many (event ∷ events) = ap suc (rows-many events)
+
+-- a row begins with the word of a kind of first record
+pub record Begins (row : Row) : Type 0 where
+  pub kind : FirstKind
+  pub rest : Row
+  pub is : row ≡ kind_word kind ∷ rest
+
+opening_row-begins : (o : Opening) → Begins (opening_row o)
+unfolding opening_row
+opening_row-begins o = by o.choices.profile o.choices.mode _
+  where
+    by : (profile : Profile) (mode : Mode) (rest : Row) → Begins (choices_row profile mode ++ rest)
+    by One Bounded rest = record { kind = kinds.Open; rest = rest; is = refl }
+    by One Rolling rest = record { kind = kinds.Rolling; rest = rest; is = refl }
+    by Two mode rest = record { kind = kinds.Open2; rest = profile_number Two ∷ mode_word mode ∷ rest; is = refl }
+
+pub written-back : (opening : Opening) (events : List Event) → opening_refusal opening.limits opening.moment ≡ None → ParamsFit opening.params → All EventFits events → length events < 2 ^ 32
+    → TellsHistory (rows_text (written_rows opening events)) opening (map Made events)
+written-back opening events accepted set fit few =
+    let first = opening_row-begins opening in
+    let opens : opening_of (kind_word first.kind ∷ first.rest) ≡ Ok opening = ap opening_of (sym first.is) ∙ opening-back opening accepted set in
+    let many = rows-many events in
+    subst (λ (row : Row). TellsHistory (rows_text (row ∷ map event_row events)) opening (map Made events)) (sym first.is)
+    (history-told first.kind first.rest (map event_row events) opening (map Made events) opens (events-some events)
+    (events-tell (version_of (kind_word first.kind ∷ first.rest)) events fit) (omega arith))
+
+-- .. to a writer that held nothing
+pub contents-back : (before now : Option (List ℕ)) (text : List ℕ) (opening : Opening) (lines : List Line) → Appends before now text → before ≡ Some [] → TellsHistory text opening lines
+    → IfSome now (λ held. TellsHistory held opening lines)
+contents-back None now text opening lines appends empty tells = cc
+contents-back (Some xs) None text opening lines appends empty tells = tt
+contents-back (Some xs) (Some ys) text opening lines appends empty tells =
+    let none : xs ≡ [] = cc in
+    let same : ys ≡ text = rw none at appends in
+    subst (λ (held : List ℕ). TellsHistory held opening lines) (sym same) tells
+
+pub history-back : (before now : Option (List ℕ)) (opening : Opening) (events : List Event) (result : Result (Unit {0}) TraceFault) → ParamsFit opening.params → All EventFits events
+    → OnOk result (Appends before now (rows_text (written_rows opening events)))
+    → OnOk result (opening_refusal opening.limits opening.moment ≡ None → length events < 2 ^ 32 → before ≡ Some [] → IfSome now (λ text. TellsHistory text opening (map Made events)))
+history-back before now opening events (Err why) set fit written = tt
+history-back before now opening events (Ok done) set fit written = λ accepted few empty.
+    contents-back before now (rows_text (written_rows opening events)) opening (map Made events) written empty (written-back opening events accepted set fit few)
+
+pub ltb-false : (a b : ℕ) → nat_lt a b ≡ false → b ≤ a
+ltb-false a b e = grind (arith, nat_tests)
+
+-- a row that tells a line has a field
+pub told-field : (version : Version) (row : Row) (line : Line) → line_of version row ≡ Ok line → HasField row
+unfolding line_of field_at
+told-field version [] line e = cc
+told-field version (field ∷ rest) line e = omega arith

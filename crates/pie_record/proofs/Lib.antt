@@ -1,0 +1,14 @@
+pub mod NumberFacts
+pub mod RowFacts
+pub mod RecordFacts
+pub mod ReadFacts
+pub mod LineFacts
+pub mod LinesFacts
+pub mod Appended
+pub mod TextBack
+pub mod EventBack
+pub mod OpeningBack
+pub mod HistoryBack
+pub mod NotesBack
+pub mod RequestBack
+pub mod ExamplesLines

@@ -1,0 +1,14 @@
+pub mod Words
+pub mod Number
+pub mod Fault
+pub mod Text
+pub mod Record
+pub mod FirstRecord
+pub mod Opening
+pub mod Line
+pub mod Lines
+pub mod Rows
+pub mod Records
+pub mod Answer
+pub mod Write
+pub mod ReadBack

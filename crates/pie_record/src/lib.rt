@@ -1,0 +1,28 @@
+//! Records of traces and histories: what a record is, how it is read, how its fault is told and how it is written. Running, auditing,
+//! explaining and migrating stand on this crate.
+//!
+//! The definitions that the contracts cite stand in `specs/`: the records of a text (`records_of`), what its first record opens, what a
+//! record of a trace asks and what a record of a history tells, and the text of records.
+//!
+//! `Records` reads one record after another from any reader, and `HistoryLines` the opening and the lines of a history. `Rows` writes records to any
+//! writer, many at a time. Both take memory for one record and one page.
+#![tactic(auto)]
+
+pub mod answer;
+pub mod fault;
+pub mod fields;
+pub mod first_record;
+pub mod history;
+pub mod lines;
+pub mod long;
+pub mod make;
+pub mod number;
+pub mod records;
+pub mod rows;
+pub mod version;
+pub mod words;
+
+pub use fault::{Flaw, OpenFault, TraceFault};
+pub use history::Line;
+pub use lines::HistoryLines;
+pub use version::Version;

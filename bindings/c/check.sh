@@ -1,6 +1,6 @@
 #!/usr/bin/env bash
-# Builds the static library, and with it the worked rows and the example in C, plainly and with the address and undefined
-# behaviour sanitizers; runs them; and compares the example's history with the stored one, which reference.py computed. Where
+# Builds the static library, and with it the worked rows, the traps that include/pie.h names and the example in C, plainly and with the
+# address and undefined behaviour sanitizers; runs them; and compares the example's history with the stored one, which reference.py computed. Where
 # python3 is there, reference.py computes it again. Where no C compiler is there, it says so and ends well.
 set -eu
 cd "$(dirname "$0")/../.."
@@ -21,13 +21,14 @@ flags="-Wall -Wextra -Werror -std=c11 -Iinclude"
 check() {
     local name=$1
     shift
-    for program in rows example; do
+    for program in rows traps example; do
         "$cc" $flags "$@" -o "$work/$program" "bindings/c/$program.c" "$lib"
     done
     "$work/rows"
+    "$work/traps"
     "$work/example" > "$work/history"
     cmp "$work/history" bindings/c/example.history
-    echo "bindings/c: rows and example pass ($name)"
+    echo "bindings/c: rows, traps and example pass ($name)"
 }
 
 check "plain" -O2

@@ -216,7 +216,7 @@ def refused(history):
     """Each request for memory, each read and each write refused in turn, once and from there on."""
     compiler = shutil.which("cc")
     if not compiler:
-        print("tests/hostile.py: no C compiler here, so no request was refused")
+        print("NOT RUN: tests/hostile.py: no C compiler (cc) here, so no request for memory, read, write or start of a thread was refused")
         return
     with tempfile.TemporaryDirectory() as room:
         library, met = f"{room}/refuse.so", f"{room}/met"

@@ -94,7 +94,7 @@ def refuse(library, met, name, ample, variable, is_on):
 def main():
     compiler = shutil.which(os.environ.get("CC", "cc"))
     if not compiler:
-        print("tests/libraries.py: no C compiler here, so no request was refused")
+        print("NOT RUN: tests/libraries.py: no C compiler (cc) here, so no request for memory of the libraries was refused")
         return
     status, output, errors = run()
     ample = calls_of(output)

@@ -1,17 +1,18 @@
 #!/usr/bin/env bash
 # Builds the static library, and with it the worked rows, the traps that include/pie.h names and the example in C, plainly and with the
-# address and undefined behaviour sanitizers; runs them; and compares the example's history with the stored one, which reference.py computed. Where
-# python3 is there, reference.py computes it again. Where no C compiler is there, it says so and ends well.
+# address and undefined behaviour sanitizers; runs them; and compares the example's history with the stored one, which reference.py computed.
+# Where python3 is there, reference.py computes it again. What cannot be run here, for want of a compiler say, is told on a line that begins
+# with NOT RUN.
 set -eu
 cd "$(dirname "$0")/../.."
 cc=${CC:-cc}
 if ! command -v "$cc" > /dev/null; then
-    echo "bindings/c: no C compiler here, so the rows and the example in C were not built"
+    echo "NOT RUN: bindings/c: no C compiler ($cc) here, so neither the static library nor the rows and the example in C were built"
     exit 0
 fi
 work=$(mktemp -d)
 trap 'rm -rf "$work"' EXIT
-if ! (cd crates/pie_c && rt lib) > "$work/lib.log" 2>&1; then
+if ! bindings/c/library.py > "$work/lib.log" 2>&1; then
     cat "$work/lib.log"
     exit 1
 fi
@@ -37,15 +38,19 @@ sanitizers="-O1 -g -fsanitize=address,undefined -fno-sanitize-recover=all"
 if "$cc" $sanitizers -o "$work/empty" "$work/empty.c" > "$work/empty.log" 2>&1; then
     check "address and undefined behaviour sanitizers" $sanitizers
 else
-    echo "bindings/c: this compiler has no sanitizers"
+    echo "NOT RUN: bindings/c: this compiler has no sanitizers, so the rows and the example in C ran without"
 fi
 if command -v c++ > /dev/null; then
     c++ -x c++ -Wall -Wextra -Werror -std=c++11 -Iinclude -c -o "$work/rows.o" bindings/c/rows.c
     c++ -o "$work/rows" "$work/rows.o" "$lib"
     "$work/rows"
     echo "bindings/c: rows pass (C++)"
+else
+    echo "NOT RUN: bindings/c: no C++ compiler (c++) here, so the rows were not built as C++"
 fi
 if command -v python3 > /dev/null; then
     "$work/example" trace | python3 bindings/c/reference.py | cmp - bindings/c/example.history
     echo "bindings/c: the reference computes the example's history again"
+else
+    echo "NOT RUN: bindings/c: no python3 here, so no reference computed the example's history again"
 fi

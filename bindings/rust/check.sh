@@ -3,9 +3,9 @@
 set -eu
 cd "$(dirname "$0")/../.."
 if ! command -v cargo > /dev/null; then
-    echo "bindings/rust: no cargo here, so the rows in Rust were not built"
+    echo "NOT RUN: bindings/rust: no cargo here, so the rows in Rust were not built"
     exit 0
 fi
-(cd crates/pie_c && rt lib) > /dev/null
+bindings/c/library.py > /dev/null
 cd bindings/rust
 cargo test --offline

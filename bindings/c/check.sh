@@ -1,7 +1,8 @@
 #!/usr/bin/env bash
-# Builds the static library, and with it the worked rows, the traps that include/pie.h names and the example in C, plainly and with the
-# address and undefined behaviour sanitizers; runs them; and compares the example's history with the stored one, which reference.py computed. Where
-# python3 is there, reference.py computes it again. Where no C compiler is there, it says so and ends well.
+# Builds the static library, and with it the worked rows, the traps that include/pie.h names and the example in C, plainly and with
+# the address and undefined behaviour sanitizers; runs them; and compares the example's history with the stored one, which reference.py
+# computed. Where python3 is there, the library is asked for each number of the header's comments, and reference.py computes the history
+# again. Where no C compiler is there, it says so and ends well.
 set -eu
 cd "$(dirname "$0")/../.."
 cc=${CC:-cc}
@@ -46,6 +47,12 @@ if command -v c++ > /dev/null; then
     echo "bindings/c: rows pass (C++)"
 fi
 if command -v python3 > /dev/null; then
+    tests/header.py --probes > "$work/probes.c"
+    "$cc" $flags -o "$work/probes" "$work/probes.c" "$lib"
+    "$work/probes"
+    echo "bindings/c: the library has the ranges, defaults and bounds that the comments of include/pie.h tell"
     "$work/example" trace | python3 bindings/c/reference.py | cmp - bindings/c/example.history
     echo "bindings/c: the reference computes the example's history again"
+else
+    echo "NOT RUN: bindings/c: no python3 here, so neither the numbers of the comments of include/pie.h nor the reference were tried"
 fi

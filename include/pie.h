@@ -12,7 +12,7 @@
  *
  * What a caller owes, since nothing can check it: each pointer points to a struct of its type that is aligned, and that no
  * other thread reads or writes during the call; the structs of one call do not overlap; queued bytes are those that
- * wait; each packet that is queued leaves by one pie_depart. A call is some ninety to 270 instructions, waits for
+ * wait; each packet that is queued leaves by one pie_depart. A call is some eighty to 270 instructions, waits for
  * nobody and takes no memory, so it may stand under a spin lock.
  *
  * What goes wrong where nobody says so:

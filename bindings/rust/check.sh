@@ -1,11 +1,13 @@
 #!/usr/bin/env bash
-# Builds the static library and runs the worked rows in Rust over it, with no network. Where cargo isn't there, says so.
+# Builds the static library and runs the worked rows, the documentation's example and the example queue in Rust over it, with no network.
+# Where cargo isn't there, a line that begins with NOT RUN says so.
 set -eu
 cd "$(dirname "$0")/../.."
 if ! command -v cargo > /dev/null; then
-    echo "NOT RUN: bindings/rust: no cargo here, so the rows in Rust were not built"
+    echo "NOT RUN: bindings/rust: no cargo here, so the rows and the example in Rust were not built"
     exit 0
 fi
 bindings/c/library.py > /dev/null
 cd bindings/rust
-cargo test --offline
+cargo test --offline --locked --quiet
+cargo run --offline --locked --quiet --example queue | tail -n 1

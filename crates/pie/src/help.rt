@@ -32,6 +32,11 @@ The first record opens the controller:
   mark_ecnth    the probability from which ECN packets are dropped, 0 to 10^12   (100000000000)
   dq_threshold  bytes of a cycle of the departure rate, a power of two, 1024 to 65536  (16384)
 
+limit_bytes has to be well above rate x target. Else the queue is full before it can wait so long, and all losses are tail drops:
+                    10 Mbit/s   100 Mbit/s     1 Gbit/s    10 Gbit/s   100 Gbit/s
+  rate x 15 ms          18750       187500      1875000     18750000    187500000
+  for 200 ms           250000      2500000     25000000    250000000   1073741824 (the most: 86 ms)
+
 Then, in any order:
   arrive,<caller>,<moment>,<tag>,<size>,<ecn>,<word>
       a packet of 1 to 65535 bytes; <ecn> is not, ect1, ect0 or ce; <word> is a random number below 2^64.

@@ -1,7 +1,7 @@
 #!/usr/bin/env bash
 # Real TCP through the link in user space (examples/link), some seconds by tail drop and some by PIE: both histories are clean, and by
 # PIE packets wait less in the mean. Before that the test of its packets: marks in IPv4 and IPv6 headers, and checksums. Where this
-# machine lacks something that it takes, it says so and ends well.
+# machine lacks something that it takes, a line that begins with NOT RUN says so.
 # usage: tests/link.sh PROGRAM      PROGRAM: crates/pie/out/pie, as the gate or `rt run` builds it there
 set -u
 program=$1
@@ -9,10 +9,7 @@ top=$(cd "$(dirname "$0")/.." && pwd)
 link=$top/examples/link
 seconds=5
 if ! missing=$("$link/missing.sh"); then
-    echo '======================================================================================================'
-    echo 'tests/link.sh: NOT RUN: no packet went through the link in user space, for want of:'
-    echo "$missing"
-    echo '======================================================================================================'
+    echo "NOT RUN: tests/link.sh: no packet went through the link in user space, for want of $(tr '\n' ' ' <<<"$missing")"
     exit 0
 fi
 work=$(mktemp -d)

@@ -2,7 +2,7 @@
 # TCP and ping through the link, by tail drop, by PIE, and by PIE with ECN: audits the histories, explains the first lost packets,
 # prints a table, and draws delay and probability over time. Traffic stays in network namespaces of this script.
 # usage: examples/link/run.sh PIE FOLDER [SECONDS] [FLOWS] [OPTIONS OF THE LINK..]
-#   PIE: the built program, as crates/pie/out/ has it after `rt run`. FOLDER gets the histories, what the programs said, and the pictures.
+#   PIE: the built program, as crates/pie/out/ has it after `rt run`. FOLDER gets the histories, what the programs said, and the picture.
 set -u
 here=$(cd "$(dirname "$0")" && pwd)
 if [ $# -lt 2 ]; then
@@ -42,25 +42,6 @@ row() {
         "$("$program" audit < "$where/history")"
 }
 
-# draw FOLDER: delay and probability at each update, from what `pie explain` tells
-draw() {
-    "$program" explain --all --csv < "$1/history" | awk -F, 'NR > 1 && $2 == "update" { print $5 / 1e9 "," $12 / 1e6 "," $13 / 1e10 }' > "$1/updates.csv"
-    gnuplot <<PLOT
-set terminal pngcairo size 900,480 font "sans,10"
-set output "$1/delay.png"
-set datafile separator ","
-set multiplot layout 2,1 margins 0.09,0.97,0.11,0.95 spacing 0.07
-set grid
-set key right top
-set ylabel "ms"
-set yrange [0:*]
-plot "$1/updates.csv" using 1:2 with lines lw 1 lc "#1f5fa8" title "queueing delay"
-set ylabel "per cent"
-set xlabel "seconds"
-plot "$1/updates.csv" using 1:3 with lines lw 1 lc "#b0303a" title "drop probability"
-PLOT
-}
-
 measure "$folder/tail" "$seconds" "$flows" "$@" --queue tail || exit 1
 measure "$folder/pie" "$seconds" "$flows" "$@" --queue pie || exit 1
 measure "$folder/pie-ecn" "$seconds" "$flows" "$@" --queue pie --ecn || exit 1
@@ -79,9 +60,8 @@ for name in pie pie-ecn; do
     sed -n '1,8p' "$folder/$name/lost" | sed '1b;/^event /,$d'
 done
 if command -v gnuplot > /dev/null; then
-    for name in tail pie pie-ecn; do
-        draw "$folder/$name" && echo "picture: $folder/$name/delay.png"
-    done
+    "$here/draw.sh" "$folder/delay.png" "tail drop=$folder/tail/history" "PIE=$folder/pie/history" "PIE with ECN=$folder/pie-ecn/history" &&
+        echo && echo "picture: $folder/delay.png"
 else
-    echo 'missing: gnuplot, so no pictures were drawn'
+    echo 'missing: gnuplot, so no picture was drawn'
 fi

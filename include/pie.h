@@ -11,18 +11,16 @@
  * calls changed is never refused.
  *
  * What a caller owes, since nothing can check it: each pointer points to a struct of its type that is aligned, and that no
- * other thread reads or writes during the call; the structs of one call do not overlap; queued bytes are those that
- * wait; each packet that is queued leaves by one pie_depart. A call is some eighty to 270 instructions, waits for
- * nobody and takes no memory, so it may stand under a spin lock.
+ * other thread reads or writes during the call; the structs of one call do not overlap, but that `params` may be the
+ * state's own, &state->params; queued bytes are those that wait; each packet that is queued leaves by one pie_depart. A call
+ * is some eighty to 270 instructions, waits for nobody and takes no memory, so it may stand under a spin lock.
  *
- * What goes wrong where nobody says so:
+ * What is easily got wrong, and what to do:
  *
  * - The clock. Take one that never goes back, as CLOCK_MONOTONIC in nanoseconds. Nanoseconds since 1970 are above 2^60 - 1
  *   and refused. A moment before the greatest so far counts as the greatest so far. So after one moment far ahead all later
  *   ones count as that one: one more update is made at it, and from then on each is too soon until the clock gets there.
- *   pie_reset keeps the greatest moment. The way out is to open anew, with a copy of the parameters:
- *       struct pie_params params = pie.params;
- *       pie_open(&pie, &params, now);
+ *   pie_reset keeps the greatest moment. The way out is to open anew: pie_open(&pie, &pie.params, now).
  *
  * - The timer. Arm it for pie_due(&pie), or make an update as soon as a packet finds that this moment has passed. A timer that
  *   rings every t_update by a rhythm of its own loses updates where it jitters: of 15000100, 30000050 and 45000020 ns the
@@ -54,8 +52,8 @@
  *   as 0. The default of 16384 bytes is 15 ms at 8.7 Mbit/s, and 131 ms at 1 Mbit/s. On a slower link PIE acts sooner with the
  *   greatest power of two below rate x target, 1024 at the least.
  *
- * - The state is there to be read: write to no field of it. New parameters come in by pie_set_params, from a struct of their
- *   own: copy pie.params, change the copy, and hand that in. &pie.params itself overlaps the state, of which nothing is promised.
+ * - The state is there to be read: write to no field of it. For new parameters copy pie.params, change the copy, and hand that
+ *   to pie_set_params. Handed &pie.params, it clears the rate estimate and changes no parameter.
  */
 #ifndef PIE_H
 #define PIE_H
@@ -190,7 +188,7 @@ struct pie_updated pie_update(struct pie_state *state, uint64_t queued, uint64_t
 uint32_t pie_reset(struct pie_state *state, uint64_t moment);
 
 /* Puts new parameters in force and clears the rate estimate; the other registers stay, and so pie_due moves with t_update.
- * `params` is a struct of its own, not &state->params.
+ * `params` is a struct of its own, or &state->params.
  * Refused, in this order: PIE_BAD_STATE, PIE_BAD_PARAMS, PIE_BAD_MOMENT. */
 uint32_t pie_set_params(struct pie_state *state, const struct pie_params *params, uint64_t moment);
 

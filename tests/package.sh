@@ -3,7 +3,7 @@
 # pkg-config, in C11 and C++17 with warnings as errors, and a Rust program that depends on bindings/rust; runs them; installs below
 # DESTDIR as packagers do; and installs the program, where it was built. What is missing here is told on a line that begins with NOT RUN.
 #
-# usage: tests/package.sh      after `rt lib` in crates/pie_c
+# usage: tests/package.sh
 set -eu
 cd "$(dirname "$0")/.."
 repository=$PWD
@@ -31,6 +31,7 @@ expect() {
 }
 
 version=$(sed -n 's/^#define PIE_VERSION "\(.*\)"$/\1/p' include/pie.h)
+[ -e crates/pie_c/out/libpie_c.a ] || (cd crates/pie_c && rt lib) > /dev/null
 prefix=$work/prefix
 ./install.sh "$prefix" library > "$work/installed"
 while read -r file; do
@@ -59,7 +60,7 @@ else
 fi
 
 # a program in Rust that depends on the crate, over the installed library: named by PIE_C_PREFIX, then found by pkg-config
-if command -v cargo > /dev/null; then
+if command -v cargo > /dev/null && command -v cc > /dev/null && [ "$(rustc --version | cut -d. -f2)" -ge 82 ]; then
     mkdir -p "$work/program/src"
     cp -r bindings/rust "$work/juniperbowls"
     rm -rf "$work/juniperbowls/target"
@@ -80,7 +81,7 @@ if command -v cargo > /dev/null; then
     fi
     grep -q "libpie_c.a isn't here" "$work/refused" || fail "cargo does not say that the library is missing: $(cat "$work/refused")"
 else
-    not_run "no cargo here, so no Rust program was built over the installed library"
+    not_run "no cargo (1.82 or later) and C compiler here, so no Rust program was built over the installed library"
 fi
 
 # below DESTDIR, as packagers do: the same files, and the pkg-config file names the prefix alone

@@ -35,8 +35,7 @@ static int clock_far_ahead(void) {
         CHECK(pie_update(&pie, 0, 15001000 * k).code == PIE_TOO_SOON);
     CHECK(pie_reset(&pie, 20000000000) == PIE_DONE && pie_update(&pie, 0, 20000000000).code == PIE_TOO_SOON);
     CHECK(pie_due(&pie) == far + 15000000 && pie_update(&pie, 0, pie_due(&pie)).code == PIE_DONE);
-    struct pie_params params = pie.params;
-    CHECK(pie_open(&pie, &params, 20000000000) == PIE_DONE && pie_due(&pie) == 20015000000);
+    CHECK(pie_open(&pie, &pie.params, 20000000000) == PIE_DONE && pie_due(&pie) == 20015000000);
     CHECK(pie_update(&pie, 0, 20015000000).code == PIE_DONE);
     /* nanoseconds since 1970: of the first day of 2007 and of a day in 2026 */
     CHECK(pie_empty(&pie, 1167609600000000000) == PIE_BAD_MOMENT && pie_empty(&pie, 1795417200000000000) == PIE_BAD_MOMENT);
@@ -126,6 +125,29 @@ static int limits_by_rate(void) {
     return 0;
 }
 
+/* The state's own parameters, handed in, do what a copy of them does. */
+static int own_params(void) {
+    struct pie_params copy = {14999999, 15000001, 150000002, 126, 1253, 1025, 262151, 100000000008, 32768};
+    struct pie_state own = opened(3);
+    own.params = copy;
+    own.prob = 5, own.old_delay = 6, own.burst = 7, own.accu = 8, own.average = 9, own.moment = 20;
+    own.measuring = 1, own.cycle_start = 11, own.cycle_count = 12;
+    struct pie_state other = own;
+    CHECK(pie_set_params(&own, &own.params, 21) == PIE_DONE && pie_set_params(&other, &copy, 21) == PIE_DONE && same(&own, &other));
+    CHECK(memcmp(&own.params, &copy, sizeof copy) == 0 && own.average == 0 && own.measuring == 0 && own.prob == 5);
+    CHECK(pie_set_params(&own, &own.params, PIE_MAX_MOMENT + 1) == PIE_BAD_MOMENT && same(&own, &other));
+    for (uint32_t profile = PIE_ALWAYS_ON; profile <= PIE_ON_AND_OFF; profile++) {
+        CHECK(pie_open_with(&own, &own.params, 22, profile) == PIE_DONE);
+        CHECK(pie_open_with(&other, &copy, 22, profile) == PIE_DONE && same(&own, &other));
+    }
+    own.prob = other.prob = 5;
+    CHECK(pie_open(&own, &own.params, 23) == PIE_DONE && pie_open(&other, &copy, 23) == PIE_DONE && same(&own, &other));
+    own.params.beta = other.params.beta = copy.beta = 1000001;
+    CHECK(pie_open(&own, &own.params, 24) == PIE_BAD_PARAMS && pie_open(&other, &copy, 24) == PIE_BAD_PARAMS && same(&own, &other));
+    CHECK(pie_set_params(&own, &own.params, 24) == PIE_BAD_STATE && same(&own, &other));
+    return 0;
+}
+
 /* A link under overload: packets of 1000 bytes, six for each five that it can send, for so many of them. */
 struct outcome {
     uint64_t early, tail, most;
@@ -179,5 +201,5 @@ static int limits_under_overload(void) {
 }
 
 int main(void) {
-    return clock_far_ahead() || timers() || words() || answers_and_sizes() || limits_by_rate() || limits_under_overload();
+    return clock_far_ahead() || timers() || words() || answers_and_sizes() || own_params() || limits_by_rate() || limits_under_overload();
 }

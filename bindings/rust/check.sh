@@ -1,10 +1,10 @@
 #!/usr/bin/env bash
 # Builds the static library and runs the worked rows, the documentation's example and the example queue in Rust over it, with no network.
-# Where cargo isn't there, a line that begins with NOT RUN says so.
+# Where cargo (1.82 or later) or a C compiler to link by isn't there, a line that begins with NOT RUN says so.
 set -eu
 cd "$(dirname "$0")/../.."
-if ! command -v cargo > /dev/null; then
-    echo "NOT RUN: bindings/rust: no cargo here, so the rows and the example in Rust were not built"
+if ! command -v cargo > /dev/null || ! command -v cc > /dev/null || [ "$(rustc --version | cut -d. -f2)" -lt 82 ]; then
+    echo "NOT RUN: bindings/rust: no cargo (1.82 or later) and C compiler here, so the rows and the examples in Rust were not built"
     exit 0
 fi
 bindings/c/library.py > /dev/null

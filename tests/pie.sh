@@ -4,6 +4,7 @@
 # usage: tests/pie.sh PROGRAM      PROGRAM: crates/pie/out/pie, as `rt run` builds it there
 set -u
 program=$1
+here=$(dirname "$0")
 work=$(mktemp -d)
 trap 'rm -rf "$work"' EXIT
 failed=0
@@ -124,6 +125,108 @@ expect 'a migrated opening with its parameters' 0 'open2,1,rolling,5,8,32,100,2,
 expect 'a fault of a migrated history' 1 'open2,1,rolling,0,4,16,100\ndepart,1,9,empty\n' 'pie: record 3: unknown kind\n' \
     'rolling,0,4,16,100\ndepart,1,9,empty\ndep,1,10\n' migrate
 expect 'a version' 0 'pie 0.1.0\n' '' '' --version
+expect 'a version, in short' 0 'pie 0.1.0\n' '' '' -V
+
+# Help is the text that is stored for it (tests/help/NAME.txt is what `pie NAME --help` writes, and pie.txt what `pie --help` does).
+# help NAME WORDS..
+help() {
+    local want=$here/help/$1.txt
+    shift
+    "$program" "$@" < /dev/null > "$work/output" 2> "$work/errors"
+    local got=$?
+    if [ "$got" != 0 ] || [ -s "$work/errors" ] || ! cmp -s "$work/output" "$want"; then
+        echo "tests/pie.sh: $*: status $got, or other help:"
+        diff "$want" "$work/output"
+        cat "$work/errors"
+        failed=1
+    fi
+}
+help pie --help
+help pie -h
+help pie help
+for name in run audit explain migrate storm; do
+    help "$name" "$name" --help
+    help "$name" "$name" -h
+    help "$name" help "$name"
+done
+
+# A mistake ends with 1, writes nothing to the output, and the first line on the error stream says what was wrong with which word, also
+# of the ninth and any later one.
+# mistake LINE WORDS..
+mistake() {
+    local line=$1
+    shift
+    "$program" "$@" < /dev/null > "$work/output" 2> "$work/errors"
+    local got=$?
+    if [ "$got" != 1 ] || [ -s "$work/output" ] || [ "$(head -n 1 "$work/errors")" != "$line" ]; then
+        echo "tests/pie.sh: $*: status $got, and not the mistake '$line':"
+        cat "$work/output" "$work/errors"
+        failed=1
+    fi
+}
+mistake "error: 'pie' requires a subcommand but one was not provided"
+mistake "error: unrecognized subcommand 'runs'" runs
+mistake "error: unrecognized subcommand ''" ''
+mistake "error: unrecognized subcommand 'walk'" help walk
+mistake "error: unexpected argument '--fast' found" --fast
+for name in run audit migrate; do
+    mistake "error: unexpected argument 'more' found" "$name" more
+    mistake "error: unexpected argument '--wrong' found" "$name" --wrong
+    mistake "error: unexpected argument '-x' found" "$name" -x
+done
+mistake "error: invalid value '0' for '--event <N>': 0 is not in 1..18446744073709551615" explain --event 0
+mistake "error: invalid value 'one' for '--event <N>': invalid digit found in string" explain --event one
+mistake "error: unexpected argument '-1' found" explain --tag -1
+mistake "error: invalid value '18446744073709551616' for '--tag <N>': number too large to fit in target type" explain --tag 18446744073709551616
+mistake "error: a value is required for '--tag <N>' but none was supplied" explain --tag
+mistake "error: unexpected value 'yes' for '--lost' found; no more were expected" explain --lost=yes
+mistake "error: the argument '--lost' cannot be used multiple times" explain --lost --lost
+mistake "error: unexpected argument 'lost' found" explain lost
+mistake "error: invalid value '1' for '--senders <N>': 1 is not in 2..=8" storm --senders 1
+mistake "error: invalid value '9' for '--senders <N>': 9 is not in 2..=8" storm --senders 9
+mistake "error: invalid value 'two' for '--senders <N>': invalid digit found in string" storm --senders two
+mistake "error: invalid value '0' for '--packets <N>': 0 is not in 1..=10000" storm --packets 0
+mistake "error: invalid value '10001' for '--packets <N>': 10001 is not in 1..=10000" storm --packets 10001
+mistake "error: invalid value '18446744073709551616' for '--seed <N>': number too large to fit in target type" storm --seed 18446744073709551616
+mistake "error: unexpected argument '-1' found" storm --seed -1
+mistake "error: unexpected argument '--fast' found" storm --fast
+# The ninth word, and the tenth to the twelfth.
+mistake "error: unexpected argument '--fast' found" storm --senders 3 --packets 10 --seed 7 --fast
+mistake "error: unexpected argument 'more' found" storm --senders 3 --packets 10 --seed 7 more
+mistake "error: the argument '--seed <N>' cannot be used multiple times" storm --senders 3 --packets 10 --seed 7 --seed 8
+mistake "error: a value is required for '--tag <N>' but none was supplied" explain --csv --lost --all --event 1 --tag
+mistake 'pie: explain takes exactly one of --event N, --tag T, --lost and --all; see pie explain --help' explain --csv --lost --all --event 1 --tag 2
+mistake "error: unexpected argument 'ten' found" explain --csv --lost --all --event 1 --tag 2 ten
+mistake "error: unexpected argument '--twelve' found" explain --csv --lost --all --event 1 --tag 2 --twelve
+
+# Each way to choose events, in both forms, ends with each status: 0; 2 where the tenth event differs; and 1 where a fault stands behind
+# that. What is written is the same for these two: what the first ten records give. The plain program of bench/ says so of --all --csv.
+first=$(printf "$history" | head -n 10)
+for form in '' --csv; do
+    for choice in '--event 1' '--tag 1' --lost --all; do
+        "$program" explain $choice $form < <(echo "$first") > "$work/before" 2> "$work/errors"
+        [ "$?" = 0 ] && ! [ -s "$work/errors" ] || {
+            echo "tests/pie.sh: explain $choice $form of nine events: $(cat "$work/errors")"
+            failed=1
+        }
+        written=$(cat "$work/before"; echo x)
+        written=${written%x}
+        written=${written//%/%%}
+        expect "explain $choice $form and an event that differs" 2 "$written" "$differs" "$changed" explain $choice $form
+        expect "explain $choice $form and a fault" 1 "$written" 'pie: record 15: wrong number of fields\n' "${changed}shown\n" explain $choice $form
+    done
+done
+words='event 11: packet 6, 500 bytes, Not-ECT: DROPPED early
+  at 1.001003 ms (1001003 ns), by caller 2
+  the accumulated probability, with this one, is 90.3954 %% (903954174169)
+  picked: its random word, 0.0000 %% (0), is below the probability, 90.3954 %% (903954174169)
+  dropped: its endpoints do not understand a mark
+  before it: 3 packets, 2548 bytes, a delay of 2.488281 ms (2488281 ns)
+  probability 90.3954 %% (903954174169), set by event 9; last update at 1.001002 ms (1001002 ns); burst allowance 0.000000 ms (0 ns)
+'
+for choice in '--event 11' '--tag 6' --lost; do
+    expect "explain $choice" 0 "$words" '' "$history" explain $choice
+done
 
 "$program" > "$work/output" 2> "$work/errors" < /dev/null
 got=$?
@@ -185,15 +288,6 @@ if [ "$got" != 1 ] || [ "$(cat "$work/errors")" != 'pie: cannot write the output
     echo "tests/pie.sh: explanations on a full device: status $got, $(cat "$work/errors")"
     failed=1
 fi
-# What words of explain cannot be read.
-for words in '--event 0' '--event one' '--tag -1' '--tag 18446744073709551616' '--lost=yes' '--lost --lost' 'lost'; do
-    "$program" explain $words < /dev/null > "$work/output" 2> "$work/errors"
-    got=$?
-    if [ "$got" != 1 ] || [ -s "$work/output" ] || ! [ -s "$work/errors" ]; then
-        echo "tests/pie.sh: explain $words: status $got"
-        failed=1
-    fi
-done
 # Storms: the plan with one packet a sender has five events, and eight senders at once end with a history that is clean, whoever
 # comes first.
 "$program" storm --packets 1 > "$work/output" 2> "$work/errors"
@@ -222,11 +316,16 @@ for _ in 1 2; do
             ;;
     esac
 done
-for words in '--senders 1' '--senders 9' '--senders two' '--packets 0' '--packets 10001' '--seed 18446744073709551616' '--seed -1' '--fast'; do
+# Each option alone, and all.
+for words in '--senders 2' '--packets 7' '--seed 0' '--senders=2 --packets=7 --seed=18446744073709551615'; do
     "$program" storm $words > "$work/output" 2> "$work/errors"
     got=$?
-    if [ "$got" != 1 ] || [ -s "$work/output" ] || ! [ -s "$work/errors" ]; then
-        echo "tests/pie.sh: storm $words: status $got"
+    # (the default is a hundred packets of two senders)
+    packets=100
+    case $words in *7*) packets=7 ;; esac
+    arrivals=$(grep -c '^arrive,' "$work/output")
+    if [ "$got" != 0 ] || [ -s "$work/errors" ] || [ "$arrivals" != $((2 * packets)) ] || [ "$("$program" audit < "$work/output" | cut -d, -f1)" != clean ]; then
+        echo "tests/pie.sh: storm $words: status $got, $arrivals arrivals, $(cat "$work/errors")"
         failed=1
     fi
 done

@@ -31,6 +31,10 @@ within() {
     exec ip netns exec "$name" timeout "$bound" "$@"
 }
 
+# The link goes before all other work of the machine: one that is woken late sends late and updates late.
+before_others='nice -n -15'
+chrt --fifo 50 true 2> /dev/null && before_others='chrt --fifo 50'
+
 # wait_for COMMAND..: until it succeeds, at most ten seconds
 wait_for() {
     local try
@@ -70,7 +74,8 @@ measure() {
     for name in "${names[@]}"; do
         ip netns add "$name" || return 1
     done
-    (within "${names[1]}" "$link_program" --from senders --to receivers --for "${bound}s" --history "$folder/history" "$@") \
+    # shellcheck disable=SC2086
+    (within "${names[1]}" $before_others "$link_program" --from senders --to receivers --for "${bound}s" --history "$folder/history" "$@") \
         > "$folder/link" 2>&1 &
     link=$!
     started+=("$link")
@@ -91,9 +96,11 @@ measure() {
     clean_up
 }
 
-# waits HISTORY: of the packets that left, how many there were, and their wait in ms: mean, median, 99th percentile
+# waits HISTORY [SECONDS]: of the packets that left, without those of the first seconds, how many there were, and their wait in ms: mean,
+# median, 99th percentile
 waits() {
-    awk -F, '$1 == "arrive" { since[$4] = $3 } $1 == "depart" && $4 == "left" { print ($3 - since[$5]) / 1e6; delete since[$5] }' "$1" |
+    awk -F, -v start="${2:-0}" '$1 == "arrive" { since[$4] = $3 }
+        $1 == "depart" && $4 == "left" { if ($3 >= start * 1e9) print ($3 - since[$5]) / 1e6; delete since[$5] }' "$1" |
         sort -n | awk '{ wait[NR] = $1; sum += $1 }
             END { if (NR == 0) print 0, 0, 0, 0; else print NR, sum / NR, wait[int((NR + 1) / 2)], wait[int((NR * 99 + 99) / 100)] }'
 }

@@ -36,8 +36,8 @@ verdicts() {
 
 row() {
     local name=$1 where=$2
-    printf '| %-13s | %7s | %8s | %8s | %7.1f | %8.1f | %6d | %5d | %6d | %s |\n' "$name" "$(goodput "$where/tcp")" \
-        $(round_trips "$where/ping") $(waits "$where/history" | awk '{ print $2, $4 }') \
+    printf '| %-13s | %7s | %8s | %8s | %7.1f | %8.1f | %10.1f | %6d | %5d | %6d | %s |\n' "$name" "$(goodput "$where/tcp")" \
+        $(round_trips "$where/ping") $(waits "$where/history" | awk '{ print $2, $4 }') $(waits "$where/history" 5 | awk '{ print $2 }') \
         "$(verdicts "$where/history" early)" "$(verdicts "$where/history" 'bytes|packets')" "$(verdicts "$where/history" mark)" \
         "$("$program" audit < "$where/history")"
 }
@@ -48,8 +48,8 @@ measure "$folder/pie-ecn" "$seconds" "$flows" "$@" --queue pie --ecn || exit 1
 
 echo "$flows TCP CUBIC flows and a ping for $seconds s; options of the link: ${*:-the defaults}. Times in ms, goodput in Mbit/s."
 echo
-echo '| queue         | goodput | RTT mean |  RTT p99 |    wait | wait p99 |  early |  tail |  marks | audit |'
-echo '|---|---|---|---|---|---|---|---|---|---|'
+echo '| queue         | goodput | RTT mean |  RTT p99 |    wait | wait p99 | after 5 s  |  early |  tail |  marks | audit |'
+echo '|---|---|---|---|---|---|---|---|---|---|---|'
 row 'tail drop' "$folder/tail"
 row 'PIE' "$folder/pie"
 row 'PIE with ECN' "$folder/pie-ecn"

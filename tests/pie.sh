@@ -67,6 +67,10 @@ expect 'a mark and an early drop' 0 "$history" '' "$trace" run
 expect 'no record' 1 '' 'pie: the first record is not an open record\n' '' run
 expect 'a fault' 1 'open,0,4,16,100\ndepart,1,9,empty\n' 'pie: record 3: unknown kind\n' \
     'open,0,4,16,100\ndepart,1,9\ndep,1,10\ndepart,1,11\n' run
+expect 'limits out of range' 1 '' 'pie: record 1: limits out of range\n' 'open,0,0,16,100\n' run
+expect 'a number that is not canonical' 1 'open,0,4,16,100\n' 'pie: record 2: not a number in range\n' 'open,0,4,16,100\ndepart,2,05\n' run
+expect 'refusals of three kinds' 0 'open,0,4,1,100\ndepart,1,1,empty\nrefused,3,5\nrefused,4,3\nrefused,5,6\n' '' \
+    'open,0,4,1,100\ndepart,1,1\ndepart,1,1\nupdate,1,1\nfold,2\n' run
 expect 'a bad parameter' 1 '' 'pie: record 1: target out of range\n' 'open,0,4,16,100,1,1,0,0,0,1,1,0,1024\n' run
 # The histories that these runs write are clean, and one in which a verdict was changed is not.
 expect 'an audit' 0 'clean,11\n' '' "$history" audit
@@ -74,6 +78,7 @@ expect 'a history without events' 0 'clean,0\n' '' 'open,0,4,16,100\n' audit
 expect 'a changed verdict' 2 'differs,10\n' '' "${history/ect0,0,mark/ect0,0,early}" audit
 expect 'a history with a fault' 1 '' 'pie: record 3: unknown kind\n' 'open,0,4,16,100\ndepart,1,9,empty\ndep,1,10\n' audit
 expect 'a fault after a changed verdict' 1 '' 'pie: record 15: wrong number of fields\n' "${history/ect0,0,mark/ect0,0,early}shown\n" audit
+expect 'limits of a history out of range' 1 '' 'pie: record 1: limits out of range\n' 'open,0,0,16,100\n' audit
 expect 'an empty history' 1 '' 'pie: the first record is not an open record\n' '' audit
 # Explanations: of the packet that was lost, of one event, up to a changed verdict; and what is not there.
 header='number,kind,caller,moment,effective_moment,tag,size,verdict,cause,bytes,packets,delay,probability,accumulated_probability,burst_allowance\n'
@@ -85,6 +90,9 @@ expect 'a lost packet' 0 "$header$lost" '' "$history" explain --csv --lost
 expect 'a tag' 0 "$header$lost" '' "$history" explain --tag 6 --csv
 expect 'no packet lost before a changed verdict' 2 "$header" "$differs" "$changed" explain --csv --lost
 expect 'an event before a changed verdict' 2 "${header}1,arrive,1,0,0,1,1024,enqueue,low_delay,0,0,0,0,0,0\n" "$differs" "$changed" explain --csv --event=1
+expect 'all events before a changed verdict' 2 \
+    "${header}1,arrive,1,0,0,1,1024,enqueue,low_delay,0,0,0,0,0,0\n2,arrive,1,0,0,2,1024,enqueue,low_delay,1024,1,0,0,0,0\n3,arrive,1,0,0,3,1024,enqueue,low_delay,2048,2,0,0,0,0\n" \
+    'pie: event 4 is not what the rules give there, so it and later events are not explained\n' "${history/4,1024,not,0,enqueue/4,1024,not,0,mark}" explain --csv --all
 expect 'an event that is not there' 1 '' 'pie: there is no event 12: the history has 11 events\n' "$history" explain --event 12
 expect 'a tag that is not there' 1 "$header" 'pie: no packet has the tag 9\n' "$history" explain --csv --tag 9
 expect 'a fault of an explained history' 1 '' 'pie: record 15: wrong number of fields\n' "${changed}shown\n" explain --lost
@@ -234,6 +242,32 @@ if [ "$got" != 1 ] || [ -s "$work/output" ] || ! [ -s "$work/errors" ]; then
     echo "tests/pie.sh: without a subcommand: status $got"
     failed=1
 fi
+# Words that are no command line: a text on the error stream alone.
+for words in walk 'run fast' 'audit twice' 'explain --csv --fast' 'migrate now'; do
+    "$program" $words > "$work/output" 2> "$work/errors" < /dev/null
+    got=$?
+    if [ "$got" != 1 ] || [ -s "$work/output" ] || ! [ -s "$work/errors" ]; then
+        echo "tests/pie.sh: pie $words: status $got"
+        failed=1
+    fi
+done
+# Help is answered on the output, with an example.
+for words in --help 'run --help' 'audit --help' 'explain --help' 'migrate --help' 'storm --help' help; do
+    "$program" $words > "$work/output" 2> "$work/errors" < /dev/null
+    got=$?
+    if [ "$got" != 0 ] || [ -s "$work/errors" ] || ! grep -q Example "$work/output"; then
+        echo "tests/pie.sh: pie $words: status $got"
+        failed=1
+    fi
+done
+for words in --help --version 'audit --help'; do
+    "$program" $words > /dev/full 2> "$work/errors" < /dev/null
+    got=$?
+    if [ "$got" != 1 ] || [ "$(cat "$work/errors")" != 'pie: cannot write the output' ]; then
+        echo "tests/pie.sh: pie $words on a full device: status $got, $(cat "$work/errors")"
+        failed=1
+    fi
+done
 # An output that cannot be written.
 printf 'open,0,4,16,100\n' | "$program" run > /dev/full 2> "$work/errors"
 got=$?

@@ -50,6 +50,3 @@ fn words(rt: &HostRuntime) -> Option<Vec<String>> {
         }
     }
 }
-
-#[cfg(test)]
-mod tests;

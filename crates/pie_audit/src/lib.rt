@@ -15,6 +15,3 @@ pub use auditor::{Auditor, Finding};
 pub use law::runs_are_clean;
 pub use migration::migration_keeps_the_finding;
 pub use text::audit;
-
-#[cfg(test)]
-mod tests;

@@ -26,8 +26,6 @@ pub mod refusal;
 pub mod registers;
 pub mod stats;
 mod tally;
-#[cfg(test)]
-mod tests;
 
 pub use beside::parts_decide_as_a_core;
 pub use book::Book;

@@ -18,6 +18,4 @@ mod controller;
 mod opening;
 mod params;
 mod state;
-#[cfg(test)]
-mod tests;
 mod updated;

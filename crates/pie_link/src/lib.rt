@@ -41,6 +41,3 @@ pub use plan::{Arrival, Change, Plan};
 pub use refusal::LinkRefusal;
 pub use starter::storm;
 pub use told::{Told, Tried};
-
-#[cfg(test)]
-mod tests;

@@ -28,7 +28,7 @@
 #![tactic(auto)]
 
 mod counter;
-mod example;
+pub mod example;
 mod kept;
 mod lock;
 mod pass;
@@ -41,6 +41,3 @@ pub use kept::Kept;
 pub use lock::RuledLock;
 pub use pass::{Held, Pass};
 pub use refusal::{LockRefusal, OneNumber, StillHeld};
-
-#[cfg(test)]
-mod tests;

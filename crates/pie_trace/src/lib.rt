@@ -46,6 +46,3 @@ pub use migration_law::{
 pub use run::{RunEnd, run_trace, run_trace_within};
 pub use version::Version;
 pub use write::write_history;
-
-#[cfg(test)]
-mod tests;

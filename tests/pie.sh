@@ -30,7 +30,7 @@ expect 'a refused record is no fault' 0 'open,0,4,1,100\ndepart,1,1,empty\nrefus
     'open,0,4,1,100\ndepart,1,1\ndepart,1,1\n' run
 expect 'a run of version two' 0 'open2,2,rolling,0,4,16,100\nshown,0,0,0,0,0,0,0,150000000,0,0,0,0\n' '' \
     'open2,2,rolling,0,4,16,100\nshow\n' run
-# The first session of the README, which is the example of `pie run --help` too.
+# The example of `pie run --help`.
 trace='open,0,8,32,100,2,1,0,850000,0,1,100000,1000000000000,1024
 arrive,1,0,1,1024,not,0
 arrive,1,0,2,1024,not,0
@@ -222,7 +222,22 @@ for _ in 1 2; do
             ;;
     esac
 done
-for words in '--senders 1' '--senders 9' '--senders two' '--packets 0' '--packets 10001' '--seed 18446744073709551616' '--seed -1' '--fast'; do
+# A loaded link: 180 arrivals, 150 departures and 5 updates, and what the storm tells of its events is what its history shows.
+"$program" storm --senders 3 --packets 60 --load 120 --count > "$work/output" 2> "$work/errors"
+got=$?
+told=$(awk -F, 'NR > 1 { n++; changes += n > 1 && $2 != before; before = $2; updates += $1 == "update" }
+    END { printf "pie: %d events, %d changes of caller, %d updates that came too soon", n, changes, 5 - updates }' "$work/output")
+changes=$(sed 's/.* events, \([0-9]*\) changes.*/\1/' "$work/errors")
+if [ "$got" != 0 ] || [ "$(cat "$work/errors")" != "$told" ] || [ "$(grep -c '^arrive' "$work/output") $(grep -c '^depart' "$work/output")" != '180 150' ]; then
+    echo "tests/pie.sh: a storm that is counted: status $got, $(cat "$work/errors"), and not $told"
+    failed=1
+fi
+# Three senders take part in each of its 60 milliseconds, one after the other they would make four changes.
+if [ "$changes" -lt 60 ] || ! "$program" audit < "$work/output" > /dev/null; then
+    echo "tests/pie.sh: a storm that is counted: $changes changes of caller, or its history is not clean"
+    failed=1
+fi
+for words in '--senders 1' '--senders 9' '--senders two' '--packets 0' '--packets 10001' '--seed 18446744073709551616' '--seed -1' '--fast' '--load 49' '--load 1001' '--count=2'; do
     "$program" storm $words > "$work/output" 2> "$work/errors"
     got=$?
     if [ "$got" != 1 ] || [ -s "$work/output" ] || ! [ -s "$work/errors" ]; then

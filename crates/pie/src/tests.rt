@@ -10,6 +10,7 @@ use std::marker::Sync;
 use std::sync::Wait;
 use std::test::Fail;
 use std::thread::Threads;
+use std::time::Clock;
 
 /// What a run of the program answered: its status, its output and its error stream.
 #[derive(Drop)]
@@ -19,7 +20,7 @@ struct Outcome {
     errors: Vec<u8>,
 }
 
-fn pie<H: Threads + Wait + Sync>(
+fn pie<H: Threads + Wait + Clock + Sync>(
     rt: &H,
     alloc: Global,
     words: &[&str],
@@ -212,7 +213,7 @@ impl Write for Full {
 }
 
 /// Runs the program over an output that takes nothing, and answers its status and its error stream.
-fn pie_on_a_full_output<H: Threads + Wait + Sync>(
+fn pie_on_a_full_output<H: Threads + Wait + Clock + Sync>(
     rt: &H,
     alloc: Global,
     words: &[&str],

@@ -140,7 +140,8 @@ RecordedPieQueueDisc::GetTypeId()
 RecordedPieQueueDisc::RecordedPieQueueDisc()
     : QueueDisc(QueueDiscSizePolicy::SINGLE_INTERNAL_QUEUE, QueueSizeUnit::BYTES),
       m_pie(),
-      m_words(CreateObject<UniformRandomVariable>())
+      m_words(CreateObject<UniformRandomVariable>()),
+      m_arrivals(0)
 {
 }
 
@@ -255,9 +256,10 @@ RecordedPieQueueDisc::DoEnqueue(Ptr<QueueDiscItem> item)
     uint32_t room = m_packets - queue->GetNPackets();
     uint32_t verdict = pie_arrive(&m_pie, queue->GetNBytes(), item->GetSize(), room, ecn, word, moment);
     NS_ABORT_MSG_IF(verdict > PIE_PACKETS, "pie_arrive refused by code " << verdict);
+    m_arrivals++;
     if (m_history.is_open())
     {
-        m_history << "arrive," << SENDERS << ',' << moment << ',' << item->GetPacket()->GetUid() << ',' << item->GetSize()
+        m_history << "arrive," << SENDERS << ',' << moment << ',' << m_arrivals << ',' << item->GetSize()
                   << ',' << ECN_WORDS[ecn] << ',' << word << ',' << VERDICTS[verdict] << '\n';
     }
     switch (verdict)
@@ -275,6 +277,7 @@ RecordedPieQueueDisc::DoEnqueue(Ptr<QueueDiscItem> item)
         break;
     }
     NS_ABORT_MSG_UNLESS(queue->Enqueue(item), "the queue refused a packet that the library let in");
+    m_tags.push_back(m_arrivals);
     return true;
 }
 
@@ -288,10 +291,12 @@ RecordedPieQueueDisc::DoDequeue()
         return nullptr; /* the simulator's clock does not fall, so pie_empty would change no decision */
     }
     uint64_t moment = Moment();
+    uint64_t tag = m_tags.front();
+    m_tags.pop_front();
     Expect(pie_depart(&m_pie, item->GetSize(), queue->GetNBytes(), moment), "pie_depart");
     if (m_history.is_open())
     {
-        m_history << "depart," << LINK << ',' << moment << ",left," << item->GetPacket()->GetUid() << ',' << item->GetSize()
+        m_history << "depart," << LINK << ',' << moment << ",left," << tag << ',' << item->GetSize()
                   << ',' << ECN_WORDS[EcnField(item, m_useEcn)] << '\n';
     }
     return item;

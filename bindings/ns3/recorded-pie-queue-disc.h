@@ -11,6 +11,7 @@
 #include "ns3/random-variable-stream.h"
 #include "ns3/traced-value.h"
 
+#include <deque>
 #include <fstream>
 #include <string>
 
@@ -72,6 +73,8 @@ class RecordedPieQueueDisc : public QueueDisc
     Ptr<UniformRandomVariable> m_words;
     EventId m_updateEvent;
     std::ofstream m_history;
+    uint64_t m_arrivals;         /* so far; a packet's tag in the history is its number among them */
+    std::deque<uint64_t> m_tags; /* of the packets that wait */
     TracedValue<double> m_probability;
     TracedValue<Time> m_delay;
 };

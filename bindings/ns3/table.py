@@ -1,9 +1,9 @@
 #!/usr/bin/env python3
-"""Makes tables of the records that scenarios.sh left: a table for each scenario, a line for each queue, of each figure the mean over
-the runs and in brackets the least and the greatest. A last line tells how this repository's PIE and ns-3's own, both with
-de-randomization, lie beside each other in mean wait and goodput.
+"""Makes tables of the records that scenarios.sh left: a table for each scenario, a line for each queue, of goodput and waits the mean
+over the runs and in brackets the least and the greatest, of drops and marks the mean. A last line tells how this repository's PIE
+and ns-3's own, both with de-randomization, lie beside each other in mean wait and goodput, where there are three runs of each.
 
-usage: bindings/ns3/table.py RESULTS.csv [plot]      plot: the mean waits for gnuplot instead
+usage: bindings/ns3/table.py RESULTS.csv [plot]      plot: the mean waits for draw.sh instead, of scenarios with three runs and more
 """
 import csv
 import sys
@@ -21,7 +21,6 @@ FIGURES = {
     "wait_median_ms": "median",
     "wait_p95_ms": "95th",
     "wait_p99_ms": "99th",
-    "start_wait_mean_ms": "first seconds",
     "early": "early drops",
     "tail": "tail drops",
     "marked": "marks",
@@ -45,8 +44,10 @@ def spread(records, figure):
 
 def shown(records, figure):
     mean, least, greatest = spread(records, figure)
-    digits = 0 if figure in ("early", "tail", "marked") else 2 if figure == "goodput_mbit" else 1
-    return f"{mean:.{digits}f} ({least:.{digits}f} to {greatest:.{digits}f})"
+    if figure in ("early", "tail", "marked"):
+        return f"{mean:.0f}"
+    digits = 1 if figure == "goodput_mbit" else 0
+    return f"{mean:.{digits}f}" + (f" ({least:.{digits}f} to {greatest:.{digits}f})" if len(records) > 1 else "")
 
 
 def name_of(scenario):
@@ -69,18 +70,21 @@ def main():
     runs = read(sys.argv[1])
     is_plot = sys.argv[2:] == ["plot"]
     scenarios = list(dict.fromkeys(scenario for scenario, _ in runs))
+    if is_plot:
+        scenarios = [scenario for scenario in scenarios if len(runs.get((scenario, "recorded"), [])) >= 3]
     for place, scenario in enumerate(scenarios):
         by_queue = {queue: runs[scenario, queue] for queue in QUEUES if (scenario, queue) in runs}
         if is_plot:
             spreads = {queue: spread(by_queue[queue], "wait_mean_ms") if queue in by_queue else ("nan",) * 3 for queue in QUEUES}
-            print(place, '"' + name_of(scenario) + '"', *(value for it in spreads.values() for value in it))
+            name = name_of(scenario).replace(" of the link's rate", "").replace(", ", "\\n")
+            print(place, f'"{name}"', *(value for it in spreads.values() for value in it))
             continue
         print(f"\n{name_of(scenario)}:\n")
         print("| queue | runs | " + " | ".join(FIGURES.values()) + " |")
         print("|---|" + "---|" * (len(FIGURES) + 1))
         for queue, records in by_queue.items():
             print(f"| {QUEUES[queue]} | {len(records)} | " + " | ".join(shown(records, figure) for figure in FIGURES) + " |")
-        if "recorded" in by_queue and "pie" in by_queue:
+        if min(len(by_queue.get(queue, [])) for queue in ("recorded", "pie")) >= 3:
             print(f"\nThis repository's PIE beside PieQueueDisc, de-randomized: {beside(by_queue['recorded'], by_queue['pie'])}.")
 
 

@@ -16,7 +16,7 @@ for word in "$@"; do
     number=$((number + 1))
 done
 gnuplot <<PLOT
-set terminal pngcairo size 900,540 font "sans,10"
+set terminal pngcairo size 800,460 font "sans,9"
 set output "$picture"
 set datafile separator ","
 set multiplot layout 2,1 margins 0.08,0.97,0.09,0.97 spacing 0.06

@@ -2,6 +2,7 @@
 ghost use Rattle.std.specs.Prelude.{◌≡◌, IfOk};
 
 mod busy;
+mod kept;
 mod one_thread;
 mod storms;
 mod threads;

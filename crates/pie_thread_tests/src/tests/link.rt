@@ -1,6 +1,7 @@
 //! Worked rows, and arrangements of threads that end by themselves.
 ghost use Rattle.std.specs.Prelude.{◌≡◌, IfOk};
 
+mod kept;
 mod one_thread;
 mod storms;
 mod threads;

@@ -1,6 +1,8 @@
 ghost use Rattle.std.specs.Prelude.{◌≡◌, Some};
 ghost use Rattle.pie_lock.specs.Tally.{Tells};
 
+mod sleepers;
+
 use pie_lock::example::{Till, try_sell};
 use pie_lock::{
     Counter, CounterEntry, Held, Kept, LockRefusal, OneNumber, Pass, RuledLock, StillHeld,

@@ -27,7 +27,7 @@ pub mod registers;
 pub mod stats;
 mod tally;
 
-pub use beside::parts_decide_as_a_core;
+pub use beside::{parts_decide_as_a_core, runs_decide_as_a_core};
 pub use book::Book;
 pub use cause::{Cause, Fate};
 pub use command::{Answer, Command, Event};

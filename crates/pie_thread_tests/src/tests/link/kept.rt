@@ -3,8 +3,8 @@ ghost use Rattle.std.specs.Prelude.{◌≡◌, IfOk};
 ghost use Rattle.pie_link.specs.Views.{StaysOne};
 
 use super::packet;
-use pie_link::{Arrival, Caller, Change, Gate, Link, LinkRefusal, Plan, Tried, storm};
 use pie_book::{Answer, Book, FoldRefusal, Limits};
+use pie_link::{Arrival, Caller, Change, Gate, Link, LinkRefusal, Plan, Tried, storm};
 use pie_params::Params;
 use std::alloc::Global;
 use std::sync::atomic::{AtomicU64, Ordering};

@@ -1,7 +1,7 @@
 #!/usr/bin/env bash
 # Builds and runs bench/pie_c.c over the static library, which `rt lib` in crates/pie_c builds: with DPDK's rte_pie.h where
 # Debian's libdpdk-dev is installed, and without it elsewhere. Prints of each the least and the median, and the ratios; and
-# where valgrind is there, the instructions of a call.
+# where valgrind is there, the instructions of a call (bench/pie_c_count.sh).
 set -eu
 cd "$(dirname "$0")/.."
 work=$(mktemp -d)
@@ -23,19 +23,4 @@ ${CC:-cc} -O2 -Iinclude $dpdk -o "$work/pie_c" bench/pie_c.c crates/pie_c/out/li
 "$work/pie_c" > "$work/lines"
 python3 bench/ratios.py "$work/lines" $pairs $alone
 echo "the library and plain C make the same decisions"
-if ! command -v valgrind > /dev/null; then
-    echo "bench/pie_c.sh: no valgrind here, so no instructions are counted"
-    exit 0
-fi
-${CC:-cc} -O2 -Iinclude -o "$work/count" bench/pie_c_count.c crates/pie_c/out/libpie_c.a
-# the instructions of 10,000 calls and of the loop around them
-counted() {
-    local few many
-    few=$(valgrind --tool=callgrind --callgrind-out-file=/dev/null "$work/count" "$1" 1000 2>&1 | awk '/Collected/ {print $NF}')
-    many=$(valgrind --tool=callgrind --callgrind-out-file=/dev/null "$work/count" "$1" 11000 2>&1 | awk '/Collected/ {print $NF}')
-    echo $((many - few))
-}
-loop=$(counted none)
-for call in arrive depart update empty reset; do
-    echo "${call}: $((($(counted "$call") - loop) / 10000)) instructions"
-done
+bench/pie_c_count.sh

@@ -1,7 +1,7 @@
-/* So many calls of one kind on a state of the library, for bench/pie_c.sh to count their instructions: an arrival that is
- * considered, a departure while a cycle is open, a due update, an empty departure, a reset; `none` is the loop alone.
+/* So many calls of one kind on a state of the library, for bench/pie_c_count.sh to count their instructions. Ends with the status 2
+ * where a call answered otherwise than its kind says.
  *
- * usage: pie_c_count none|arrive|depart|update|empty|reset CALLS
+ * usage: pie_c_count KIND CALLS
  */
 #include "pie.h"
 
@@ -9,30 +9,46 @@
 #include <stdlib.h>
 #include <string.h>
 
+static struct pie_params params;
+static struct pie_state state;
+
+/* One call of a kind, with a number that differs from call to call; what it answered. */
+static uint64_t call(const char *kind, uint64_t i) {
+    uint64_t word = i * 6364136223846793005u;
+    if (strcmp(kind, "arrive_considered") == 0)
+        return pie_arrive(&state, 100000, 1000, 1, PIE_ECT0, word, i) <= PIE_EARLY ? PIE_DONE : PIE_BYTES;
+    if (strcmp(kind, "arrive_passed") == 0) /* too few bytes wait for early drop */
+        return pie_arrive(&state, 2048, 1000, 1, PIE_ECT0, word, i);
+    if (strcmp(kind, "arrive_dropped") == 0) /* the queue is full */
+        return pie_arrive(&state, 262144, 1000, 1, PIE_ECT0, word, i) == PIE_BYTES ? PIE_DONE : PIE_BYTES;
+    if (strcmp(kind, "depart_measured") == 0) /* cycles of the departure rate are open all the time */
+        return pie_depart(&state, 1000, 100000, i);
+    if (strcmp(kind, "depart_unmeasured") == 0) /* too few bytes wait for one */
+        return pie_depart(&state, 1000, 1000, i);
+    if (strcmp(kind, "update") == 0)
+        return pie_update(&state, 100000, i * 15000000).code;
+    if (strcmp(kind, "update_too_soon") == 0)
+        return pie_update(&state, 100000, 1).code == PIE_TOO_SOON ? PIE_DONE : PIE_BYTES;
+    if (strcmp(kind, "empty") == 0)
+        return pie_empty(&state, i);
+    if (strcmp(kind, "reset") == 0)
+        return pie_reset(&state, i);
+    if (strcmp(kind, "set_params") == 0)
+        return pie_set_params(&state, &params, i);
+    return PIE_BYTES;
+}
+
 int main(int count, char **words) {
     if (count != 3)
         return 1;
-    struct pie_params params;
-    struct pie_state state;
     pie_default_params(&params);
     pie_open(&state, &params, 0);
     state.prob = 50000000000;
     state.old_delay = 15000000;
     state.burst = 0;
-    char kind = words[1][0];
-    uint64_t calls = strtoull(words[2], NULL, 10), sum = 0;
-    for (uint64_t i = 1; i <= calls; i++) {
-        if (kind == 'a')
-            sum += pie_arrive(&state, 100000, 1000, 1, PIE_ECT0, i * 6364136223846793005u, i);
-        else if (kind == 'd')
-            sum += pie_depart(&state, 1000, 100000, i);
-        else if (kind == 'u')
-            sum += pie_update(&state, 100000, i * 15000000).prob;
-        else if (kind == 'e')
-            sum += pie_empty(&state, i);
-        else if (kind == 'r')
-            sum += pie_reset(&state, i);
-    }
-    printf("%llu\n", (unsigned long long)sum);
+    uint64_t calls = strtoull(words[2], NULL, 10);
+    for (uint64_t i = 1; i <= calls; i++)
+        if (call(words[1], i) != PIE_DONE)
+            return 2;
     return 0;
 }

@@ -1,7 +1,7 @@
 /* PIE (RFC 8033) for a packet queue that its caller owns.
  *
  * The controller keeps no memory of its own: its state is a struct of numbers that the caller owns, and each call
- * takes a pointer to it. The caller has the packets, the clock and the random words. Link with libpie_c.a.
+ * takes a pointer to it. The caller has the packets, the clock and the random words. Link with libpie_c.a (`pkg-config pie_c`).
  *
  * Moments and times are whole nanoseconds, counted from a start of the caller's choosing; a moment is at most
  * 2^60 - 1. Probabilities are whole numbers of 10^-12, from 0 to 10^12. Sizes are in bytes.
@@ -11,9 +11,49 @@
  * calls changed is never refused.
  *
  * What a caller owes, since nothing can check it: each pointer points to a struct of its type that is aligned, and that no
- * other thread reads or writes during the call; the structs of one call do not overlap; queued bytes are those that
- * wait; each packet that is queued leaves by one pie_depart. A call is some ninety to 270 instructions, waits for
- * nobody and takes no memory, so it may stand under a spin lock.
+ * other thread reads or writes during the call; the structs of one call do not overlap, but that `params` may be the
+ * state's own, &state->params; queued bytes are those that wait; each packet that is queued leaves by one pie_depart. A call
+ * is some eighty to 270 instructions, waits for nobody and takes no memory, so it may stand under a spin lock.
+ *
+ * What is easily got wrong, and what to do:
+ *
+ * - The clock. Take one that never goes back, as CLOCK_MONOTONIC in nanoseconds. Nanoseconds since 1970 are above 2^60 - 1
+ *   and refused. A moment before the greatest so far counts as the greatest so far. So after one moment far ahead all later
+ *   ones count as that one: one more update is made at it, and from then on each is too soon until the clock gets there.
+ *   pie_reset keeps the greatest moment. The way out is to open anew: pie_open(&pie, &pie.params, now).
+ *
+ * - The timer. Arm it for pie_due(&pie), or make an update as soon as a packet finds that this moment has passed. A timer that
+ *   rings every t_update by a rhythm of its own loses updates where it jitters: of 15000100, 30000050 and 45000020 ns the
+ *   second is 50 ns too soon. An update that is late counts once: those that were missed are not made up for.
+ *
+ * - The random word. It has 64 random bits that no sender can guess. It is not rand(): a word below 2^31 is below nearly every
+ *   probability, so no packet would be spared by chance.
+ *
+ * - An answer above 100 is a mistake of the caller, and pie_text has words for a log; only PIE_TOO_SOON comes up in a sound
+ *   program, and is tried again from `due` on. Of an arrival nothing was decided then: queue the packet while it fits, and
+ *   else drop it, as you would without PIE. Of a departure the packet has left all the same; the rate estimate misses it.
+ *   After PIE_BAD_STATE open anew.
+ *
+ * - A packet above 65535 bytes, as segmentation offload (GSO) makes them, is refused by PIE_BAD_SIZE. Segment it first, and
+ *   ask for each segment.
+ *
+ * - limit_bytes has to be well above rate x target. Else the queue is full before it can wait so long, PIE never acts, and all
+ *   losses are tail drops. The default of 262144 bytes is 15 ms at 140 Mbit/s. pie_params_for(rate, &params) makes it 200 ms:
+ *
+ *       rate           rate x 15 ms    limit_bytes by pie_params_for
+ *       10 Mbit/s          18750            262144 (the default: 210 ms)
+ *       100 Mbit/s        187500           2500000
+ *       1 Gbit/s         1875000          25000000
+ *       10 Gbit/s       18750000         250000000
+ *       40 Gbit/s       75000000        1000000000
+ *       100 Gbit/s     187500000        1073741824 (2^30, the most: 86 ms)
+ *
+ * - dq_threshold. The departure rate is measured only while so many bytes wait, and until the first measure the delay counts
+ *   as 0. The default of 16384 bytes is 15 ms at 8.7 Mbit/s, and 131 ms at 1 Mbit/s. On a slower link PIE acts sooner with the
+ *   greatest power of two below rate x target, 1024 at the least.
+ *
+ * - The state is there to be read: write to no field of it. For new parameters copy pie.params, change the copy, and hand that
+ *   to pie_set_params. Handed &pie.params, it clears the rate estimate and changes no parameter.
  */
 #ifndef PIE_H
 #define PIE_H
@@ -23,6 +63,14 @@
 #ifdef __cplusplus
 extern "C" {
 #endif
+
+/* The version of this header and of the library. */
+#define PIE_VERSION "0.1.0"
+
+#define PIE_MAX_MOMENT UINT64_C(1152921504606846975) /* the latest moment, 2^60 - 1 ns */
+#define PIE_ONE UINT64_C(1000000000000)              /* the probability 1: 10^12 */
+#define PIE_MAX_BYTES UINT64_C(1073741824)           /* the greatest limit_bytes, and the most bytes in a queue: 2^30 */
+#define PIE_MAX_SIZE UINT32_C(65535)                 /* the greatest size of a packet, in bytes */
 
 /* What a call answers. A refusal that pie's histories know too is 100 and its number there. */
 enum {
@@ -130,7 +178,7 @@ uint32_t pie_depart(struct pie_state *state, uint32_t size, uint64_t left, uint6
  * Refused, in this order: PIE_BAD_STATE, PIE_BAD_MOMENT. */
 uint32_t pie_empty(struct pie_state *state, uint64_t moment);
 
-/* Makes an update, with `queued` bytes in the queue (sections 4.2, 4.4 and 5.5). Call it once in t_update.
+/* Makes an update, with `queued` bytes in the queue (sections 4.2, 4.4 and 5.5). Call it when pie_due has come, or soon after.
  * Refused, in this order: PIE_BAD_STATE, PIE_BAD_MOMENT, PIE_BAD_QUEUE, PIE_TOO_SOON. */
 struct pie_updated pie_update(struct pie_state *state, uint64_t queued, uint64_t moment);
 
@@ -139,9 +187,58 @@ struct pie_updated pie_update(struct pie_state *state, uint64_t queued, uint64_t
  * Refused, in this order: PIE_BAD_STATE, PIE_BAD_MOMENT. */
 uint32_t pie_reset(struct pie_state *state, uint64_t moment);
 
-/* Puts new parameters in force and clears the rate estimate; the other registers stay. `params` is not state->params.
+/* Puts new parameters in force and clears the rate estimate; the other registers stay, and so pie_due moves with t_update.
+ * `params` is a struct of its own, or &state->params.
  * Refused, in this order: PIE_BAD_STATE, PIE_BAD_PARAMS, PIE_BAD_MOMENT. */
 uint32_t pie_set_params(struct pie_state *state, const struct pie_params *params, uint64_t moment);
+
+/* The moment from which the next update isn't too soon. */
+static inline uint64_t pie_due(const struct pie_state *state) {
+    return state->last + state->params.t_update;
+}
+
+/* Fills in the default parameters for a link of this rate, in bits a second: limit_bytes is at least 200 ms at that rate, as far
+ * as its range goes. That is up to 42.9 Gbit/s; at 100 Gbit/s it is 86 ms. Of a link below 8.7 Mbit/s see dq_threshold above. */
+static inline void pie_params_for(uint64_t rate, struct pie_params *params) {
+    uint64_t bytes = rate / 40 + (rate % 40 == 0 ? 0u : 1u);
+    pie_default_params(params);
+    if (bytes > params->limit_bytes)
+        params->limit_bytes = bytes < PIE_MAX_BYTES ? bytes : PIE_MAX_BYTES;
+}
+
+/* What a code means, in words for a log. */
+static inline const char *pie_text(uint64_t code) {
+    switch (code) {
+    case PIE_DONE:
+        return "done (of an arrival: queue the packet)";
+    case PIE_MARK:
+        return "queue the packet and mark it";
+    case PIE_EARLY:
+        return "drop the packet: early drop";
+    case PIE_BYTES:
+        return "drop the packet: the queue would exceed limit_bytes";
+    case PIE_PACKETS:
+        return "drop the packet: the ring is full";
+    case PIE_BAD_MOMENT:
+        return "refused: a moment above 2^60 - 1 ns";
+    case PIE_BAD_SIZE:
+        return "refused: a size outside 1 to 65535 bytes";
+    case PIE_TOO_SOON:
+        return "refused: an update before it is due";
+    case PIE_BAD_PARAMS:
+        return "refused: a parameter out of its range";
+    case PIE_BAD_STATE:
+        return "refused: a state that these calls did not leave";
+    case PIE_BAD_ECN:
+        return "refused: an ECN field above 3";
+    case PIE_BAD_QUEUE:
+        return "refused: more than 2^30 bytes in the queue";
+    case PIE_BAD_PROFILE:
+        return "refused: a profile that is neither 1 nor 2";
+    default:
+        return "a code that pie.h does not have";
+    }
+}
 
 #ifdef __cplusplus
 }

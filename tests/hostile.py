@@ -8,7 +8,8 @@ import shutil
 import subprocess
 import sys
 import tempfile
-from concurrent.futures import ThreadPoolExecutor
+
+import damage
 
 PROGRAM = os.path.abspath(sys.argv[1])
 HERE = os.path.dirname(os.path.abspath(__file__))
@@ -18,35 +19,7 @@ READERS = {name: words for name, words in [("audit", ["audit"]), ("explain", ["e
 READ, WRITE, MEMORY = b"pie: cannot read the input\n", b"pie: cannot write the output\n", b"pie: out of memory\n"
 THREAD = b"pie: a thread could not be started\n"
 
-# Every kind of record and nearly every answer.
-TRACE = b"""open,0,8,32,100,2,1,0,850000,0,1,100000,1000000000000,1024
-arrive,1,0,1,1024,not,0
-arrive,1,0,2,1024,not,0
-arrive,1,0,3,1024,not,0
-arrive,1,0,4,1024,not,0
-depart,3,1000
-depart,3,1001000
-update,4,1001000
-update,4,1001001
-update,4,1001002
-arrive,1,1001003,5,500,ect0,0
-arrive,2,1001003,6,500,not,0
-arrive,2,1001003,7,500,not,18446744073709551615
-arrive,2,1001003,8,65535,ect1,7
-show
-tally
-params,5,1001004,2,1,50,850000,0,1,100000,1000000000000,1024
-show
-reset,5,1001005
-update,5,1001005
-depart,3,999
-fold,40
-fold,4
-params,5,1001004,1,1,50,850000,0,1,100000,1000000000000,1024
-"""
-
-# The same in version two and the second profile, whose controller the third arrival turns on.
-TRACES = [TRACE, TRACE.replace(b"open,", b"open2,2,bounded,").replace(b"100000,1000000000000", b"9000,1000000000000")]
+TRACE = damage.TRACE
 
 failures = []
 
@@ -124,23 +97,13 @@ def malformed():
         output = opened if text.startswith(opened) else b""
         got = run(["run"], text)
         check(got == (1, output, errors), "malformed", text[:60], len(text), got[0], got[2][:100])
-        for words in READERS.values():
-            got = run(words, text)
-            check(got[0] == 1 and is_error_line(got[2]), "malformed", words, text[:60], len(text), got[0], got[2][:100])
+        for name in damage.OF_A_HISTORY:
+            got, want = run(name.split(), text), damage.wanted(name, text)
+            check(got == want and is_error_line(got[2]), "malformed", name, text[:60], len(text), got[0], got[1][:100], got[2][:100], want[2])
     history = opened + b"depart,1,9,empty\ndepart,1,10,empty\n"
     for end in [b"\r", b"\r\n", b"\n", b"\n\n\n"]:
         check(run(["run"], end.join([b"open,0,4,16,100", b"depart,1,9", b"depart,1,10"])) == (0, history, b""), "line ends", end)
     check(run(["run"], b"\xef\xbb\xbf" + opened) == (0, opened, b""), "a byte order mark")
-
-
-def changed(text):
-    """Every beginning of a text, and the text with each byte in turn made another."""
-    for at in range(len(text)):
-        yield f"cut at {at}", text[:at]
-    for at in range(len(text)):
-        for byte in b"0,\n\"\xff":
-            if text[at] != byte:
-                yield f"byte {at} made {byte}", text[:at] + bytes([byte]) + text[at + 1 :]
 
 
 def small():
@@ -162,61 +125,29 @@ def small():
     ]
     for number, line, errors in faults:
         text = b"".join(lines[: number - 1]) + line
-        for words in READERS.values():
+        before = b"".join(lines[: number - 1])
+        migrated = before.replace(b"open,", b"open2,1,bounded,", 1)
+        explained = run(["explain", "--all"], before)[1]
+        for words, output in ((["audit"], b""), (["migrate"], migrated), (["explain", "--all"], explained)):
             got = run(words, text)
-            check((got[0], got[2]) == (1, errors), words, "at", line, got)
-        check(run(["audit"], text)[1] == b"", "an audit with a fault wrote something at", line)
+            check(got == (1, output, errors), words, "at", line, got)
+        for name in damage.OF_A_HISTORY:
+            check(run(name.split(), text) == damage.wanted(name, text), name, "at", line)
     cut = history[: len(history) - len(lines[3]) - 1]
     check(run(["audit"], cut) == (0, b"clean,2\n", b""), "a history without its last line feed")
 
 
-def cut_or_changed_trace(case):
-    """It ends with status 0 and the history, or with status 1, a named fault and the history before it."""
-    name, text, history = case
-    status, output, errors = run(["run"], text)
-    check((status, errors) == (0, b"") or status == 1 and is_error_line(errors), "trace", name, status, errors[:100])
-    check(output == b"" or output.endswith(b"\n"), "trace", name, "half a record")
-    if name.startswith("cut"):
-        lines = output.split(b"\n")[:-2]
-        check(lines == history.split(b"\n")[: len(lines)], "trace", name, "another history before the cut")
-
-
-def cut_or_changed_history(case):
-    """Its audit ends with a finding or a fault. Explaining it tells of the same fault or of the same event that differs. Migrating it
-    tells of the same fault, or writes a history with the same finding."""
-    name, text = case
-    status, output, errors = found = run(["audit"], text)
-    kind = output.split(b",")[0]
-    is_found = (status, kind, errors) in [(0, b"clean", b""), (2, b"differs", b"")]
-    check(is_found or status == 1 and not output and is_error_line(errors), "history", name, status, output, errors[:100])
-    if "explain" in READERS:
-        status, output, errors = run(READERS["explain"], text)
-        event = re.match(rb"pie: event (\d+) ", errors)
-        says = b"differs,%s\n" % event[1] if status == 2 and event else found[1]
-        check((status, says) == found[:2] and (status == 2 or errors == found[2]), "explained history", name, status, errors[:100], *found)
-    if "migrate" in READERS:
-        status, output, errors = run(READERS["migrate"], text)
-        again = run(["audit"], output) if status == 0 else (1, b"", errors)
-        check(again == found, "migrated history", name, status, errors[:100], *found)
-
-
 def cuts():
-    """Each beginning of a trace and of its history, and each with one byte changed."""
-    for trace in TRACES:
-        status, history, errors = run(["run"], trace)
-        check((status, errors) == (0, b""), "the trace", trace[:40], status, errors)
-        cases = [(name, text, history) for name, text in changed(trace)]
-        with ThreadPoolExecutor(os.cpu_count()) as pool:
-            list(pool.map(cut_or_changed_trace, cases))
-            list(pool.map(cut_or_changed_history, changed(history)))
-        print(f"tests/hostile.py: {len(cases)} cuts and changes of a trace that begins with {trace.split(b',')[0].decode()}, and of its history")
+    """Each beginning of a trace and of its history, and a sample of those in which one byte is another."""
+    for it in damage.compare(PROGRAM, damage.sample):
+        check(False, it[:500])
 
 
 def refused(history):
     """Each request for memory, each read and each write refused in turn, once and from there on."""
     compiler = shutil.which("cc")
     if not compiler:
-        print("tests/hostile.py: no C compiler here, so no request was refused")
+        print("NOT RUN: tests/hostile.py: no C compiler (cc) here, so no request for memory, read, write or start of a thread was refused")
         return
     with tempfile.TemporaryDirectory() as room:
         library, met = f"{room}/refuse.so", f"{room}/met"
@@ -241,6 +172,9 @@ def refused(history):
                         check((status, errors) == (1, says) or did_with_less, name, variable, place, on, status, errors[:100])
                         check(want.startswith(output), name, variable, place, on, "no beginning of the text")
                     check(place > 1, name, variable, "met nothing")
+                    # What is written goes out in pages of some 32 KB, and not byte by byte, nor all at the end.
+                    is_paged = len(want) // 65536 < place - 1 <= len(want) // 16384 + 1
+                    check(variable != "REFUSE_WRITE" or name == "audit" or is_paged, name, "wrote", len(want), "bytes by", place - 1, "writes")
                     print(f"tests/hostile.py: {name}: {variable} at {place - 1} places{' and all after them' if on else ''}")
         storm_refused(library, met)
         # A text's fault before which something was written that cannot be flushed: the device is what is told.

@@ -4,6 +4,7 @@
 # usage: tests/pie.sh PROGRAM      PROGRAM: crates/pie/out/pie, as `rt run` builds it there
 set -u
 program=$1
+here=$(dirname "$0")
 work=$(mktemp -d)
 trap 'rm -rf "$work"' EXIT
 failed=0
@@ -30,7 +31,7 @@ expect 'a refused record is no fault' 0 'open,0,4,1,100\ndepart,1,1,empty\nrefus
     'open,0,4,1,100\ndepart,1,1\ndepart,1,1\n' run
 expect 'a run of version two' 0 'open2,2,rolling,0,4,16,100\nshown,0,0,0,0,0,0,0,150000000,0,0,0,0\n' '' \
     'open2,2,rolling,0,4,16,100\nshow\n' run
-# The first session of the README, which is the example of `pie run --help` too.
+# The example of `pie run --help`.
 trace='open,0,8,32,100,2,1,0,850000,0,1,100000,1000000000000,1024
 arrive,1,0,1,1024,not,0
 arrive,1,0,2,1024,not,0
@@ -66,6 +67,10 @@ expect 'a mark and an early drop' 0 "$history" '' "$trace" run
 expect 'no record' 1 '' 'pie: the first record is not an open record\n' '' run
 expect 'a fault' 1 'open,0,4,16,100\ndepart,1,9,empty\n' 'pie: record 3: unknown kind\n' \
     'open,0,4,16,100\ndepart,1,9\ndep,1,10\ndepart,1,11\n' run
+expect 'limits out of range' 1 '' 'pie: record 1: limits out of range\n' 'open,0,0,16,100\n' run
+expect 'a number that is not canonical' 1 'open,0,4,16,100\n' 'pie: record 2: not a number in range\n' 'open,0,4,16,100\ndepart,2,05\n' run
+expect 'refusals of three kinds' 0 'open,0,4,1,100\ndepart,1,1,empty\nrefused,3,5\nrefused,4,3\nrefused,5,6\n' '' \
+    'open,0,4,1,100\ndepart,1,1\ndepart,1,1\nupdate,1,1\nfold,2\n' run
 expect 'a bad parameter' 1 '' 'pie: record 1: target out of range\n' 'open,0,4,16,100,1,1,0,0,0,1,1,0,1024\n' run
 # The histories that these runs write are clean, and one in which a verdict was changed is not.
 expect 'an audit' 0 'clean,11\n' '' "$history" audit
@@ -73,6 +78,7 @@ expect 'a history without events' 0 'clean,0\n' '' 'open,0,4,16,100\n' audit
 expect 'a changed verdict' 2 'differs,10\n' '' "${history/ect0,0,mark/ect0,0,early}" audit
 expect 'a history with a fault' 1 '' 'pie: record 3: unknown kind\n' 'open,0,4,16,100\ndepart,1,9,empty\ndep,1,10\n' audit
 expect 'a fault after a changed verdict' 1 '' 'pie: record 15: wrong number of fields\n' "${history/ect0,0,mark/ect0,0,early}shown\n" audit
+expect 'limits of a history out of range' 1 '' 'pie: record 1: limits out of range\n' 'open,0,0,16,100\n' audit
 expect 'an empty history' 1 '' 'pie: the first record is not an open record\n' '' audit
 # Explanations: of the packet that was lost, of one event, up to a changed verdict; and what is not there.
 header='number,kind,caller,moment,effective_moment,tag,size,verdict,cause,bytes,packets,delay,probability,accumulated_probability,burst_allowance\n'
@@ -84,6 +90,9 @@ expect 'a lost packet' 0 "$header$lost" '' "$history" explain --csv --lost
 expect 'a tag' 0 "$header$lost" '' "$history" explain --tag 6 --csv
 expect 'no packet lost before a changed verdict' 2 "$header" "$differs" "$changed" explain --csv --lost
 expect 'an event before a changed verdict' 2 "${header}1,arrive,1,0,0,1,1024,enqueue,low_delay,0,0,0,0,0,0\n" "$differs" "$changed" explain --csv --event=1
+expect 'all events before a changed verdict' 2 \
+    "${header}1,arrive,1,0,0,1,1024,enqueue,low_delay,0,0,0,0,0,0\n2,arrive,1,0,0,2,1024,enqueue,low_delay,1024,1,0,0,0,0\n3,arrive,1,0,0,3,1024,enqueue,low_delay,2048,2,0,0,0,0\n" \
+    'pie: event 4 is not what the rules give there, so it and later events are not explained\n' "${history/4,1024,not,0,enqueue/4,1024,not,0,mark}" explain --csv --all
 expect 'an event that is not there' 1 '' 'pie: there is no event 12: the history has 11 events\n' "$history" explain --event 12
 expect 'a tag that is not there' 1 "$header" 'pie: no packet has the tag 9\n' "$history" explain --csv --tag 9
 expect 'a fault of an explained history' 1 '' 'pie: record 15: wrong number of fields\n' "${changed}shown\n" explain --lost
@@ -124,6 +133,110 @@ expect 'a migrated opening with its parameters' 0 'open2,1,rolling,5,8,32,100,2,
 expect 'a fault of a migrated history' 1 'open2,1,rolling,0,4,16,100\ndepart,1,9,empty\n' 'pie: record 3: unknown kind\n' \
     'rolling,0,4,16,100\ndepart,1,9,empty\ndep,1,10\n' migrate
 expect 'a version' 0 'pie 0.1.0\n' '' '' --version
+expect 'a version, in short' 0 'pie 0.1.0\n' '' '' -V
+
+# Help is the text that is stored for it (tests/help/NAME.txt is what `pie NAME --help` writes, and pie.txt what `pie --help` does).
+# help NAME WORDS..
+help() {
+    local want=$here/help/$1.txt
+    shift
+    "$program" "$@" < /dev/null > "$work/output" 2> "$work/errors"
+    local got=$?
+    if [ "$got" != 0 ] || [ -s "$work/errors" ] || ! cmp -s "$work/output" "$want"; then
+        echo "tests/pie.sh: $*: status $got, or other help:"
+        diff "$want" "$work/output"
+        cat "$work/errors"
+        failed=1
+    fi
+}
+help pie --help
+help pie -h
+help pie help
+for name in run audit explain migrate storm; do
+    help "$name" "$name" --help
+    help "$name" "$name" -h
+    help "$name" help "$name"
+done
+
+# A mistake ends with 1, writes nothing to the output, and the first line on the error stream says what was wrong with which word, also
+# of the ninth and any later one.
+# mistake LINE WORDS..
+mistake() {
+    local line=$1
+    shift
+    "$program" "$@" < /dev/null > "$work/output" 2> "$work/errors"
+    local got=$?
+    if [ "$got" != 1 ] || [ -s "$work/output" ] || [ "$(head -n 1 "$work/errors")" != "$line" ]; then
+        echo "tests/pie.sh: $*: status $got, and not the mistake '$line':"
+        cat "$work/output" "$work/errors"
+        failed=1
+    fi
+}
+mistake "error: 'pie' requires a subcommand but one was not provided"
+mistake "error: unrecognized subcommand 'runs'" runs
+mistake "error: unrecognized subcommand ''" ''
+mistake "error: unrecognized subcommand 'walk'" help walk
+mistake "error: unexpected argument '--fast' found" --fast
+for name in run audit migrate; do
+    mistake "error: unexpected argument 'more' found" "$name" more
+    mistake "error: unexpected argument '--wrong' found" "$name" --wrong
+    mistake "error: unexpected argument '-x' found" "$name" -x
+done
+mistake "error: invalid value '0' for '--event <N>': 0 is not in 1..18446744073709551615" explain --event 0
+mistake "error: invalid value 'one' for '--event <N>': invalid digit found in string" explain --event one
+mistake "error: unexpected argument '-1' found" explain --tag -1
+mistake "error: invalid value '18446744073709551616' for '--tag <N>': number too large to fit in target type" explain --tag 18446744073709551616
+mistake "error: a value is required for '--tag <N>' but none was supplied" explain --tag
+mistake "error: unexpected value 'yes' for '--lost' found; no more were expected" explain --lost=yes
+mistake "error: the argument '--lost' cannot be used multiple times" explain --lost --lost
+mistake "error: unexpected argument 'lost' found" explain lost
+mistake "error: invalid value '1' for '--senders <N>': 1 is not in 2..=8" storm --senders 1
+mistake "error: invalid value '9' for '--senders <N>': 9 is not in 2..=8" storm --senders 9
+mistake "error: invalid value 'two' for '--senders <N>': invalid digit found in string" storm --senders two
+mistake "error: invalid value '0' for '--packets <N>': 0 is not in 1..=10000" storm --packets 0
+mistake "error: invalid value '10001' for '--packets <N>': 10001 is not in 1..=10000" storm --packets 10001
+mistake "error: invalid value '18446744073709551616' for '--seed <N>': number too large to fit in target type" storm --seed 18446744073709551616
+mistake "error: unexpected argument '-1' found" storm --seed -1
+mistake "error: unexpected argument '--fast' found" storm --fast
+mistake "error: invalid value '49' for '--load <PERCENT>': 49 is not in 50..=1000" storm --load 49
+mistake "error: unexpected value '2' for '--count' found; no more were expected" storm --count=2
+# The ninth word, and the tenth to the twelfth.
+mistake "error: unexpected argument '--fast' found" storm --senders 3 --packets 10 --seed 7 --fast
+mistake "error: unexpected argument 'more' found" storm --senders 3 --packets 10 --seed 7 more
+mistake "error: the argument '--seed <N>' cannot be used multiple times" storm --senders 3 --packets 10 --seed 7 --seed 8
+mistake "error: a value is required for '--tag <N>' but none was supplied" explain --csv --lost --all --event 1 --tag
+mistake 'pie: explain takes exactly one of --event N, --tag T, --lost and --all; see pie explain --help' explain --csv --lost --all --event 1 --tag 2
+mistake "error: unexpected argument 'ten' found" explain --csv --lost --all --event 1 --tag 2 ten
+mistake "error: unexpected argument '--twelve' found" explain --csv --lost --all --event 1 --tag 2 --twelve
+
+# Each way to choose events, in both forms, ends with each status: 0; 2 where the tenth event differs; and 1 where a fault stands behind
+# that. What is written is the same for these two: what the first ten records give. The plain program of bench/ says so of --all --csv.
+first=$(printf "$history" | head -n 10)
+for form in '' --csv; do
+    for choice in '--event 1' '--tag 1' --lost --all; do
+        "$program" explain $choice $form < <(echo "$first") > "$work/before" 2> "$work/errors"
+        [ "$?" = 0 ] && ! [ -s "$work/errors" ] || {
+            echo "tests/pie.sh: explain $choice $form of nine events: $(cat "$work/errors")"
+            failed=1
+        }
+        written=$(cat "$work/before"; echo x)
+        written=${written%x}
+        written=${written//%/%%}
+        expect "explain $choice $form and an event that differs" 2 "$written" "$differs" "$changed" explain $choice $form
+        expect "explain $choice $form and a fault" 1 "$written" 'pie: record 15: wrong number of fields\n' "${changed}shown\n" explain $choice $form
+    done
+done
+words='event 11: packet 6, 500 bytes, Not-ECT: DROPPED early
+  at 1.001003 ms (1001003 ns), by caller 2
+  the accumulated probability, with this one, is 90.3954 %% (903954174169)
+  picked: its random word, 0.0000 %% (0), is below the probability, 90.3954 %% (903954174169)
+  dropped: its endpoints do not understand a mark
+  before it: 3 packets, 2548 bytes, a delay of 2.488281 ms (2488281 ns)
+  probability 90.3954 %% (903954174169), set by event 9; last update at 1.001002 ms (1001002 ns); burst allowance 0.000000 ms (0 ns)
+'
+for choice in '--event 11' '--tag 6' --lost; do
+    expect "explain $choice" 0 "$words" '' "$history" explain $choice
+done
 
 "$program" > "$work/output" 2> "$work/errors" < /dev/null
 got=$?
@@ -131,6 +244,32 @@ if [ "$got" != 1 ] || [ -s "$work/output" ] || ! [ -s "$work/errors" ]; then
     echo "tests/pie.sh: without a subcommand: status $got"
     failed=1
 fi
+# Words that are no command line: a text on the error stream alone.
+for words in walk 'run fast' 'audit twice' 'explain --csv --fast' 'migrate now'; do
+    "$program" $words > "$work/output" 2> "$work/errors" < /dev/null
+    got=$?
+    if [ "$got" != 1 ] || [ -s "$work/output" ] || ! [ -s "$work/errors" ]; then
+        echo "tests/pie.sh: pie $words: status $got"
+        failed=1
+    fi
+done
+# Help is answered on the output, with an example.
+for words in --help 'run --help' 'audit --help' 'explain --help' 'migrate --help' 'storm --help' help; do
+    "$program" $words > "$work/output" 2> "$work/errors" < /dev/null
+    got=$?
+    if [ "$got" != 0 ] || [ -s "$work/errors" ] || ! grep -q Example "$work/output"; then
+        echo "tests/pie.sh: pie $words: status $got"
+        failed=1
+    fi
+done
+for words in --help --version 'audit --help'; do
+    "$program" $words > /dev/full 2> "$work/errors" < /dev/null
+    got=$?
+    if [ "$got" != 1 ] || [ "$(cat "$work/errors")" != 'pie: cannot write the output' ]; then
+        echo "tests/pie.sh: pie $words on a full device: status $got, $(cat "$work/errors")"
+        failed=1
+    fi
+done
 # An output that cannot be written.
 printf 'open,0,4,16,100\n' | "$program" run > /dev/full 2> "$work/errors"
 got=$?
@@ -185,15 +324,6 @@ if [ "$got" != 1 ] || [ "$(cat "$work/errors")" != 'pie: cannot write the output
     echo "tests/pie.sh: explanations on a full device: status $got, $(cat "$work/errors")"
     failed=1
 fi
-# What words of explain cannot be read.
-for words in '--event 0' '--event one' '--tag -1' '--tag 18446744073709551616' '--lost=yes' '--lost --lost' 'lost'; do
-    "$program" explain $words < /dev/null > "$work/output" 2> "$work/errors"
-    got=$?
-    if [ "$got" != 1 ] || [ -s "$work/output" ] || ! [ -s "$work/errors" ]; then
-        echo "tests/pie.sh: explain $words: status $got"
-        failed=1
-    fi
-done
 # Storms: the plan with one packet a sender has five events, and eight senders at once end with a history that is clean, whoever
 # comes first.
 "$program" storm --packets 1 > "$work/output" 2> "$work/errors"
@@ -222,11 +352,31 @@ for _ in 1 2; do
             ;;
     esac
 done
-for words in '--senders 1' '--senders 9' '--senders two' '--packets 0' '--packets 10001' '--seed 18446744073709551616' '--seed -1' '--fast'; do
+# A loaded link: 180 arrivals, 150 departures and 5 updates, and what the storm tells of its events is what its history shows.
+"$program" storm --senders 3 --packets 60 --load 120 --count > "$work/output" 2> "$work/errors"
+got=$?
+told=$(awk -F, 'NR > 1 { n++; changes += n > 1 && $2 != before; before = $2; updates += $1 == "update" }
+    END { printf "pie: %d events, %d changes of caller, %d updates that came too soon", n, changes, 5 - updates }' "$work/output")
+changes=$(sed 's/.* events, \([0-9]*\) changes.*/\1/' "$work/errors")
+if [ "$got" != 0 ] || [ "$(cat "$work/errors")" != "$told" ] || [ "$(grep -c '^arrive' "$work/output") $(grep -c '^depart' "$work/output")" != '180 150' ]; then
+    echo "tests/pie.sh: a storm that is counted: status $got, $(cat "$work/errors"), and not $told"
+    failed=1
+fi
+# Three senders take part in each of its 60 milliseconds, one after the other they would make four changes.
+if [ "$changes" -lt 60 ] || ! "$program" audit < "$work/output" > /dev/null; then
+    echo "tests/pie.sh: a storm that is counted: $changes changes of caller, or its history is not clean"
+    failed=1
+fi
+# Each option alone, and all.
+for words in '--senders 2' '--packets 7' '--seed 0' '--senders=2 --packets=7 --seed=18446744073709551615'; do
     "$program" storm $words > "$work/output" 2> "$work/errors"
     got=$?
-    if [ "$got" != 1 ] || [ -s "$work/output" ] || ! [ -s "$work/errors" ]; then
-        echo "tests/pie.sh: storm $words: status $got"
+    # (the default is a hundred packets of two senders)
+    packets=100
+    case $words in *7*) packets=7 ;; esac
+    arrivals=$(grep -c '^arrive,' "$work/output")
+    if [ "$got" != 0 ] || [ -s "$work/errors" ] || [ "$arrivals" != $((2 * packets)) ] || [ "$("$program" audit < "$work/output" | cut -d, -f1)" != clean ]; then
+        echo "tests/pie.sh: storm $words: status $got, $arrivals arrivals, $(cat "$work/errors")"
         failed=1
     fi
 done

@@ -9,7 +9,7 @@ first=${2:-1}
 runs=${3:-12}
 steps=${4:-120}
 if ! command -v python3 > /dev/null; then
-    echo "tests/random.sh: no python3 here, so no random traces were compared"
+    echo "NOT RUN: tests/random.sh: no python3 here, so no random traces were compared with the reference"
     exit 0
 fi
 here=$(dirname "$0")

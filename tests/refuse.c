@@ -1,6 +1,6 @@
 /* Loaded before a program (LD_PRELOAD), refuses one of its requests: the n-th for memory (REFUSE_MEMORY=n), the n-th read of standard
  * input (REFUSE_READ=n), the n-th write of standard output (REFUSE_WRITE=n) or the n-th start of a thread (REFUSE_THREAD=n). With
- * REFUSE_ON=1 those after it are refused as well.
+ * REFUSE_ON=1 those after it are refused as well. REFUSE_OVER=n refuses each request for more than n bytes of memory.
  * A request that was refused makes the file that REFUSE_MET names. Where REFUSE_AFTER names a line that the program writes, only the
  * requests from that line to the next one are counted, and at that next one it is said on standard error if a thread is still running. */
 #define _GNU_SOURCE
@@ -23,18 +23,38 @@ static atomic_long asked[4];
 /* Whether the line that REFUSE_AFTER names was the last that was written. */
 static atomic_int is_between;
 
-/* Whether this request, of the kind that the variable names, is one to refuse. */
-static int is_refused(int kind, const char *variable) {
-    const char *text = getenv(variable), *on = getenv("REFUSE_ON"), *met = getenv("REFUSE_MET");
-    if (!text || !met || (getenv("REFUSE_AFTER") && !atomic_load(&is_between)))
+/* Whether a request is counted now, and the number that the variable names. */
+static int is_counted(const char *variable, long *number) {
+    const char *text = getenv(variable);
+    if (!text || !getenv("REFUSE_MET") || (getenv("REFUSE_AFTER") && !atomic_load(&is_between)))
         return 0;
-    long place = atol(text), now = atomic_fetch_add(&asked[kind], 1) + 1;
-    if (now != place && !(on && now > place))
-        return 0;
-    int file = open(met, O_CREAT | O_WRONLY, 0600);
+    *number = atol(text);
+    return 1;
+}
+
+/* Says that a request was refused. */
+static int refuse(void) {
+    int file = open(getenv("REFUSE_MET"), O_CREAT | O_WRONLY, 0600);
     if (file >= 0)
         close(file);
     return 1;
+}
+
+/* Whether this request, of the kind that the variable names, is one to refuse. */
+static int is_refused(int kind, const char *variable) {
+    long place;
+    if (!is_counted(variable, &place))
+        return 0;
+    long now = atomic_fetch_add(&asked[kind], 1) + 1;
+    return (now == place || (getenv("REFUSE_ON") && now > place)) && refuse();
+}
+
+/* Whether a request for so many bytes of memory is one to refuse. */
+static int is_memory_refused(size_t size) {
+    long most;
+    if (is_counted("REFUSE_OVER", &most) && size > (size_t)most)
+        return refuse();
+    return is_refused(0, "REFUSE_MEMORY");
 }
 
 /* Says so where another thread than this one is running a second from now. One that was joined may be listed for a moment longer. */
@@ -60,7 +80,7 @@ static void see_line(const void *from, size_t size) {
 }
 
 void *malloc(size_t size) {
-    if (is_refused(0, "REFUSE_MEMORY")) {
+    if (is_memory_refused(size)) {
         errno = ENOMEM;
         return NULL;
     }
@@ -68,7 +88,7 @@ void *malloc(size_t size) {
 }
 
 void *realloc(void *old, size_t size) {
-    if (size && is_refused(0, "REFUSE_MEMORY")) {
+    if (size && is_memory_refused(size)) {
         errno = ENOMEM;
         return NULL;
     }

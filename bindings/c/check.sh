@@ -1,17 +1,18 @@
 #!/usr/bin/env bash
-# Builds the static library, and with it the worked rows and the example in C, plainly and with the address and undefined
-# behaviour sanitizers; runs them; and compares the example's history with the stored one, which reference.py computed. Where
-# python3 is there, reference.py computes it again. Where no C compiler is there, it says so and ends well.
+# Builds the static library, and with it the worked rows, the traps that include/pie.h names and the example in C, plainly and with
+# the address and undefined behaviour sanitizers; runs them; and compares the example's history with the stored one, which reference.py
+# computed. Where python3 is there, the library is asked for each number of the header's comments, and reference.py computes the history
+# again. What cannot be run here, for want of a compiler say, is told on a line that begins with NOT RUN.
 set -eu
 cd "$(dirname "$0")/../.."
 cc=${CC:-cc}
 if ! command -v "$cc" > /dev/null; then
-    echo "bindings/c: no C compiler here, so the rows and the example in C were not built"
+    echo "NOT RUN: bindings/c: no C compiler ($cc) here, so neither the static library nor the rows and the example in C were built"
     exit 0
 fi
 work=$(mktemp -d)
 trap 'rm -rf "$work"' EXIT
-if ! (cd crates/pie_c && rt lib) > "$work/lib.log" 2>&1; then
+if ! bindings/c/library.py > "$work/lib.log" 2>&1; then
     cat "$work/lib.log"
     exit 1
 fi
@@ -21,13 +22,14 @@ flags="-Wall -Wextra -Werror -std=c11 -Iinclude"
 check() {
     local name=$1
     shift
-    for program in rows example; do
+    for program in rows traps example; do
         "$cc" $flags "$@" -o "$work/$program" "bindings/c/$program.c" "$lib"
     done
     "$work/rows"
+    "$work/traps"
     "$work/example" > "$work/history"
     cmp "$work/history" bindings/c/example.history
-    echo "bindings/c: rows and example pass ($name)"
+    echo "bindings/c: rows, traps and example pass ($name)"
 }
 
 check "plain" -O2
@@ -36,15 +38,23 @@ sanitizers="-O1 -g -fsanitize=address,undefined -fno-sanitize-recover=all"
 if "$cc" $sanitizers -o "$work/empty" "$work/empty.c" > "$work/empty.log" 2>&1; then
     check "address and undefined behaviour sanitizers" $sanitizers
 else
-    echo "bindings/c: this compiler has no sanitizers"
+    echo "NOT RUN: bindings/c: this compiler has no sanitizers, so the rows and the example in C ran without"
 fi
 if command -v c++ > /dev/null; then
     c++ -x c++ -Wall -Wextra -Werror -std=c++11 -Iinclude -c -o "$work/rows.o" bindings/c/rows.c
     c++ -o "$work/rows" "$work/rows.o" "$lib"
     "$work/rows"
     echo "bindings/c: rows pass (C++)"
+else
+    echo "NOT RUN: bindings/c: no C++ compiler (c++) here, so the rows were not built as C++"
 fi
 if command -v python3 > /dev/null; then
+    tests/header.py --probes > "$work/probes.c"
+    "$cc" $flags -o "$work/probes" "$work/probes.c" "$lib"
+    "$work/probes"
+    echo "bindings/c: the library has the ranges, defaults and bounds that the comments of include/pie.h tell"
     "$work/example" trace | python3 bindings/c/reference.py | cmp - bindings/c/example.history
     echo "bindings/c: the reference computes the example's history again"
+else
+    echo "NOT RUN: bindings/c: no python3 here, so neither the numbers of the comments of include/pie.h nor the reference were tried"
 fi

@@ -1,5 +1,5 @@
-/* The worked rows of the parts of the controller, through the library. Exits with the number of the line whose check
- * fails first, or 0. */
+/* The worked rows of the parts of the controller, through the library. Exits with the status 1 where a check fails, and names its
+ * line. */
 #include "pie.h"
 
 #include <stdio.h>
@@ -345,7 +345,105 @@ static int refusals(void) {
     return 0;
 }
 
+/* Each number as it is named, and whole: none is cut to 8, 16 or 32 bits on its way. */
+static int widths(void) {
+    CHECK(PIE_NOT_ECT == 0 && PIE_ECT1 == 1 && PIE_ECT0 == 2 && PIE_CE == 3 && PIE_ALWAYS_ON == 1 && PIE_ON_AND_OFF == 2);
+    CHECK(sizeof(struct pie_params) == 72 && sizeof(struct pie_state) == 168 && sizeof(struct pie_updated) == 40);
+    struct pie_state state = at(PIE_ONE / 2, 15000000), before = state;
+    const uint32_t narrow[] = {4, 255, 256, 65535, 65536, 65538, UINT32_MAX};
+    for (int k = 0; k < 7; k++)
+        CHECK(pie_arrive(&state, 3000, 1500, 1, narrow[k], 0, 0) == PIE_BAD_ECN && same(&state, &before));
+    CHECK(pie_arrive(&state, 3000, 65536 + 1500, 1, 0, 0, 0) == PIE_BAD_SIZE && pie_depart(&state, 65536 + 1500, 0, 0) == PIE_BAD_SIZE);
+    CHECK(pie_arrive(&state, 3000, UINT32_MAX, 1, 0, 0, 0) == PIE_BAD_SIZE && pie_depart(&state, UINT32_MAX, 0, 0) == PIE_BAD_SIZE);
+    const uint64_t wide = (uint64_t)1 << 32;
+    CHECK(pie_arrive(&state, wide, 1500, 1, 0, 0, 0) == PIE_BAD_QUEUE && pie_depart(&state, 1500, wide, 0) == PIE_BAD_QUEUE);
+    CHECK(pie_update(&state, wide, 15000000).code == PIE_BAD_QUEUE && same(&state, &before));
+    const uint32_t rooms[] = {255, 256, 65535, 65536, (uint32_t)1 << 31, UINT32_MAX};
+    for (int k = 0; k < 6; k++) {
+        CHECK(pie_arrive(&state, 3000, 1500, rooms[k], PIE_CE, 0, 0) == PIE_ENQUEUE);
+        CHECK(pie_arrive(&state, 3000, 1500, 0, PIE_CE, 0, 0) == PIE_PACKETS);
+    }
+    /* sizes and queues above 65535, and the queue that a packet of 65535 bytes fills */
+    state.params.limit_bytes = (1 << 30) - 1;
+    CHECK(pie_arrive(&state, 1 << 30, 1, 1, 0, UINT64_MAX, 0) == PIE_BYTES);
+    CHECK(pie_arrive(&state, (1 << 30) - 65536, 65535, 1, 0, UINT64_MAX, 0) == PIE_ENQUEUE);
+    CHECK(state.accu == PIE_ONE / 2);
+    state.accu = 800000000000;
+    CHECK(pie_arrive(&state, 3000, 1500, 1, 0, (uint64_t)1 << 63, 0) == PIE_ENQUEUE);
+    state.accu = 800000000000;
+    CHECK(pie_arrive(&state, 3000, 1500, 1, 0, ((uint64_t)1 << 63) - 1, 0) == PIE_EARLY);
+    const uint32_t profiles[] = {0, 3, 256 + 1, 65536 + 1, UINT32_MAX};
+    for (int k = 0; k < 5; k++)
+        CHECK(pie_open_with(&state, &before.params, 0, profiles[k]) == PIE_BAD_PROFILE);
+    return 0;
+}
+
+/* Moments, delays and burst allowances near the ends of their ranges, in each call. */
+static int large_numbers(void) {
+    struct pie_params params;
+    struct pie_state state;
+    pie_default_params(&params);
+    params.max_burst = PIE_ONE;
+    params.t_update = 10000000000;
+    uint64_t start = ((uint64_t)1 << 59) + 1;
+    CHECK(pie_open(&state, &params, start) == PIE_DONE && state.moment == start && state.last == start && state.burst == PIE_ONE);
+    CHECK(pie_due(&state) == start + 10000000000);
+    CHECK(pie_depart(&state, 65535, 16384, start + 5) == PIE_DONE && state.cycle_start == start + 5 && state.moment == start + 5);
+    CHECK(pie_depart(&state, 65535, 16383, ((uint64_t)1 << 59) + 4000000006) == PIE_DONE && state.average == 4000000000);
+    CHECK(pie_empty(&state, start + 5000000000) == PIE_DONE && state.moment == start + 5000000000);
+    struct pie_updated made = pie_update(&state, 100000, start + 9999999999);
+    CHECK(made.code == PIE_TOO_SOON && made.due == start + 10000000000 && made.delay == 0 && made.burst == PIE_ONE);
+    made = pie_update(&state, 100000, start + 10000000000);
+    CHECK(made.code == PIE_DONE && made.due == start + 20000000000 && made.delay == 24414062500 && made.burst == PIE_ONE - 10000000000);
+    CHECK(made.prob == state.prob && state.prob == 16390361785 && state.old_delay == 24414062500 && state.last == start + 10000000000);
+    CHECK(pie_arrive(&state, 0, 1500, 1, PIE_ECT1, 0, LATEST - 1) == PIE_ENQUEUE && state.moment == LATEST - 1);
+    CHECK(pie_reset(&state, LATEST) == PIE_DONE && state.moment == LATEST && state.burst == PIE_ONE && state.last == start + 10000000000);
+    CHECK(pie_set_params(&state, &params, LATEST) == PIE_DONE && pie_update(&state, 0, LATEST).due == LATEST + 10000000000);
+    return 0;
+}
+
+/* A departure that finds the queue empty changes nothing but the moment, and a reset and new parameters what each says. */
+static int what_stays(void) {
+    struct pie_state state = at(TENTH, 15000000);
+    pie_depart(&state, 1500, 40000, 1);
+    pie_depart(&state, 1500, 40000, 2);
+    pie_arrive(&state, 3000, 1500, 1, PIE_NOT_ECT, UINT64_MAX, 3);
+    state.average = 30000000;
+    CHECK(pie_update(&state, 16384, 15000000).code == PIE_DONE && state.prob != 0 && state.accu != 0 && state.cycle_count == 1500);
+    struct pie_state expected = state;
+    CHECK(pie_empty(&state, 15000001) == PIE_DONE);
+    expected.moment = 15000001;
+    CHECK(same(&state, &expected));
+    /* nine parameters, each another one than before */
+    struct pie_params params = {14999999, 15000001, 150000002, 126, 1253, 1025, 262151, 100000000008, 32768};
+    CHECK(pie_set_params(&state, &params, 15000002) == PIE_DONE);
+    expected.params = params;
+    expected.moment = 15000002;
+    expected.average = expected.measuring = expected.cycle_start = expected.cycle_count = 0;
+    CHECK(same(&state, &expected));
+    CHECK(state.params.target == 14999999 && state.params.t_update == 15000001 && state.params.max_burst == 150000002);
+    CHECK(state.params.alpha == 126 && state.params.beta == 1253 && state.params.mean_pkt == 1025);
+    CHECK(state.params.limit_bytes == 262151 && state.params.mark_ecnth == 100000000008 && state.params.dq_threshold == 32768);
+    CHECK(pie_reset(&state, 15000003) == PIE_DONE);
+    expected.moment = 15000003;
+    expected.prob = expected.old_delay = expected.accu = 0;
+    expected.burst = 150000002;
+    CHECK(same(&state, &expected));
+    /* the same parameters at the opening */
+    CHECK(pie_open(&state, &params, 7) == PIE_DONE);
+    struct pie_state opening = {params, 7, 0, 0, 150000002, 7, 0, 0, 0, 0, 0, 1, 1};
+    CHECK(same(&state, &opening) && pie_open_with(&state, &params, 7, PIE_ON_AND_OFF) == PIE_DONE);
+    opening.profile = 2, opening.active = 0;
+    CHECK(same(&state, &opening));
+    return 0;
+}
+
 int main(void) {
-    return parameters() || departure_rate() || delays() || probabilities() || early_drop() || considered() ||
-           tail_drop() || burst_allowance() || moments() || marks_and_drops() || on_and_off() || on_by_a_tail_drop() || refusals();
+    int (*const rows[])(void) = {widths,          large_numbers, what_stays,    parameters, departure_rate, delays,
+                                 probabilities,   early_drop,    considered,    tail_drop,  burst_allowance, moments,
+                                 marks_and_drops, on_and_off,    on_by_a_tail_drop, refusals};
+    for (size_t k = 0; k < sizeof rows / sizeof *rows; k++)
+        if (rows[k]() != 0)
+            return 1;
+    return 0;
 }

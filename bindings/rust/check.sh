@@ -1,11 +1,13 @@
 #!/usr/bin/env bash
-# Builds the static library and runs the worked rows in Rust over it, with no network. Where cargo isn't there, says so.
+# Builds the static library and runs the worked rows, the documentation's example and the example queue in Rust over it, with no network.
+# Where cargo (1.82 or later) or a C compiler to link by isn't there, a line that begins with NOT RUN says so.
 set -eu
 cd "$(dirname "$0")/../.."
-if ! command -v cargo > /dev/null; then
-    echo "bindings/rust: no cargo here, so the rows in Rust were not built"
+if ! command -v cargo > /dev/null || ! command -v cc > /dev/null || [ "$(rustc --version | cut -d. -f2)" -lt 82 ]; then
+    echo "NOT RUN: bindings/rust: no cargo (1.82 or later) and C compiler here, so the rows and the examples in Rust were not built"
     exit 0
 fi
-(cd crates/pie_c && rt lib) > /dev/null
+bindings/c/library.py > /dev/null
 cd bindings/rust
-cargo test --offline
+cargo test --offline --locked --quiet
+cargo run --offline --locked --quiet --example queue | tail -n 1

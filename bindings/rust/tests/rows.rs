@@ -1,6 +1,8 @@
 //! The worked rows of the parts of the controller, as in `bindings/c/rows.c`.
 
-use pie::{Ecn, Params, Profile, Refusal, State, Verdict};
+use std::error::Error;
+
+use juniperbowls::{Ecn, MAX_BYTES, MAX_MOMENT, MAX_SIZE, Parameter, Params, Profile, Refusal, State, Verdict};
 
 const TENTH: u64 = 100_000_000_000;
 const ONE: u64 = 1_000_000_000_000;
@@ -22,13 +24,14 @@ fn next(prob: u64, old_delay: u64, delay: u64) -> u64 {
 #[test]
 fn parameters() {
     let defaults = Params::default();
-    assert_eq!(defaults.first_bad(), 0);
+    assert_eq!(defaults.first_bad(), None);
     assert_eq!((defaults.target, defaults.alpha, defaults.dq_threshold), (15_000_000, 125, 16_384));
     let odd = Params { dq_threshold: 3000, ..defaults };
-    assert_eq!(odd.first_bad(), 9);
+    assert_eq!(odd.first_bad(), Some(Parameter::DqThreshold));
     let both = Params { target: 1, ..odd };
-    assert_eq!(both.first_bad(), 1);
-    assert_eq!(State::open(&both, LATEST + 1), Err(Refusal::Params));
+    assert_eq!(both.first_bad(), Some(Parameter::Target));
+    assert_eq!(State::open(&both, LATEST + 1), Err(Refusal::Params(Parameter::Target)));
+    assert_eq!(State::open_with(&odd, LATEST + 1, Profile::Two), Err(Refusal::Params(Parameter::DqThreshold)));
     assert_eq!(State::open(&defaults, LATEST + 1), Err(Refusal::Moment));
     assert_eq!(State::open(&defaults, LATEST).map(|state| state.burst), Ok(150_000_000));
 }
@@ -176,7 +179,7 @@ fn marks_drops_and_a_lone_enqueue() {
     assert_eq!((state.prob, state.old_delay, state.accu, state.burst), (0, 0, 0, 50));
     assert_eq!((state.moment, state.last), (1_001_005, 1_001_002));
     params.target = 1;
-    assert_eq!(state.set_params(&params, 1_001_006), Err(Refusal::Params));
+    assert_eq!(state.set_params(&params, 1_001_006), Err(Refusal::Params(Parameter::Target)));
 }
 
 /// Parameters under which 3072 bytes reach a third of the limit.
@@ -231,4 +234,143 @@ fn a_tail_drop_turns_on() {
     assert_eq!((state.arrive(3072, 65_535, 5, Ecn::NotEct, 0, 1), state.active), (Ok(Verdict::Bytes), 1));
     let mut bad = State { active: 2, ..state };
     assert_eq!(bad.reset(1), Err(Refusal::State));
+}
+
+/// Each parameter that is out of its range, by name; and words for each refusal.
+#[test]
+fn refusals_tell_why() {
+    let d = Params::default();
+    let cases = [
+        (Params { target: 1, ..d }, Parameter::Target, "target"),
+        (Params { t_update: 0, ..d }, Parameter::TUpdate, "t_update"),
+        (Params { max_burst: ONE + 1, ..d }, Parameter::MaxBurst, "max_burst"),
+        (Params { alpha: 1_000_001, ..d }, Parameter::Alpha, "alpha"),
+        (Params { beta: 1_000_001, ..d }, Parameter::Beta, "beta"),
+        (Params { mean_pkt: 65_536, ..d }, Parameter::MeanPkt, "mean_pkt"),
+        (Params { limit_bytes: MAX_BYTES + 1, ..d }, Parameter::LimitBytes, "limit_bytes"),
+        (Params { mark_ecnth: ONE + 1, ..d }, Parameter::MarkEcnth, "mark_ecnth"),
+        (Params { dq_threshold: 32_767, ..d }, Parameter::DqThreshold, "dq_threshold"),
+    ];
+    for (params, parameter, name) in cases {
+        assert_eq!(opened().set_params(&params, 0), Err(Refusal::Params(parameter)));
+        let error: Box<dyn Error> = State::open(&params, 0).unwrap_err().into();
+        assert_eq!(error.to_string(), format!("the parameter {name} is out of its range"));
+    }
+    let queued = [Verdict::Enqueue, Verdict::Mark, Verdict::Early, Verdict::Bytes, Verdict::Packets].map(Verdict::is_queued);
+    assert_eq!(queued, [true, true, false, false, false]);
+    let late: Box<dyn Error> = opened().update(0, 1).unwrap_err().into();
+    assert_eq!(late.to_string(), "an update before it is due, at 15000000 ns");
+    assert_eq!(Refusal::Unknown(1000).to_string(), "refused by the code 1000");
+}
+
+/// Each number as it is named, and whole: none is cut to 8, 16 or 32 bits on its way.
+#[test]
+fn widths() {
+    assert_eq!([Ecn::NotEct as u32, Ecn::Ect1 as u32, Ecn::Ect0 as u32, Ecn::Ce as u32], [0, 1, 2, 3]);
+    let mut state = at(ONE / 2, 15_000_000);
+    let before = state;
+    for size in [0, MAX_SIZE + 1, MAX_SIZE + 1 + 1500, u32::MAX] {
+        assert_eq!(state.arrive(3000, size, 1, Ecn::NotEct, 0, 0), Err(Refusal::Size));
+        assert_eq!(state.depart(size, 0, 0), Err(Refusal::Size));
+    }
+    for queued in [MAX_BYTES + 1, 1 << 32, u64::MAX] {
+        assert_eq!(state.arrive(queued, 1500, 1, Ecn::NotEct, 0, 0), Err(Refusal::Queue));
+        assert_eq!(state.depart(1500, queued, 0), Err(Refusal::Queue));
+        assert_eq!(state.update(queued, 15_000_000), Err(Refusal::Queue));
+    }
+    for moment in [MAX_MOMENT + 1, u64::MAX] {
+        assert_eq!(state.arrive(0, 1500, 1, Ecn::NotEct, 0, moment), Err(Refusal::Moment));
+        assert_eq!(state.reset(moment), Err(Refusal::Moment));
+    }
+    assert_eq!(state, before);
+    for room in [255, 256, 65_535, 65_536, 1 << 31, u32::MAX] {
+        assert_eq!(state.arrive(3000, 1500, room, Ecn::Ce, 0, 0), Ok(Verdict::Enqueue));
+        assert_eq!(state.arrive(3000, 1500, 0, Ecn::Ce, 0, 0), Ok(Verdict::Packets));
+    }
+    state.params.limit_bytes = MAX_BYTES - 1;
+    assert_eq!(state.arrive(MAX_BYTES, 1, 1, Ecn::NotEct, u64::MAX, 0), Ok(Verdict::Bytes));
+    assert_eq!(state.arrive(MAX_BYTES - 65_536, 65_535, 1, Ecn::NotEct, u64::MAX, 0), Ok(Verdict::Enqueue));
+    for (word, verdict) in [(1 << 63, Verdict::Enqueue), ((1 << 63) - 1, Verdict::Early)] {
+        state.accu = 800_000_000_000;
+        assert_eq!(state.arrive(3000, 1500, 1, Ecn::NotEct, word, 0), Ok(verdict));
+    }
+}
+
+/// Moments, delays and burst allowances near the ends of their ranges.
+#[test]
+fn large_numbers() {
+    let params = Params { max_burst: ONE, t_update: 10_000_000_000, ..Params::default() };
+    let start = (1 << 59) + 1;
+    let mut state = State::open(&params, start).unwrap();
+    assert_eq!((state.moment, state.last, state.burst, state.due()), (start, start, ONE, start + 10_000_000_000));
+    state.depart(65_535, 16_384, start + 5).unwrap();
+    assert_eq!((state.cycle_start, state.moment), (start + 5, start + 5));
+    state.depart(65_535, 16_383, start + 4_000_000_005).unwrap();
+    assert_eq!(state.average, 4_000_000_000);
+    assert_eq!(state.update(100_000, start + 9_999_999_999), Err(Refusal::TooSoon { due: start + 10_000_000_000 }));
+    let made = state.update(100_000, start + 10_000_000_000).unwrap();
+    assert_eq!((made.due, made.delay), (start + 20_000_000_000, 24_414_062_500));
+    assert_eq!((made.prob, made.burst), (16_390_361_785, ONE - 10_000_000_000));
+    assert_eq!((state.prob, state.old_delay, state.burst), (made.prob, made.delay, made.burst));
+    assert_eq!(state.arrive(0, 1500, 1, Ecn::Ect1, 0, LATEST - 1), Ok(Verdict::Enqueue));
+    assert_eq!(state.moment, LATEST - 1);
+    state.reset(LATEST).unwrap();
+    assert_eq!((state.moment, state.burst, state.last), (LATEST, ONE, start + 10_000_000_000));
+    assert_eq!(state.update(0, LATEST).map(|made| made.due), Ok(LATEST + 10_000_000_000));
+}
+
+/// A departure that finds the queue empty changes nothing but the moment, and a reset and new parameters what each says.
+#[test]
+fn what_stays() {
+    let mut state = at(TENTH, 15_000_000);
+    state.depart(1500, 40_000, 1).unwrap();
+    state.depart(1500, 40_000, 2).unwrap();
+    state.arrive(3000, 1500, 1, Ecn::NotEct, u64::MAX, 3).unwrap();
+    state.average = 30_000_000;
+    state.update(16_384, 15_000_000).unwrap();
+    assert!(state.prob != 0 && state.accu != 0 && state.cycle_count == 1500);
+    let mut expected = State { moment: 15_000_001, ..state };
+    state.empty(15_000_001).unwrap();
+    assert_eq!(state, expected);
+    // nine parameters, each another one than before
+    let params = Params {
+        target: 14_999_999,
+        t_update: 15_000_001,
+        max_burst: 150_000_002,
+        alpha: 126,
+        beta: 1253,
+        mean_pkt: 1025,
+        limit_bytes: 262_151,
+        mark_ecnth: 100_000_000_008,
+        dq_threshold: 32_768,
+    };
+    state.set_params(&params, 15_000_002).unwrap();
+    let no_rate = State { average: 0, measuring: 0, cycle_start: 0, cycle_count: 0, ..expected };
+    expected = State { params, moment: 15_000_002, ..no_rate };
+    assert_eq!(state, expected);
+    state.reset(15_000_003).unwrap();
+    assert_eq!(state, State { moment: 15_000_003, prob: 0, old_delay: 0, accu: 0, burst: 150_000_002, ..expected });
+    for (profile, number, active) in [(Profile::One, 1, 1), (Profile::Two, 2, 0)] {
+        let cleared = State { moment: 7, last: 7, prob: 0, old_delay: 0, accu: 0, burst: 150_000_002, ..expected };
+        let opening = State { profile: number, active, ..cleared };
+        assert_eq!(State::open_with(&params, 7, profile), Ok(opening));
+    }
+    assert_eq!(State::open(&params, 7), State::open_with(&params, 7, Profile::One));
+}
+
+/// A limit of 200 ms at a rate, within the range of `limit_bytes`.
+#[test]
+fn limits_by_rate() {
+    for (rate, limit) in [
+        (0, 262_144),
+        (10_000_000, 262_144),
+        (10_485_761, 262_145),
+        (100_000_000, 2_500_000),
+        (40_000_000_000, 1_000_000_000),
+        (100_000_000_000, MAX_BYTES),
+        (u64::MAX, MAX_BYTES),
+    ] {
+        assert_eq!(Params::for_rate(rate), Params { limit_bytes: limit, ..Params::default() });
+        assert_eq!(Params::for_rate(rate).first_bad(), None);
+    }
 }

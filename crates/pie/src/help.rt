@@ -32,6 +32,11 @@ The first record opens the controller:
   mark_ecnth    the probability from which ECN packets are dropped, 0 to 10^12   (100000000000)
   dq_threshold  bytes of a cycle of the departure rate, a power of two, 1024 to 65536  (16384)
 
+limit_bytes has to be well above rate x target. Else the queue is full before it can wait so long, and all losses are tail drops:
+                    10 Mbit/s   100 Mbit/s     1 Gbit/s    10 Gbit/s   100 Gbit/s
+  rate x 15 ms          18750       187500      1875000     18750000    187500000
+  for 200 ms           250000      2500000     25000000    250000000   1073741824 (the most: 86 ms)
+
 Then, in any order:
   arrive,<caller>,<moment>,<tag>,<size>,<ecn>,<word>
       a packet of 1 to 65535 bytes; <ecn> is not, ect1, ect0 or ce; <word> is a random number below 2^64.
@@ -153,11 +158,14 @@ pub(crate) const STORM_ABOUT: &str =
 
 /// What `pie storm --help` says below its options.
 pub(crate) const STORM_HELP: &str =
-    "Each sender sends a packet each millisecond, in a thread of its own. Two more threads make as many departures, spread evenly
-over that time, and an update each 15 milliseconds. All moments are planned, and no clock is read. The random words are made
-of the seed, but who comes first is the machine's choice: so two storms may have other histories.
+    "Each sender sends a packet each millisecond, in a thread of its own. One more thread makes departures, spread evenly over that
+time, as many as the link can carry at this load: at 120 there are 100 for 120 packets. Another makes an update each 15 milliseconds.
+All moments are planned, and no clock is read: the threads begin together, and the calls of a millisecond of the plan come at once,
+when those of the milliseconds before it are answered. The random words are made of the seed, but who comes first is the machine's
+choice: so two storms may have other histories.
 
-The history is one of the default parameters, as pie run writes it. Its events are audited before it is written.
+The history is one of the default parameters, as pie run writes it. Its events are audited before it is written. At a load above 100
+packets are marked and dropped early once the burst allowance is used up, after some 200 milliseconds.
 
 Example: three senders with ten packets each, and the audit of what was recorded:
 

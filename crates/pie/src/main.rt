@@ -6,6 +6,7 @@ mod explaining;
 mod given;
 mod help;
 mod options;
+mod pace;
 mod plan;
 mod storming;
 
@@ -50,6 +51,3 @@ fn words(rt: &HostRuntime) -> Option<Vec<String>> {
         }
     }
 }
-
-#[cfg(test)]
-mod tests;

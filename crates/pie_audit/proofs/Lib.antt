@@ -3,4 +3,5 @@ pub mod FindingFacts
 pub mod AuditorFacts
 pub mod AuditFacts
 pub mod RunFindings
+pub mod LegalFacts
 mod Examples

@@ -1,3 +1,4 @@
 pub mod Finding
 pub mod Auditor
 pub mod Text
+pub mod Legal

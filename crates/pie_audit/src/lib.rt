@@ -2,6 +2,9 @@
 //!
 //! The definitions that the contracts cite stand in `specs/`: `finding` looks at each event with all lines before it.
 //!
+//! `clean_is_legal`: a text without a fault is found clean exactly where the events that it tells are legal from its opening on, and differs
+//! at the first that is not.
+//!
 //! `runs_are_clean` is the law that ties runs and audits together: the history text of every trace is found clean, with as many events as
 //! the run recorded. `migration_keeps_the_finding`: a history in version two is found what it was found before.
 #![tactic(auto)]
@@ -12,9 +15,6 @@ pub mod migration;
 pub mod text;
 
 pub use auditor::{Auditor, Finding};
-pub use law::runs_are_clean;
+pub use law::{clean_is_legal, runs_are_clean};
 pub use migration::migration_keeps_the_finding;
 pub use text::audit;
-
-#[cfg(test)]
-mod tests;

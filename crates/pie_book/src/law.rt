@@ -11,7 +11,7 @@ ghost use Rattle.pie_book.specs.Run.{Step, answers, without_folds, AreSameUntilF
 
 /// Where two runs from one opening have the same commands in the same order, and differ in their folds alone, all
 /// commands are answered the same in both: in a rolling book always, and in a bounded one up to the first answer
-/// `HistoryFull` in either (this project's own). So a fold changes no later answer.
+/// `HistoryFull` in either (this project's own). So a fold changes no later answer but `HistoryFull`.
 ///
 /// It does nothing: its contract is the law. `Book::apply` is proved to answer each command as the run of the steps
 /// before it says.

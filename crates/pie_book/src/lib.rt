@@ -26,10 +26,8 @@ pub mod refusal;
 pub mod registers;
 pub mod stats;
 mod tally;
-#[cfg(test)]
-mod tests;
 
-pub use beside::parts_decide_as_a_core;
+pub use beside::{parts_decide_as_a_core, runs_decide_as_a_core};
 pub use book::Book;
 pub use cause::{Cause, Fate};
 pub use command::{Answer, Command, Event};

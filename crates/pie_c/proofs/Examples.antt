@@ -1,13 +1,15 @@
 -- The definitions on worked rows: each theorem computes.
 use Rattle.std.proofs.Common.{◌≡◌, ℕ, ◌+◌, ◌^◌, ◌-◌, true, false, refl}
-use Rattle.pie_queue.specs.declared.ecn.Ecn.TheVariants.{Ect0}
 use Rattle.pie_control.specs.Delay.{delay_of}
 use Rattle.pie_control.specs.Next.{raw_step, tuning_divisor, tuned_step, decayed, next}
 use Rattle.pie_early.specs.Decision.{is_considered, is_picked}
 use Rattle.pie_c.specs.declared.params.PieParams.{PieParams}
 use Rattle.pie_c.specs.declared.state.PieState.{PieState}
-use Rattle.pie_beside.specs.Beside.{Beside, accu_by, arrived, departed, opened, updated, verdict, verdict_by}
-use Rattle.pie_c.specs.Calls.{arrival_refusal, opening_refusal, update_refusal, verdict_number}
+use Rattle.pie_controller.specs.declared.profile.Profile.TheVariants.{One}
+use Rattle.pie_controller.specs.declared.verdict.Arrival.{Arrival}
+use Rattle.pie_controller.specs.Held.{Held}
+use Rattle.pie_controller.specs.Steps.{accu_left, arrived, departed, opened, updated, verdict}
+use Rattle.pie_c.specs.Calls.{arrival_of, arrival_refusal, opening_refusal, update_refusal, verdict_number}
 use Rattle.pie_c.specs.Params.{raw_of}
 use Rattle.pie_c.specs.State.{are_in_range, held_in, is_activity_sound, is_control_sound, is_rate_sound, is_sound, state_of}
 
@@ -26,22 +28,22 @@ defaults = record {
 }
 
 abbrev start : PieState
-start = state_of (opened 1 (raw_of defaults) 0)
+start = state_of (opened One (raw_of defaults) 0)
 
 -- with a probability of a tenth, an old delay at the target, no burst allowance, and this accumulated
-abbrev busy : ℕ → Beside
-busy accu = record (opened 1 (raw_of defaults) 0) { prob = 10 ^ 11; old_delay = 15_000_000; burst = 0; accu = accu }
+abbrev busy : ℕ → Held
+busy accu = record (opened One (raw_of defaults) 0) { control = record { prob = 10 ^ 11; old_delay = 15_000_000; burst = 0; last = 0 }; accu = accu }
 
 sound-states : (is_sound start ≡ true) × (is_sound (record start { last = 1 }) ≡ false) × (is_sound (record start { measuring = 2 }) ≡ false) × (is_sound (record start { measuring = 1; cycle_count = 16383 }) ≡ true)
     × (is_sound (record start { measuring = 1; cycle_count = 16384 }) ≡ false) × (is_sound (record start { params = record defaults { dq_threshold = 3000 } }) ≡ false)
     × (is_sound (record start { active = 0 }) ≡ false) × (is_sound (record start { profile = 2; active = 0 }) ≡ true) × (is_sound (record start { profile = 2; active = 2 }) ≡ false) × (is_sound (record start { profile = 3 }) ≡ false)
-unfolding is_sound are_in_range is_control_sound is_rate_sound is_activity_sound
+unfolding state_of is_sound are_in_range is_control_sound is_rate_sound is_activity_sound
 sound-states = (refl, refl, refl, refl, refl, refl, refl, refl, refl, refl)
 
 -- the first thing that is out of its range is named
 refusals : (arrival_refusal start (2 ^ 30 + 1) 0 4 (2 ^ 60) ≡ 101) × (arrival_refusal start (2 ^ 30 + 1) 0 4 0 ≡ 102) × (arrival_refusal start (2 ^ 30 + 1) 65535 4 0 ≡ 111)
     × (arrival_refusal start (2 ^ 30 + 1) 1 3 0 ≡ 112) × (arrival_refusal start (2 ^ 30) 1 3 (2 ^ 60 - 1) ≡ 0) × (arrival_refusal (record start { accu = 8_500_000_000_000 }) 0 1 0 0 ≡ 110)
-unfolding arrival_refusal is_sound are_in_range is_control_sound is_rate_sound is_activity_sound
+unfolding state_of arrival_refusal is_sound are_in_range is_control_sound is_rate_sound is_activity_sound
 refusals = (refl, refl, refl, refl, refl, refl)
 
 -- a profile is looked at last
@@ -50,36 +52,37 @@ unfolding opening_refusal are_in_range
 openings = (refl, refl, refl, refl, refl)
 
 too_soon : (update_refusal start 0 14_999_999 ≡ 103) × (update_refusal start 0 15_000_000 ≡ 0) × (update_refusal (record start { moment = 15_000_000 }) 0 3 ≡ 0)
-unfolding update_refusal is_sound are_in_range is_control_sound is_rate_sound is_activity_sound
+unfolding state_of held_in update_refusal is_sound are_in_range is_control_sound is_rate_sound is_activity_sound
 too_soon = (refl, refl, refl)
 
 abbrev said : ℕ → ℕ → ℕ → ℕ → ℕ → ℕ
-said accu queued size room word = verdict_number (verdict (busy accu) queued size room Ect0 word)
+said accu queued size room word = verdict_number (verdict (busy accu) (arrival_of queued size room 2 word))
 
 -- bytes are looked at first, then the ring
 tail_drops : (said 0 262_140 5 0 0 ≡ 3) × (said 0 262_140 4 0 0 ≡ 4) × (said 0 262_140 4 1 0 ≡ 0)
-unfolding verdict_by is_considered is_picked
+unfolding verdict is_considered is_picked
 tail_drops = (refl, refl, refl)
 
 -- the ninth considered arrival by the least and by the greatest word, and the 85th
 early_drops : (said 800_000_000_000 3000 1500 1 0 ≡ 2) × (said 800_000_000_000 3000 1500 1 (2 ^ 64 - 1) ≡ 0) × (said 8_400_000_000_000 3000 1500 1 (2 ^ 64 - 1) ≡ 2)
-unfolding verdict_by is_considered is_picked
+unfolding verdict is_considered is_picked
 early_drops = (refl, refl, refl)
 
-accumulates : ((arrived (busy 5) 3000 1500 1 Ect0 0 7).accu ≡ 100_000_000_005) × ((arrived (busy 5) 2048 1500 1 Ect0 0 7).accu ≡ 5) × ((arrived (busy 5) 3000 1500 0 Ect0 0 7).accu ≡ 0)
-unfolding verdict_by accu_by is_considered is_picked
+accumulates : ((arrived (busy 5) (arrival_of 3000 1500 1 2 0) 7).accu ≡ 100_000_000_005) × ((arrived (busy 5) (arrival_of 2048 1500 1 2 0) 7).accu ≡ 5) × ((arrived (busy 5) (arrival_of 3000 1500 0 2 0) 7).accu ≡ 0)
+unfolding verdict accu_left is_considered is_picked
 accumulates = (refl, refl, refl)
 
 -- three departures: a cycle opens, closes and opens, and closes
-abbrev after_two : Beside
-after_two = departed (departed (held_in start) 1500 20000 1000) 16384 16384 12_001_000
+abbrev after_two : Held
+after_two = departed (departed (opened One (raw_of defaults) 0) 1500 20000 1000) 16384 16384 12_001_000
 
-rates : (after_two.average ≡ 12_000_000) × (after_two.measuring ≡ 1) × ((departed after_two 16384 0 32_001_000).average ≡ 14_000_000) × ((departed after_two 16384 0 32_001_000).cycle_start ≡ 0)
+rates : ((state_of after_two).average ≡ 12_000_000) × ((state_of after_two).measuring ≡ 1) × ((state_of (departed after_two 16384 0 32_001_000)).average ≡ 14_000_000) × ((state_of (departed after_two 16384 0 32_001_000)).cycle_start ≡ 0)
+unfolding state_of
 rates = (refl, refl, refl, refl)
 
-abbrev made : Beside
-made = updated (record (held_in start) { average = 30_000_000 }) 16384 15_000_000
+abbrev made : PieState
+made = state_of (updated (held_in (record start { average = 30_000_000 })) 16384 15_000_000)
 
 updates : (made.old_delay ≡ 30_000_000) × (made.prob ≡ 19_226_074) × (made.burst ≡ 135_000_000) × (made.last ≡ 15_000_000)
-unfolding delay_of next raw_step tuning_divisor tuned_step decayed
+unfolding held_in state_of delay_of next raw_step tuning_divisor tuned_step decayed
 updates = (refl, refl, refl, refl)

@@ -1,29 +1,52 @@
--- Which states are sound after a call on a sound one.
-use Rattle.std.proofs.Common.{◌≡◌, ℕ, ◌+◌, ◌<◌, ◌≤◌, ◌^◌, ◌==◌, ◌&&◌, if◌then◌else◌, Bool, true, false, eqb, nat_lt, Option, Some, None, is_none, arith, refl, sym, ap, ◌∙◌}
+-- A state says what a controller holds, and is sound where that is.
+use Rattle.std.proofs.Common.{◌≡◌, ℕ, ◌+◌, ◌<◌, ◌≤◌, ◌^◌, ◌==◌, ◌&&◌, if◌then◌else◌, Bool, true, false, nat_le, Option, Some, None, is_none, arith, refl, sym, ap, ◌∙◌}
 use Rattle.std.proofs.lemmas.Bool.Decides.{nat_tests}
-use Rattle.pie_rate.specs.Departures.{Departure}
 use Rattle.pie_params.specs.declared.raw.RawParams.{RawParams}
 use Rattle.pie_params.specs.Range.{first_bad}
 use Rattle.pie_rate.specs.Estimate.{Begun, Estimate}
-use Rattle.pie_rate.specs.Step.{after_departure, opened_by, step_from}
+use Rattle.pie_controller.specs.declared.profile.Profile.{Profile}
+use Rattle.pie_controller.specs.declared.profile.Profile.TheVariants.{One, Two}
+use Rattle.pie_controller.specs.Held.{Held, IsSound, IsWithin}
 use Rattle.pie_c.specs.declared.params.PieParams.{PieParams}
-use Rattle.pie_c.specs.Params.{raw_of}
 use Rattle.pie_c.specs.declared.state.PieState.{PieState}
-use Rattle.pie_beside.specs.Beside.{begun_in, estimate_of, flag_of, start_of, count_of}
-use Rattle.pie_c.specs.State.{are_in_range, held_in, is_activity_sound, is_control_sound, is_rate_sound, is_sound, last_moment}
+use Rattle.pie_c.specs.Params.{params_of, raw_of}
+use Rattle.pie_c.specs.State.{are_in_range, begun_in, count_of, flag, flag_of, held_in, is_activity_sound, is_control_sound, is_rate_sound, is_sound, last_moment, profile_number, profile_of, start_of, state_of}
+
+-- ---- what a state says of what is held is what is held
+
+profile-is : (profile : Profile) → profile_of (profile_number profile) ≡ profile
+profile-is One = refl
+profile-is Two = refl
+
+active-is : (active : Bool) → (flag active == 1) ≡ active
+active-is true = refl
+active-is false = refl
+
+begun-is : (o : Option Begun) → begun_in (flag_of o) (start_of o) (count_of o) ≡ o
+begun-is None = refl
+begun-is (Some cycle) = refl
+
+pub held-state : (h : Held) → held_in (state_of h) ≡ h
+unfolding held_in state_of
+held-state h =
+    ap (λ (p : Profile). record { profile = p; params = h.params; moment = h.moment; active = flag h.active == 1; rate = record { average = h.rate.average; begun = begun_in (flag_of h.rate.begun) (start_of h.rate.begun) (count_of h.rate.begun) }; control = h.control; accu = h.accu }) (profile-is h.profile)
+    ∙ ap (λ (a : Bool). record h { active = a; rate = record { average = h.rate.average; begun = begun_in (flag_of h.rate.begun) (start_of h.rate.begun) (count_of h.rate.begun) } }) (active-is h.active)
+    ∙ ap (λ (o : Option Begun). record h { rate = record { average = h.rate.average; begun = o } }) (begun-is h.rate.begun)
+
+-- ---- sound
 
 -- the parts of a sound state
-pub record Sound (s : PieState) : Type 0 where
-  pub params : are_in_range s.params ≡ true
-  pub moment : s.moment ≤ last_moment
-  pub control : is_control_sound s ≡ true
-  pub accu : s.accu < 8_500_000_000_000
-  pub rate : is_rate_sound s ≡ true
-  pub activity : is_activity_sound s ≡ true
+record Sound (s : PieState) : Type 0 where
+  params : are_in_range s.params ≡ true
+  moment : s.moment ≤ last_moment
+  control : is_control_sound s ≡ true
+  accu : s.accu < 8_500_000_000_000
+  rate : is_rate_sound s ≡ true
+  activity : is_activity_sound s ≡ true
 
-pub Sound-from : (s : PieState) → is_sound s ≡ true → Sound s
+parts-of : (s : PieState) → is_sound s ≡ true → Sound s
 unfolding is_sound
-Sound-from s h = record {
+parts-of s h = record {
   params = grind (arith, nat_tests);
   moment = grind (arith, nat_tests);
   control = grind (arith, nat_tests);
@@ -32,100 +55,139 @@ Sound-from s h = record {
   activity = grind (arith, nat_tests);
 }
 
-sound_by : (s : PieState) → are_in_range s.params ≡ true → s.moment ≤ last_moment → is_control_sound s ≡ true → s.accu < 8_500_000_000_000 → is_rate_sound s ≡ true → is_activity_sound s ≡ true → is_sound s ≡ true
+sound-by : (s : PieState) → are_in_range s.params ≡ true → s.moment ≤ last_moment → is_control_sound s ≡ true → s.accu < 8_500_000_000_000 → is_rate_sound s ≡ true → is_activity_sound s ≡ true → is_sound s ≡ true
 unfolding is_sound
-sound_by s p m c a r b = grind (arith, nat_tests)
+sound-by s p m c a r b = grind (arith, nat_tests)
 
-pub Sound-to : (s : PieState) → Sound s → is_sound s ≡ true
-Sound-to s h = sound_by s h.params h.moment h.control h.accu h.rate h.activity
+none-of : {X : Type 0} (o : Option X) → is_none o ≡ true → o ≡ None
+none-of None e = refl
+none-of (Some x) e = cc
 
--- a later moment leaves the controller's registers sound
-pub later-control : (s t : PieState) → is_control_sound s ≡ true → t.prob ≡ s.prob → t.old_delay ≡ s.old_delay → t.burst ≡ s.burst → t.last ≡ s.last → s.moment ≤ t.moment → is_control_sound t ≡ true
-unfolding is_control_sound
-later-control s t h p o b l m = grind (arith, nat_tests)
-
--- and so does an update that takes in the moment alone
-pub idle-control : (s t : PieState) → is_control_sound s ≡ true → t.prob ≡ s.prob → t.old_delay ≡ s.old_delay → t.burst ≡ s.burst → t.last ≤ t.moment → is_control_sound t ≡ true
-unfolding is_control_sound
-idle-control s t h p o b l = grind (arith, nat_tests)
-
-pub control-new : (t : PieState) → t.prob ≤ 10 ^ 12 → t.old_delay ≤ 2 ^ 40 → t.burst ≤ 10 ^ 12 → t.last ≤ t.moment → is_control_sound t ≡ true
-unfolding is_control_sound
-control-new t p o b l = grind (arith, nat_tests)
-
--- and a sound estimate of the departure rate
-pub later-rate : (s t : PieState) → is_rate_sound s ≡ true → t.average ≡ s.average → t.measuring ≡ s.measuring → t.cycle_start ≡ s.cycle_start → t.cycle_count ≡ s.cycle_count → t.params.dq_threshold ≡ s.params.dq_threshold → s.moment ≤ t.moment → is_rate_sound t ≡ true
-unfolding is_rate_sound
-later-rate s t h a f b n d m = grind (arith, nat_tests)
-
--- the same profile and activity are sound, and so is a controller that is turned on, or off in profile two
-pub same-activity : (s t : PieState) → is_activity_sound s ≡ true → t.profile ≡ s.profile → t.active ≡ s.active → is_activity_sound t ≡ true
-unfolding is_activity_sound
-same-activity s t h p a = rw (p, a) h
-
-pub on-activity : (s t : PieState) → is_activity_sound s ≡ true → t.profile ≡ s.profile → t.active ≡ 1 → is_activity_sound t ≡ true
-unfolding is_activity_sound
-on-activity s t h p a = grind (arith, nat_tests)
-
-pub off-activity : (s t : PieState) (calm : Bool) → is_activity_sound s ≡ true → t.profile ≡ s.profile → t.active ≡ (if (s.profile == 2) && calm then 0 else s.active) → is_activity_sound t ≡ true
-unfolding is_activity_sound
-off-activity s t calm h p a = grind (arith, nat_tests)
-
-pub last-from : (s : PieState) → is_control_sound s ≡ true → s.last ≤ s.moment
-unfolding is_control_sound
-last-from s h = grind (arith, nat_tests)
-
--- checked parameters are in their ranges
-pub in_range-by : (p : PieParams) (raw : RawParams) → raw ≡ raw_of p → first_bad raw ≡ None → are_in_range p ≡ true
+params-from : (p : PieParams) → are_in_range p ≡ true → first_bad (raw_of p) ≡ None
 unfolding are_in_range
-in_range-by p raw e h = ap is_none (sym (ap first_bad e) ∙ h)
+params-from p e = none-of (first_bad (raw_of p)) e
 
--- a cycle began no later than now, and has counted less than the threshold
-abbrev pub Within : ℕ → ℕ → Option Begun → Type 0
-Within threshold now None = Unit {0}
-Within threshold now (Some cycle) = (cycle.start ≤ now) × (cycle.count < threshold)
+params-to : (p : RawParams) → first_bad p ≡ None → are_in_range (params_of p) ≡ true
+unfolding are_in_range
+params-to p e = ap is_none e
 
-within_at : (b : Bool) (s : PieState) → eqb s.measuring 1 ≡ b → is_rate_sound s ≡ true → Within s.params.dq_threshold s.moment (begun_in s.measuring s.cycle_start s.cycle_count)
-unfolding is_rate_sound
-within_at true s e h = rw e (grind (arith, nat_tests), grind (arith, nat_tests))
-within_at false s e h = rw e tt
+record Control (s : PieState) : Type 0 where
+  prob : s.prob ≤ 10 ^ 12
+  old_delay : s.old_delay ≤ 2 ^ 40
+  burst : s.burst ≤ 10 ^ 12
+  last : s.last ≤ s.moment
 
-pub Within-from : (s : PieState) → is_rate_sound s ≡ true → Within s.params.dq_threshold s.moment (begun_in s.measuring s.cycle_start s.cycle_count)
-Within-from s h = within_at (eqb s.measuring 1) s refl h
+control-from : (s : PieState) → is_control_sound s ≡ true → Control s
+unfolding is_control_sound
+control-from s h = record { prob = grind (arith, nat_tests); old_delay = grind (arith, nat_tests); burst = grind (arith, nat_tests); last = grind (arith, nat_tests) }
 
-pub average-from : (s : PieState) → is_rate_sound s ≡ true → s.average < 2 ^ 60
+control-to : (s : PieState) → s.prob ≤ 10 ^ 12 → s.old_delay ≤ 2 ^ 40 → s.burst ≤ 10 ^ 12 → s.last ≤ s.moment → is_control_sound s ≡ true
+unfolding is_control_sound
+control-to s p o b l = grind (arith, nat_tests)
+
+average-from : (s : PieState) → is_rate_sound s ≡ true → s.average < 2 ^ 60
 unfolding is_rate_sound
 average-from s h = grind (arith, nat_tests)
 
--- at a later moment it still is
-pub Within-later : (threshold m n : ℕ) (o : Option Begun) → m ≤ n → Within threshold m o → Within threshold n o
-Within-later threshold m n None h w = tt
-Within-later threshold m n (Some cycle) h w = (omega (arith, w.0), w.1)
-
-opened-within : (b : Bool) (threshold n : ℕ) (d : Departure) → nat_lt d.bytes_left threshold ≡ b → 0 < threshold → d.moment ≤ n → Within threshold n (opened_by threshold d)
-opened-within true threshold n d e z m = rw e tt
-opened-within false threshold n d e z m = rw e (m, z)
-
-counted-within : (b : Bool) (threshold average n : ℕ) (d : Departure) (cycle : Begun) → nat_lt (cycle.count + d.size) threshold ≡ b → 0 < threshold → d.moment ≤ n → Within threshold n (Some cycle)
-    → Within threshold n (step_from threshold average d (Some cycle)).begun
-counted-within true threshold average n d cycle e z m w = rw e (w.0, grind (arith, nat_tests))
-counted-within false threshold average n d cycle e z m w = rw e (opened-within (nat_lt d.bytes_left threshold) threshold n d refl z m)
-
--- after one more departure it is
-pub Within-step : (threshold average n : ℕ) (d : Departure) (o : Option Begun) → 0 < threshold → d.moment ≤ n → Within threshold n o → Within threshold n (step_from threshold average d o).begun
-Within-step threshold average n d None z m w = opened-within (nat_lt d.bytes_left threshold) threshold n d refl z m
-Within-step threshold average n d (Some cycle) z m w = counted-within (nat_lt (cycle.count + d.size) threshold) threshold average n d cycle refl z m w
-
--- a state with such an estimate is sound
-pub rate-new : (t : PieState) (o : Option Begun) → t.average < 2 ^ 60 → t.measuring ≡ flag_of o → t.cycle_start ≡ start_of o → t.cycle_count ≡ count_of o → Within t.params.dq_threshold t.moment o → is_rate_sound t ≡ true
+within-at : (b : Bool) (s : PieState) → (s.measuring == 1) ≡ b → is_rate_sound s ≡ true → IsWithin s.params.dq_threshold s.moment (if b then Some (record { start = s.cycle_start; count = s.cycle_count }) else None)
 unfolding is_rate_sound
-rate-new t None a f s c w = rw (f, s, c) grind (arith, nat_tests)
-rate-new t (Some cycle) a f s c w = let from = w.0 in let below = w.1 in grind (arith, nat_tests)
+within-at true s e h = (grind (arith, nat_tests), grind (arith, nat_tests))
+within-at false s e h = tt
 
--- after a departure that is shown at a sound state, a cycle that is begun is sound
-pub depart-within : (s : PieState) (before after : Estimate) (threshold n : ℕ) (d : Departure) → is_rate_sound s ≡ true → before ≡ estimate_of (held_in s) → threshold ≡ s.params.dq_threshold
-    → after ≡ after_departure threshold before d → 0 < threshold → d.moment ≤ n → s.moment ≤ n → Within s.params.dq_threshold n after.begun
-depart-within s before after threshold n d h b t a z m l =
-    let stepped : Within s.params.dq_threshold n (step_from s.params.dq_threshold s.average d (begun_in s.measuring s.cycle_start s.cycle_count)).begun
-    = Within-step s.params.dq_threshold s.average n d _ (omega (arith, t)) m (Within-later s.params.dq_threshold s.moment n _ l (Within-from s h)) in
-    rw (a, b, t) stepped
+rate-to : (s : PieState) (o : Option Begun) → s.average < 2 ^ 60 → s.measuring ≡ flag_of o → s.cycle_start ≡ start_of o → s.cycle_count ≡ count_of o → IsWithin s.params.dq_threshold s.moment o → is_rate_sound s ≡ true
+unfolding is_rate_sound
+rate-to t None a f s c w = rw (f, s, c) grind (arith, nat_tests)
+rate-to t (Some cycle) a f s c w = let from = w.0 in let below = w.1 in grind (arith, nat_tests)
+
+one-at : (b : Bool) (s : PieState) → (s.profile == 2) ≡ b → is_activity_sound s ≡ true → (if b then Two else One) ≡ One → (s.active == 1) ≡ true
+unfolding is_activity_sound
+one-at true s e h one = cc
+one-at false s e h one = grind (arith, nat_tests)
+
+activity-to : (s : PieState) (profile : Profile) (active : Bool) → s.profile ≡ profile_number profile → s.active ≡ flag active → (profile ≡ One → active ≡ true) → is_activity_sound s ≡ true
+unfolding is_activity_sound
+activity-to s One active p a always = let on = always refl in rw (p, a, on) refl
+activity-to s Two true p a always = rw (p, a) refl
+activity-to s Two false p a always = rw (p, a) refl
+
+pub held-sound : (s : PieState) → is_sound s ≡ true → IsSound (held_in s)
+unfolding held_in
+held-sound s h =
+    let parts = parts-of s h in
+    let control = control-from s parts.control in
+    record {
+      params = params-from s.params parts.params;
+      moment = let within = parts.moment in omega arith;
+      prob = control.prob;
+      old_delay = control.old_delay;
+      burst = control.burst;
+      last = control.last;
+      accu = parts.accu;
+      average = average-from s parts.rate;
+      cycle = within-at (s.measuring == 1) s refl parts.rate;
+      active = one-at (s.profile == 2) s refl parts.activity;
+    }
+
+pub state-sound : (h : Held) → IsSound h → is_sound (state_of h) ≡ true
+unfolding state_of
+state-sound h sound =
+    sound-by (state_of h) (params-to h.params sound.params) (let within = sound.moment in omega arith)
+    (control-to (state_of h) sound.prob sound.old_delay sound.burst sound.last) sound.accu
+    (rate-to (state_of h) h.rate.begun sound.average refl refl refl sound.cycle)
+    (activity-to (state_of h) h.profile h.active refl refl sound.active)
+
+-- ---- what a sound state says is the state, so a call writes the fields that it changes alone
+
+profile-back : (b : Bool) (s : PieState) → (s.profile == 2) ≡ b → is_activity_sound s ≡ true → profile_number (if b then Two else One) ≡ s.profile
+unfolding is_activity_sound
+profile-back true s e h = grind (arith, nat_tests)
+profile-back false s e h = grind (arith, nat_tests)
+
+active-back : (b : Bool) (s : PieState) → (s.active == 1) ≡ b → is_activity_sound s ≡ true → flag b ≡ s.active
+unfolding is_activity_sound
+active-back true s e h = grind (arith, nat_tests)
+active-back false s e h = grind (arith, nat_tests)
+
+record CycleBack (s : PieState) (o : Option Begun) : Type 0 where
+  flag : flag_of o ≡ s.measuring
+  start : start_of o ≡ s.cycle_start
+  count : count_of o ≡ s.cycle_count
+
+cycle-back : (b : Bool) (s : PieState) → (s.measuring == 1) ≡ b → is_rate_sound s ≡ true → CycleBack s (if b then Some (record { start = s.cycle_start; count = s.cycle_count }) else None)
+unfolding is_rate_sound
+cycle-back true s e h = record { flag = grind (arith, nat_tests); start = refl; count = refl }
+cycle-back false s e h = record { flag = grind (arith, nat_tests); start = grind (arith, nat_tests); count = grind (arith, nat_tests) }
+
+state-held : (s : PieState) → is_sound s ≡ true → state_of (held_in s) ≡ s
+unfolding held_in state_of
+state-held s sound =
+    let parts = parts-of s sound in
+    let o : Option Begun = begun_in s.measuring s.cycle_start s.cycle_count in
+    let cycle = cycle-back (s.measuring == 1) s refl parts.rate in
+    ap (λ (n : ℕ). record s { measuring = n; cycle_start = start_of o; cycle_count = count_of o; profile = profile_number (profile_of s.profile); active = flag (s.active == 1) }) cycle.flag
+    ∙ ap (λ (n : ℕ). record s { cycle_start = n; cycle_count = count_of o; profile = profile_number (profile_of s.profile); active = flag (s.active == 1) }) cycle.start
+    ∙ ap (λ (n : ℕ). record s { cycle_count = n; profile = profile_number (profile_of s.profile); active = flag (s.active == 1) }) cycle.count
+    ∙ ap (λ (n : ℕ). record s { profile = n; active = flag (s.active == 1) }) (profile-back (s.profile == 2) s refl parts.activity)
+    ∙ ap (λ (n : ℕ). record s { active = n }) (active-back (s.active == 1) s refl parts.activity)
+
+pub kept-moment : (s : PieState) (h : Held) → is_sound s ≡ true → h ≡ record (held_in s) { moment = h.moment } → record s { moment = h.moment } ≡ state_of h
+unfolding state_of
+kept-moment s h sound is = ap (λ (t : PieState). record t { moment = h.moment }) (sym (state-held s sound)) ∙ sym (ap state_of is)
+
+pub kept-arrived : (s : PieState) (h : Held) → is_sound s ≡ true → h ≡ record (held_in s) { moment = h.moment; accu = h.accu } → record s { moment = h.moment; accu = h.accu } ≡ state_of h
+unfolding state_of
+kept-arrived s h sound is = ap (λ (t : PieState). record t { moment = h.moment; accu = h.accu }) (sym (state-held s sound)) ∙ sym (ap state_of is)
+
+pub kept-departed : (s : PieState) (h : Held) → is_sound s ≡ true → h ≡ record (held_in s) { moment = h.moment; rate = h.rate }
+    → record s { moment = h.moment; average = h.rate.average; measuring = flag_of h.rate.begun; cycle_start = start_of h.rate.begun; cycle_count = count_of h.rate.begun } ≡ state_of h
+unfolding state_of
+kept-departed s h sound is =
+    ap (λ (t : PieState). record t { moment = h.moment; average = h.rate.average; measuring = flag_of h.rate.begun; cycle_start = start_of h.rate.begun; cycle_count = count_of h.rate.begun }) (sym (state-held s sound))
+    ∙ sym (ap state_of is)
+
+pub kept-updated : (s : PieState) (h : Held) → is_sound s ≡ true → h ≡ record (held_in s) { moment = h.moment; active = h.active; control = h.control }
+    → record s { moment = h.moment; prob = h.control.prob; old_delay = h.control.old_delay; burst = h.control.burst; last = h.control.last; active = flag h.active } ≡ state_of h
+unfolding state_of
+kept-updated s h sound is =
+    ap (λ (t : PieState). record t { moment = h.moment; prob = h.control.prob; old_delay = h.control.old_delay; burst = h.control.burst; last = h.control.last; active = flag h.active }) (sym (state-held s sound))
+    ∙ sym (ap state_of is)

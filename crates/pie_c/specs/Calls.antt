@@ -1,9 +1,12 @@
--- Why each call is refused, and what it answers. What a call leaves is the step of a controller beside a queue.
+-- Why each call is refused, and what it answers. What a call leaves is what the controller makes of what was held.
 use Rattle.std.specs.Prelude.{ℕ, ◌^◌, ◌==◌, ◌||◌, Bool, nat_lt, not, if◌then◌else◌}
 use Rattle.pie_queue.specs.declared.ecn.Ecn.{Ecn}
 use Rattle.pie_queue.specs.declared.ecn.Ecn.TheVariants.{NotEct, Ect1, Ect0, Ce}
-use Rattle.pie_early.specs.declared.early.Choice.TheVariants.{Enqueue, Mark, Drop}
-use Rattle.pie_beside.specs.Beside.{Beside, Verdict, over_bytes, over_packets, chosen, delay_answered, due_of, now_at, updated}
+use Rattle.pie_controller.specs.declared.verdict.Arrival.{Arrival}
+use Rattle.pie_controller.specs.declared.verdict.Verdict.{Verdict}
+use Rattle.pie_controller.specs.declared.verdict.Verdict.TheVariants.{Enqueued, Marked, DroppedEarly, DroppedBytes, DroppedPackets}
+use Rattle.pie_controller.specs.Held.{Held}
+use Rattle.pie_controller.specs.Steps.{delay_answered, due, now_at, updated}
 use Rattle.pie_c.specs.declared.params.PieParams.{PieParams}
 use Rattle.pie_c.specs.declared.state.PieState.{PieState}
 use Rattle.pie_c.specs.declared.updated.PieUpdated.{PieUpdated}
@@ -14,7 +17,7 @@ abbrev pub unless_refused : ℕ → ℕ → ℕ
 unless_refused refusal answer = if refusal == 0 then answer else refusal
 
 -- the state after a call: what it leaves is this, and a refused call leaves all as it was
-abbrev pub kept_if_refused : ℕ → PieState → Beside → PieState
+abbrev pub kept_if_refused : ℕ → PieState → Held → PieState
 kept_if_refused refusal before after = if refusal == 0 then state_of after else before
 
 -- a packet's size is outside 1 to 65535 bytes
@@ -43,13 +46,17 @@ arrival_refusal state queued size ecn moment =
     else if nat_lt (2 ^ 30) queued then 112
     else 0
 
+-- an arriving packet and the queue that it meets, as the caller says them
+abbrev pub arrival_of : ℕ → ℕ → ℕ → ℕ → ℕ → Arrival
+arrival_of queued size room bits word = record { queued = queued; is_full = room == 0; size = size; ecn = ecn_at bits; word = word }
+
 -- the number of a verdict
 abbrev pub verdict_number : Verdict → ℕ
-verdict_number (chosen Enqueue) = 0
-verdict_number (chosen Mark) = 1
-verdict_number (chosen Drop) = 2
-verdict_number over_bytes = 3
-verdict_number over_packets = 4
+verdict_number Enqueued = 0
+verdict_number Marked = 1
+verdict_number DroppedEarly = 2
+verdict_number DroppedBytes = 3
+verdict_number DroppedPackets = 4
 
 -- why a departure is refused, and 0 where it isn't
 unfoldable pub departure_refusal : PieState → ℕ → ℕ → ℕ → ℕ
@@ -70,17 +77,17 @@ update_refusal state queued moment =
     if not (is_sound state) then 110
     else if nat_lt last_moment moment then 101
     else if nat_lt (2 ^ 30) queued then 112
-    else if nat_lt (now_at (held_in state) moment) (due_of (held_in state)) then 103
+    else if nat_lt (now_at (held_in state) moment) (due (held_in state)) then 103
     else 0
 
 -- what an update answers with this number and this delay, from what is held after it
-abbrev pub updated_with : ℕ → ℕ → Beside → PieUpdated
+abbrev pub updated_with : ℕ → ℕ → Held → PieUpdated
 updated_with code delay held = record {
   code = code;
-  due = due_of held;
+  due = due held;
   delay = delay;
-  prob = held.prob;
-  burst = held.burst;
+  prob = held.control.prob;
+  burst = held.control.burst;
 }
 
 -- what an update answers that is refused for what was handed in

@@ -1,7 +1,11 @@
--- What a state says to the parts of the controller, and which states are sound.
-use Rattle.std.specs.Prelude.{ℕ, ◌^◌, ◌-◌, Bool, ◌&&◌, ◌==◌, nat_lt, nat_le, is_none, if◌then◌else◌}
+-- What a state says that a controller holds, and which states are sound.
+use Rattle.std.specs.Prelude.{ℕ, ◌^◌, ◌-◌, Bool, ◌&&◌, ◌==◌, nat_lt, nat_le, is_none, Option, Some, None, if◌then◌else◌}
 use Rattle.pie_params.specs.Range.{first_bad}
-use Rattle.pie_beside.specs.Beside.{Beside}
+use Rattle.pie_rate.specs.Estimate.{Begun, Estimate}
+use Rattle.pie_control.specs.Parts.{Parts}
+use Rattle.pie_controller.specs.declared.profile.Profile.{Profile}
+use Rattle.pie_controller.specs.declared.profile.Profile.TheVariants.{One, Two}
+use Rattle.pie_controller.specs.Held.{Held}
 use Rattle.pie_c.specs.declared.params.PieParams.{PieParams}
 use Rattle.pie_c.specs.declared.state.PieState.{PieState}
 use Rattle.pie_c.specs.Params.{params_of, raw_of}
@@ -14,40 +18,70 @@ last_moment = 2 ^ 60 - 1
 unfoldable pub are_in_range : PieParams → Bool
 are_in_range params = is_none (first_bad (raw_of params))
 
--- what a controller beside a queue holds, by this state
-abbrev pub held_in : PieState → Beside
+-- a profile by its number, and its number
+abbrev pub profile_of : ℕ → Profile
+profile_of number = if number == 2 then Two else One
+
+abbrev pub profile_number : Profile → ℕ
+profile_number One = 1
+profile_number Two = 2
+
+-- the cycle of the departure rate that is begun, where the flag says so
+abbrev pub begun_in : ℕ → ℕ → ℕ → Option Begun
+begun_in measuring start count = if measuring == 1 then Some (record { start = start; count = count }) else None
+
+-- the numbers of a cycle, 0 with none
+abbrev pub flag_of : Option Begun → ℕ
+flag_of None = 0
+flag_of (Some _) = 1
+
+abbrev pub start_of : Option Begun → ℕ
+start_of None = 0
+start_of (Some cycle) = cycle.start
+
+abbrev pub count_of : Option Begun → ℕ
+count_of None = 0
+count_of (Some cycle) = cycle.count
+
+-- 1 where it is so, and else 0
+abbrev pub flag : Bool → ℕ
+flag so = if so then 1 else 0
+
+-- the parts, by a state
+abbrev pub control_in : PieState → Parts
+control_in s = record { prob = s.prob; old_delay = s.old_delay; burst = s.burst; last = s.last }
+
+abbrev pub rate_in : PieState → Estimate
+rate_in s = record { average = s.average; begun = begun_in s.measuring s.cycle_start s.cycle_count }
+
+-- what a controller holds, by this state
+unfoldable pub held_in : PieState → Held
 held_in s = record {
+  profile = profile_of s.profile;
   params = raw_of s.params;
   moment = s.moment;
-  prob = s.prob;
-  old_delay = s.old_delay;
-  burst = s.burst;
-  last = s.last;
+  active = s.active == 1;
+  rate = rate_in s;
+  control = control_in s;
   accu = s.accu;
-  average = s.average;
-  measuring = s.measuring;
-  cycle_start = s.cycle_start;
-  cycle_count = s.cycle_count;
-  profile = s.profile;
-  active = s.active;
 }
 
 -- the state that says this
-abbrev pub state_of : Beside → PieState
-state_of b = record {
-  params = params_of b.params;
-  moment = b.moment;
-  prob = b.prob;
-  old_delay = b.old_delay;
-  burst = b.burst;
-  last = b.last;
-  accu = b.accu;
-  average = b.average;
-  measuring = b.measuring;
-  cycle_start = b.cycle_start;
-  cycle_count = b.cycle_count;
-  profile = b.profile;
-  active = b.active;
+unfoldable pub state_of : Held → PieState
+state_of h = record {
+  params = params_of h.params;
+  moment = h.moment;
+  prob = h.control.prob;
+  old_delay = h.control.old_delay;
+  burst = h.control.burst;
+  last = h.control.last;
+  accu = h.accu;
+  average = h.rate.average;
+  measuring = flag_of h.rate.begun;
+  cycle_start = start_of h.rate.begun;
+  cycle_count = count_of h.rate.begun;
+  profile = profile_number h.profile;
+  active = flag h.active;
 }
 
 -- the controller's registers are in their ranges, and the last update wasn't later than now

@@ -1,19 +1,22 @@
-//! The calls on a state.
-ghost use Rattle.std.specs.Prelude.{◌≡◌, ◌==◌, ◌&&◌, true, if◌then◌else◌};
-ghost use Rattle.pie_beside.specs.Beside.{arrived, departed, found_empty, reset, turned_on, updated, verdict, with_params};
+//! The calls on a state: each takes the state into a controller, refuses what is out of its range, lets the controller make its step,
+//! and writes back what it holds.
+ghost use Rattle.std.specs.Prelude.{◌≡◌, ◌∷◌, [], ◌++◌, List, true};
+ghost use Rattle.pie_controller.specs.Calls.{Arrive, Change, Depart, Pass, Restart, Update, after_call, shown_by};
+ghost use Rattle.pie_controller.specs.Events.{ControllerEvent, Opened};
+ghost use Rattle.pie_controller.specs.History.{Shows};
+ghost use Rattle.pie_controller.specs.Steps.{verdict};
 ghost use Rattle.pie_c.specs.Params.{raw_of};
-ghost use Rattle.pie_c.specs.State.{held_in, is_sound, state_of};
-ghost use Rattle.pie_c.specs.Calls.{arrival_refusal, departure_refusal, ecn_at, kept_if_refused, moment_refusal, params_refusal, unless_refused, update_refusal, updated_by, verdict_number};
-ghost use Rattle.pie_c.specs.History.{Shown, Shows, with_arrival, with_departure, with_params as with_params_shown, with_reset, with_update};
+ghost use Rattle.pie_c.specs.State.{held_in, is_sound};
+ghost use Rattle.pie_c.specs.Calls.{arrival_of, arrival_refusal, departure_refusal, kept_if_refused, moment_refusal, params_refusal, unless_refused, update_refusal, updated_by, verdict_number};
 
-use crate::checked::{ecn, is_bad_size};
+use crate::checked::{controller, ecn, is_bad_size};
 use crate::code::{
-    BAD_ECN, BAD_MOMENT, BAD_PARAMS, BAD_QUEUE, BAD_SIZE, BAD_STATE, DONE, TOO_SOON,
+    BAD_ECN, BAD_MOMENT, BAD_PARAMS, BAD_QUEUE, BAD_SIZE, BAD_STATE, DONE, TOO_SOON, of_verdict,
 };
-use crate::controller::{Controller, cleared};
 use crate::params::PieParams;
 use crate::state::PieState;
 use crate::updated::PieUpdated;
+use pie_controller::Arrival;
 use pie_fixed::Nanos;
 use pie_params::Params;
 
@@ -38,14 +41,13 @@ pub extern "C" fn pie_arrive(
     word: u64,
     moment: u64,
 ) -> u32
-    ensures answer { result ≡ unless_refused (arrival_refusal state.old queued size bits moment) (verdict_number (verdict (held_in state.old) queued size room (ecn_at bits) word)) }
-    ensures after { state.new ≡ kept_if_refused (arrival_refusal state.old queued size bits moment) state.old (arrived (held_in state.old) queued size room (ecn_at bits) word moment) }
+    ensures answer { result ≡ unless_refused (arrival_refusal state.old queued size bits moment) (verdict_number (verdict (held_in state.old) (arrival_of queued size room bits word))) }
+    ensures after { state.new ≡ kept_if_refused (arrival_refusal state.old queued size bits moment) state.old (after_call (held_in state.old) (Arrive (arrival_of queued size room bits word) moment)) }
     ensures sound { is_sound state.old ≡ true → is_sound state.new ≡ true }
-    ensures shows { (shown : Shown) →
-        arrival_refusal state.old queued size bits moment ≡ 0 →
-        Shows shown state.old → Shows (with_arrival shown (held_in state.old) queued size room (ecn_at bits) word) state.new }
+    ensures shows { (opened : Opened) (events : List ControllerEvent) → arrival_refusal state.old queued size bits moment ≡ 0 → Shows opened events (held_in state.old)
+        → Shows opened (events ++ shown_by (held_in state.old) (Arrive (arrival_of queued size room bits word) moment) ∷ []) (held_in state.new) }
 {
-    let Some(mut controller) = Controller::of(state) else {
+    let Some(mut controller) = controller(state) else {
         return BAD_STATE;
     };
     let Some(moment) = Nanos::from_units(moment) else {
@@ -60,33 +62,16 @@ pub extern "C" fn pie_arrive(
     if queued > MAX_QUEUED {
         return BAD_QUEUE;
     }
-    let arrival = controller.arrive(queued, size, room, ecn, word);
-    state.moment = state.moment.max(moment.units());
-    state.accu = controller.early.accu().units();
-    if !controller.is_turned_on_by(arrival.bytes) {
-        return arrival.code;
-    }
-    turn_on(state);
-    arrival.code
-}
-
-/// Turns a controller on, which starts it anew (RFC 8033, section 5.3). It is rare, so it stands off the way of a packet.
-#[cold]
-#[inline(never)]
-fn turn_on(state: &mut PieState)
-    requires { is_sound state.old ≡ true }
-    ensures after { state.new ≡ state_of (turned_on (held_in state.old)) }
-    ensures sound { is_sound state.new ≡ true }
-    ensures shows { (shown : Shown) → Shows shown state.old → Shows (with_reset shown (raw_of state.old.params)) state.new }
-{
-    let Some(mut controller) = Controller::of(state) else {
-        return;
+    let arrival = Arrival {
+        queued,
+        is_full: room == 0,
+        size,
+        ecn,
+        word,
     };
-    controller.reset();
-    controller.store_control(state);
-    controller.store_rate(state);
-    state.accu = controller.early.accu().units();
-    state.active = 1;
+    let verdict = controller.arrive(arrival, moment);
+    state.keep_arrived(&controller);
+    of_verdict(verdict)
 }
 
 /// Takes in a packet that left the queue, with `left` bytes after it (RFC 8033, section 5.2). An inactive controller takes in the
@@ -95,14 +80,12 @@ fn turn_on(state: &mut PieState)
 #[tactic(auto, unfolding(crate::specs::Calls::departure_refusal))]
 pub extern "C" fn pie_depart(state: &mut PieState, size: u32, left: u64, moment: u64) -> u32
     ensures answer { result ≡ departure_refusal state.old size left moment }
-    ensures after { state.new ≡ kept_if_refused (departure_refusal state.old size left moment) state.old (departed (held_in state.old) size left moment) }
+    ensures after { state.new ≡ kept_if_refused (departure_refusal state.old size left moment) state.old (after_call (held_in state.old) (Depart size left moment)) }
     ensures sound { is_sound state.old ≡ true → is_sound state.new ≡ true }
-    ensures shows { (shown : Shown) →
-        departure_refusal state.old size left moment ≡ 0 →
-        Shows shown state.old →
-        Shows (with_departure shown (held_in state.old) size left moment) state.new }
+    ensures shows { (opened : Opened) (events : List ControllerEvent) → departure_refusal state.old size left moment ≡ 0 → Shows opened events (held_in state.old)
+        → Shows opened (events ++ shown_by (held_in state.old) (Depart size left moment) ∷ []) (held_in state.new) }
 {
-    let Some(mut controller) = Controller::of(state) else {
+    let Some(mut controller) = controller(state) else {
         return BAD_STATE;
     };
     let Some(moment) = Nanos::from_units(moment) else {
@@ -114,14 +97,8 @@ pub extern "C" fn pie_depart(state: &mut PieState, size: u32, left: u64, moment:
     if left > MAX_QUEUED {
         return BAD_QUEUE;
     }
-    controller.reach(moment);
-    if !controller.active {
-        state.moment = controller.moment.units();
-        return DONE;
-    }
-    controller.depart(size, left);
-    controller.store_rate(state);
-    state.moment = controller.moment.units();
+    controller.depart(size, left, moment);
+    state.keep_departed(&controller);
     DONE
 }
 
@@ -130,18 +107,19 @@ pub extern "C" fn pie_depart(state: &mut PieState, size: u32, left: u64, moment:
 #[tactic(auto, unfolding(crate::specs::Calls::moment_refusal))]
 pub extern "C" fn pie_empty(state: &mut PieState, moment: u64) -> u32
     ensures answer { result ≡ moment_refusal state.old moment }
-    ensures after { state.new ≡ kept_if_refused (moment_refusal state.old moment) state.old (found_empty (held_in state.old) moment) }
+    ensures after { state.new ≡ kept_if_refused (moment_refusal state.old moment) state.old (after_call (held_in state.old) (Pass moment)) }
     ensures sound { is_sound state.old ≡ true → is_sound state.new ≡ true }
-    ensures shows { (shown : Shown) → Shows shown state.old → Shows shown state.new }
+    ensures shows { (opened : Opened) (events : List ControllerEvent) → moment_refusal state.old moment ≡ 0 → Shows opened events (held_in state.old)
+        → Shows opened (events ++ shown_by (held_in state.old) (Pass moment) ∷ []) (held_in state.new) }
 {
-    let Some(mut reached) = Controller::of(state) else {
+    let Some(mut controller) = controller(state) else {
         return BAD_STATE;
     };
     let Some(moment) = Nanos::from_units(moment) else {
         return BAD_MOMENT;
     };
-    reached.reach(moment);
-    state.moment = reached.moment.units();
+    controller.pass(moment);
+    state.keep_moment(&controller);
     DONE
 }
 
@@ -154,14 +132,12 @@ pub extern "C" fn pie_empty(state: &mut PieState, moment: u64) -> u32
 #[tactic(auto, unfolding(crate::specs::Calls::update_refusal))]
 pub extern "C" fn pie_update(state: &mut PieState, queued: u64, moment: u64) -> PieUpdated
     ensures answer { result ≡ updated_by state.old queued moment }
-    ensures after { state.new ≡ kept_if_refused (update_refusal state.old queued moment) state.old (updated (held_in state.old) queued moment) }
+    ensures after { state.new ≡ kept_if_refused (update_refusal state.old queued moment) state.old (after_call (held_in state.old) (Update queued moment)) }
     ensures sound { is_sound state.old ≡ true → is_sound state.new ≡ true }
-    ensures shows { (shown : Shown) →
-        update_refusal state.old queued moment ≡ 0 →
-        Shows shown state.old →
-        Shows (with_update shown (held_in state.old) queued moment) state.new }
+    ensures shows { (opened : Opened) (events : List ControllerEvent) → update_refusal state.old queued moment ≡ 0 → Shows opened events (held_in state.old)
+        → Shows opened (events ++ shown_by (held_in state.old) (Update queued moment) ∷ []) (held_in state.new) }
 {
-    let Some(mut controller) = Controller::of(state) else {
+    let Some(mut controller) = controller(state) else {
         return PieUpdated::refused(BAD_STATE);
     };
     let Some(moment) = Nanos::from_units(moment) else {
@@ -170,21 +146,12 @@ pub extern "C" fn pie_update(state: &mut PieState, queued: u64, moment: u64) -> 
     if queued > MAX_QUEUED {
         return PieUpdated::refused(BAD_QUEUE);
     }
-    controller.reach(moment);
-    if controller.moment.units() < controller.due() {
-        return controller.updated(TOO_SOON, state.old_delay);
+    if controller.moment().max(moment).units() < controller.due() {
+        return PieUpdated::made(TOO_SOON, controller.control().old(), &controller);
     }
-    if !controller.active {
-        controller.idle();
-        state.last = controller.control.last().units();
-        state.moment = controller.moment.units();
-        return controller.updated(DONE, 0);
-    }
-    let is_calm = controller.update(queued);
-    state.active = active_after(state, is_calm);
-    controller.store_control(state);
-    state.moment = controller.moment.units();
-    controller.updated(DONE, controller.control.old())
+    let delay = controller.update(queued, moment);
+    state.keep_updated(&controller);
+    PieUpdated::made(DONE, delay, &controller)
 }
 
 /// Sets probability, old delay, accumulated probability and rate estimate to 0 and the burst allowance
@@ -193,24 +160,19 @@ pub extern "C" fn pie_update(state: &mut PieState, queued: u64, moment: u64) -> 
 #[tactic(auto, unfolding(crate::specs::Calls::moment_refusal))]
 pub extern "C" fn pie_reset(state: &mut PieState, moment: u64) -> u32
     ensures answer { result ≡ moment_refusal state.old moment }
-    ensures after { state.new ≡ kept_if_refused (moment_refusal state.old moment) state.old (reset (held_in state.old) moment) }
+    ensures after { state.new ≡ kept_if_refused (moment_refusal state.old moment) state.old (after_call (held_in state.old) (Restart moment)) }
     ensures sound { is_sound state.old ≡ true → is_sound state.new ≡ true }
-    ensures shows { (shown : Shown) →
-        moment_refusal state.old moment ≡ 0 →
-        Shows shown state.old → Shows (with_reset shown (raw_of state.old.params)) state.new }
+    ensures shows { (opened : Opened) (events : List ControllerEvent) → moment_refusal state.old moment ≡ 0 → Shows opened events (held_in state.old)
+        → Shows opened (events ++ shown_by (held_in state.old) (Restart moment) ∷ []) (held_in state.new) }
 {
-    let Some(mut controller) = Controller::of(state) else {
+    let Some(mut controller) = controller(state) else {
         return BAD_STATE;
     };
     let Some(moment) = Nanos::from_units(moment) else {
         return BAD_MOMENT;
     };
-    controller.reach(moment);
-    controller.reset();
-    controller.store_control(state);
-    controller.store_rate(state);
-    state.accu = controller.early.accu().units();
-    state.moment = controller.moment.units();
+    controller.reset(moment);
+    state.keep(&controller);
     DONE
 }
 
@@ -221,37 +183,22 @@ pub extern "C" fn pie_reset(state: &mut PieState, moment: u64) -> u32
 #[tactic(auto, unfolding(crate::specs::Calls::params_refusal, crate::specs::State::are_in_range))]
 pub extern "C" fn pie_set_params(state: &mut PieState, params: &PieParams, moment: u64) -> u32
     ensures answer { result ≡ params_refusal state.old params.now moment }
-    ensures after { state.new ≡ kept_if_refused (params_refusal state.old params.now moment) state.old (with_params (held_in state.old) (raw_of params.now) moment) }
+    ensures after { state.new ≡ kept_if_refused (params_refusal state.old params.now moment) state.old (after_call (held_in state.old) (Change (raw_of params.now) moment)) }
     ensures sound { is_sound state.old ≡ true → is_sound state.new ≡ true }
-    ensures shows { (shown : Shown) →
-        params_refusal state.old params.now moment ≡ 0 →
-        Shows shown state.old → Shows (with_params_shown shown) state.new }
+    ensures shows { (opened : Opened) (events : List ControllerEvent) → params_refusal state.old params.now moment ≡ 0 → Shows opened events (held_in state.old)
+        → Shows opened (events ++ shown_by (held_in state.old) (Change (raw_of params.now) moment) ∷ []) (held_in state.new) }
 {
-    let Some(mut controller) = Controller::of(state) else {
+    let Some(mut controller) = controller(state) else {
         return BAD_STATE;
     };
-    let Ok(_) = Params::check(params.raw()) else {
+    let Ok(checked) = Params::check(params.raw()) else {
         return BAD_PARAMS;
     };
     let Some(moment) = Nanos::from_units(moment) else {
         return BAD_MOMENT;
     };
-    controller.reach(moment);
-    controller.rate = cleared();
-    controller.store_rate(state);
+    controller.set_params(checked, moment);
     state.params = *params;
-    state.moment = controller.moment.units();
+    state.keep(&controller);
     DONE
-}
-
-/// Whether an active controller is still active after an update, as the state has it: in profile two not after a calm one (RFC 8033,
-/// section 5.3).
-fn active_after(state: &PieState, is_calm: bool) -> u64
-    ensures { result ≡ (if (state.now.profile == 2) && is_calm then 0 else state.now.active) }
-{
-    if state.profile == 2 && is_calm {
-        0
-    } else {
-        state.active
-    }
 }

@@ -1,4 +1,8 @@
 //! What a call answers, as `include/pie.h` numbers it.
+ghost use Rattle.std.specs.Prelude.{◌≡◌};
+ghost use Rattle.pie_c.specs.Calls.{verdict_number};
+
+use pie_controller::Verdict;
 
 /// The call is done. Of an arrival: the packet is to be queued as it is.
 pub(crate) const DONE: u32 = 0;
@@ -38,3 +42,16 @@ pub(crate) const BAD_QUEUE: u32 = 112;
 
 /// Refused: a profile that is neither 1 nor 2.
 pub(crate) const BAD_PROFILE: u32 = 113;
+
+/// The number of a verdict.
+pub(crate) fn of_verdict(verdict: Verdict) -> u32
+    ensures { result ≡ verdict_number verdict }
+{
+    match verdict {
+        Verdict::Enqueued => DONE,
+        Verdict::Marked => MARK,
+        Verdict::DroppedEarly => EARLY,
+        Verdict::DroppedBytes => OVER_BYTES,
+        Verdict::DroppedPackets => OVER_PACKETS,
+    }
+}

@@ -1,4 +1,11 @@
+ghost use Rattle.std.specs.Prelude.{◌≡◌, ◌==◌, true};
+ghost use Rattle.pie_c.specs.Params.{raw_of};
+ghost use Rattle.pie_c.specs.State.{count_of, flag_of, held_in, is_sound, profile_number, start_of, state_of};
+
 use crate::params::PieParams;
+use pie_control::Control;
+use pie_controller::{Controller, Profile};
+use pie_rate::Rate;
 
 /// The controller's state, which its caller owns: the parameters in force, the registers, the profile and whether the controller is
 /// active. Times are in nanoseconds, probabilities in units of `10^-12` (RFC 8033, sections 4.2, 4.4, 5.2, 5.3 and 5.4; the scales
@@ -32,4 +39,113 @@ pub struct PieState {
     pub profile: u64,
     /// 1 while the controller is active, and else 0; always 1 in profile one.
     pub active: u64,
+}
+
+impl PieState {
+    /// Says all that the controller holds, under the parameters that the state has.
+    #[inline(always)]
+    #[tactic(auto, unfolding(crate::specs::State::state_of))]
+    pub(crate) fn keep(&mut self, controller: &Controller)
+        requires { controller.now.params ≡ raw_of self.old.params }
+        ensures { self.new ≡ state_of controller.now }
+    {
+        let control = controller.control();
+        self.moment = controller.moment().units();
+        self.write_control(&control);
+        self.accu = controller.early().accu().units();
+        let rate = controller.rate();
+        self.write_rate(&rate);
+        self.profile = number(controller.profile());
+        self.active = u64::from(controller.is_active());
+    }
+
+    /// The same, where only the effective moment is another.
+    #[inline(always)]
+    pub(crate) fn keep_moment(&mut self, controller: &Controller)
+        requires sound { is_sound self.old ≡ true }
+        requires same { controller.now ≡ record (held_in self.old) { moment = controller.now.moment } }
+        ensures { self.new ≡ state_of controller.now }
+    {
+        self.moment = controller.moment().units();
+    }
+
+    /// The same after an arrival: the moment and the accumulated probability, and all where it turned the controller on.
+    #[inline(always)]
+    pub(crate) fn keep_arrived(&mut self, controller: &Controller)
+        requires sound { is_sound self.old ≡ true }
+        requires params { controller.now.params ≡ raw_of self.old.params }
+        requires same { controller.now.active ≡ (self.old.active == 1) → controller.now ≡ record (held_in self.old) { moment = controller.now.moment; accu = controller.now.accu } }
+        ensures { self.new ≡ state_of controller.now }
+    {
+        if controller.is_active() != (self.active == 1) {
+            self.keep(controller);
+            return;
+        }
+        self.moment = controller.moment().units();
+        self.accu = controller.early().accu().units();
+    }
+
+    /// The same after a departure: the moment and the estimate of the departure rate.
+    #[inline(always)]
+    pub(crate) fn keep_departed(&mut self, controller: &Controller)
+        requires sound { is_sound self.old ≡ true }
+        requires same { controller.now ≡ record (held_in self.old) { moment = controller.now.moment; rate = controller.now.rate } }
+        ensures { self.new ≡ state_of controller.now }
+    {
+        let rate = controller.rate();
+        self.moment = controller.moment().units();
+        self.write_rate(&rate);
+    }
+
+    /// The same after an update: the moment, the control law's registers, and activity.
+    #[inline(always)]
+    pub(crate) fn keep_updated(&mut self, controller: &Controller)
+        requires sound { is_sound self.old ≡ true }
+        requires same { controller.now ≡ record (held_in self.old) { moment = controller.now.moment; active = controller.now.active; control = controller.now.control } }
+        ensures { self.new ≡ state_of controller.now }
+    {
+        let control = controller.control();
+        self.moment = controller.moment().units();
+        self.write_control(&control);
+        self.active = u64::from(controller.is_active());
+    }
+
+    /// Says these registers of the control law.
+    #[inline(always)]
+    fn write_control(&mut self, control: &Control)
+        ensures { self.new ≡ record self.old { prob = control.now.prob; old_delay = control.now.old_delay; burst = control.now.burst; last = control.now.last } }
+    {
+        self.prob = control.prob().units();
+        self.old_delay = control.old();
+        self.burst = control.burst();
+        self.last = control.last().units();
+    }
+
+    /// Says this estimate of the departure rate.
+    #[inline(always)]
+    fn write_rate(&mut self, rate: &Rate)
+        ensures { self.new ≡ record self.old {
+          average = rate.now.average;
+          measuring = flag_of rate.now.begun;
+          cycle_start = start_of rate.now.begun;
+          cycle_count = count_of rate.now.begun;
+        } }
+    {
+        self.average = rate.average();
+        (self.measuring, self.cycle_start, self.cycle_count) = match rate.begun() {
+            Some(cycle) => (1, cycle.start.units(), cycle.count),
+            None => (0, 0, 0),
+        };
+    }
+}
+
+/// The number of a profile.
+#[inline(always)]
+fn number(profile: Profile) -> u64
+    ensures { result ≡ profile_number profile }
+{
+    match profile {
+        Profile::One => 1,
+        Profile::Two => 2,
+    }
 }

@@ -1,7 +1,7 @@
-ghost use Rattle.std.specs.Prelude.{◌≡◌, ◌+◌};
-ghost use Rattle.pie_c.specs.Calls.{nothing_updated};
+ghost use Rattle.std.specs.Prelude.{◌≡◌};
+ghost use Rattle.pie_c.specs.Calls.{nothing_updated, updated_with};
 
-use crate::controller::Controller;
+use pie_controller::Controller;
 
 /// What an update answers.
 #[repr(C)]
@@ -32,25 +32,18 @@ impl PieUpdated {
             burst: 0,
         }
     }
-}
 
-impl Controller {
     /// What an update answers with this number and this delay, from the registers.
-    pub(crate) fn updated(&self, code: u32, delay: u64) -> PieUpdated
-        ensures { result ≡ record {
-          code = code;
-          due = self.now.control.last + self.now.params.t_update;
-          delay = delay;
-          prob = self.now.control.prob;
-          burst = self.now.control.burst;
-        } }
+    pub(crate) fn made(code: u32, delay: u64, controller: &Controller) -> PieUpdated
+        ensures { result ≡ updated_with code delay controller.now }
     {
+        let control = controller.control();
         PieUpdated {
             code: u64::from(code),
-            due: self.due(),
+            due: controller.due(),
             delay,
-            prob: self.control.prob().units(),
-            burst: self.control.burst(),
+            prob: control.prob().units(),
+            burst: control.burst(),
         }
     }
 }

@@ -7,8 +7,6 @@
 #![tactic(auto)]
 
 mod control;
-#[cfg(test)]
-mod tests;
 mod update;
 
 pub use control::Control;

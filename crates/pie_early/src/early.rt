@@ -82,6 +82,7 @@ impl Early {
     /// word lies below the probability. A picked packet is marked where its endpoints understand a mark
     /// and the probability is below `mark_ecnth`, and dropped otherwise; either clears the accumulated
     /// probability.
+    #[inline(always)]
     pub fn consider(
         &mut self,
         params: &Params,

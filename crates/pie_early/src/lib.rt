@@ -9,6 +9,3 @@
 mod early;
 
 pub use early::{Choice, Early};
-
-#[cfg(test)]
-mod tests;

@@ -11,8 +11,6 @@ pub mod explainer;
 pub mod explanation;
 pub mod fault;
 mod record;
-#[cfg(test)]
-mod tests;
 mod text;
 mod units;
 pub mod which;

@@ -11,8 +11,6 @@
 ghost use Rattle.std.specs.Prelude.{◌≡◌, ◌<◌, ◌↔◌, IsTrue, int_div, pos};
 ghost use Rattle.pie_fixed.specs.Fixed.{Picks};
 
-#[cfg(test)]
-mod tests;
 mod units;
 
 pub use units::{Accu, Gain, Nanos, Prob, bounded};

@@ -1,5 +1,5 @@
 -- A storm's history has no more events than there are commands, and so no caller was cut short.
-use Rattle.std.proofs.Common.{◌≡◌, ℕ, zero, suc, ◌+◌, ◌-◌, ◌<◌, ◌≤◌, ◌⊎◌, nat_le, nat_lt, ◌==◌, Bool, true, false, cond, List, [], ◌∷◌, ◌++◌, Option, Some, None, Vec, min, map, length, length-append, refl, ap, sym, ◌∙◌, subst, inl, inr, ⊎_elim, arith}
+use Rattle.std.proofs.Common.{◌≡◌, ℕ, zero, suc, ◌+◌, ◌-◌, ◌<◌, ◌≤◌, ◌⊎◌, nat_le, nat_lt, ◌==◌, Bool, true, false, cond, List, [], ◌∷◌, ◌++◌, Option, Some, None, Vec, min, map, take, length, length-append, refl, ap, sym, ◌∙◌, subst, inl, inr, ⊎_elim, arith, eq-eqb}
 use Rattle.std.specs.Prelude.{if◌then◌else◌}
 use Rattle.std.specs.List.{All}
 use Rattle.std.specs.declared.alloc.Global.{Global}
@@ -25,9 +25,12 @@ use Rattle.pie_book.specs.Estimates.{parts_after}
 use Rattle.pie_link.specs.declared.plan.Arrival.{Arrival}
 use Rattle.pie_link.specs.declared.plan.Plan.{Plan}
 use Rattle.pie_link.specs.Plans.{senders, sent, arrive, change, commands_of, commands_after_senders, count_of, planned, opening_of, IsSound}
-use Rattle.pie_link.specs.Views.{number_of}
+use Rattle.pie_link.specs.declared.entry.Entry.{Entry}
+use Rattle.pie_link.specs.declared.entry.Entry.TheVariants.{Made, Folded}
+use Rattle.pie_link.specs.Entries.{entries_of, events_in, handed_out, handed_to, number_of, tail_in}
+use Rattle.pie_link.proofs.EntryLists.{all-events}
 use Rattle.pie_link.proofs.Planning.{of_either}
-use Rattle.pie_link.specs.Storms.{events_of, commands_in, AreFolded, AreMade, CameOf, AllCameOf, IsStorm}
+use Rattle.pie_link.specs.Storms.{events_of, caller_of, commands_in, folder, is_number, AreFolded, AreMade, CameOf, AllCameOf, IsMade, IsStorm, NoneElseFolds}
 
 -- the sum of f over the numbers below n
 abbrev pub total : (ℕ → ℕ) → ℕ → ℕ
@@ -55,30 +58,30 @@ one_of n c = one_of_both (is_within 0 (n + 1) c) (is_within 0 n c) (is_within n 
     (λ yes. let below = within_high 0 n c yes in (within 0 (n + 1) c (omega arith) (omega (arith, below)), not_within n (n + 1) c (λ both. omega (arith, both.0, below))))
     (λ yes. within 0 (n + 1) c (omega arith) (within_high n (n + 1) c yes))
 
-own_split : (n : ℕ) (xs : List Event) → length (own number_of 0 (n + 1) xs) ≡ length (own number_of 0 n xs) + length (events_of n xs)
+own_split : (n : ℕ) (xs : List Event) → length (own caller_of 0 (n + 1) xs) ≡ length (own caller_of 0 n xs) + length (events_of n xs)
 own_split n [] = refl
 own_split n (e ∷ xs) =
-    let a = size_cond (is_within 0 (n + 1) e.caller) e (own number_of 0 (n + 1) xs) in
-    let b = size_cond (is_within 0 n e.caller) e (own number_of 0 n xs) in
+    let a = size_cond (is_within 0 (n + 1) e.caller) e (own caller_of 0 (n + 1) xs) in
+    let b = size_cond (is_within 0 n e.caller) e (own caller_of 0 n xs) in
     let d = size_cond (is_within n (n + 1) e.caller) e (events_of n xs) in
     omega (arith, a, b, d, one_of n e.caller, own_split n xs)
 
-own_none : (xs : List Event) → length (own number_of 0 0 xs) ≡ 0
+own_none : (xs : List Event) → length (own caller_of 0 0 xs) ≡ 0
 own_none [] = refl
 own_none (e ∷ xs) =
-    subst (λ (b : Bool). length (cond b (e ∷ own number_of 0 0 xs) (own number_of 0 0 xs)) ≡ 0) (sym (not_within 0 0 e.caller (λ both. omega (arith, both.1)))) (own_none xs)
+    subst (λ (b : Bool). length (cond b (e ∷ own caller_of 0 0 xs) (own caller_of 0 0 xs)) ≡ 0) (sym (not_within 0 0 e.caller (λ both. omega (arith, both.1)))) (own_none xs)
 
-own_all : (n : ℕ) (xs : List Event) → All (λ (e : Event). e.caller < n) xs → length (own number_of 0 n xs) ≡ length xs
+own_all : (n : ℕ) (xs : List Event) → All (λ (e : Event). e.caller < n) xs → length (own caller_of 0 n xs) ≡ length xs
 own_all n [] all = refl
 own_all n (e ∷ xs) all =
     let yes = within 0 n e.caller (omega arith) (All-head (λ (x : Event). x.caller < n) e xs all) in
-    subst (λ (b : Bool). length (cond b (e ∷ own number_of 0 n xs) (own number_of 0 n xs)) ≡ suc (length xs)) (sym yes) (ap suc (own_all n xs (All-tail (λ (x : Event). x.caller < n) e xs all)))
+    subst (λ (b : Bool). length (cond b (e ∷ own caller_of 0 n xs) (own caller_of 0 n xs)) ≡ suc (length xs)) (sym yes) (ap suc (own_all n xs (All-tail (λ (x : Event). x.caller < n) e xs all)))
 
-total_of_events : (xs : List Event) (n : ℕ) → total (λ c. length (events_of c xs)) n ≡ length (own number_of 0 n xs)
+total_of_events : (xs : List Event) (n : ℕ) → total (λ c. length (events_of c xs)) n ≡ length (own caller_of 0 n xs)
 total_of_events xs zero = sym (own_none xs)
 total_of_events xs (suc n) =
     let next : n + 1 ≡ suc n = omega arith in
-    omega (arith, total_of_events xs n, own_split n xs, ap (λ k. length (own number_of 0 k xs)) next)
+    omega (arith, total_of_events xs n, own_split n xs, ap (λ k. length (own caller_of 0 k xs)) next)
 
 -- all events are those of the callers below n, each counted once
 pub counted : (xs : List Event) (n : ℕ) → All (λ (e : Event). e.caller < n) xs → total (λ c. length (events_of c xs)) n ≡ length xs
@@ -308,13 +311,82 @@ events_past n caller (e ∷ xs) past all =
     subst (λ (b : Bool). cond b (e ∷ events_of caller xs) (events_of caller xs) ≡ []) (sym (not_within caller (caller + 1) e.caller (λ both. omega (arith, both.0, below, past))))
     (events_past n caller xs past (All-tail (λ (x : Event). x.caller < n) e xs all))
 
+-- ---- the folds of a storm
+
+-- each fold is by this caller
+abbrev pub OnlyBy : ℕ → Entry → Type 0
+OnlyBy number (Made event) = Unit {0}
+OnlyBy number (Folded caller n) = caller ≡ number
+
+rest_of : (b : Bool) (x : Entry) (xs : List Entry) → All IsMade (cond b (x ∷ xs) xs) → All IsMade xs
+rest_of true x xs all = All-tail IsMade x xs all
+rest_of false x xs all = all
+
+only_by : (number n : ℕ) (h : List Entry) → ((caller : ℕ) → caller < n → (caller ≡ number → ⊥) → All IsMade (entries_of caller h))
+    → All (λ (e : Entry). number_of e < n) h → All (OnlyBy number) h
+only_by number n [] none below = All-nil (OnlyBy number)
+only_by number n (Made event ∷ h) none below =
+    All-cons (OnlyBy number) (Made event) h tt
+    (only_by number n h (λ caller less other. rest_of (is_within caller (caller + 1) event.caller) (Made event) (entries_of caller h) (none caller less other))
+    (All-tail (λ (e : Entry). number_of e < n) (Made event) h below))
+only_by number n (Folded who k ∷ h) none below =
+    All-cons (OnlyBy number) (Folded who k) h
+    (dite (ℕ_discrete who number)
+    (λ same. same)
+    (λ other.
+    let yes = within who (who + 1) who (omega arith) (omega arith) in
+    let made = none who (All-head (λ (e : Entry). number_of e < n) (Folded who k) h below) other in
+    absurd (All-head IsMade (Folded who k) (entries_of who h)
+    (subst (λ (b : Bool). All IsMade (cond b (Folded who k ∷ entries_of who h) (entries_of who h))) yes made))))
+    (only_by number n h (λ caller less other. rest_of (is_within caller (caller + 1) who) (Folded who k) (entries_of caller h) (none caller less other))
+    (All-tail (λ (e : Entry). number_of e < n) (Folded who k) h below))
+
+-- where one caller alone folds, what is handed to it is all that is handed out
+handed_by_one : (opening : Opening) (number : ℕ) (before h : List Entry) → All (OnlyBy number) h
+    → handed_to (is_number number) opening before h ≡ handed_to (λ caller. true) opening before h
+handed_by_one opening number before [] by = refl
+handed_by_one opening number before (Made event ∷ h) by = handed_by_one opening number (before ++ Made event ∷ []) h (All-tail (OnlyBy number) (Made event) h by)
+handed_by_one opening number before (Folded who k ∷ h) by =
+    let is : is_number number who ≡ true = eq-eqb who number (All-head (OnlyBy number) (Folded who k) h by) in
+    let later = handed_by_one opening number (before ++ Folded who k ∷ []) h (All-tail (OnlyBy number) (Folded who k) h by) in
+    ap (λ (b : Bool). (if b then take k (tail_in opening before) else []) ++ handed_to (is_number number) opening (before ++ Folded who k ∷ []) h) is
+    ∙ ap (λ (es : List Event). take k (tail_in opening before) ++ es) later
+
+pub handed_all : (opening : Opening) (plan : Plan) (n : ℕ) (h : List Entry) → NoneElseFolds plan n h → All (λ (e : Entry). number_of e < n) h
+    → handed_to (is_number (folder plan)) opening [] h ≡ handed_out opening h
+unfolding NoneElseFolds
+handed_all opening plan n h none below = handed_by_one opening (folder plan) [] h (only_by (folder plan) n h none below)
+
+entries_past : (n caller : ℕ) (xs : List Entry) → n ≤ caller → All (λ (e : Entry). number_of e < n) xs → entries_of caller xs ≡ []
+entries_past n caller [] past all = refl
+entries_past n caller (e ∷ xs) past all =
+    let below = All-head (λ (x : Entry). number_of x < n) e xs all in
+    subst (λ (b : Bool). cond b (e ∷ entries_of caller xs) (entries_of caller xs) ≡ []) (sym (not_within caller (caller + 1) (number_of e) (λ both. omega (arith, both.0, below, past))))
+    (entries_past n caller xs past (All-tail (λ (x : Entry). number_of x < n) e xs all))
+
+by_size : {A : Type 0} (k n : ℕ) (b : Bool) → nat_lt k n ≡ b → (k < n → A) → (n ≤ k → A) → A
+by_size k n true is less past = less (grind (arith, nat_tests, is))
+by_size k n false is less past = past (grind (arith, nat_tests, is))
+
+none_past : (plan : Plan) (h : List Entry) → All (λ (e : Entry). number_of e < callers_of_plan plan) h → NoneElseFolds plan (callers_of_plan plan) h
+    → (caller : ℕ) → (caller ≡ folder plan → ⊥) → All IsMade (entries_of caller h)
+unfolding NoneElseFolds
+none_past plan h below none caller other =
+    by_size caller (callers_of_plan plan) (nat_lt caller (callers_of_plan plan)) refl
+    (λ less. none caller less other)
+    (λ past. subst (λ (es : List Entry). All IsMade es) (sym (entries_past (callers_of_plan plan) caller h past below)) (All-nil IsMade))
+
 -- the history of a storm is what its plan asks for
-pub is_storm : (plan : Plan) (h : List Event) (passed many : ℕ) → IsSound plan → All (λ (e : Event). e.caller < callers_of_plan plan) h
-    → AllCameOf (opening_of plan) plan (callers_of_plan plan) h passed → AreFolded h 0 plan.folds.items many → IsStorm plan h passed many
+pub is_storm : (plan : Plan) (h : List Entry) (passed many : ℕ) → IsSound plan → All (λ (e : Entry). number_of e < callers_of_plan plan) h
+    → AllCameOf (opening_of plan) plan (callers_of_plan plan) (events_in h) passed
+    → AreFolded (opening_of plan) (folder plan) h [] plan.folds.items (entries_of (folder plan) h) many
+    → NoneElseFolds plan (callers_of_plan plan) h → IsStorm plan (events_in h) passed many
 unfolding commands_of
-is_storm plan h passed many sound below came folds =
+is_storm plan entries passed many sound below_all came folds none =
     let opening = opening_of plan in
     let n = senders plan in
+    let h = events_in entries in
+    let below = all-events (callers_of_plan plan) entries below_all in
     let all = all_made plan h passed sound below came in
     let whole : (caller : ℕ) → (caller ≡ senders plan + 2 → ⊥) → caller < callers_of_plan plan → commands_in (events_of caller h) ≡ commands_of plan caller =
     λ caller other few. whole_of opening plan caller h passed other few all in record {
@@ -322,7 +394,10 @@ is_storm plan h passed many sound below came folds =
       departures = whole (n + 1) (λ is. omega (arith, is)) (omega arith) ∙ after_senders plan 1 (omega arith);
       changes = whole (n + 3) (λ is. omega (arith, is)) (omega arith) ∙ after_senders plan 3 (omega arith);
       updates = subst (λ (cs : List Command). AreMade opening (n + 2) h [] cs (events_of (n + 2) h) passed) (after_senders plan 2 (omega arith)) (updates_made opening plan h passed all);
+      history = entries;
+      of_history = refl;
       folds = folds;
+      no_other_folds = none_past plan entries below_all none;
       no_others = λ caller out. ⊎_elim
           (λ starter. empty_of_commands (events_of caller h) (subst (λ (c : ℕ). commands_in (events_of c h) ≡ []) (sym starter) (whole 0 (λ is. omega (arith, is)) (omega arith))))
           (λ past. dite (ℕ_discrete caller (n + 4))

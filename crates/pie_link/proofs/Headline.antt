@@ -1,5 +1,5 @@
 -- The headline, from the rule of the lock.
-use Rattle.std.proofs.Common.{◌≡◌, ℕ, suc, List, [], ◌∷◌, refl, subst, ⊎_elim, arith}
+use Rattle.std.proofs.Common.{◌≡◌, ℕ, suc, List, [], ◌∷◌, ◌++◌, refl, subst, ⊎_elim, arith}
 use Rattle.std.specs.List.{All}
 use Rattle.std.proofs.lemmas.List.Elements.{All-nil, All-cons, All-append}
 use mathlib.Core.Option.{some}
@@ -7,28 +7,32 @@ use lib.ListN.{get_elem?}
 use Rattle.pie_lock.specs.declared.view.Shown.{Shown}
 use Rattle.pie_lock.specs.declared.view.Place.{Place}
 use Rattle.pie_lock.specs.declared.view.Place.TheVariants.{Spent, Waits, Holds, Meets}
-use Rattle.pie_lock.specs.Rule.{EachPass, Follows, Agreed, WhileFree}
+use Rattle.pie_lock.specs.Rule.{EachPass, Follows, Agreed, Ruled, WhileFree}
 use Rattle.pie_book.specs.declared.command.Event.{Event}
+use Rattle.pie_book.specs.declared.opening.Mode.TheVariants.{Bounded}
 use Rattle.pie_book.specs.declared.opening.Opening.{Opening}
-use Rattle.pie_book.specs.Book.{BookView, Tells}
+use Rattle.pie_book.specs.Book.{BookView}
 use Rattle.pie_book.specs.Core.{CoreView, Shows, registers_of}
 use Rattle.pie_book.specs.History.{waiting_after}
 use Rattle.pie_book.specs.Registers.{registers_after}
 use Rattle.pie_book.specs.Statistics.{stats_after}
 use Rattle.pie_book.specs.Decision.{IsLegal}
-use Rattle.pie_link.specs.Views.{LinkView, number_of}
-use Rattle.pie_link.specs.Headline.{Informed, BeginsWith, HasCallsOf, informed, callers_at, callers_of, LockState, LiesIn, IsOneHistory, KeepsOneHistory}
+use Rattle.pie_link.specs.declared.entry.Entry.{Entry}
+use Rattle.pie_link.specs.Entries.{number_of, events_in, tail_in, handed_out}
+use Rattle.pie_link.specs.Kept.{KeptView, IsKept}
+use Rattle.pie_link.specs.Views.{LinkView}
+use Rattle.pie_link.specs.Headline.{Informed, BeginsWith, HasCallsOf, informed, callers_at, callers_of, LockKey, LockState, LiesIn, IsOneHistory, KeepsOneHistory}
 
-module _ (P : Shown Event Opening → Type 0) (Q : Informed → Type 0) (follows : (p : Shown Event Opening) → P p → Q (informed p)) where
+module _ (P : Shown Entry Opening → Type 0) (Q : Informed → Type 0) (follows : (p : Shown Entry Opening) → P p → Q (informed p)) where
   -- what holds of each pass at a seat holds of each of its callers
-  at_seat : (seat : Place Event Opening) → EachPass P seat → All Q (callers_at seat)
+  at_seat : (seat : Place Entry Opening) → EachPass P seat → All Q (callers_at seat)
   at_seat Spent each = All-nil Q
   at_seat (Waits p) each = All-cons Q (informed p) [] (follows p each) (All-nil Q)
   at_seat (Holds p) each = All-cons Q (informed p) [] (follows p each) (All-nil Q)
   at_seat (Meets p q) each = All-cons Q (informed p) (informed q ∷ []) (follows p each.0) (All-cons Q (informed q) [] (follows q each.1) (All-nil Q))
 
   -- .. and so of all callers
-  pub at_all : (seats : List (Place Event Opening)) → ((seat : ℕ) (view : Place Event Opening) → get_elem? seats seat ≡ some view → EachPass P view) → All Q (callers_of seats)
+  pub at_all : (seats : List (Place Entry Opening)) → ((seat : ℕ) (view : Place Entry Opening) → get_elem? seats seat ≡ some view → EachPass P view) → All Q (callers_of seats)
   at_all [] each = All-nil Q
   at_all (seat ∷ seats) each = All-append Q (callers_at seat) (callers_of seats) (at_seat seat (each 0 seat refl)) (at_all seats (λ k view at. each (suc k) view at))
 
@@ -37,35 +41,45 @@ abbrev pub LookBack : Type 0
 LookBack = (opening : Opening) (core : CoreView) (history : List Event) → Shows opening core history → registers_of core ≡ registers_after opening history
 
 -- what the rule says while the lock is free
-pub while_free : LookBack → (opening : Opening) (numbers : ℕ) (lock : LockState) (history : List Event)
+pub while_free : LookBack → (opening : Opening) (numbers : ℕ) (lock : LockState) (history : List Entry)
     → Agreed number_of opening numbers history lock.views
-    → WhileFree number_of (λ (book : BookView). book.opening) Tells opening numbers history lock
-    → (book : BookView) × LiesIn lock book × ((h : List Event) × IsOneHistory opening book (callers_of lock.views) h)
+    → WhileFree number_of (λ (kept : KeptView). kept.book.opening) IsKept opening numbers history lock
+    → (book : BookView) × LiesIn lock book × ((h : List Entry) × IsOneHistory opening book (callers_of lock.views) h)
 while_free look_back opening numbers lock history agreed free =
-    let book = free.2.0 in
-    let opened = free.2.2 in
-    let told = free.2.3 in (
+    let kept = free.2.0 in
+    let book = kept.book in
+    let opened : book.opening ≡ opening = free.2.2 in
+    let tells = free.2.3.tells in
+    let told = tells.told in (
       book,
-      free.2.1,
+      (kept.folds, free.2.1),
       (
         history,
         record {
           opened = opened;
           told = told;
-          legal = subst (λ (o : Opening). IsLegal o history) opened told.running.legal;
+          legal = subst (λ (o : Opening). IsLegal o (events_in history)) opened told.running.legal;
           begins = at_all (Follows number_of opening numbers history) (BeginsWith history) (λ p f. f.shown) lock.views agreed.each_follows;
           calls = at_all (Follows number_of opening numbers history) (HasCallsOf history) (λ p f. f.owned) lock.views agreed.each_follows;
           ends = told.tail;
-          queue = subst (λ (o : Opening). book.running.waiting ≡ waiting_after o history) opened told.running.waiting;
-          registers = subst (λ (o : Opening). registers_of book.running ≡ registers_after o history) opened (look_back book.opening book.running history told.running);
-          stats = subst (λ (o : Opening). book.running.stats ≡ stats_after o history) opened told.running.stats;
+          tail = subst (λ (o : Opening). book.tail ≡ tail_in o history) opened tells.tail;
+          nothing_lost = subst (λ (o : Opening). o.choices.mode ≡ Bounded → handed_out o history ++ book.tail ≡ events_in history) opened tells.nothing_lost;
+          queue = subst (λ (o : Opening). book.running.waiting ≡ waiting_after o (events_in history)) opened told.running.waiting;
+          registers = subst (λ (o : Opening). registers_of book.running ≡ registers_after o (events_in history)) opened
+              (look_back book.opening book.running (events_in history) told.running);
+          stats = subst (λ (o : Opening). book.running.stats ≡ stats_after o (events_in history)) opened told.running.stats;
         },
       ),
     )
 
+-- the rule of the lock, at its opening
+abbrev pub ruled : LockKey → LockState → Type 0
+ruled key lock = Ruled number_of (λ (kept : KeptView). kept.book.opening) IsKept key.state.value.book.opening key.numbers lock
+
 -- whenever the lock is free there is one history
-pub keeps_one_history : LookBack → (link : LinkView) → KeepsOneHistory link
+pub keeps_one_history : LookBack → (link : LinkView) → KeepsOneHistory ruled link
 unfolding KeepsOneHistory
-keeps_one_history look_back link opening from lock ruled free =
-    let history = ruled.1.0 in
-    ⊎_elim (while_free look_back opening link.numbers lock history ruled.1.1) (λ held. absurd (omega (arith, held.0, free))) ruled.1.2
+keeps_one_history look_back link opening from key is lock rule free =
+    let history = rule.1.0 in
+    subst (λ (o : Opening). (book : BookView) × LiesIn lock book × ((h : List Entry) × IsOneHistory o book (callers_of lock.views) h)) is.opened
+    (⊎_elim (while_free look_back key.state.value.book.opening key.numbers lock history rule.1.1) (λ held. absurd (omega (arith, held.0, free))) rule.1.2)

@@ -1,3 +1,5 @@
+pub mod EntryLists
+pub mod KeptFacts
 pub mod Outcomes
 pub mod Headline
 pub mod Folding

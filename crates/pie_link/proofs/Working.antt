@@ -1,8 +1,7 @@
 -- What the workers of a storm carry from call to call.
-use Rattle.std.proofs.Common.{◌≡◌, ℕ, suc, ◌+◌, ◌-◌, ◌<◌, ◌≤◌, ◌⊎◌, List, [], ◌∷◌, ◌++◌, Some, None, Ok, Err, Vec, min, take, drop, length, slice_get, refl, ap, sym, ◌∙◌, subst, inl, inr, arith, append_assoc, length-append, length-drop, Bool, true, false, cond, Result}
-use Rattle.std.specs.declared.alloc.Global.{Global}
-use Rattle.std.proofs.Math.Seq.{drop-cons, drop-length, drop-append_seam}
-use Rattle.std.proofs.lemmas.List.{append-nil, take-append-drop, length-take}
+use Rattle.std.proofs.Common.{◌≡◌, ℕ, suc, ◌+◌, ◌<◌, ◌≤◌, ◌==◌, ◌⊎◌, List, [], ◌∷◌, ◌++◌, Some, None, Ok, Err, min, take, drop, length, slice_get, refl, ap, sym, ◌∙◌, subst, inl, inr, ⊎_elim, arith, append_assoc, length-append, length-drop, Bool, true, false, cond, Result}
+use Rattle.std.proofs.Math.Seq.{drop-cons, drop-length}
+use Rattle.std.proofs.lemmas.List.{append-nil}
 use Rattle.std.proofs.lemmas.List.Elements.{filter-append}
 use Rattle.std.proofs.lemmas.Bool.Decides.{nat_tests}
 use Rattle.std.proofs.lemmas.Option.{slice_get_within, get_or_from_slice_get}
@@ -14,24 +13,27 @@ use Rattle.pie_lock.proofs.Owns.{within}
 use Rattle.pie_book.specs.declared.command.Command.{Command}
 use Rattle.pie_book.specs.declared.command.Answer.{Answer}
 use Rattle.pie_book.specs.declared.command.Event.{Event}
+use Rattle.pie_book.specs.declared.opening.Mode.{Mode}
+use Rattle.pie_book.specs.declared.opening.Mode.TheVariants.{Bounded, Rolling}
 use Rattle.pie_book.specs.declared.opening.Opening.{Opening}
 use Rattle.pie_book.specs.declared.refusal.Refusal.{Refusal}
 use Rattle.pie_book.specs.declared.refusal.Refusal.TheVariants.{TooSoon, Moment, Size, Exhausted, HistoryFull}
-use Rattle.pie_book.specs.declared.refusal.FoldRefusal.{FoldRefusal}
-use Rattle.pie_book.specs.Decision.{refusal_by_rule, refusal_with, due_of}
+use Rattle.pie_book.specs.Decision.{is_refused_full, refusal_by_rule, refusal_with, due_of}
 use Rattle.pie_book.specs.History.{effective_moment, params_after}
 use Rattle.pie_book.specs.Estimates.{parts_after}
 use Rattle.pie_book.specs.Run.{event_of}
+use Rattle.pie_link.specs.declared.entry.Entry.{Entry}
+use Rattle.pie_link.specs.declared.entry.Entry.TheVariants.{Made}
 use Rattle.pie_link.specs.declared.told.Told.{Told}
-use Rattle.pie_link.specs.Views.{LinkView, CallerView, number_of}
+use Rattle.pie_link.specs.Entries.{events_in, left_in, number_of, tail_in}
+use Rattle.pie_link.specs.Views.{LinkView, CallerView}
 use Rattle.pie_link.specs.Commands.{Answers, IsTaken, IsRefused, IsWhy}
-use Rattle.pie_link.specs.Folds.{Folds, IsFoldMade, IsFoldRefused}
-use Rattle.std.specs.Result.{IfOk, OnErr}
-use Rattle.pie_book.specs.Book.{last_events}
 use Rattle.pie_link.specs.declared.plan.Plan.{Plan}
 use Rattle.pie_link.specs.Plans.{IsFair, IsSound, commands_of}
+use Rattle.pie_link.proofs.EntryLists.{events-append, events-go_on}
+use Rattle.pie_link.proofs.Outcomes.{which}
 use Rattle.pie_link.proofs.Planning.{fair_at}
-use Rattle.pie_link.specs.Storms.{events_of, WasTooSoon, AreMade, IsCutShort, CameOf, CameAt, Goes, EachGoes, GoesOrEnds, added_by, FoldedAt, HasNoneAt}
+use Rattle.pie_link.specs.Storms.{events_of, WasTooSoon, AreMade, IsCutShort, CameOf, CameAt, Goes, EachGoes, GoesOrEnds, added_by, HasNoneAt}
 
 pub drop_next : {A : Type 0} (xs : List A) (k : ℕ) (x : A) → slice_get xs k ≡ Some x → drop k xs ≡ x ∷ drop (k + 1) xs
 drop_next xs k x e =
@@ -115,17 +117,18 @@ pub record IsAlone (caller : CallerView) (number : ℕ) : Type 0 where
   pub first : caller.first ≡ number
   pub limit : caller.limit ≡ number + 1
 
-own_same : (caller : CallerView) (number : ℕ) (history : List Event) → IsAlone caller number → GoesOn number_of caller.first caller.limit caller.front history
-    → IsPrefix caller.front history × (events_of number history ≡ events_of number caller.front)
-own_same caller number history alone on = (
-  on.0,
-  subst (λ (limit : ℕ). own number_of number limit history ≡ own number_of number limit caller.front) alone.limit
-      (subst (λ (first : ℕ). own number_of first caller.limit history ≡ own number_of first caller.limit caller.front) alone.first on.1),
-)
+own_same : (caller : CallerView) (number : ℕ) (history : List Entry) → IsAlone caller number → GoesOn number_of caller.first caller.limit caller.front history
+    → IsPrefix (events_in caller.front) (events_in history) × (events_of number (events_in history) ≡ events_of number (events_in caller.front))
+own_same caller number history alone on =
+    let events = events-go_on caller.first caller.limit caller.front history on in (
+      events.0,
+      subst (λ (limit : ℕ). own (λ (e : Event). e.caller) number limit (events_in history) ≡ own (λ (e : Event). e.caller) number limit (events_in caller.front)) alone.limit
+          (subst (λ (first : ℕ). own (λ (e : Event). e.caller) first caller.limit (events_in history) ≡ own (λ (e : Event). e.caller) first caller.limit (events_in caller.front)) alone.first events.1),
+    )
 
 pub next_taken : (link : LinkView) (number : ℕ) (commands : List Command) (k passed : ℕ) (command : Command) (told : Told Answer) (before after : CallerView)
     → IsAlone before number → slice_get commands k ≡ Some command → Answers link before command (Ok told) after
-    → EachGoes link number commands k before.front passed → EachGoes link number commands (k + 1) after.front passed
+    → EachGoes link number commands k (events_in before.front) passed → EachGoes link number commands (k + 1) (events_in after.front) passed
 unfolding Answers EachGoes
 next_taken link number commands k passed command told before after alone at answers goes opening from =
     let a = answers opening from in
@@ -133,41 +136,52 @@ next_taken link number commands k passed command told before after alone at answ
     let taken : IsTaken opening before command told after history = a.1 in
     let event = event_of before.first command told.answer in
     let s = own_same before number history alone taken.from.goes_on in
-    subst (λ (front : List Event). Goes opening number commands (k + 1) front passed) (sym (ap (λ (c : CallerView). c.front) taken.recorded))
-    (goes_event opening number commands k before.front history passed command event (goes opening from) at s.0 s.1 alone.first refl)
+    let shown : events_in after.front ≡ events_in history ++ event ∷ [] = ap (λ (c : CallerView). events_in c.front) taken.recorded ∙ events-append history (Made event ∷ []) in
+    subst (λ (front : List Event). Goes opening number commands (k + 1) front passed) (sym shown)
+    (goes_event opening number commands k (events_in before.front) (events_in history) passed command event (goes opening from) at s.0 s.1 alone.first refl)
 
 -- a refusal as too soon is the rules'
-too_soon_by_rule : (opening : Opening) (history : List Event) (command : Command) (due : ℕ) → IsWhy opening history command (TooSoon due) → refusal_by_rule opening history command ≡ Some (TooSoon due)
-too_soon_by_rule opening history command due (inl e) = e
-too_soon_by_rule opening history command due (inr e) = absurd (cc (e.1))
+too_soon_by_rule : (opening : Opening) (history : List Entry) (command : Command) (due : ℕ) → IsWhy opening history command (TooSoon due)
+    → refusal_by_rule opening (events_in history) command ≡ Some (TooSoon due)
+too_soon_by_rule opening history command due why =
+    ⊎_elim (λ e. e) (λ e. absurd (cc (e.1)))
+    (which (refusal_by_rule opening (events_in history) command) (is_refused_full opening.choices.mode (length (tail_in opening history) == opening.limits.tail)) (TooSoon due) why)
 
 pub next_passed : (link : LinkView) (number : ℕ) (commands : List Command) (k passed : ℕ) (command : Command) (due : ℕ) (before after : CallerView)
     → IsAlone before number → slice_get commands k ≡ Some command → Answers link before command (Err (TooSoon due)) after
-    → EachGoes link number commands k before.front passed → EachGoes link number commands (k + 1) after.front (passed + 1)
+    → EachGoes link number commands k (events_in before.front) passed → EachGoes link number commands (k + 1) (events_in after.front) (passed + 1)
 unfolding Answers EachGoes
 next_passed link number commands k passed command due before after alone at answers goes opening from =
     let a = answers opening from in
     let history = a.0 in
     let refused : IsRefused opening before command (TooSoon due) after history = a.1 in
     let s = own_same before number history alone refused.from.goes_on in
-    subst (λ (front : List Event). Goes opening number commands (k + 1) front (passed + 1)) (sym (ap (λ (c : CallerView). c.front) refused.seen))
-    (goes_passed opening number commands k before.front history passed command due (goes opening from) at s.0 s.1 (too_soon_by_rule opening history command due refused.because))
+    subst (λ (front : List Event). Goes opening number commands (k + 1) front (passed + 1)) (sym (ap (λ (c : CallerView). events_in c.front) refused.seen))
+    (goes_passed opening number commands k (events_in before.front) (events_in history) passed command due (goes opening from) at s.0 s.1
+    (too_soon_by_rule opening history command due refused.because))
 
 -- a fair command that is refused, and not as too soon, came where there was no room for it
 no_room : (before due count events : ℕ) (command : Command) (why : Refusal) → IsFair command → refusal_with before due count events command ≡ Some why
     → ((d : ℕ) → why ≡ TooSoon d → ⊥) → events ≤ count
 no_room before due count events command why fair is not_soon = grind (arith, nat_tests, fair.moment, fair.size, is, not_soon)
 
-pub full_after : (opening : Opening) (history : List Event) (command : Command) (why : Refusal) → IsFair command → IsWhy opening history command why
-    → ((d : ℕ) → why ≡ TooSoon d → ⊥) → min opening.limits.tail opening.limits.events ≤ length history
-full_after opening history command why fair (inl e) not_soon =
-    omega (arith, no_room (effective_moment opening history) (due_of (params_after opening history) (parts_after opening history)) (length history) opening.limits.events command why fair e not_soon)
-full_after opening history command why fair (inr e) not_soon = omega (arith, e.2.enough)
+full_tail : (mode : Mode) (held room : ℕ) → is_refused_full mode (held == room) ≡ true → held ≡ room
+full_tail Bounded held room full = grind (arith, nat_tests, full)
+full_tail Rolling held room full = absurd (cc full)
+
+full_after : (opening : Opening) (history : List Entry) (command : Command) (why : Refusal) → IsFair command → IsWhy opening history command why
+    → ((d : ℕ) → why ≡ TooSoon d → ⊥) → min opening.limits.tail opening.limits.events ≤ length (events_in history)
+full_after opening history command why fair is not_soon =
+    let events = events_in history in
+    ⊎_elim
+    (λ e. omega (arith, no_room (effective_moment opening events) (due_of (params_after opening events) (parts_after opening events)) (length events) opening.limits.events command why fair e not_soon))
+    (λ e. omega (arith, full_tail opening.choices.mode (length (tail_in opening history)) opening.limits.tail e.2, length-drop (left_in opening history) events))
+    (which (refusal_by_rule opening events command) (is_refused_full opening.choices.mode (length (tail_in opening history) == opening.limits.tail)) why is)
 
 pub cut_short : (link : LinkView) (number : ℕ) (commands : List Command) (k passed : ℕ) (command : Command) (why : Refusal) (before after : CallerView)
     → IsAlone before number → slice_get commands k ≡ Some command → IsFair command → ((d : ℕ) → why ≡ TooSoon d → ⊥) → Answers link before command (Err why) after
-    → EachGoes link number commands k before.front passed
-    → (opening : Opening) → link.origin ≡ Some opening → IsCutShort opening number commands after.front
+    → EachGoes link number commands k (events_in before.front) passed
+    → (opening : Opening) → link.origin ≡ Some opening → IsCutShort opening number commands (events_in after.front)
 unfolding Answers EachGoes
 cut_short link number commands k passed command why before after alone at fair not_soon answers goes opening from =
     let a = answers opening from in
@@ -176,10 +190,10 @@ cut_short link number commands k passed command why before after alone at fair n
     let s = own_same before number history alone refused.from.goes_on in
     let few = (goes opening from).few in
     let inside : k < length commands = slice_get_within commands k command at in
-    subst (λ (front : List Event). IsCutShort opening number commands front) (sym (ap (λ (c : CallerView). c.front) refused.seen))
+    subst (λ (front : List Event). IsCutShort opening number commands front) (sym (ap (λ (c : CallerView). events_in c.front) refused.seen))
     (record {
-      before = history;
-      begins = prefix_self history;
+      before = events_in history;
+      begins = prefix_self (events_in history);
       full = full_after opening history command why fair refused.because not_soon;
       fewer = omega (arith, few, inside, ap (λ (l : List Event). length l) s.1);
     })
@@ -187,11 +201,11 @@ cut_short link number commands k passed command why before after alone at fair n
 -- what comes of the next command
 goes_or_ends : (link : LinkView) (number : ℕ) (commands : List Command) (k : ℕ) (command : Command) (answer : Result (Told Answer) Refusal) (before after : CallerView)
     → IsAlone before number → slice_get commands k ≡ Some command → IsFair command → Answers link before command answer after
-    → (passed : ℕ) → EachGoes link number commands k before.front passed → GoesOrEnds link number commands k after.front passed (added_by answer)
+    → (passed : ℕ) → EachGoes link number commands k (events_in before.front) passed → GoesOrEnds link number commands k (events_in after.front) passed (added_by answer)
 unfolding GoesOrEnds added_by
 goes_or_ends link number commands k command (Ok told) before after alone at fair answers passed goes =
     let none : passed + 0 ≡ passed = omega arith in
-    subst (λ (n : ℕ). EachGoes link number commands (k + 1) after.front n) (sym none) (next_taken link number commands k passed command told before after alone at answers goes)
+    subst (λ (n : ℕ). EachGoes link number commands (k + 1) (events_in after.front) n) (sym none) (next_taken link number commands k passed command told before after alone at answers goes)
 goes_or_ends link number commands k command (Err (TooSoon due)) before after alone at fair answers passed goes =
     next_passed link number commands k passed command due before after alone at answers goes
 goes_or_ends link number commands k command (Err Moment) before after alone at fair answers passed goes =
@@ -205,8 +219,8 @@ goes_or_ends link number commands k command (Err HistoryFull) before after alone
 
 pub asked_next : (link : LinkView) (plan : Plan) (number k : ℕ) (command : Command) (answer : Result (Told Answer) Refusal) (before after : CallerView)
     → number ≡ before.first → before.limit ≡ before.first + 1 → IsSound plan → slice_get (commands_of plan number) k ≡ Some command → Answers link before command answer after
-    → (passed : ℕ) → EachGoes link before.first (commands_of plan before.first) k before.front passed
-    → GoesOrEnds link before.first (commands_of plan before.first) k after.front passed (added_by answer)
+    → (passed : ℕ) → EachGoes link before.first (commands_of plan before.first) k (events_in before.front) passed
+    → GoesOrEnds link before.first (commands_of plan before.first) k (events_in after.front) passed (added_by answer)
 asked_next link plan number k command answer before after is one sound at answers passed goes =
     let there : slice_get (commands_of plan before.first) k ≡ Some command = subst (λ (n : ℕ). slice_get (commands_of plan n) k ≡ Some command) is at in
     goes_or_ends link before.first (commands_of plan before.first) k command answer before after (record { first = refl; limit = one }) there
@@ -217,20 +231,20 @@ unfolding EachGoes
 each_start link number commands front none opening from = goes_start opening number commands front none
 
 pub each_next : (link : LinkView) (plan : Plan) (number k passed soon : ℕ) (mine : CallerView) (front : List Event) → mine.first ≡ number
-    → (EachGoes link mine.first (commands_of plan mine.first) k mine.front passed → GoesOrEnds link mine.first (commands_of plan mine.first) k front passed (Some soon))
-    → EachGoes link number (commands_of plan number) k mine.front passed → EachGoes link number (commands_of plan number) (k + 1) front (passed + soon)
+    → (EachGoes link mine.first (commands_of plan mine.first) k (events_in mine.front) passed → GoesOrEnds link mine.first (commands_of plan mine.first) k front passed (Some soon))
+    → EachGoes link number (commands_of plan number) k (events_in mine.front) passed → EachGoes link number (commands_of plan number) (k + 1) front (passed + soon)
 unfolding GoesOrEnds
 each_next link plan number k passed soon mine front is next goes =
     subst (λ (n : ℕ). EachGoes link n (commands_of plan n) (k + 1) front (passed + soon)) is
-    (next (subst (λ (n : ℕ). EachGoes link n (commands_of plan n) k mine.front passed) (sym is) goes))
+    (next (subst (λ (n : ℕ). EachGoes link n (commands_of plan n) k (events_in mine.front) passed) (sym is) goes))
 
 pub each_ended : (link : LinkView) (plan : Plan) (number k passed : ℕ) (mine : CallerView) (front : List Event) → mine.first ≡ number
-    → (EachGoes link mine.first (commands_of plan mine.first) k mine.front passed → GoesOrEnds link mine.first (commands_of plan mine.first) k front passed None)
-    → EachGoes link number (commands_of plan number) k mine.front passed → CameAt link plan number front passed
+    → (EachGoes link mine.first (commands_of plan mine.first) k (events_in mine.front) passed → GoesOrEnds link mine.first (commands_of plan mine.first) k front passed None)
+    → EachGoes link number (commands_of plan number) k (events_in mine.front) passed → CameAt link plan number front passed
 unfolding GoesOrEnds CameAt CameOf
 each_ended link plan number k passed mine front is next goes opening from =
     inr (subst (λ (n : ℕ). IsCutShort opening n (commands_of plan n) front) is
-    (next (subst (λ (n : ℕ). EachGoes link n (commands_of plan n) k mine.front passed) (sym is) goes) opening from))
+    (next (subst (λ (n : ℕ). EachGoes link n (commands_of plan n) k (events_in mine.front) passed) (sym is) goes) opening from))
 
 pub came_to_end : (link : LinkView) (plan : Plan) (number k passed : ℕ) (front : List Event)
     → EachGoes link number (commands_of plan number) k front passed → k ≡ length (commands_of plan number)
@@ -244,84 +258,6 @@ came_of_none link plan number front no_commands none opening from =
     subst (λ (cs : List Command). AreMade opening number front [] cs (events_of number front) 0 ⊎ IsCutShort opening number cs front) (sym no_commands)
     (inl (none opening from, refl))
 
--- what was folded begins the history, and what is folded next goes on there
-folds_on : (events history answer : List Event) (n number : ℕ) → IsPrefix events history → n ≤ number → number ≤ length history
-    → answer ≡ take n (drop (number - n) history) → number ≡ length events + length answer → IsPrefix (events ++ answer) history
-folds_on events history answer n number begins enough within_ is meets =
-    let rest = begins.0 in
-    let length_of_rest : length (drop (number - n) history) ≡ length history - (number - n) = length-drop (number - n) history in
-    let many : length answer ≡ n = ap (λ (l : List Event). length l) is ∙ (length-take n (drop (number - n) history) ∙ omega (arith, length_of_rest)) in
-    let from : number - n ≡ length events = omega arith in
-    let there : drop (number - n) history ≡ rest = ap (λ (k : ℕ). drop k history) from ∙ (ap (λ (h : List Event). drop (length events) h) (sym begins.1) ∙ drop-append_seam events rest) in
-    let answer_is : answer ≡ take n rest = is ∙ ap (λ (l : List Event). take n l) there in
-    (drop n rest, ap (λ (a : List Event). (events ++ a) ++ drop n rest) answer_is ∙ (append_assoc events (take n rest) (drop n rest) ∙ (ap (λ w. events ++ w) (take-append-drop n rest) ∙ begins.1)))
-
--- what a fold is answered shows a history that goes on from the caller's front, with no event of its own
-after_fold : (link : LinkView) (n : ℕ) (answer : Result (Told (Vec Event Global)) FoldRefusal) (before after : CallerView)
-    → before.limit ≡ before.first + 1 → Folds link before n answer after → (opening : Opening) → link.origin ≡ Some opening
-    → IsPrefix before.front after.front × (events_of before.first after.front ≡ events_of before.first before.front)
-unfolding Folds
-after_fold link n (Ok told) before after one folds opening from =
-    let f = folds opening from in
-    let made : IsFoldMade opening before n told after f.0 = f.1 in
-    subst (λ (front : List Event). IsPrefix before.front front × (events_of before.first front ≡ events_of before.first before.front)) (sym (ap (λ (c : CallerView). c.front) made.seen))
-    (own_same before before.first f.0 (record { first = refl; limit = one }) made.from.goes_on)
-after_fold link n (Err why) before after one folds opening from =
-    let f = folds opening from in
-    let refused : IsFoldRefused opening before n why after f.0 = f.1 in
-    subst (λ (front : List Event). IsPrefix before.front front × (events_of before.first front ≡ events_of before.first before.front)) (sym (ap (λ (c : CallerView). c.front) refused.seen))
-    (own_same before before.first f.0 (record { first = refl; limit = one }) refused.from.goes_on)
-
-pub none_next : (link : LinkView) (n : ℕ) (answer : Result (Told (Vec Event Global)) FoldRefusal) (before after : CallerView)
-    → before.limit ≡ before.first + 1 → Folds link before n answer after
-    → HasNoneAt link before.first before.front → HasNoneAt link before.first after.front
-unfolding HasNoneAt
-none_next link n answer before after one folds none opening from = (after_fold link n answer before after one folds opening from).1 ∙ none opening from
-
-pub folded_next : (link : LinkView) (n : ℕ) (answer : Result (Told (Vec Event Global)) FoldRefusal) (before after : CallerView) (was well : Type 0) (old new : List Event)
-    → before.limit ≡ before.first + 1 → Folds link before n answer after
-    → (well → was) → (well → IfOk answer (λ told. (told.number ≡ length old + length told.answer.items) × (new ≡ old ++ told.answer.items))) → OnErr answer (new ≡ old)
-    → FoldedAt link was old before.front → FoldedAt link well new after.front
-unfolding FoldedAt Folds
-folded_next link n (Ok told) before after was well old new one folds first meets refused folded opening from fine =
-    let f = folds opening from in
-    let made : IsFoldMade opening before n told after f.0 = f.1 in
-    let s = own_same before before.first f.0 (record { first = refl; limit = one }) made.from.goes_on in
-    let begins = prefix_trans old before.front f.0 (folded opening from (first fine)) s.0 in
-    let m = meets fine in
-    subst (λ (front : List Event). IsPrefix new front) (sym (ap (λ (c : CallerView). c.front) made.seen))
-    (subst (λ (es : List Event). IsPrefix es f.0) (sym m.1)
-    (folds_on old f.0 told.answer.items n told.number begins made.folded.enough made.folded.within made.folded.events m.0))
-folded_next link n (Err why) before after was well old new one folds first meets refused folded opening from fine =
-    let f = folds opening from in
-    let r : IsFoldRefused opening before n why after f.0 = f.1 in
-    let s = own_same before before.first f.0 (record { first = refl; limit = one }) r.from.goes_on in
-    subst (λ (front : List Event). IsPrefix new front) (sym (ap (λ (c : CallerView). c.front) r.seen))
-    (subst (λ (es : List Event). IsPrefix es f.0) (sym refused) (prefix_trans old before.front f.0 (folded opening from (first fine)) s.0))
-
-pub folded_start : (link : LinkView) (well : Type 0) (events front : List Event) → events ≡ [] → FoldedAt link well events front
-unfolding FoldedAt
-folded_start link well events front none opening from fine = subst (λ (es : List Event). IsPrefix es front) (sym none) (front, refl)
-
-pub none_start : (link : LinkView) (number : ℕ) (front : List Event) → events_of number front ≡ [] → HasNoneAt link number front
-unfolding HasNoneAt
-none_start link number front none opening from = none
-
-pub folded_on : (link : LinkView) (well : Type 0) (events front longer : List Event) → IsPrefix front longer → FoldedAt link well events front → FoldedAt link well events longer
-unfolding FoldedAt
-folded_on link well events front longer begins folded opening from fine = prefix_trans events front longer (folded opening from fine) begins
-
--- where folded events end where the tail begins, they and the tail are the history
-pub whole_history : (history events tail : List Event) → IsPrefix events history → length events ≡ length history - length tail → last_events (length tail) history ≡ tail → events ++ tail ≡ history
-whole_history history events tail begins meets ends =
-    let rest : drop (length events) history ≡ begins.0 = ap (λ (h : List Event). drop (length events) h) (sym begins.1) ∙ drop-append_seam events begins.0 in
-    let same : tail ≡ begins.0 = sym ends ∙ (ap (λ (k : ℕ). drop k history) (sym meets) ∙ rest) in
-    ap (λ w. events ++ w) same ∙ begins.1
-
 pub take_whole : {A : Type 0} (xs : List A) → take (length xs) xs ≡ xs
 take_whole [] = refl
 take_whole (x ∷ xs) = ap (λ ys. x ∷ ys) (take_whole xs)
-
-pub folded_is : (link : LinkView) (opening : Opening) (well : Type 0) (events front : List Event) → link.origin ≡ Some opening → FoldedAt link well events front → well → IsPrefix events front
-unfolding FoldedAt
-folded_is link opening well events front from folded fine = folded opening from fine

@@ -1,3 +1,5 @@
+pub mod FoldCount
+pub mod Entries
 pub mod Kept
 pub mod Views
 pub mod Opening

@@ -3,27 +3,29 @@ use Rattle.std.specs.Prelude.{◌≡◌, List, length, Some, Result, Ok, Err}
 use Rattle.pie_book.specs.declared.command.Event.{Event}
 use Rattle.pie_book.specs.declared.opening.Opening.{Opening}
 use Rattle.pie_book.specs.declared.refusal.Refusal.{Refusal}
-use Rattle.pie_link.specs.Views.{LinkView, CallerView, shown, IsHistoryFor}
+use Rattle.pie_link.specs.declared.entry.Entry.{Entry}
+use Rattle.pie_link.specs.Entries.{events_in}
+use Rattle.pie_link.specs.Views.{LinkView, CallerView, shown, IsHistoryFor, WasBusy}
 use Rattle.pie_link.specs.declared.told.Told.{Told}
 use Rattle.pie_link.specs.declared.told.Tried.{Tried}
 use Rattle.pie_link.specs.declared.told.Tried.TheVariants.{Busy}
 
--- this value was told, after this history
-pub record IsReading {A : Type 0} (value : A) (history : List Event) (told : Told A) : Type 0 where
+-- this value was told, after these events
+pub record IsReading {A : Type 0} (value : A) (events : List Event) (told : Told A) : Type 0 where
   pub answered : told.answer ≡ value
-  pub numbered : told.number ≡ length history
+  pub numbered : told.number ≡ length events
 
 module _ {A : Type 0} (value_after : Opening → List Event → A) where
-  -- a link tells a caller what looking back over a history gives, and has shown it this history
-  pub record IsRead (opening : Opening) (before : CallerView) (told : Told A) (after : CallerView) (history : List Event) : Type 0 where
+  -- a link tells a caller what looking back over the events of a history gives, and has shown it this history
+  pub record IsRead (opening : Opening) (before : CallerView) (told : Told A) (after : CallerView) (history : List Entry) : Type 0 where
     pub from : IsHistoryFor opening before history
-    pub read : IsReading (value_after opening history) history told
+    pub read : IsReading (value_after opening (events_in history)) (events_in history) told
     pub seen : after ≡ shown before history
 
   unfoldable pub Reads : LinkView → CallerView → Told A → CallerView → Type 0
-  Reads link before told after = (opening : Opening) → link.origin ≡ Some opening → (history : List Event) × IsRead opening before told after history
+  Reads link before told after = (opening : Opening) → link.origin ≡ Some opening → (history : List Entry) × IsRead opening before told after history
 
-  -- the same, or the link is busy, and then the caller is as it was
+  -- the same, or the link is busy
   unfoldable pub TriesToRead : LinkView → CallerView → Result (Told A) (Tried Refusal) → CallerView → Type 0
   TriesToRead link before (Ok told) after = Reads link before told after
-  TriesToRead link before (Err why) after = (why ≡ Busy) × (after ≡ before)
+  TriesToRead link before (Err why) after = (why ≡ Busy) × WasBusy before after

@@ -1,5 +1,6 @@
--- What the callers of a storm did, and how it ends. A history is the list of all events of the link.
-use Rattle.std.specs.Prelude.{◌≡◌, ◌+◌, ◌<◌, ◌≤◌, ◌^◌, ◌⊎◌, ℕ, zero, suc, List, [], ◌∷◌, ◌++◌, Option, Some, None, Result, Ok, Err, min, drop, map, length}
+-- What the callers of a storm did, and how it ends. A history is the list of all events of the link; where folds are spoken of,
+-- it is the list of all its entries.
+use Rattle.std.specs.Prelude.{◌≡◌, ◌==◌, ◌+◌, ◌<◌, ◌≤◌, ◌^◌, ◌⊎◌, ℕ, zero, suc, Bool, All, List, [], ◌∷◌, ◌++◌, Option, Some, None, Result, Ok, Err, min, drop, map, length}
 use mathlib.Core.List.{IsPrefix}
 use Rattle.pie_lock.specs.Own.{own}
 use Rattle.pie_book.specs.declared.command.Command.{Command}
@@ -17,11 +18,18 @@ use Rattle.pie_book.specs.Decision.{refusal_by_rule}
 use Rattle.pie_link.specs.declared.plan.Plan.{Plan}
 use Rattle.pie_book.specs.declared.command.Command.TheVariants.{Depart, Update}
 use Rattle.pie_link.specs.Plans.{change, commands_of, opening_of, senders, sent}
-use Rattle.pie_link.specs.Views.{LinkView, CallerView, number_of}
+use Rattle.pie_link.specs.declared.entry.Entry.{Entry}
+use Rattle.pie_link.specs.declared.entry.Entry.TheVariants.{Made, Folded}
+use Rattle.pie_link.specs.Entries.{entries_of, events_in, handed_to, number_of, tail_in}
+use Rattle.pie_link.specs.Views.{LinkView, CallerView}
+
+-- the number of an event
+abbrev pub caller_of : Event → ℕ
+caller_of event = event.caller
 
 -- the events of a caller
 abbrev pub events_of : ℕ → List Event → List Event
-events_of caller history = own number_of caller (caller + 1) history
+events_of caller history = own caller_of caller (caller + 1) history
 
 -- a command was too soon after a beginning of the history that has these events of the caller, and no others of it
 pub record WasTooSoon (opening : Opening) (caller : ℕ) (history earlier : List Event) (command : Command) : Type 0 where
@@ -92,38 +100,65 @@ unfoldable pub GoesOrEnds : LinkView → ℕ → List Command → ℕ → List E
 GoesOrEnds link caller commands k front passed (Some soon) = EachGoes link caller commands (k + 1) front (passed + soon)
 GoesOrEnds link caller commands k front passed None = (opening : Opening) → link.origin ≡ Some opening → IsCutShort opening caller commands front
 
--- at a link, these folded events begin what a caller was shown, where they are well
-unfoldable pub FoldedAt : LinkView → Type 0 → List Event → List Event → Type 0
-FoldedAt link well events front = (opening : Opening) → link.origin ≡ Some opening → well → IsPrefix events front
+-- the caller that makes the folds of a plan
+abbrev pub folder : Plan → ℕ
+folder plan = senders plan + 4
 
--- where so many events had been folded, n more were too many after a beginning of the history, which holds fewer beside them
-pub record WasTooMany (history : List Event) (folded n : ℕ) : Type 0 where
-  pub before : List Event
+-- a number is this one
+abbrev pub is_number : ℕ → ℕ → Bool
+is_number number caller = caller == number
+
+-- this fold of a caller
+abbrev pub fold_of : ℕ → ℕ → Entry
+fold_of caller n = Folded caller n
+
+-- a fold of n events was of too many after a beginning of the history that has these entries of the caller, and no others of it:
+-- the tail held fewer there
+pub record WasTooMany (opening : Opening) (caller : ℕ) (history earlier : List Entry) (n : ℕ) : Type 0 where
+  pub before : List Entry
   pub begins : IsPrefix before history
-  pub held : ℕ
-  pub holds : length before ≡ folded + held
-  pub fewer : held < n
+  pub has_earlier : entries_of caller before ≡ earlier
+  pub fewer : length (tail_in opening before) < n
 
--- where so many events had been folded, these folds came one after another: each handed out the next n events of the history, but
--- for so many, where n were too many
-abbrev pub AreFolded : List Event → ℕ → List ℕ → ℕ → Type 0
-AreFolded history folded [] too_many = too_many ≡ 0
-AreFolded history folded (n ∷ folds) too_many =
-    ((folded + n ≤ length history) × AreFolded history (folded + n) folds too_many)
-    ⊎ (WasTooMany history folded n × ((fewer : ℕ) × (too_many ≡ fewer + 1) × AreFolded history folded folds fewer))
+-- where the caller has these earlier entries in the history, these folds are its later ones, each the next, but for so many that
+-- were of too many events
+abbrev pub AreFolded : Opening → ℕ → List Entry → List Entry → List ℕ → List Entry → ℕ → Type 0
+AreFolded opening caller history earlier [] later too_many = (later ≡ []) × (too_many ≡ 0)
+AreFolded opening caller history earlier (n ∷ folds) later too_many =
+    ((others : List Entry) × (later ≡ fold_of caller n ∷ others) × AreFolded opening caller history (earlier ++ fold_of caller n ∷ []) folds others too_many)
+    ⊎ (WasTooMany opening caller history earlier n
+    × ((fewer : ℕ) × (too_many ≡ fewer + 1) × AreFolded opening caller history earlier folds later fewer))
 
--- after k of these folds so many events were folded, and so many folds were too many: whatever comes of the others, in a history
--- that goes on from what the caller was shown, comes of all
-unfoldable pub FoldsGo : List ℕ → ℕ → List Event → ℕ → ℕ → Type 0
-FoldsGo folds k front folded too_many = (history : List Event) → IsPrefix front history → (n : ℕ)
-    → AreFolded history folded (drop k folds) n → AreFolded history 0 folds (too_many + n)
+-- an entry is an event
+abbrev pub IsMade : Entry → Type 0
+IsMade (Made event) = Unit {0}
+IsMade (Folded caller n) = ⊥
 
--- the same at a link, where they are well; and what came of all folds
-unfoldable pub FoldsGoAt : LinkView → Type 0 → List ℕ → ℕ → List Event → ℕ → ℕ → Type 0
-FoldsGoAt link well folds k front folded too_many = (opening : Opening) → link.origin ≡ Some opening → well → FoldsGo folds k front folded too_many
+-- in this history no caller below this number has a fold, but the one that makes the folds
+unfoldable pub NoneElseFolds : Plan → ℕ → List Entry → Type 0
+NoneElseFolds plan n history = (caller : ℕ) → caller < n → (caller ≡ folder plan → ⊥) → All IsMade (entries_of caller history)
 
-unfoldable pub AreFoldedAt : LinkView → Type 0 → List ℕ → List Event → ℕ → Type 0
-AreFoldedAt link well folds front too_many = (opening : Opening) → link.origin ≡ Some opening → well → AreFolded front 0 folds too_many
+-- after k of these folds a caller was shown this history, where so many were of too many events: whatever comes of the others, in a
+-- history that goes on from there, comes of all
+unfoldable pub FoldsGo : Opening → ℕ → List ℕ → ℕ → List Entry → ℕ → Type 0
+FoldsGo opening caller folds k front too_many = (history : List Entry) → IsPrefix front history → (later : List Entry) (n : ℕ)
+    → AreFolded opening caller history (entries_of caller front) (drop k folds) later n
+    → AreFolded opening caller history [] folds (entries_of caller front ++ later) (too_many + n)
+
+-- these events are what the caller's folds handed out
+abbrev pub WereHanded : Opening → ℕ → List Event → List Entry → Type 0
+WereHanded opening caller events history = events ≡ handed_to (is_number caller) opening [] history
+
+-- where all is well after k folds at a link, the events at hand are those that the caller's folds handed out; and what came of all
+-- its folds
+unfoldable pub FoldsGoAt : LinkView → ℕ → Type 0 → List ℕ → ℕ → List Event → List Entry → ℕ → Type 0
+FoldsGoAt link caller well folds k events front too_many =
+    (opening : Opening) → link.origin ≡ Some opening → well → WereHanded opening caller events front × FoldsGo opening caller folds k front too_many
+
+unfoldable pub AreFoldedAt : LinkView → ℕ → Type 0 → List ℕ → List Event → List Entry → ℕ → Type 0
+AreFoldedAt link caller well folds events front too_many =
+    (opening : Opening) → link.origin ≡ Some opening → well
+    → WereHanded opening caller events front × AreFolded opening caller front [] folds (entries_of caller front) too_many
 
 -- what an answer adds to the folds that were too many
 unfoldable pub refused_by : Result (Told (Vec Event Global)) FoldRefusal → ℕ
@@ -135,22 +170,31 @@ refused_by (Err Memory) = 0
 unfoldable pub HasNoneAt : LinkView → ℕ → List Event → Type 0
 HasNoneAt link caller front = (opening : Opening) → link.origin ≡ Some opening → events_of caller front ≡ []
 
+-- at a link, a caller has no folds in this history
+unfoldable pub OnlyMadeAt : LinkView → ℕ → List Entry → Type 0
+OnlyMadeAt link caller front = (opening : Opening) → link.origin ≡ Some opening → All IsMade (entries_of caller front)
+
+-- at a link, none below this number has folds in this history, but the one that makes the folds
+unfoldable pub NoneElseFoldsAt : LinkView → Plan → ℕ → List Entry → Type 0
+NoneElseFoldsAt link plan n front = (opening : Opening) → link.origin ≡ Some opening → NoneElseFolds plan n front
+
 -- a worker made all commands of the caller with this number, of which so many were too soon
 unfoldable pub MadeAll : LinkView → Plan → ℕ → CallerView → ℕ → Type 0
 MadeAll link plan number caller too_soon =
-    (caller.lock ≡ link) × (caller.first ≡ number) × (caller.limit ≡ number + 1) × CameAt link plan number caller.front too_soon × (too_soon ≤ 2 ^ 20)
+    (caller.lock ≡ link) × (caller.first ≡ number) × (caller.limit ≡ number + 1) × CameAt link plan number (events_in caller.front) too_soon × (too_soon ≤ 2 ^ 20)
 
--- and, where it makes them and is well, all folds
-unfoldable pub MadeFolds : LinkView → Plan → ℕ → Type 0 → List Event → ℕ → List Event → Type 0
+-- and, where it makes them and is well, all folds; any other worker made none
+unfoldable pub MadeFolds : LinkView → Plan → ℕ → Type 0 → List Event → ℕ → List Entry → Type 0
 MadeFolds link plan number well events too_many front =
-    FoldedAt link well events front × (number ≡ senders plan + 4 → AreFoldedAt link well plan.folds.items front too_many)
+    ((number ≡ folder plan → ⊥) → OnlyMadeAt link number front)
+    × (number ≡ folder plan → AreFoldedAt link (folder plan) well plan.folds.items events front too_many)
 
 -- the commands of these events
 abbrev pub commands_in : List Event → List Command
 commands_in events = map (λ (event : Event). event.command) events
 
--- these events are those that the plan asks for, but for so many updates that were too soon; and so many of its folds were of too
--- many events
+-- these events are those that the plan asks for, but for so many updates that were too soon; and so many of its folds were of more
+-- events than the tail held
 pub record IsStorm (plan : Plan) (events : List Event) (too_soon too_many : ℕ) : Type 0 where
   -- each sender's arrivals, in order; senders are counted from 0
   pub arrivals : (sender : ℕ) → sender < senders plan → commands_in (events_of (sender + 1) events) ≡ sent plan.arrivals.items sender
@@ -159,7 +203,11 @@ pub record IsStorm (plan : Plan) (events : List Event) (too_soon too_many : ℕ)
   pub changes : commands_in (events_of (senders plan + 3) events) ≡ map change plan.changes.items
   -- the updates, in order, but for those that were too soon
   pub updates : AreMade (opening_of plan) (senders plan + 2) events [] (map Update plan.updates.items) (events_of (senders plan + 2) events) too_soon
-  -- the folds, in order, but for those that were too many, each at a beginning of these events
-  pub folds : AreFolded events 0 plan.folds.items too_many
-  -- no other caller has an event
+  -- the link's history, of which these are the events; its folds are those of the plan, in order, but for those that were of too
+  -- many events, each at its place
+  pub history : List Entry
+  pub of_history : events_in history ≡ events
+  pub folds : AreFolded (opening_of plan) (folder plan) history [] plan.folds.items (entries_of (folder plan) history) too_many
+  -- no other caller has an event, and no other a fold
   pub no_others : (caller : ℕ) → (caller ≡ 0) ⊎ (senders plan + 3 < caller) → events_of caller events ≡ []
+  pub no_other_folds : (caller : ℕ) → (caller ≡ folder plan → ⊥) → All IsMade (entries_of caller history)

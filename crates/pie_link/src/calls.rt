@@ -227,7 +227,7 @@ impl Link {
     }
 
     /// Hands out the oldest `n` events of the book's tail, oldest first, which makes room for as many. The history stays as
-    /// it was, and so do all later answers. It never blocks.
+    /// it was, and so do all later answers but `HistoryFull`. It never blocks.
     ///
     /// # Errors
     ///
@@ -246,7 +246,7 @@ impl Link {
     }
 
     /// Hands out the oldest `n` events of the book's tail, oldest first, which makes room for as many. The history stays as
-    /// it was, and so do all later answers. It waits while another caller has the book.
+    /// it was, and so do all later answers but `HistoryFull`. It waits while another caller has the book.
     ///
     /// # Errors
     ///

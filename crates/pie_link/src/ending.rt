@@ -19,8 +19,8 @@ pub struct StormEnd {
     pub stats: Stats,
 }
 
-/// Why a storm has no end (this project's own). `BadPlan` is looked for before all else, and then `Opening`; of the others
-/// the first that is met is answered. Nothing of the run is kept.
+/// Why a storm has no end (this project's own). They are looked for in this order: `BadPlan` before all else, then `Opening`, then
+/// `Thread`, and last `Memory`. `Gap` never comes. Nothing of the run is kept.
 #[derive(Clone, Copy, Debug, PartialEq, Eq, Error)]
 pub enum StormFault {
     /// The plan has fewer than 2 or more than 8 senders, a moment above `2^60 - 1`, an arrival whose size is outside 1 to
@@ -36,7 +36,7 @@ pub enum StormFault {
     /// A worker's thread could not be started.
     #[error("a thread could not be started")]
     Thread,
-    /// The folded events and the tail are not one history without a gap.
+    /// The folded events and the tail are not one history without a gap. No storm answers it: that there is no gap is proved.
     #[error("the folds leave a gap")]
     Gap,
 }

@@ -1,15 +1,16 @@
 //! The link: how it is opened, shared and closed.
 ghost use Rattle.std.specs.Prelude.{◌≡◌, ◌+◌, ◌<◌, ◌↔◌, All, Some, None, IsOk, IsErr, IfOk, IfErr, OnOk, OnErr, List};
-ghost use Rattle.pie_book.specs.declared.command.Event.{Event};
 ghost use Rattle.pie_book.specs.declared.opening.Mode.TheVariants.{Bounded};
 ghost use Rattle.pie_book.specs.declared.opening.Profile.TheVariants.{One};
-ghost use Rattle.pie_book.specs.Book.{Tells};
+ghost use Rattle.pie_link.specs.declared.entry.Entry.{Entry};
 
 use crate::caller::Caller;
+use crate::entry::Entry;
 use crate::kept_book::KeptBook;
 use crate::refusal::LinkRefusal;
-use pie_book::{Book, Choices, Limits, Mode, OpenRefusal, Profile, registers_look_back};
-use pie_lock::{OneNumber, RuledLock, StillHeld};
+use atomic_table::TableRule;
+use pie_book::{Book, Choices, Limits, Mode, OpenRefusal, Opening, Profile, registers_look_back};
+use pie_lock::{LockOpening, LockRule, OneNumber, Place, RuledLock, StillHeld};
 use pie_params::Params;
 use std::alloc::Global;
 use std::marker::Model;
@@ -32,7 +33,9 @@ impl Model for Link {
 impl Link {
     ghost use Rattle.pie_lock.specs.Views.{HoldsAll};
     ghost use Rattle.pie_lock.specs.Promises.{first_pass, without_highest, highest_alone, IsBeside, IsBothOf};
-    ghost use Rattle.pie_link.specs.Views.{IsHistoryFor, number_of};
+    ghost use Rattle.pie_link.specs.Entries.{number_of};
+    ghost use Rattle.pie_link.specs.Kept.{TellsEntries};
+    ghost use Rattle.pie_link.specs.Views.{IsHistoryFor};
     ghost use Rattle.pie_link.specs.Headline.{KeepsOneHistory};
     ghost use Rattle.pie_link.specs.Opening.{link_refusal, IsRefusedFor};
 
@@ -53,7 +56,7 @@ impl Link {
         ensures opening { IfOk result (λ opened. opened.0.origin ≡ Some (record { moment = moment; limits = limits; params = params; choices = record { mode = Bounded; profile = One } })) }
         ensures callers { IfOk result (λ opened. opened.0.numbers ≡ callers) }
         ensures caller { IfOk result (λ opened. opened.1 ≡ first_pass opened.0 callers) }
-        ensures headline { IfOk result (λ opened. KeepsOneHistory opened.0) }
+        ensures headline { IfOk result (λ opened. KeepsOneHistory ⟦<LockRule as TableRule<Option<KeptBook>, Place<Entry, Opening>, LockOpening<KeptBook>>>⟧.holds opened.0) }
     {
         let choices = Choices {
             mode: Mode::Bounded,
@@ -82,7 +85,7 @@ impl Link {
         ensures opening { IfOk result (λ opened. opened.0.origin ≡ Some (record { moment = moment; limits = limits; params = params; choices = choices })) }
         ensures callers { IfOk result (λ opened. opened.0.numbers ≡ callers) }
         ensures caller { IfOk result (λ opened. opened.1 ≡ first_pass opened.0 callers) }
-        ensures headline { IfOk result (λ opened. KeepsOneHistory opened.0) }
+        ensures headline { IfOk result (λ opened. KeepsOneHistory ⟦<LockRule as TableRule<Option<KeptBook>, Place<Entry, Opening>, LockOpening<KeptBook>>>⟧.holds opened.0) }
     {
         let book = match Book::open_with(alloc, limits, params, moment, choices) {
             Ok(book) => book,
@@ -96,7 +99,7 @@ impl Link {
             return Err(LinkRefusal::Memory);
         };
         registers_look_back();
-        match RuledLock::new(alloc, KeptBook { book }, callers) {
+        match RuledLock::new(alloc, KeptBook::new(book), callers) {
             Ok((lock, pass)) => Ok((Link { lock, alloc }, Caller { pass })),
             Err(_) => Err(LinkRefusal::Memory),
         }
@@ -146,10 +149,10 @@ impl Link {
     pub fn close(self, caller: Caller) -> Result<Book, (Link, Caller)>
         requires own { caller.lock ≡ self }
         ensures opening { IfOk result (λ book. caller.lock.origin ≡ Some book.opening) }
-        ensures told { IfOk result (λ book. (history : List Event) × IsHistoryFor book.opening caller history × Tells book history) }
+        ensures told { IfOk result (λ book. (history : List Entry) × IsHistoryFor book.opening caller history × TellsEntries book history) }
         ensures alone { HoldsAll caller → IsOk result }
-        ensures same { HoldsAll caller → IfOk result (λ book. Tells book caller.front) }
-        ensures numbered { HoldsAll caller → IfOk result (λ _. All (λ event. number_of event < caller.lock.numbers) caller.front) }
+        ensures same { HoldsAll caller → IfOk result (λ book. TellsEntries book caller.front) }
+        ensures numbered { HoldsAll caller → IfOk result (λ _. All (λ entry. number_of entry < caller.lock.numbers) caller.front) }
         ensures still_held { IfErr result (λ back. (back.0 ≡ self) × (back.1 ≡ caller)) }
     {
         let alloc = self.alloc;

@@ -1,7 +1,6 @@
 //! The storm: a link under many threads at once, recorded.
-ghost use Rattle.std.specs.Prelude.{◌≡◌, ◌+◌, ◌*◌, ◌^◌, ◌≤◌, ◌≢◌, ◌↔◌, List, [], Some, None, Err, IfSome, IfOk, IfErr};
+ghost use Rattle.std.specs.Prelude.{◌≡◌, ◌+◌, ◌*◌, ◌^◌, ◌≤◌, ◌≢◌, ◌↔◌, ◌++◌, List, [], false, Some, None, Err, IfSome, IfOk, IfErr};
 ghost use denote.Param.Send.{IsSync};
-ghost use mathlib.Core.List.{IsPrefix};
 ghost use Rattle.pie_book.specs.declared.command.Event.{Event};
 ghost use Rattle.pie_book.specs.Book.{Tells};
 ghost use Rattle.pie_book.specs.Decision.{IsLegal};
@@ -9,9 +8,10 @@ ghost use Rattle.pie_book.specs.Registers.{registers_after};
 ghost use Rattle.pie_book.specs.Statistics.{stats_after};
 ghost use Rattle.pie_link.specs.declared.plan.Plan.{Plan};
 ghost use Rattle.pie_link.specs.declared.refusal.LinkRefusal.{LinkRefusal};
-ghost use Rattle.pie_link.specs.Opening.{link_refusal};
+ghost use Rattle.pie_link.specs.Entries.{events_in};
+ghost use Rattle.pie_link.specs.Opening.{IsRefusedFor, link_refusal};
 ghost use Rattle.pie_link.specs.Plans.{IsSound, opening_of, planned, senders};
-ghost use Rattle.pie_link.specs.Storms.{AllCameAt, AreFoldedAt, CameAt, FoldedAt, IsStorm, MadeAll, MadeFolds};
+ghost use Rattle.pie_link.specs.Storms.{AllCameAt, AreFoldedAt, CameAt, IsStorm, MadeAll, MadeFolds, NoneElseFoldsAt, OnlyMadeAt, folder};
 ghost use Rattle.pie_link.specs.Views.{StaysOne};
 
 use crate::caller::Caller;
@@ -19,7 +19,7 @@ use crate::ending::{StormEnd, StormFault};
 use crate::gate::Gate;
 use crate::link::Link;
 use crate::plan::Plan;
-use crate::worker::{FoldFault, Folding, Work, make_calls};
+use crate::worker::{Folding, Work, make_calls};
 use pie_book::{Book, Event};
 use std::alloc::Global;
 use std::sync::Wait;
@@ -35,7 +35,7 @@ struct MakesAll<'a> {
 }
 
 impl<'a> Promise<Work> for MakesAll<'a> {
-    ghost kept_by = { λ p work. MadeAll p.link.now p.plan.now p.caller work.caller work.too_soon × MadeFolds p.link.now p.plan.now p.caller (work.folding.fault ≡ None) work.folding.events.items work.folding.too_many work.caller.front };
+    ghost kept_by = { λ p work. MadeAll p.link.now p.plan.now p.caller work.caller work.too_soon × MadeFolds p.link.now p.plan.now p.caller (work.folding.is_short_of_memory ≡ false) work.folding.events.items work.folding.too_many work.caller.front };
 }
 
 // Lets the callers with these numbers work at once, each but the first in a thread of its own, and gathers them in order. The
@@ -56,10 +56,11 @@ fn work_in<'s, E: 's, R: Threads + Wait + Sync, G: Gate + Sync>(
     requires sound { IsSound plan.now }
     requires few { planned plan.now ≤ 2 ^ 20 }
     ensures stays { IfSome result (λ work. StaysOne caller work.caller) }
-    ensures made { IfSome result (λ work. AllCameAt link.now plan.now caller.limit work.caller.front work.too_soon) }
+    ensures made { IfSome result (λ work. AllCameAt link.now plan.now caller.limit (events_in work.caller.front) work.too_soon) }
+    ensures alone { IfSome result (λ work. NoneElseFoldsAt link.now plan.now caller.limit work.caller.front) }
     ensures few { IfSome result (λ work. work.too_soon ≤ caller.limit * 2 ^ 20) }
-    ensures folded { IfSome result (λ work. FoldedAt link.now (work.folding.fault ≡ None) work.folding.events.items work.caller.front) }
-    ensures folds { caller.limit ≡ senders plan.now + 5 → IfSome result (λ work. AreFoldedAt link.now (work.folding.fault ≡ None) plan.now.folds.items work.caller.front work.folding.too_many) }
+    ensures folds { caller.limit ≡ senders plan.now + 5 → IfSome result (λ work.
+        AreFoldedAt link.now (folder plan.now) (work.folding.is_short_of_memory ≡ false) plan.now.folds.items work.folding.events.items work.caller.front work.folding.too_many) }
 {
     let mut rest = caller;
     let last = match link.share(&mut rest) {
@@ -82,7 +83,7 @@ fn work_in<'s, E: 's, R: Threads + Wait + Sync, G: Gate + Sync>(
         move || -> Work
             requires { (last.lock ≡ link.now) × (last.limit ≡ last.first + 1) × (last.front ≡ []) × IsSound plan.now × (planned plan.now ≤ 2 ^ 20) }
             ensures made { MadeAll link.entry.now plan.entry.now last.first result.caller result.too_soon }
-            ensures folds { MadeFolds link.entry.now plan.entry.now last.first (result.folding.fault ≡ None) result.folding.events.items result.folding.too_many result.caller.front }
+            ensures folds { MadeFolds link.entry.now plan.entry.now last.first (result.folding.is_short_of_memory ≡ false) result.folding.events.items result.folding.too_many result.caller.front }
         { make_calls(rt, alloc, link, plan, gate, last) },
     ) else {
         return None;
@@ -107,9 +108,10 @@ fn work_at_once<R: Threads + Wait + Sync, G: Gate + Sync>(
     requires sound { IsSound plan.now }
     requires few { planned plan.now ≤ 2 ^ 20 }
     ensures stays { IfSome result (λ work. StaysOne caller work.caller) }
-    ensures made { IfSome result (λ work. AllCameAt link.now plan.now caller.limit work.caller.front work.too_soon) }
-    ensures folded { IfSome result (λ work. FoldedAt link.now (work.folding.fault ≡ None) work.folding.events.items work.caller.front) }
-    ensures folds { caller.limit ≡ senders plan.now + 5 → IfSome result (λ work. AreFoldedAt link.now (work.folding.fault ≡ None) plan.now.folds.items work.caller.front work.folding.too_many) }
+    ensures made { IfSome result (λ work. AllCameAt link.now plan.now caller.limit (events_in work.caller.front) work.too_soon) }
+    ensures alone { IfSome result (λ work. NoneElseFoldsAt link.now plan.now caller.limit work.caller.front) }
+    ensures folds { caller.limit ≡ senders plan.now + 5 → IfSome result (λ work.
+        AreFoldedAt link.now (folder plan.now) (work.folding.is_short_of_memory ≡ false) plan.now.folds.items work.folding.events.items work.caller.front work.folding.too_many) }
 {
     thread::scope(
         thread::scope_env(),
@@ -117,9 +119,10 @@ fn work_at_once<R: Threads + Wait + Sync, G: Gate + Sync>(
         |scope| -> Option<Work>
             requires { IsSync R.row × IsSync G.row × (caller.lock ≡ link.now) × (caller.first ≡ 0) × (caller.front ≡ []) × IsSound plan.now × (planned plan.now ≤ 2 ^ 20) }
             ensures stays { IfSome result (λ work. StaysOne caller work.caller) }
-            ensures made { IfSome result (λ work. AllCameAt link.entry.now plan.entry.now caller.limit work.caller.front work.too_soon) }
-            ensures folded { IfSome result (λ work. FoldedAt link.entry.now (work.folding.fault ≡ None) work.folding.events.items work.caller.front) }
-            ensures folds { caller.limit ≡ senders plan.entry.now + 5 → IfSome result (λ work. AreFoldedAt link.entry.now (work.folding.fault ≡ None) plan.entry.now.folds.items work.caller.front work.folding.too_many) }
+            ensures made { IfSome result (λ work. AllCameAt link.entry.now plan.entry.now caller.limit (events_in work.caller.front) work.too_soon) }
+            ensures alone { IfSome result (λ work. NoneElseFoldsAt link.entry.now plan.entry.now caller.limit work.caller.front) }
+            ensures folds { caller.limit ≡ senders plan.entry.now + 5 → IfSome result (λ work.
+                AreFoldedAt link.entry.now (folder plan.entry.now) (work.folding.is_short_of_memory ≡ false) plan.entry.now.folds.items work.folding.events.items work.caller.front work.folding.too_many) }
         { work_in(scope, rt, alloc, link, plan, gate, caller) },
     )
 }
@@ -132,13 +135,16 @@ fn both(link: &Link, work: Work, last: Work) -> Work
     requires few { (work.too_soon ≤ work.caller.limit * 2 ^ 20) × (last.too_soon ≤ 2 ^ 20) }
     ensures lock { result.caller.lock ≡ link.now }
     ensures numbers { (result.caller.first ≡ 0) × (result.caller.limit ≡ last.caller.limit) }
-    ensures made { (plan : Plan) → AllCameAt link.now plan work.caller.limit work.caller.front work.too_soon → CameAt link.now plan last.caller.first last.caller.front last.too_soon
-        → AllCameAt link.now plan result.caller.limit result.caller.front result.too_soon }
+    ensures made { (plan : Plan) → AllCameAt link.now plan work.caller.limit (events_in work.caller.front) work.too_soon
+        → CameAt link.now plan last.caller.first (events_in last.caller.front) last.too_soon
+        → AllCameAt link.now plan result.caller.limit (events_in result.caller.front) result.too_soon }
     ensures few { result.too_soon ≤ result.caller.limit * 2 ^ 20 }
-    ensures folded { FoldedAt link.now (last.folding.fault ≡ None) last.folding.events.items last.caller.front
-        → FoldedAt link.now (result.folding.fault ≡ None) result.folding.events.items result.caller.front }
-    ensures folds { (plan : Plan) → AreFoldedAt link.now (last.folding.fault ≡ None) plan.folds.items last.caller.front last.folding.too_many
-        → AreFoldedAt link.now (result.folding.fault ≡ None) plan.folds.items result.caller.front result.folding.too_many }
+    ensures alone { (plan : Plan) → NoneElseFoldsAt link.now plan work.caller.limit work.caller.front
+        → ((last.caller.first ≡ folder plan → ⊥) → OnlyMadeAt link.now last.caller.first last.caller.front)
+        → NoneElseFoldsAt link.now plan result.caller.limit result.caller.front }
+    ensures folds { (plan : Plan) → last.caller.first ≡ folder plan
+        → AreFoldedAt link.now (folder plan) (last.folding.is_short_of_memory ≡ false) plan.folds.items last.folding.events.items last.caller.front last.folding.too_many
+        → AreFoldedAt link.now (folder plan) (result.folding.is_short_of_memory ≡ false) plan.folds.items result.folding.events.items result.caller.front result.folding.too_many }
 {
     let mut caller = work.caller;
     let Ok(()) = link.gather(&mut caller, last.caller) else {
@@ -160,7 +166,8 @@ fn both(link: &Link, work: Work, last: Work) -> Work
 /// # Errors
 ///
 /// `BadPlan` before anything else, where the plan is not sound; `Opening` where the link is not opened; `Thread` where a worker's
-/// thread could not be started; then `Memory` or `Gap`, whichever is met first. All workers that were started have ended then.
+/// thread could not be started, whatever the others met; then `Memory`, where a fold or the list of all events had none. All
+/// workers that were started have ended then. `Gap` never comes: no event is lost between folds and tail.
 pub fn storm<R: Threads + Wait + Sync, G: Gate + Sync>(
     rt: &R,
     alloc: Global,
@@ -169,6 +176,8 @@ pub fn storm<R: Threads + Wait + Sync, G: Gate + Sync>(
 ) -> Result<StormEnd, StormFault>
     ensures bad_plan { (result ≡ Err StormFault.BadPlan) ↔ (IsSound plan.now → ⊥) }
     ensures refused { IsSound plan.now → (why : LinkRefusal) → link_refusal plan.now.limits plan.now.moment (senders plan.now + 5) ≡ Some why → result ≡ Err (StormFault.Opening why) }
+    ensures opening { (why : LinkRefusal) → result ≡ Err (StormFault.Opening why) → IsRefusedFor (link_refusal plan.now.limits plan.now.moment (senders plan.now + 5)) why }
+    ensures no_gap { result ≢ Err StormFault.Gap }
     ensures legal { IfOk result (λ end. IsLegal (opening_of plan.now) end.events.items) }
     ensures made { IfOk result (λ end. IsStorm plan.now end.events.items end.too_soon end.too_many) }
     ensures registers { IfOk result (λ end. end.registers ≡ registers_after (opening_of plan.now) end.events.items) }
@@ -203,26 +212,21 @@ fn end_of(
     too_soon: u64,
     folding: Folding,
 ) -> Result<StormEnd, StormFault>
-    ensures fault { IfErr result (λ why. why ≢ StormFault.BadPlan) }
-    ensures events { (history : List Event) → Tells book history → (folding.fault ≡ None → IsPrefix folding.events.items history) → IfOk result (λ end. end.events.items ≡ history) }
-    ensures registers { (history : List Event) → Tells book history → IfOk result (λ end. end.registers ≡ registers_after book.opening history) }
-    ensures stats { (history : List Event) → Tells book history → IfOk result (λ end. end.stats ≡ stats_after book.opening history) }
-    ensures counts { IfOk result (λ end. (folding.fault ≡ None) × (end.too_soon ≡ too_soon) × (end.too_many ≡ folding.too_many)) }
+    ensures fault { IfErr result (λ why. why ≡ StormFault.Memory) }
+    ensures events { IfOk result (λ end. end.events.items ≡ folding.events.items ++ book.tail) }
+    ensures registers { (events : List Event) → Tells book events → IfOk result (λ end. end.registers ≡ registers_after book.opening events) }
+    ensures stats { (events : List Event) → Tells book events → IfOk result (λ end. end.stats ≡ stats_after book.opening events) }
+    ensures counts { IfOk result (λ end. (folding.is_short_of_memory ≡ false) × (end.too_soon ≡ too_soon) × (end.too_many ≡ folding.too_many)) }
 {
     let Folding {
         events,
         too_many,
-        fault,
+        is_short_of_memory,
     } = folding;
+    if is_short_of_memory {
+        return Err(StormFault::Memory);
+    }
     let mut events = events;
-    match fault {
-        None => {}
-        Some(FoldFault::Memory) => return Err(StormFault::Memory),
-        Some(FoldFault::Gap) => return Err(StormFault::Gap),
-    }
-    if events.len() as u64 != book.checkpoint().count {
-        return Err(StormFault::Gap);
-    }
     let registers = book.registers();
     let stats = book.stats();
     let Some(mut tail) = tail_of(alloc, book) else {

@@ -1,8 +1,9 @@
 //! The workers of a storm: each makes the calls of one caller, one after another.
-ghost use Rattle.std.specs.Prelude.{◌≡◌, ◌≢◌, ◌+◌, ◌^◌, ◌<◌, ◌≤◌, ◌-◌, ◌++◌, ℕ, [], Some, None, Err, IfSome, IfOk, OnErr, unwrap_or, length, vec_len};
+ghost use Rattle.std.specs.Prelude.{◌≡◌, ◌≢◌, ◌+◌, ◌^◌, ◌<◌, ◌≤◌, ◌-◌, ◌++◌, ℕ, [], false, Some, None, Err, IfSome, IfOk, OnErr, length, vec_len};
 ghost use Rattle.pie_link.specs.Commands.{Answers};
-ghost use Rattle.pie_link.specs.Plans.{IsSound, commands_of, planned, senders};
-ghost use Rattle.pie_link.specs.Storms.{AreFoldedAt, CameAt, EachGoes, FoldedAt, FoldsGoAt, GoesOrEnds, HasNoneAt, MadeAll, MadeFolds, added_by, events_of, refused_by};
+ghost use Rattle.pie_link.specs.Entries.{events_in};
+ghost use Rattle.pie_link.specs.Plans.{IsSound, commands_of, planned};
+ghost use Rattle.pie_link.specs.Storms.{AreFoldedAt, CameAt, EachGoes, FoldsGoAt, GoesOrEnds, HasNoneAt, MadeAll, MadeFolds, OnlyMadeAt, added_by, folder, refused_by};
 ghost use Rattle.pie_link.specs.Views.{StaysOne};
 
 use crate::caller::Caller;
@@ -26,60 +27,36 @@ pub(crate) struct Work {
 /// What folds handed out, one after another.
 #[derive(Drop)]
 pub(crate) struct Folding {
-    /// The folded events, while there is no fault.
+    /// The folded events, while none is missing.
     pub(crate) events: Vec<Event>,
     /// How many folds were refused, since the tail held fewer events.
     pub(crate) too_many: u64,
-    /// The first fault that was met.
-    pub(crate) fault: Option<FoldFault>,
-}
-
-/// Why folds don't hand out the history's first events.
-#[derive(Clone, Copy)]
-pub(crate) enum FoldFault {
-    /// There was no memory for the events.
-    Memory,
-    /// A fold's first event does not follow on the last one before it.
-    Gap,
+    /// Whether memory was wanting for the events of a fold.
+    pub(crate) is_short_of_memory: bool,
 }
 
 impl Folding {
     /// No folds.
     pub(crate) fn none(alloc: Global) -> Folding
         ensures events { result.events.items ≡ [] }
-        ensures well { (result.too_many ≡ 0) × (result.fault ≡ None) }
+        ensures well { (result.too_many ≡ 0) × (result.is_short_of_memory ≡ false) }
     {
         Folding {
             events: Vec::new(alloc),
             too_many: 0,
-            fault: None,
+            is_short_of_memory: false,
         }
     }
 
-    // The fault stays the first.
-    fn fail(&mut self, fault: FoldFault)
-        ensures { self.new ≡ record self.old { fault = Some (unwrap_or self.old.fault fault) } }
-    {
-        if self.fault.is_none() {
-            self.fault = Some(fault);
-        }
-    }
-
-    // Adds what one more fold handed out. Its first event follows on the last one before it, or there is a gap.
+    // Adds what one more fold handed out.
     fn follow(&mut self, told: Told<Vec<Event>>)
-        ensures first { self.new.fault ≡ None → self.old.fault ≡ None }
-        ensures meets { self.new.fault ≡ None → told.number ≡ length self.old.events.items + length told.answer.items }
-        ensures events { self.new.fault ≡ None → self.new.events.items ≡ self.old.events.items ++ told.answer.items }
+        ensures first { self.new.is_short_of_memory ≡ false → self.old.is_short_of_memory ≡ false }
+        ensures events { self.new.is_short_of_memory ≡ false → self.new.events.items ≡ self.old.events.items ++ told.answer.items }
         ensures too_many { self.new.too_many ≡ self.old.too_many }
     {
-        let Told { answer, number } = told;
-        let mut answer = answer;
-        if number != self.events.len() as u64 + answer.len() as u64 {
-            self.fail(FoldFault::Gap);
-            return;
-        }
+        let mut answer = told.answer;
         if self.events.append(&mut answer).is_err() {
-            self.fail(FoldFault::Memory);
+            self.is_short_of_memory = true;
         }
     }
 
@@ -87,18 +64,17 @@ impl Folding {
     #[tactic(auto, unfolding(crate::specs::Storms::refused_by))]
     fn take_in(&mut self, answer: Result<Told<Vec<Event>>, FoldRefusal>)
         requires room { self.old.too_many < 2 ^ 64 - 1 }
-        ensures first { self.new.fault ≡ None → self.old.fault ≡ None }
-        ensures told { self.new.fault ≡ None → IfOk answer (λ told. (told.number ≡ length self.old.events.items + length told.answer.items)
-            × (self.new.events.items ≡ self.old.events.items ++ told.answer.items)) }
+        ensures first { self.new.is_short_of_memory ≡ false → self.old.is_short_of_memory ≡ false }
+        ensures told { self.new.is_short_of_memory ≡ false → IfOk answer (λ told. self.new.events.items ≡ self.old.events.items ++ told.answer.items) }
         ensures refused { OnErr answer (self.new.events.items ≡ self.old.events.items) }
-        ensures memory { self.new.fault ≡ None → answer ≢ Err FoldRefusal.Memory }
+        ensures memory { self.new.is_short_of_memory ≡ false → answer ≢ Err FoldRefusal.Memory }
         ensures too_many { self.new.too_many ≡ self.old.too_many + refused_by answer }
         ensures few { self.new.too_many ≤ self.old.too_many + 1 }
     {
         match answer {
             Ok(told) => self.follow(told),
             Err(FoldRefusal::TooMany { .. }) => self.too_many += 1,
-            Err(FoldRefusal::Memory) => self.fail(FoldFault::Memory),
+            Err(FoldRefusal::Memory) => self.is_short_of_memory = true,
         }
     }
 }
@@ -157,8 +133,9 @@ fn ask_next<R: Wait, G: Gate>(
     requires few { planned plan.now ≤ 2 ^ 20 }
     ensures stays { StaysOne caller.old caller.new }
     ensures few { IfSome result (λ soon. soon ≤ 1) }
-    ensures goes { (passed : ℕ) → EachGoes link.now caller.old.first (commands_of plan.now caller.old.first) k caller.old.front passed
-        → GoesOrEnds link.now caller.old.first (commands_of plan.now caller.old.first) k caller.new.front passed result }
+    ensures goes { (passed : ℕ) → EachGoes link.now caller.old.first (commands_of plan.now caller.old.first) k (events_in caller.old.front) passed
+        → GoesOrEnds link.now caller.old.first (commands_of plan.now caller.old.first) k (events_in caller.new.front) passed result }
+    ensures only_made { OnlyMadeAt link.now caller.old.first caller.old.front → OnlyMadeAt link.now caller.old.first caller.new.front }
 {
     let number = caller.first();
     let Some(command) = plan.command(number, k) else {
@@ -181,13 +158,13 @@ fn ask_all<R: Wait, G: Gate>(
 ) -> Work
     requires own { caller.lock ≡ link.now }
     requires one { caller.limit ≡ caller.first + 1 }
-    requires new { events_of caller.first caller.front ≡ [] }
+    requires new { caller.front ≡ [] }
     requires sound { IsSound plan.now }
     requires few { planned plan.now ≤ 2 ^ 20 }
     ensures stays { StaysOne caller result.caller }
-    ensures made { CameAt link.now plan.now caller.first result.caller.front result.too_soon }
+    ensures made { CameAt link.now plan.now caller.first (events_in result.caller.front) result.too_soon }
     ensures few { result.too_soon ≤ 2 ^ 20 }
-    ensures folded { FoldedAt link.now (result.folding.fault ≡ None) result.folding.events.items result.caller.front }
+    ensures only_made { OnlyMadeAt link.now caller.first result.caller.front }
 {
     let commands = plan.commands(caller.first());
     let mut mine = caller;
@@ -227,12 +204,9 @@ fn fold_next<R: Wait, G: Gate>(
     requires room { folding.old.too_many ≤ k }
     ensures stays { StaysOne caller.old caller.new }
     ensures few { folding.new.too_many ≤ k + 1 }
-    ensures none { HasNoneAt link.now caller.old.first caller.old.front → HasNoneAt link.now caller.old.first caller.new.front }
-    ensures folded { FoldedAt link.now (folding.old.fault ≡ None) folding.old.events.items caller.old.front
-        → FoldedAt link.now (folding.new.fault ≡ None) folding.new.events.items caller.new.front }
-    ensures folds { FoldedAt link.now (folding.old.fault ≡ None) folding.old.events.items caller.old.front
-        → FoldsGoAt link.now (folding.old.fault ≡ None) plan.now.folds.items k caller.old.front (length folding.old.events.items) folding.old.too_many
-        → FoldsGoAt link.now (folding.new.fault ≡ None) plan.now.folds.items (k + 1) caller.new.front (length folding.new.events.items) folding.new.too_many }
+    ensures none { HasNoneAt link.now caller.old.first (events_in caller.old.front) → HasNoneAt link.now caller.old.first (events_in caller.new.front) }
+    ensures folds { FoldsGoAt link.now caller.old.first (folding.old.is_short_of_memory ≡ false) plan.now.folds.items k folding.old.events.items caller.old.front folding.old.too_many
+        → FoldsGoAt link.now caller.old.first (folding.new.is_short_of_memory ≡ false) plan.now.folds.items (k + 1) folding.new.events.items caller.new.front folding.new.too_many }
 {
     let number = caller.first();
     gate.before(number, k as u64 + 1);
@@ -250,17 +224,16 @@ fn fold_all<R: Wait, G: Gate>(
     gate: &G,
     caller: Caller,
 ) -> Work
-    requires folder { caller.first ≡ senders plan.now + 4 }
+    requires folder { caller.first ≡ folder plan.now }
     requires own { caller.lock ≡ link.now }
     requires one { caller.limit ≡ caller.first + 1 }
-    requires new { events_of caller.first caller.front ≡ [] }
+    requires new { caller.front ≡ [] }
     requires sound { IsSound plan.now }
     requires few { planned plan.now ≤ 2 ^ 20 }
     ensures stays { StaysOne caller result.caller }
-    ensures made { CameAt link.now plan.now caller.first result.caller.front result.too_soon }
+    ensures made { CameAt link.now plan.now caller.first (events_in result.caller.front) result.too_soon }
     ensures few { result.too_soon ≤ 2 ^ 20 }
-    ensures folded { FoldedAt link.now (result.folding.fault ≡ None) result.folding.events.items result.caller.front }
-    ensures folds { AreFoldedAt link.now (result.folding.fault ≡ None) plan.now.folds.items result.caller.front result.folding.too_many }
+    ensures folds { AreFoldedAt link.now (folder plan.now) (result.folding.is_short_of_memory ≡ false) plan.now.folds.items result.folding.events.items result.caller.front result.folding.too_many }
 {
     let mut mine = caller;
     let mut folding = Folding::none(alloc);
@@ -286,11 +259,11 @@ pub(crate) fn make_calls<R: Wait, G: Gate>(
 ) -> Work
     requires own { caller.lock ≡ link.now }
     requires one { caller.limit ≡ caller.first + 1 }
-    requires new { events_of caller.first caller.front ≡ [] }
+    requires new { caller.front ≡ [] }
     requires sound { IsSound plan.now }
     requires few { planned plan.now ≤ 2 ^ 20 }
     ensures made { MadeAll link.now plan.now caller.first result.caller result.too_soon }
-    ensures folds { MadeFolds link.now plan.now caller.first (result.folding.fault ≡ None) result.folding.events.items result.folding.too_many result.caller.front }
+    ensures folds { MadeFolds link.now plan.now caller.first (result.folding.is_short_of_memory ≡ false) result.folding.events.items result.folding.too_many result.caller.front }
 {
     if usize::from(caller.first()) == plan.arrivals.len() + 4 {
         fold_all(rt, alloc, link, plan, gate, caller)

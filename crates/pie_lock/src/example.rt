@@ -8,9 +8,9 @@ use crate::pass::Pass;
 
 /// A till that counts its sales from the cash with which it was opened. A sale is the number that made it.
 #[derive(Drop)]
-pub(crate) struct Till {
-    pub(crate) opened_with: u64,
-    pub(crate) sales: u64,
+pub struct Till {
+    pub opened_with: u64,
+    pub sales: u64,
 }
 
 impl Kept for Till {
@@ -36,7 +36,7 @@ impl Kept for Till {
 
 /// Makes a sale, unless the till is full, and hands the pass back with it; where the lock is not free, hands the pass
 /// back as it was.
-pub(crate) fn try_sell(lock: &RuledLock<Till>, pass: Pass<Till>) -> Result<Pass<Till>, Pass<Till>>
+pub fn try_sell(lock: &RuledLock<Till>, pass: Pass<Till>) -> Result<Pass<Till>, Pass<Till>>
     requires { pass.lock ≡ lock.now }
     ensures lock { IfOk result (λ after. after.lock ≡ pass.lock) }
     ensures numbers { IfOk result (λ after. (after.first ≡ pass.first) × (after.limit ≡ pass.limit)) }

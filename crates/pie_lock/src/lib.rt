@@ -21,6 +21,9 @@
 //!   refuses, and the state tells exactly that front (`alone`, `same`). A refusal hands lock and pass back as they were.
 //! - Every call but `take` returns, and none but `new` takes memory.
 //!
+//! `LockRule`, the rule that the lock's table keeps, is exported with what it speaks of (`Place`, `LockOpening`), so that a crate above
+//! can name in a contract what its lock keeps. No value of them is made outside.
+//!
 //! Not promised: that `take` ever returns, that any caller is served before another, that the lock is fair, or how long anything
 //! lasts; that `try_take` and `close` refuse only where another caller has the state (a test shows that they succeed on a free
 //! lock); in which order two callers acted that never gathered; what the holder of a dropped pass had seen; that only one
@@ -28,7 +31,7 @@
 #![tactic(auto)]
 
 mod counter;
-mod example;
+pub mod example;
 mod kept;
 mod lock;
 mod pass;
@@ -41,6 +44,5 @@ pub use kept::Kept;
 pub use lock::RuledLock;
 pub use pass::{Held, Pass};
 pub use refusal::{LockRefusal, OneNumber, StillHeld};
-
-#[cfg(test)]
-mod tests;
+pub use rule::LockRule;
+pub use view::{LockOpening, Place};

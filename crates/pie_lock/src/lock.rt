@@ -190,6 +190,7 @@ impl<S: Kept> RuledLock<S> {
         ensures front { GoesOn S.number_of pass.first pass.limit pass.front result.front }
         ensures origin { result.lock.origin ≡ Some (S.origin_of result.state) }
         ensures told { S.tells result.state result.front }
+        ensures numbered { All (λ e. S.number_of e < pass.lock.numbers) result.front }
         ensures same { HoldsAll pass → result.front ≡ pass.front }
     {
         let mut waiting = pass;

@@ -6,8 +6,6 @@
 
 mod checked;
 mod raw;
-#[cfg(test)]
-mod tests;
 
 pub use checked::Params;
 pub use raw::{BadParam, Field, RawParams};

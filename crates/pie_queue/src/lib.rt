@@ -13,6 +13,3 @@ pub mod queue;
 pub use ecn::Ecn;
 pub use packet::{Packet, Waiting};
 pub use queue::{ByteQueue, Memory};
-
-#[cfg(test)]
-mod tests;

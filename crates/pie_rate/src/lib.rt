@@ -9,6 +9,3 @@
 mod rate;
 
 pub use rate::{OpenCycle, Rate};
-
-#[cfg(test)]
-mod tests;

@@ -33,6 +33,3 @@ pub use migration_law::{
 pub use pie_record::{Flaw, HistoryLines, Line, OpenFault, TraceFault, Version};
 pub use run::{RunEnd, run_trace, run_trace_within};
 pub use write::write_history;
-
-#[cfg(test)]
-mod tests;

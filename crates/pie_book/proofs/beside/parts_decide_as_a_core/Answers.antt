@@ -1,11 +1,8 @@
-use Rattle.pie_book.proofs.BesideFacts.{arrive_beside, depart_beside, update_beside}
+use Rattle.pie_book.proofs.BesideFacts.{opening_beside, step_beside}
 use Rattle.pie_book.proofs.beside.parts_decide_as_a_core.Goals as goal
 
-pub returns-clause-arrivals : goal.returns-clause-arrivals
-returns-clause-arrivals c = arrive_beside
+pub returns-clause-opens : goal.returns-clause-opens
+returns-clause-opens c = opening_beside
 
-pub returns-clause-departures : goal.returns-clause-departures
-returns-clause-departures c = depart_beside
-
-pub returns-clause-updates : goal.returns-clause-updates
-returns-clause-updates c = update_beside
+pub returns-clause-steps : goal.returns-clause-steps
+returns-clause-steps c = step_beside

@@ -1,60 +1,69 @@
-use Rattle.std.proofs.Common.{◌≡◌, ◌≤◌, ◌∙◌, ap, true, false, refl, arith, rules}
-use Rattle.pie_beside.specs.Beside.{shown_by, turns_on}
-use Rattle.pie_c.specs.Calls.{ecn_at}
-use Rattle.pie_c.specs.History.{with_arrival, with_event}
+use Rattle.std.proofs.Common.{◌≡◌, ℕ, ◌∙◌, ◌<◌, ◌^◌, ap, sym, arith, Bool, true, false, if◌then◌else◌, not, ◌&&◌, refl, rules}
+use Rattle.pie_params.specs.declared.raw.RawParams.{RawParams}
+use Rattle.pie_controller.proofs.Sounds.{Sound_call}
+use Rattle.pie_controller.specs.declared.verdict.Arrival.{Arrival}
+use Rattle.pie_controller.specs.Calls.{Arrive, after_call, shown_by}
+use Rattle.pie_controller.specs.Held.{Held}
+use Rattle.pie_controller.specs.Steps.{anew, arrived, bytes_with, judged, turns_on, verdict}
+use Rattle.pie_controller.specs.History.{Shows}
+use Rattle.pie_c.specs.Calls.{arrival_of, arrival_refusal}
+use Rattle.pie_c.specs.Params.{raw_of}
 use Rattle.pie_c.specs.State.{held_in, is_sound}
-use Rattle.pie_c.proofs.Sound.{Sound-from, Sound-to, later-control, later-rate, same-activity}
+use Rattle.pie_c.proofs.Sound.{held-sound, held-state, state-sound}
 use Rattle.pie_c.proofs.calls.pie_arrive.Goals as goal
 
-pub returns-then-not-is_turned_on_by-clause-sound : goal.returns-then-not-is_turned_on_by-clause-sound
-returns-then-not-is_turned_on_by-clause-sound c = λ sound.
-    let state = c.args.state.now in
-    let before = Sound-from state sound in
-    let later : state.moment ≤ c.max-state.result = omega (arith, c.max-state.ensures) in
-    Sound-to _ (record {
-      params = before.params;
-      moment = omega (arith, c.max-state.ensures, c.units.ensures.value, c.units.ensures.within, before.moment);
-      control = later-control state _ before.control refl refl refl refl later;
-      accu = omega (arith, c.units-state.ensures.value, c.accu.ensures.bound);
-      rate = later-rate state _ before.rate refl refl refl refl refl later;
-      activity = same-activity state _ before.activity refl refl;
-    })
+params-arrived : (h : Held) (a : Arrival) (moment : ℕ) → (arrived h a moment).params ≡ h.params
+params-arrived h a moment = by (turns_on h (bytes_with (verdict h a) a.queued a.size))
+  where
+    by : (on : Bool) → (if on then record (anew (judged h a moment)) { active = true } else judged h a moment).params ≡ h.params
+    by true = refl
+    by false = refl
 
-pub turn_on-requires : goal.turn_on-requires
-turn_on-requires c =
+pub returns-then-queued-gt-MAX_QUEUED-clause-shows : goal.returns-then-queued-gt-MAX_QUEUED-clause-shows
+unfolding arrival_refusal
+returns-then-queued-gt-MAX_QUEUED-clause-shows c opened events taken shows =
+    let refused : arrival_refusal c.args.state.now c.args.queued c.args.size c.args.bits c.args.moment ≡ 112 = search rules in
+    let wrong : 112 ≡ 0 = sym refused ∙ taken in
+    cc
+
+pub keep_arrived-requires-clause-sound : goal.keep_arrived-requires-clause-sound
+keep_arrived-requires-clause-sound c = let sound : is_sound c.args.state.now ≡ true = search rules in sound
+
+pub keep_arrived-requires-clause-params : goal.keep_arrived-requires-clause-params
+unfolding held_in
+keep_arrived-requires-clause-params c =
+    ap (λ (h : Held). h.params) c.arrive-verdict.ensures.after ∙ params-arrived _ _ _ ∙ ap (λ (h : Held). h.params) c.in-Some.ensures.held
+
+-- an arrival that leaves activity as it was turned nothing on
+stayed : (h : Held) (a : Arrival) (moment : ℕ) → (arrived h a moment).active ≡ h.active → arrived h a moment ≡ judged h a moment
+stayed h a moment same = by (turns_on h (bytes_with (verdict h a) a.queued a.size)) refl same
+  where
+    by : (on : Bool) → turns_on h (bytes_with (verdict h a) a.queued a.size) ≡ on → (if on then record (anew (judged h a moment)) { active = true } else judged h a moment).active ≡ h.active
+        → (if on then record (anew (judged h a moment)) { active = true } else judged h a moment) ≡ judged h a moment
+    by true is same = absurd (not-on h.active _ (sym same) is)
+      where
+        not-on : (active filled : Bool) → active ≡ true → not active && filled ≡ true → ⊥
+        not-on true filled e f = cc
+        not-on false filled e f = cc
+    by false is same = refl
+
+pub keep_arrived-requires-clause-same : goal.keep_arrived-requires-clause-same
+unfolding held_in
+keep_arrived-requires-clause-same c same =
+    let after = rw c.in-Some.ensures.held at c.arrive-verdict.ensures.after in
+    let kept = stayed (held_in c.args.state.now) _ _ (sym (ap (λ (h : Held). h.active) after) ∙ same) in
+    let is = after ∙ kept in
+    rw is refl
+
+pub returns-clause-sound : goal.returns-clause-sound
+returns-clause-sound c = λ sound.
     let state = c.args.state.now in
-    let sound : is_sound state ≡ true = search rules in
-    let before = Sound-from state sound in
-    let later : state.moment ≤ c.max-state.result = omega (arith, c.max-state.ensures) in
-    Sound-to _ (record {
-      params = before.params;
-      moment = omega (arith, c.max-state.ensures, c.units.ensures.value, c.units.ensures.within, before.moment);
-      control = later-control state _ before.control refl refl refl refl later;
-      accu = omega (arith, c.units-state.ensures.value, c.accu.ensures.bound);
-      rate = later-rate state _ before.rate refl refl refl refl refl later;
-      activity = same-activity state _ before.activity refl refl;
-    })
+    let most = c.in-Some-from_units.ensures.0 in
+    let within : c.in-Some-from_units.moment < 2 ^ 60 = omega (arith, most, c.in-Some-from_units.ensures.1) in
+    rw (c.keep_arrived.ensures, c.arrive-verdict.ensures.after, c.in-Some.ensures.held)
+    (state-sound _ (Sound_call (held_in state) (held-sound state sound) (Arrive _ c.in-Some-from_units.moment) within))
 
 pub returns-clause-shows : goal.returns-clause-shows
-unfolding with_arrival
-returns-clause-shows c = λ shown taken before.
-    let on : turns_on (held_in c.args.state.now) c.args.queued c.args.size c.args.room (ecn_at c.args.bits) c.args.word ≡ true = search rules in
-    let told = c.arrive-arrival.ensures.shows shown.arrivals (rw c.in-Some.ensures.early before.early) in
-    rw on (c.turn_on.ensures.shows (with_event shown (shown_by (held_in c.args.state.now) c.args.queued c.args.size c.args.room (ecn_at c.args.bits) c.args.word)) (record {
-      control = before.control;
-      early = rw (c.units-state.ensures.value ∙ c.accu.ensures.value)
-          (rw (c.in-Some.ensures.active, c.in-Some.ensures.params, c.in-Some.ensures.control, c.in-Some.ensures.early, c.in-Some-ecn.ensures.value) at told);
-      rate = before.rate;
-    }))
-
-pub returns-then-not-is_turned_on_by-clause-shows : goal.returns-then-not-is_turned_on_by-clause-shows
-unfolding with_arrival
-returns-then-not-is_turned_on_by-clause-shows c = λ shown taken before.
-    let off : turns_on (held_in c.args.state.now) c.args.queued c.args.size c.args.room (ecn_at c.args.bits) c.args.word ≡ false = search rules in
-    let told = c.arrive-arrival.ensures.shows shown.arrivals (rw c.in-Some.ensures.early before.early) in
-    rw off (record {
-      control = before.control;
-      early = rw (c.units-state.ensures.value ∙ c.accu.ensures.value)
-          (rw (c.in-Some.ensures.active, c.in-Some.ensures.params, c.in-Some.ensures.control, c.in-Some.ensures.early, c.in-Some-ecn.ensures.value) at told);
-      rate = before.rate;
-    })
+returns-clause-shows c opened events taken shows =
+    let told = c.arrive-verdict.ensures.shows opened events (rw c.in-Some.ensures.held shows) in
+    rw (c.keep_arrived.ensures, held-state) (rw (c.in-Some.ensures.held, c.in-Some-ecn.ensures.value, c.in-Some-from_units.ensures.1) at told)

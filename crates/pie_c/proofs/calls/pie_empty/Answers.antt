@@ -1,18 +1,24 @@
-use Rattle.std.proofs.Common.{◌≡◌, ◌≤◌, ◌∙◌, ap, max, refl, arith}
-use Rattle.pie_c.proofs.Sound.{Sound-from, Sound-to, later-control, later-rate, same-activity}
+use Rattle.std.proofs.Common.{◌≡◌, ◌∙◌, ◌<◌, ◌^◌, ap, arith, refl, rules, true}
+use Rattle.pie_controller.proofs.Sounds.{Sound_call}
+use Rattle.pie_controller.specs.Calls.{Pass}
+use Rattle.pie_controller.specs.Held.{Held}
+use Rattle.pie_c.specs.State.{held_in, is_sound}
+use Rattle.pie_c.proofs.Sound.{held-sound, held-state, state-sound}
 use Rattle.pie_c.proofs.calls.pie_empty.Goals as goal
+
+pub keep_moment-requires-clause-sound : goal.keep_moment-requires-clause-sound
+keep_moment-requires-clause-sound c = let sound : is_sound c.args.state.now ≡ true = search rules in sound
+
+pub keep_moment-requires-clause-same : goal.keep_moment-requires-clause-same
+keep_moment-requires-clause-same c = rw (c.pass.ensures.after, c.in-Some.ensures.held) refl
 
 pub returns-clause-sound : goal.returns-clause-sound
 returns-clause-sound c = λ sound.
     let state = c.args.state.now in
-    let before = Sound-from state sound in
-    let now : c.units-state.result ≡ max c.in-Some.reached.moment c.in-Some-from_units.moment = c.units-state.ensures.value ∙ ap (λ x. x.moment) c.reach.ensures in
-    let later : state.moment ≤ c.units-state.result = omega (arith, now, c.in-Some.ensures.moment) in
-    Sound-to _ (record {
-      params = before.params;
-      moment = omega (arith, c.units-state.ensures.value, c.units-state.ensures.within);
-      control = later-control state _ before.control refl refl refl refl later;
-      accu = before.accu;
-      rate = later-rate state _ before.rate refl refl refl refl refl later;
-      activity = same-activity state _ before.activity refl refl;
-    })
+    let most = c.in-Some-from_units.ensures.0 in
+    let within : c.args.moment < 2 ^ 60 = omega (arith, most) in
+    rw (c.keep_moment.ensures, c.pass.ensures.after, c.in-Some.ensures.held, c.in-Some-from_units.ensures.1) (state-sound _ (Sound_call (held_in state) (held-sound state sound) (Pass c.args.moment) within))
+
+pub returns-clause-shows : goal.returns-clause-shows
+returns-clause-shows c opened events taken shows =
+    rw (c.keep_moment.ensures, held-state, ← c.in-Some-from_units.ensures.1) (c.pass.ensures.shows opened events (rw c.in-Some.ensures.held shows))

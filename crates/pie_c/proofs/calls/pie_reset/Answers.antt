@@ -1,39 +1,22 @@
-use Rattle.std.proofs.Common.{◌≡◌, ◌≤◌, ◌∙◌, ap, max, None, arith}
-use Rattle.pie_beside.specs.Beside.{flag_of, start_of, count_of}
-use Rattle.pie_c.proofs.Sound.{same-activity, Sound-from, Sound-to, control-new, rate-new, last-from}
+use Rattle.std.proofs.Common.{◌≡◌, ◌∙◌, ◌<◌, ◌^◌, ap, arith}
+use Rattle.pie_controller.proofs.Sounds.{Sound_call}
+use Rattle.pie_controller.specs.Calls.{Restart}
+use Rattle.pie_controller.specs.Held.{Held}
+use Rattle.pie_c.specs.State.{held_in}
+use Rattle.pie_c.proofs.Sound.{held-sound, held-state, state-sound}
 use Rattle.pie_c.proofs.calls.pie_reset.Goals as goal
 
-pub returns-clause-shows : goal.returns-clause-shows
-returns-clause-shows c = λ shown taken before.
-    let control = c.reset.ensures.control shown.opening shown.start shown.updates (rw (c.reach.ensures, c.in-Some.ensures.control) before.control) in
-    let early = c.reset.ensures.early shown.arrivals (rw (c.reach.ensures, c.in-Some.ensures.early) before.early) in
-    let rate = c.reset.ensures.rate c.args.state.now.params.dq_threshold in
-    let none = ap (λ x. x.rate) c.reset.ensures.step in
-    rw (c.store_rate.ensures.after, c.store_control.ensures.after) (record {
-      control = rw (c.reach.ensures, c.in-Some.ensures.params) at control;
-      early = rw (c.units-state.ensures.value ∙ c.accu.ensures.value) early;
-      rate = rw none (rw none at rate);
-    })
+pub keep-requires : goal.keep-requires
+unfolding held_in
+keep-requires c = ap (λ (h : Held). h.params) c.reset.ensures.after ∙ ap (λ (h : Held). h.params) c.in-Some.ensures.held
 
 pub returns-clause-sound : goal.returns-clause-sound
 returns-clause-sound c = λ sound.
     let state = c.args.state.now in
-    let before = Sound-from state sound in
-    let now : c.units-state-2.result ≡ max c.in-Some.controller.moment c.in-Some-from_units.moment = c.units-state-2.ensures.value ∙ ap (λ x. x.moment) c.reset.ensures.step ∙ ap (λ x. x.moment) c.reach.ensures in
-    let later : state.moment ≤ c.units-state-2.result = omega (arith, now, c.in-Some.ensures.moment) in
-    let same = c.store_rate.ensures.after in
-    let control = c.store_control.ensures.after in
-    let none = ap (λ x. x.rate.begun) c.reset.ensures.step in
-    let last = ap (λ s. s.last) same ∙ ap (λ s. s.last) control ∙ ap (λ x. x.control.last) c.reset.ensures.step ∙ ap (λ x. x.control.last) c.reach.ensures ∙ ap (λ x. x.last) c.in-Some.ensures.control in
-    Sound-to _ (record {
-      params = rw (ap (λ s. s.params) same ∙ ap (λ s. s.params) control) before.params;
-      moment = omega (arith, c.units-state-2.ensures.value, c.units-state-2.ensures.within);
-      control = control-new _ (rw (ap (λ s. s.prob) same ∙ ap (λ s. s.prob) control) c.store_control.ensures.prob)
-          (rw (ap (λ s. s.old_delay) same ∙ ap (λ s. s.old_delay) control) c.store_control.ensures.old)
-          (rw (ap (λ s. s.burst) same ∙ ap (λ s. s.burst) control) c.store_control.ensures.burst)
-          (omega (arith, last, later, last-from state before.control));
-      accu = omega (arith, c.units-state.ensures.value, c.accu.ensures.bound);
-      rate = rate-new _ None (rw (ap (λ s. s.average) same) c.store_rate.ensures.average)
-          (ap (λ s. s.measuring) same ∙ ap flag_of none) (ap (λ s. s.cycle_start) same ∙ ap start_of none) (ap (λ s. s.cycle_count) same ∙ ap count_of none) tt;
-      activity = same-activity state _ before.activity (ap (λ s. s.profile) same ∙ ap (λ s. s.profile) control) (ap (λ s. s.active) same ∙ ap (λ s. s.active) control);
-    })
+    let most = c.in-Some-from_units.ensures.0 in
+    let within : c.args.moment < 2 ^ 60 = omega (arith, most) in
+    rw (c.keep.ensures, c.reset.ensures.after, c.in-Some.ensures.held, c.in-Some-from_units.ensures.1) (state-sound _ (Sound_call (held_in state) (held-sound state sound) (Restart c.args.moment) within))
+
+pub returns-clause-shows : goal.returns-clause-shows
+returns-clause-shows c opened events taken shows =
+    rw (c.keep.ensures, held-state, ← c.in-Some-from_units.ensures.1) (c.reset.ensures.shows opened events (rw c.in-Some.ensures.held shows))

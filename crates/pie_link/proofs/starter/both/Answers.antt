@@ -1,7 +1,9 @@
-use Rattle.pie_link.proofs.Gathering.{gathered_to, shown_both}
-use Rattle.pie_link.proofs.Working.{folded_on}
+use Rattle.std.proofs.Common.{◌≡◌, ◌+◌, false, List, sym, ap, ◌∙◌, subst, arith}
+use Rattle.pie_link.specs.declared.entry.Entry.{Entry}
+use Rattle.pie_link.specs.Entries.{entries_of}
+use Rattle.pie_link.specs.Storms.{folder}
+use Rattle.pie_link.proofs.Gathering.{alone_to, behind_same, gathered_to}
 use Rattle.pie_link.proofs.FoldsMade.{folds_on}
-use Rattle.std.proofs.Common.{◌≡◌, None}
 use Rattle.pie_link.proofs.starter.both.Goals as goal
 
 pub returns-clause-made : goal.returns-clause-made
@@ -9,12 +11,17 @@ returns-clause-made c = λ plan all one.
     gathered_to c.args.link.now plan c.args.work.caller c.args.last.caller c.gather.new.caller c.args.work.too_soon c.args.last.too_soon
     c.requires.first c.requires.beside.0 c.requires.beside.1 c.in-Ok.ensures.both all one
 
-pub returns-clause-folded : goal.returns-clause-folded
-returns-clause-folded c = λ folded.
-    folded_on c.args.link.now (c.args.last.folding.fault ≡ None) c.args.last.folding.events.items c.args.last.caller.front c.gather.new.caller.front
-    (shown_both c.args.work.caller c.args.last.caller c.gather.new.caller c.in-Ok.ensures.both).1 folded
+pub returns-clause-alone : goal.returns-clause-alone
+returns-clause-alone c = λ plan none only.
+    alone_to c.args.link.now plan c.args.work.caller c.args.last.caller c.gather.new.caller
+    c.requires.first c.requires.beside.0 c.requires.beside.1 c.in-Ok.ensures.both none only
 
 pub returns-clause-folds : goal.returns-clause-folds
-returns-clause-folds c = λ plan folds.
-    folds_on c.args.link.now (c.args.last.folding.fault ≡ None) plan.folds.items c.args.last.caller.front c.gather.new.caller.front c.args.last.folding.too_many
-    (shown_both c.args.work.caller c.args.last.caller c.gather.new.caller c.in-Ok.ensures.both).1 folds
+returns-clause-folds c = λ plan is folds.
+    let last = c.args.last.caller in
+    let one : last.limit ≡ last.first + 1 = omega (arith, c.requires.beside.0, c.requires.beside.1) in
+    let s = behind_same c.args.work.caller last c.gather.new.caller one c.in-Ok.ensures.both in
+    let same : entries_of (folder plan) c.gather.new.caller.front ≡ entries_of (folder plan) last.front =
+    subst (λ n. entries_of n c.gather.new.caller.front ≡ entries_of n last.front) is s.1 in
+    folds_on c.args.link.now (folder plan) (c.args.last.folding.is_short_of_memory ≡ false) plan.folds.items c.args.last.folding.events.items last.front c.gather.new.caller.front
+    c.args.last.folding.too_many s.0 same folds

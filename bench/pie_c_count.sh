@@ -1,0 +1,29 @@
+#!/usr/bin/env bash
+# Counts by valgrind the instructions of the library's calls, which no load changes, beside the stored ones (bench/pie_c_count.txt): a
+# mean over 1000 calls of a kind (bench/pie_c_count.c), inside the library alone. Ends with the status 1 where a kind of call grew.
+#
+# usage: bench/pie_c_count.sh [--store]    after `rt lib` in crates/pie_c; --store keeps what was counted
+set -eu
+cd "$(dirname "$0")/.."
+for tool in "${CC:-cc}" valgrind; do
+    if ! command -v "$tool" > /dev/null; then
+        echo "NOT RUN: bench/pie_c_count.sh: no $tool here, so no instructions were counted"
+        exit 0
+    fi
+done
+work=$(mktemp -d)
+trap 'rm -rf "$work"' EXIT
+stored=bench/pie_c_count.txt
+"${CC:-cc}" -O2 -Iinclude -o "$work/count" bench/pie_c_count.c crates/pie_c/out/libpie_c.a
+for kind in arrive_considered arrive_passed arrive_dropped depart_measured depart_unmeasured update update_too_soon empty reset set_params; do
+    case $kind in set_params) call=pie_set_params ;; *) call=pie_${kind%%_*} ;; esac
+    valgrind --tool=callgrind --callgrind-out-file=/dev/null --toggle-collect="$call" "$work/count" "$kind" 1000 2> "$work/said"
+    echo "$kind $(($(awk '/Collected/ {print $NF}' "$work/said") / 1000))"
+done > "$work/counted"
+if [ "${1-}" = --store ]; then
+    cp "$work/counted" "$stored"
+fi
+awk 'NR == FNR {before[$1] = $2; next}
+    {note = $2 > before[$1] ? ": IT GREW" : $2 < before[$1] ? ": fewer" : ""; grew += $2 > before[$1]
+     printf "%-18s %4d instructions, stored %4d%s\n", $1, $2, before[$1], note}
+    END {exit grew > 0}' "$stored" "$work/counted"

@@ -1,0 +1,57 @@
+#!/usr/bin/env python3
+"""Builds the static library, crates/pie_c/out/libpie_c.a. `rt lib` does that too, and proves again what it has no kept work of: in a
+fresh clone all crates below pie_c. Where the gate has just proved these (`rt ci` leaves each library in out/rlib, with no stamp), and no
+source is newer than they are, pie_c alone is proved and compiled, over them."""
+import importlib.machinery
+import importlib.util
+import os
+import shutil
+import subprocess
+import sys
+
+sys.dont_write_bytecode = True
+ROOT = os.path.dirname(os.path.dirname(os.path.dirname(os.path.abspath(__file__))))
+CRATE = "pie_c"
+
+
+def toolchain():
+    """The toolchain's own library, which knows how a crate is compiled over those below it."""
+    file = os.path.join(os.path.dirname(os.path.realpath(shutil.which("rt"))), "rtlib.py")
+    loader = importlib.machinery.SourceFileLoader("rtlib", file)
+    module = importlib.util.module_from_spec(importlib.util.spec_from_loader("rtlib", loader))
+    sys.modules["rtlib"] = module
+    loader.exec_module(module)
+    return module
+
+
+def newest(folder):
+    """When a source of the crate was last changed."""
+    files = [os.path.join(at, name) for part in ("src", "specs", "proofs") for at, _, names in os.walk(f"{folder}/{part}") for name in names]
+    return max(map(os.path.getmtime, files))
+
+
+def is_left_by_the_gate(crates):
+    """Whether `rt ci` left the library of each, and nothing changed since."""
+    made, stamped = [f"{it.folder}/out/rlib/{it.name}.rlib" for it in crates], [f"{it.folder}/out/rlib/stamp" for it in crates]
+    if not all(map(os.path.isdir, made)) or any(map(os.path.exists, stamped)):
+        return False
+    return max(newest(it.folder) for it in crates) < min(map(os.path.getmtime, made))
+
+
+def main():
+    os.chdir(ROOT)
+    try:
+        rtlib = toolchain()
+        crate = next(it for it in rtlib.crates_below(ROOT) if it.name == CRATE)
+        if is_left_by_the_gate(crate.below()):
+            print("bindings/c/library.py: over the libraries that rt ci has proved", flush=True)
+            if crate.build_static([]) == 0:
+                return
+    except (AttributeError, OSError, StopIteration, TypeError) as why:
+        # (another toolchain may be arranged otherwise)
+        print(f"bindings/c/library.py: {type(why).__name__}: {why}", flush=True)
+    print("bindings/c/library.py: by rt lib", flush=True)
+    sys.exit(subprocess.run(["rt", "lib"], cwd=f"crates/{CRATE}").returncode)
+
+
+main()

@@ -1,0 +1,34 @@
+#!/usr/bin/env bash
+# Builds the queue discipline and the dumbbell, and runs three simulated seconds with ECN: packets are marked and dropped, and the
+# history is clean. Where ns-3 is not installed, a line that begins with NOT RUN says so.
+# usage: bindings/ns3/check.sh PIE      PIE: the built program, as crates/pie/out/ has it after `rt run`
+set -u
+program=$1
+here=$(cd "$(dirname "$0")" && pwd)
+top=$here/../..
+if [ ! -e /usr/include/ns3/core-module.h ] || ! command -v c++ > /dev/null || ! command -v make > /dev/null; then
+    echo "NOT RUN: bindings/ns3: no simulation, for want of ns-3, a C++ compiler or make (examples/link/install.sh ns3)"
+    exit 0
+fi
+work=$(mktemp -d)
+trap 'rm -rf "$work"' EXIT
+if ! (cd "$top/crates/pie_c" && { [ -e out/libpie_c.a ] || rt lib; } && make -s -C "$here") > "$work/build.log" 2>&1; then
+    cat "$work/build.log"
+    exit 1
+fi
+"$here/out/dumbbell" --queue=recorded --ecn=1 --seconds=3 --warm-up=0 --history="$work/history" > "$work/record" || exit 1
+events=$(grep -c -E '^(arrive|depart|update),' "$work/history")
+found=$("$program" audit < "$work/history")
+marks=$(grep -c ',mark$' "$work/history")
+drops=$(grep -c -E ',(early|bytes)$' "$work/history")
+if [ "$found" != "clean,$events" ] || [ "$marks" = 0 ] || [ "$drops" = 0 ]; then
+    echo "bindings/ns3/check.sh: $found of $events events, $marks marks, $drops drops"
+    exit 1
+fi
+# ns-3 counted the same marks and drops as the history has
+if ! awk -F, -v marks="$marks" -v drops="$drops" 'END { exit !($16 + $17 == drops && $18 == marks) }' "$work/record"; then
+    echo "bindings/ns3/check.sh: ns-3 counted otherwise than the $marks marks and $drops drops of the history:"
+    cat "$work/record"
+    exit 1
+fi
+echo "bindings/ns3: the history of a simulation is clean ($events events, $marks marks, $drops drops)"

@@ -1,0 +1,306 @@
+/* TCP flows over a dumbbell: each flow has a sender and a receiver of its own, and all share one link, whose queue is managed by
+ * this repository's PIE, by ns-3's own with or without de-randomization, or by tail drop. Prints one CSV record of what came out.
+ */
+#include "recorded-pie-queue-disc.h"
+
+#include "ns3/applications-module.h"
+#include "ns3/core-module.h"
+#include "ns3/internet-module.h"
+#include "ns3/network-module.h"
+#include "ns3/point-to-point-module.h"
+#include "ns3/traffic-control-module.h"
+
+#include <algorithm>
+#include <cstdio>
+#include <numeric>
+#include <vector>
+
+using namespace ns3;
+
+namespace
+{
+
+/* A scenario, as the command line says it. */
+struct Scenario
+{
+    std::string queue = "recorded"; /* recorded, pie, pie-random or fifo */
+    double megabits = 10;           /* the shared link's rate */
+    uint32_t flows = 4;
+    double roundTrip = 40; /* ms, without queues */
+    bool ecn = false;
+    double udp = 0; /* rate of a UDP burst in the middle fifth of the run, in parts of the link's */
+    uint32_t seed = 1;
+    double seconds = 20;
+    double warmUp = 5; /* seconds of which steady figures take no account */
+    std::string history;
+};
+
+constexpr uint32_t SEGMENT = 1448;   /* with 52 bytes of headers a packet of 1500 */
+constexpr uint32_t MEAN_PKT = 1500;  /* for all that are asked, so that ns-3's scaling by size changes nothing */
+constexpr uint16_t PORT = 5000;
+
+/* What is counted while the run goes on. */
+struct Counts
+{
+    std::vector<double> waits; /* ms, of each packet that left after the warm-up */
+    double early = 0;          /* the sum of those before, and their number */
+    uint64_t earlyPackets = 0;
+    std::vector<uint64_t> received; /* bytes of each TCP flow after the warm-up */
+};
+
+Counts g_counts;
+Time g_warmUp;
+
+void
+SeeWait(Time wait)
+{
+    double ms = wait.GetSeconds() * 1000;
+    if (Simulator::Now() >= g_warmUp)
+    {
+        g_counts.waits.push_back(ms);
+    }
+    else
+    {
+        g_counts.early += ms;
+        g_counts.earlyPackets++;
+    }
+}
+
+void
+SeeReceived(uint32_t flow, Ptr<const Packet> packet, const Address&)
+{
+    if (Simulator::Now() >= g_warmUp)
+    {
+        g_counts.received[flow] += packet->GetSize();
+    }
+}
+
+/* 262144 bytes at 10 Mbit/s, some 210 ms, and in proportion at other rates. */
+uint32_t
+LimitBytes(const Scenario& scenario)
+{
+    return static_cast<uint32_t>(262144 * scenario.megabits / 10);
+}
+
+void
+SetTcp(const Scenario& scenario)
+{
+    Config::SetDefault("ns3::TcpL4Protocol::SocketType", TypeIdValue(TcpCubic::GetTypeId()));
+    Config::SetDefault("ns3::TcpSocket::SegmentSize", UintegerValue(SEGMENT));
+    Config::SetDefault("ns3::TcpSocket::InitialCwnd", UintegerValue(10));
+    Config::SetDefault("ns3::TcpSocket::SndBufSize", UintegerValue(1 << 23));
+    Config::SetDefault("ns3::TcpSocket::RcvBufSize", UintegerValue(1 << 23));
+    Config::SetDefault("ns3::TcpSocketBase::UseEcn", StringValue(scenario.ecn ? "On" : "Off"));
+    Config::SetDefault("ns3::DropTailQueue<Packet>::MaxSize", StringValue("1p"));
+}
+
+/* The queue of the shared link. What is not set here has the default of RFC 8033 in both. */
+TrafficControlHelper
+QueueOf(const Scenario& scenario)
+{
+    QueueSizeValue limit(QueueSize(QueueSizeUnit::BYTES, LimitBytes(scenario)));
+    TrafficControlHelper helper;
+    if (scenario.queue == "recorded")
+    {
+        helper.SetRootQueueDisc("ns3::RecordedPieQueueDisc",
+                                "MeanPkt", UintegerValue(MEAN_PKT),
+                                "LimitBytes", UintegerValue(LimitBytes(scenario)),
+                                "UseEcn", BooleanValue(scenario.ecn),
+                                "History", StringValue(scenario.history));
+    }
+    else if (scenario.queue == "pie" || scenario.queue == "pie-random")
+    {
+        helper.SetRootQueueDisc("ns3::PieQueueDisc",
+                                "MeanPktSize", UintegerValue(MEAN_PKT),
+                                "MaxSize", limit,
+                                "UseDequeueRateEstimator", BooleanValue(true),
+                                "UseCapDropAdjustment", BooleanValue(true),
+                                "UseDerandomization", BooleanValue(scenario.queue == "pie"),
+                                "UseEcn", BooleanValue(scenario.ecn));
+    }
+    else
+    {
+        NS_ABORT_MSG_UNLESS(scenario.queue == "fifo", "unknown queue " << scenario.queue);
+        helper.SetRootQueueDisc("ns3::FifoQueueDisc", "MaxSize", limit);
+    }
+    return helper;
+}
+
+PointToPointHelper
+LinkOf(double megabits, double delay)
+{
+    PointToPointHelper link;
+    link.SetDeviceAttribute("DataRate", DataRateValue(DataRate(static_cast<uint64_t>(megabits * 1e6))));
+    link.SetChannelAttribute("Delay", TimeValue(Seconds(delay / 1000)));
+    return link;
+}
+
+/* The two routers and the hosts, with addresses. */
+struct Dumbbell
+{
+    NodeContainer routers, senders, receivers;
+    std::vector<Ipv4Address> targets; /* the receivers' addresses */
+    Ptr<QueueDisc> queue;             /* of the shared link, on the senders' side */
+};
+
+void
+JoinHosts(Dumbbell& net, const NodeContainer& hosts, Ptr<Node> router, const char* base, bool isTarget)
+{
+    PointToPointHelper access = LinkOf(1000, 0.5);
+    InternetStackHelper stack;
+    stack.Install(hosts);
+    Ipv4AddressHelper addresses;
+    addresses.SetBase(base, "255.255.255.252");
+    for (uint32_t i = 0; i < hosts.GetN(); i++)
+    {
+        NetDeviceContainer pair = access.Install(router, hosts.Get(i));
+        Ipv4InterfaceContainer assigned = addresses.Assign(pair);
+        addresses.NewNetwork();
+        if (isTarget)
+        {
+            net.targets.push_back(assigned.GetAddress(1));
+        }
+    }
+}
+
+Dumbbell
+Build(const Scenario& scenario)
+{
+    Dumbbell net;
+    net.routers.Create(2);
+    /* one host more on each side, for the UDP burst */
+    net.senders.Create(scenario.flows + 1);
+    net.receivers.Create(scenario.flows + 1);
+    InternetStackHelper().Install(net.routers);
+    /* two access links of 0.5 ms each way, and the rest of the round trip on the shared link */
+    PointToPointHelper shared = LinkOf(scenario.megabits, scenario.roundTrip / 2 - 1);
+    NetDeviceContainer pair = shared.Install(net.routers);
+    net.queue = QueueOf(scenario).Install(pair.Get(0)).Get(0);
+    Ipv4AddressHelper addresses("10.0.0.0", "255.255.255.252");
+    addresses.Assign(pair);
+    JoinHosts(net, net.senders, net.routers.Get(0), "10.1.0.0", false);
+    JoinHosts(net, net.receivers, net.routers.Get(1), "10.2.0.0", true);
+    Ipv4GlobalRoutingHelper::PopulateRoutingTables();
+    return net;
+}
+
+void
+StartFlows(const Scenario& scenario, const Dumbbell& net)
+{
+    Ptr<UniformRandomVariable> start = CreateObject<UniformRandomVariable>();
+    for (uint32_t i = 0; i < scenario.flows; i++)
+    {
+        PacketSinkHelper sink("ns3::TcpSocketFactory", InetSocketAddress(Ipv4Address::GetAny(), PORT));
+        ApplicationContainer sinks = sink.Install(net.receivers.Get(i));
+        sinks.Get(0)->TraceConnectWithoutContext("Rx", MakeBoundCallback(&SeeReceived, i));
+        BulkSendHelper bulk("ns3::TcpSocketFactory", InetSocketAddress(net.targets[i], PORT));
+        ApplicationContainer source = bulk.Install(net.senders.Get(i));
+        source.Start(Seconds(start->GetValue(0, 1)));
+    }
+}
+
+void
+StartBurst(const Scenario& scenario, const Dumbbell& net)
+{
+    InetSocketAddress target(net.targets[scenario.flows], PORT);
+    PacketSinkHelper sink("ns3::UdpSocketFactory", InetSocketAddress(Ipv4Address::GetAny(), PORT));
+    sink.Install(net.receivers.Get(scenario.flows));
+    OnOffHelper burst("ns3::UdpSocketFactory", target);
+    burst.SetConstantRate(DataRate(static_cast<uint64_t>(scenario.udp * scenario.megabits * 1e6)), 1472);
+    ApplicationContainer source = burst.Install(net.senders.Get(scenario.flows));
+    source.Start(Seconds(scenario.seconds * 0.4));
+    source.Stop(Seconds(scenario.seconds * 0.6));
+}
+
+/* The value that this part of the sorted list lies at or below. */
+double
+Quantile(const std::vector<double>& sorted, double part)
+{
+    return sorted.empty() ? 0 : sorted[static_cast<size_t>(part * static_cast<double>(sorted.size() - 1))];
+}
+
+/* Jain's index: 1 where all flows received the same. */
+double
+Fairness(const std::vector<uint64_t>& received)
+{
+    double sum = 0;
+    double squares = 0;
+    for (uint64_t bytes : received)
+    {
+        sum += static_cast<double>(bytes);
+        squares += static_cast<double>(bytes) * static_cast<double>(bytes);
+    }
+    return squares == 0 ? 0 : sum * sum / (squares * static_cast<double>(received.size()));
+}
+
+constexpr const char* HEADER =
+    "queue,mbit,flows,rtt_ms,ecn,udp,seed,goodput_mbit,fairness,wait_mean_ms,wait_median_ms,wait_p95_ms,wait_p99_ms,"
+    "start_wait_mean_ms,sent,early,tail,marked";
+
+void
+Print(const Scenario& s, const Dumbbell& net)
+{
+    std::vector<double>& waits = g_counts.waits;
+    std::sort(waits.begin(), waits.end());
+    double sum = std::accumulate(waits.begin(), waits.end(), 0.0);
+    double mean = waits.empty() ? 0 : sum / static_cast<double>(waits.size());
+    double start = g_counts.earlyPackets == 0 ? 0 : g_counts.early / static_cast<double>(g_counts.earlyPackets);
+    uint64_t bytes = std::accumulate(g_counts.received.begin(), g_counts.received.end(), uint64_t(0));
+    double goodput = static_cast<double>(bytes) * 8 / (s.seconds - s.warmUp) / 1e6;
+    const QueueDisc::Stats& stats = net.queue->GetStats();
+    uint32_t early = stats.GetNDroppedPackets(RecordedPieQueueDisc::EARLY_DROP) +
+                     stats.GetNDroppedPackets(PieQueueDisc::UNFORCED_DROP);
+    std::printf("%s,%g,%u,%g,%d,%g,%u,%.4f,%.4f,%.3f,%.3f,%.3f,%.3f,%.3f,%u,%u,%u,%u\n",
+                s.queue.c_str(), s.megabits, s.flows, s.roundTrip, s.ecn, s.udp, s.seed, goodput,
+                Fairness(g_counts.received), mean, Quantile(waits, 0.5), Quantile(waits, 0.95), Quantile(waits, 0.99),
+                start, stats.nTotalDequeuedPackets, early, stats.nTotalDroppedPackets - early, stats.nTotalMarkedPackets);
+}
+
+Scenario
+Read(int count, char** words)
+{
+    Scenario s;
+    bool isHeader = false;
+    CommandLine line(__FILE__);
+    line.AddValue("queue", "recorded, pie, pie-random or fifo", s.queue);
+    line.AddValue("rate", "Mbit/s of the shared link", s.megabits);
+    line.AddValue("flows", "TCP flows", s.flows);
+    line.AddValue("rtt", "round trip without queues, ms", s.roundTrip);
+    line.AddValue("ecn", "ECN at hosts and queue", s.ecn);
+    line.AddValue("udp", "rate of a UDP burst in the middle fifth, in parts of the link's", s.udp);
+    line.AddValue("seed", "number of the run", s.seed);
+    line.AddValue("seconds", "simulated seconds", s.seconds);
+    line.AddValue("warm-up", "seconds of which steady figures take no account", s.warmUp);
+    line.AddValue("history", "file for the history (queue recorded)", s.history);
+    line.AddValue("header", "print the names of the fields before the record", isHeader);
+    line.Parse(count, words);
+    if (isHeader)
+    {
+        std::printf("%s\n", HEADER);
+    }
+    return s;
+}
+
+} // namespace
+
+int
+main(int count, char** words)
+{
+    Scenario scenario = Read(count, words);
+    RngSeedManager::SetRun(scenario.seed);
+    SetTcp(scenario);
+    g_warmUp = Seconds(scenario.warmUp);
+    g_counts.received.assign(scenario.flows, 0);
+    Dumbbell net = Build(scenario);
+    net.queue->TraceConnectWithoutContext("SojournTime", MakeCallback(&SeeWait));
+    StartFlows(scenario, net);
+    if (scenario.udp > 0)
+    {
+        StartBurst(scenario, net);
+    }
+    Simulator::Stop(Seconds(scenario.seconds));
+    Simulator::Run();
+    Print(scenario, net);
+    Simulator::Destroy();
+    return 0;
+}

@@ -1,0 +1,323 @@
+#include "recorded-pie-queue-disc.h"
+
+#include "ns3/abort.h"
+#include "ns3/boolean.h"
+#include "ns3/double.h"
+#include "ns3/drop-tail-queue.h"
+#include "ns3/log.h"
+#include "ns3/simulator.h"
+#include "ns3/string.h"
+#include "ns3/uinteger.h"
+
+#include <cmath>
+
+namespace ns3
+{
+
+NS_LOG_COMPONENT_DEFINE("RecordedPieQueueDisc");
+
+NS_OBJECT_ENSURE_REGISTERED(RecordedPieQueueDisc);
+
+namespace
+{
+
+/* Who acts, in the history: the senders, the link, the timer. */
+constexpr int SENDERS = 1;
+constexpr int LINK = 2;
+constexpr int TIMER = 3;
+
+constexpr const char* ECN_WORDS[] = {"not", "ect1", "ect0", "ce"};
+constexpr const char* VERDICTS[] = {"enqueue", "mark", "early", "bytes", "packets"};
+
+uint64_t
+Moment()
+{
+    return static_cast<uint64_t>(Simulator::Now().GetNanoSeconds());
+}
+
+/* The ECN field of the item's IP header. Without such a header a packet understands no mark; and a queue that makes no use of ECN
+ * takes every packet for one that doesn't. */
+uint32_t
+EcnField(Ptr<const QueueDiscItem> item, bool useEcn)
+{
+    uint8_t field = 0;
+    bool isRead = useEcn && item->GetUint8Value(QueueItem::IP_DSFIELD, field);
+    return isRead ? field & 3u : 0u;
+}
+
+void
+Expect(uint32_t code, const char* call)
+{
+    NS_ABORT_MSG_IF(code != PIE_DONE, call << " refused by code " << code);
+}
+
+} // namespace
+
+TypeId
+RecordedPieQueueDisc::GetTypeId()
+{
+    static TypeId tid =
+        TypeId("ns3::RecordedPieQueueDisc")
+            .SetParent<QueueDisc>()
+            .SetGroupName("TrafficControl")
+            .AddConstructor<RecordedPieQueueDisc>()
+            .AddAttribute("Target",
+                          "Reference delay (RFC 8033, section 4.2)",
+                          TimeValue(MilliSeconds(15)),
+                          MakeTimeAccessor(&RecordedPieQueueDisc::m_target),
+                          MakeTimeChecker())
+            .AddAttribute("TUpdate",
+                          "Time between two updates (section 4.2)",
+                          TimeValue(MilliSeconds(15)),
+                          MakeTimeAccessor(&RecordedPieQueueDisc::m_tUpdate),
+                          MakeTimeChecker())
+            .AddAttribute("MaxBurst",
+                          "Burst allowance (section 4.4)",
+                          TimeValue(MilliSeconds(150)),
+                          MakeTimeAccessor(&RecordedPieQueueDisc::m_maxBurst),
+                          MakeTimeChecker())
+            .AddAttribute("Alpha",
+                          "Gain of the delay's distance from the target, per second (section 4.2)",
+                          DoubleValue(0.125),
+                          MakeDoubleAccessor(&RecordedPieQueueDisc::m_alpha),
+                          MakeDoubleChecker<double>(0, 1000))
+            .AddAttribute("Beta",
+                          "Gain of the delay's change, per second (section 4.2)",
+                          DoubleValue(1.25),
+                          MakeDoubleAccessor(&RecordedPieQueueDisc::m_beta),
+                          MakeDoubleChecker<double>(0, 1000))
+            .AddAttribute("MeanPkt",
+                          "Mean packet size in bytes (section 4.1)",
+                          UintegerValue(1024),
+                          MakeUintegerAccessor(&RecordedPieQueueDisc::m_meanPkt),
+                          MakeUintegerChecker<uint32_t>())
+            .AddAttribute("LimitBytes",
+                          "The queue's limit in bytes (appendix A)",
+                          UintegerValue(262144),
+                          MakeUintegerAccessor(&RecordedPieQueueDisc::m_limitBytes),
+                          MakeUintegerChecker<uint32_t>())
+            .AddAttribute("MarkEcnth",
+                          "From this probability on a packet is dropped and not marked (section 5.1)",
+                          DoubleValue(0.1),
+                          MakeDoubleAccessor(&RecordedPieQueueDisc::m_markEcnth),
+                          MakeDoubleChecker<double>(0, 1))
+            .AddAttribute("DqThreshold",
+                          "Bytes of a cycle of the departure rate (section 5.2)",
+                          UintegerValue(16384),
+                          MakeUintegerAccessor(&RecordedPieQueueDisc::m_dqThreshold),
+                          MakeUintegerChecker<uint32_t>())
+            .AddAttribute("Profile",
+                          "1: always active; 2: turns itself on and off (section 5.3)",
+                          UintegerValue(PIE_ALWAYS_ON),
+                          MakeUintegerAccessor(&RecordedPieQueueDisc::m_profile),
+                          MakeUintegerChecker<uint32_t>(PIE_ALWAYS_ON, PIE_ON_AND_OFF))
+            .AddAttribute("Packets",
+                          "How many packets the queue has room for",
+                          UintegerValue(65536),
+                          MakeUintegerAccessor(&RecordedPieQueueDisc::m_packets),
+                          MakeUintegerChecker<uint32_t>(1, 65536))
+            .AddAttribute("UseEcn",
+                          "Whether packets whose ECN field allows it are marked (section 5.1)",
+                          BooleanValue(false),
+                          MakeBooleanAccessor(&RecordedPieQueueDisc::m_useEcn),
+                          MakeBooleanChecker())
+            .AddAttribute("History",
+                          "The file for the history; none where empty",
+                          StringValue(""),
+                          MakeStringAccessor(&RecordedPieQueueDisc::m_historyName),
+                          MakeStringChecker())
+            .AddTraceSource("Probability",
+                            "The probability after an update",
+                            MakeTraceSourceAccessor(&RecordedPieQueueDisc::m_probability),
+                            "ns3::TracedValueCallback::Double")
+            .AddTraceSource("Delay",
+                            "The queueing delay that an update took",
+                            MakeTraceSourceAccessor(&RecordedPieQueueDisc::m_delay),
+                            "ns3::TracedValueCallback::Time");
+    return tid;
+}
+
+RecordedPieQueueDisc::RecordedPieQueueDisc()
+    : QueueDisc(QueueDiscSizePolicy::SINGLE_INTERNAL_QUEUE, QueueSizeUnit::BYTES),
+      m_pie(),
+      m_words(CreateObject<UniformRandomVariable>()),
+      m_arrivals(0)
+{
+}
+
+void
+RecordedPieQueueDisc::DoDispose()
+{
+    m_updateEvent.Cancel();
+    m_words = nullptr;
+    if (m_history.is_open())
+    {
+        m_history.close();
+        NS_ABORT_MSG_IF(m_history.fail(), "the history could not be written");
+    }
+    QueueDisc::DoDispose();
+}
+
+int64_t
+RecordedPieQueueDisc::AssignStreams(int64_t stream)
+{
+    m_words->SetStream(stream);
+    return 1;
+}
+
+const pie_state&
+RecordedPieQueueDisc::GetState() const
+{
+    return m_pie;
+}
+
+pie_params
+RecordedPieQueueDisc::Params() const
+{
+    pie_params params;
+    params.target = static_cast<uint64_t>(m_target.GetNanoSeconds());
+    params.t_update = static_cast<uint64_t>(m_tUpdate.GetNanoSeconds());
+    params.max_burst = static_cast<uint64_t>(m_maxBurst.GetNanoSeconds());
+    params.alpha = static_cast<uint64_t>(std::llround(m_alpha * 1000));
+    params.beta = static_cast<uint64_t>(std::llround(m_beta * 1000));
+    params.mean_pkt = m_meanPkt;
+    params.limit_bytes = m_limitBytes;
+    params.mark_ecnth = static_cast<uint64_t>(std::llround(m_markEcnth * 1e12));
+    params.dq_threshold = m_dqThreshold;
+    return params;
+}
+
+bool
+RecordedPieQueueDisc::CheckConfig()
+{
+    if (GetNQueueDiscClasses() != 0 || GetNPacketFilters() != 0 || GetNInternalQueues() != 0)
+    {
+        NS_LOG_ERROR("RecordedPieQueueDisc has no classes and no filters, and makes its queue itself");
+        return false;
+    }
+    pie_params params = Params();
+    uint32_t bad = pie_check_params(&params);
+    if (bad != 0)
+    {
+        NS_LOG_ERROR("parameter " << bad << " of pie_check_params is out of its range");
+        return false;
+    }
+    /* The library decides what there is room for, so the queue itself never refuses. */
+    QueueSize limit(QueueSizeUnit::BYTES, m_limitBytes);
+    SetMaxSize(limit);
+    AddInternalQueue(CreateObjectWithAttributes<DropTailQueue<QueueDiscItem>>("MaxSize", QueueSizeValue(limit)));
+    return true;
+}
+
+void
+RecordedPieQueueDisc::InitializeParams()
+{
+    pie_params params = Params();
+    Expect(pie_open_with(&m_pie, &params, Moment(), m_profile), "pie_open_with");
+    RecordOpening(params, Moment());
+    m_updateEvent = Simulator::Schedule(m_tUpdate, &RecordedPieQueueDisc::Update, this);
+}
+
+void
+RecordedPieQueueDisc::RecordOpening(const pie_params& p, uint64_t moment)
+{
+    if (m_historyName.empty())
+    {
+        return;
+    }
+    m_history.open(m_historyName);
+    NS_ABORT_MSG_UNLESS(m_history, "cannot write " << m_historyName);
+    m_history << "open2," << m_profile << ",rolling," << moment << ',' << m_packets << ",1024," << (uint64_t(1) << 40) << ','
+              << p.target << ',' << p.t_update << ',' << p.max_burst << ',' << p.alpha << ',' << p.beta << ',' << p.mean_pkt
+              << ',' << p.limit_bytes << ',' << p.mark_ecnth << ',' << p.dq_threshold << '\n';
+}
+
+uint64_t
+RecordedPieQueueDisc::Word()
+{
+    uint64_t high = m_words->GetInteger(0, UINT32_MAX);
+    return high << 32 | m_words->GetInteger(0, UINT32_MAX);
+}
+
+bool
+RecordedPieQueueDisc::Drop(Ptr<QueueDiscItem> item, const char* reason)
+{
+    DropBeforeEnqueue(item, reason);
+    return false;
+}
+
+bool
+RecordedPieQueueDisc::DoEnqueue(Ptr<QueueDiscItem> item)
+{
+    Ptr<InternalQueue> queue = GetInternalQueue(0);
+    uint64_t moment = Moment();
+    uint64_t word = Word();
+    uint32_t ecn = EcnField(item, m_useEcn);
+    uint32_t room = m_packets - queue->GetNPackets();
+    uint32_t verdict = pie_arrive(&m_pie, queue->GetNBytes(), item->GetSize(), room, ecn, word, moment);
+    NS_ABORT_MSG_IF(verdict > PIE_PACKETS, "pie_arrive refused by code " << verdict);
+    m_arrivals++;
+    if (m_history.is_open())
+    {
+        m_history << "arrive," << SENDERS << ',' << moment << ',' << m_arrivals << ',' << item->GetSize()
+                  << ',' << ECN_WORDS[ecn] << ',' << word << ',' << VERDICTS[verdict] << '\n';
+    }
+    switch (verdict)
+    {
+    case PIE_EARLY:
+        return Drop(item, EARLY_DROP);
+    case PIE_BYTES:
+        return Drop(item, BYTES_DROP);
+    case PIE_PACKETS:
+        return Drop(item, PACKETS_DROP);
+    case PIE_MARK:
+        NS_ABORT_MSG_UNLESS(Mark(item, MARK), "a packet was to be marked that cannot be");
+        break;
+    default:
+        break;
+    }
+    NS_ABORT_MSG_UNLESS(queue->Enqueue(item), "the queue refused a packet that the library let in");
+    m_tags.push_back(m_arrivals);
+    return true;
+}
+
+Ptr<QueueDiscItem>
+RecordedPieQueueDisc::DoDequeue()
+{
+    Ptr<InternalQueue> queue = GetInternalQueue(0);
+    Ptr<QueueDiscItem> item = queue->Dequeue();
+    if (!item)
+    {
+        return nullptr; /* the simulator's clock does not fall, so pie_empty would change no decision */
+    }
+    uint64_t moment = Moment();
+    uint64_t tag = m_tags.front();
+    m_tags.pop_front();
+    Expect(pie_depart(&m_pie, item->GetSize(), queue->GetNBytes(), moment), "pie_depart");
+    if (m_history.is_open())
+    {
+        m_history << "depart," << LINK << ',' << moment << ",left," << tag << ',' << item->GetSize()
+                  << ',' << ECN_WORDS[EcnField(item, m_useEcn)] << '\n';
+    }
+    return item;
+}
+
+void
+RecordedPieQueueDisc::Update()
+{
+    uint64_t moment = Moment();
+    pie_updated updated = pie_update(&m_pie, GetInternalQueue(0)->GetNBytes(), moment);
+    Expect(static_cast<uint32_t>(updated.code), "pie_update");
+    if (m_history.is_open())
+    {
+        m_history << "update," << TIMER << ',' << moment << ',' << updated.delay << ',' << updated.prob << ','
+                  << updated.burst << '\n';
+    }
+    m_probability = static_cast<double>(updated.prob) / 1e12;
+    m_delay = NanoSeconds(static_cast<int64_t>(updated.delay));
+    m_updateEvent = Simulator::Schedule(NanoSeconds(static_cast<int64_t>(updated.due - moment)),
+                                        &RecordedPieQueueDisc::Update,
+                                        this);
+}
+
+} // namespace ns3

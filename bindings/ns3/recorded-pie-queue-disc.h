@@ -1,0 +1,84 @@
+/* PIE (RFC 8033) by libpie_c.a as a queue discipline of ns-3: every decision goes into a history that `pie audit` decides again
+ * and `pie explain` explains. */
+#ifndef RECORDED_PIE_QUEUE_DISC_H
+#define RECORDED_PIE_QUEUE_DISC_H
+
+#include "pie.h"
+
+#include "ns3/event-id.h"
+#include "ns3/nstime.h"
+#include "ns3/queue-disc.h"
+#include "ns3/random-variable-stream.h"
+#include "ns3/traced-value.h"
+
+#include <deque>
+#include <fstream>
+#include <string>
+
+namespace ns3
+{
+
+/* A queue of bytes with PIE in front of it. The controller's parameters are attributes of the same names; they hold from the
+ * initialization on. Updates are events of the simulator, each scheduled at the moment that the update before it answered.
+ * A refusal by the library ends the simulation with its code. */
+class RecordedPieQueueDisc : public QueueDisc
+{
+  public:
+    static TypeId GetTypeId();
+    RecordedPieQueueDisc();
+
+    /* Sets the random stream, and answers how many streams were used: 1. */
+    int64_t AssignStreams(int64_t stream);
+
+    /* The controller's state, to be read at any time. */
+    const pie_state& GetState() const;
+
+    /* Why packets are dropped or marked, in the words of a history. */
+    static constexpr const char* EARLY_DROP = "early";
+    static constexpr const char* BYTES_DROP = "bytes";
+    static constexpr const char* PACKETS_DROP = "packets";
+    static constexpr const char* MARK = "mark";
+
+  protected:
+    void DoDispose() override;
+
+  private:
+    bool DoEnqueue(Ptr<QueueDiscItem> item) override;
+    Ptr<QueueDiscItem> DoDequeue() override;
+    bool CheckConfig() override;
+    void InitializeParams() override;
+
+    pie_params Params() const;
+    void Update();
+    uint64_t Word();
+    bool Drop(Ptr<QueueDiscItem> item, const char* reason);
+    void RecordOpening(const pie_params& params, uint64_t moment);
+
+    /* The attributes. */
+    Time m_target;
+    Time m_tUpdate;
+    Time m_maxBurst;
+    double m_alpha;
+    double m_beta;
+    uint32_t m_meanPkt;
+    uint32_t m_limitBytes;
+    double m_markEcnth;
+    uint32_t m_dqThreshold;
+    uint32_t m_profile;
+    uint32_t m_packets;
+    bool m_useEcn;
+    std::string m_historyName;
+
+    pie_state m_pie;
+    Ptr<UniformRandomVariable> m_words;
+    EventId m_updateEvent;
+    std::ofstream m_history;
+    uint64_t m_arrivals;         /* so far; a packet's tag in the history is its number among them */
+    std::deque<uint64_t> m_tags; /* of the packets that wait */
+    TracedValue<double> m_probability;
+    TracedValue<Time> m_delay;
+};
+
+} // namespace ns3
+
+#endif

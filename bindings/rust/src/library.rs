@@ -1,0 +1,57 @@
+//! What the library declares: `crates/pie_c/src` has the functions, and `tests/header.py` compares these declarations with them.
+
+use core::mem::{align_of, offset_of, size_of};
+
+use crate::{Params, State};
+
+/// What `pie_update` answers.
+#[repr(C)]
+pub(crate) struct RawUpdated {
+    pub(crate) code: u64,
+    pub(crate) due: u64,
+    pub(crate) delay: u64,
+    pub(crate) prob: u64,
+    pub(crate) burst: u64,
+}
+
+// SAFETY, of each call of these: the declarations are the library's, the references live for the call, and none overlaps another.
+unsafe extern "C" {
+    pub(crate) fn pie_default_params(params: &mut Params);
+    pub(crate) fn pie_check_params(params: &Params) -> u32;
+    pub(crate) fn pie_open(state: &mut State, params: &Params, moment: u64) -> u32;
+    pub(crate) fn pie_open_with(state: &mut State, params: &Params, moment: u64, profile: u32) -> u32;
+    pub(crate) fn pie_arrive(
+        state: &mut State,
+        queued: u64,
+        size: u32,
+        room: u32,
+        ecn: u32,
+        word: u64,
+        moment: u64,
+    ) -> u32;
+    pub(crate) fn pie_depart(state: &mut State, size: u32, left: u64, moment: u64) -> u32;
+    pub(crate) fn pie_empty(state: &mut State, moment: u64) -> u32;
+    pub(crate) fn pie_update(state: &mut State, queued: u64, moment: u64) -> RawUpdated;
+    pub(crate) fn pie_reset(state: &mut State, moment: u64) -> u32;
+    pub(crate) fn pie_set_params(state: &mut State, params: &Params, moment: u64) -> u32;
+}
+
+/// Whether this field is the word with this number of a struct.
+macro_rules! words {
+    ($kind:ty, $count:expr, $($field:ident = $number:expr),+) => {
+        const _: () = {
+            assert!(size_of::<$kind>() == 8 * $count && align_of::<$kind>() == 8);
+            $(assert!(offset_of!($kind, $field) == 8 * $number);)+
+        };
+    };
+}
+
+words!(
+    Params, 9, target = 0, t_update = 1, max_burst = 2, alpha = 3, beta = 4, mean_pkt = 5, limit_bytes = 6, mark_ecnth = 7,
+    dq_threshold = 8
+);
+words!(
+    State, 21, params = 0, moment = 9, prob = 10, old_delay = 11, burst = 12, last = 13, accu = 14, average = 15, measuring = 16,
+    cycle_start = 17, cycle_count = 18, profile = 19, active = 20
+);
+words!(RawUpdated, 5, code = 0, due = 1, delay = 2, prob = 3, burst = 4);

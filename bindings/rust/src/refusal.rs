@@ -1,0 +1,70 @@
+//! Why a call is refused.
+
+use core::error::Error;
+use core::fmt;
+
+use crate::{Parameter, Params};
+
+/// Why a call is refused. It then changed nothing. All but `TooSoon` are a mistake of the caller; of an arrival nothing was decided
+/// then, so queue the packet while it fits, and else drop it, as you would without PIE.
+#[derive(Clone, Copy, Debug, PartialEq, Eq, Hash)]
+pub enum Refusal {
+    /// A moment above 2^60 - 1 ns.
+    Moment,
+    /// A size outside 1 to 65535 bytes. Segment a larger packet first.
+    Size,
+    /// An update before it is due.
+    TooSoon {
+        /// The moment from which it isn't.
+        due: u64,
+    },
+    /// This parameter is out of its range, and those before it are not.
+    Params(Parameter),
+    /// A state that these calls did not leave: a field was written to. Open anew.
+    State,
+    /// More than 2^30 bytes in the queue.
+    Queue,
+    /// A code that this crate doesn't know.
+    Unknown(u64),
+}
+
+impl fmt::Display for Refusal {
+    fn fmt(&self, f: &mut fmt::Formatter<'_>) -> fmt::Result {
+        match self {
+            Refusal::Moment => f.write_str("a moment above 2^60 - 1 ns"),
+            Refusal::Size => f.write_str("a size outside 1 to 65535 bytes"),
+            Refusal::TooSoon { due } => write!(f, "an update before it is due, at {due} ns"),
+            Refusal::Params(parameter) => write!(f, "the parameter {parameter} is out of its range"),
+            Refusal::State => f.write_str("a state that these calls did not leave"),
+            Refusal::Queue => f.write_str("more than 2^30 bytes in the queue"),
+            Refusal::Unknown(code) => write!(f, "refused by the code {code}"),
+        }
+    }
+}
+
+impl Error for Refusal {}
+
+/// The refusal with this code; of an update that is too soon, with the moment that it is due.
+pub(crate) fn refusal(code: u64, due: u64) -> Refusal {
+    match code {
+        101 => Refusal::Moment,
+        102 => Refusal::Size,
+        103 => Refusal::TooSoon { due },
+        110 => Refusal::State,
+        112 => Refusal::Queue,
+        _ => Refusal::Unknown(code),
+    }
+}
+
+/// What a call answered that has no more to say.
+pub(crate) fn done(code: u32) -> Result<(), Refusal> {
+    if code == 0 { Ok(()) } else { Err(refusal(u64::from(code), 0)) }
+}
+
+/// What a call answered that was handed these parameters.
+pub(crate) fn done_with(code: u32, params: &Params) -> Result<(), Refusal> {
+    match (code, params.first_bad()) {
+        (107, Some(parameter)) => Err(Refusal::Params(parameter)),
+        _ => done(code),
+    }
+}

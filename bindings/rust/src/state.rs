@@ -1,0 +1,219 @@
+//! The controller's state, and the calls on it.
+
+use crate::library::{
+    RawUpdated, pie_arrive, pie_depart, pie_empty, pie_open, pie_open_with, pie_reset, pie_set_params, pie_update,
+};
+use crate::refusal::{done, done_with, refusal};
+use crate::{Params, Refusal};
+
+/// The controller's state. Its fields are there to be read; one that was written to may be refused by the next call.
+#[repr(C)]
+#[derive(Clone, Copy, Debug, PartialEq, Eq, Hash)]
+pub struct State {
+    /// The parameters in force.
+    pub params: Params,
+    /// The effective moment: the greatest so far.
+    pub moment: u64,
+    /// The probability of drop or mark, 0 to 10^12 (section 4.2).
+    pub prob: u64,
+    /// The delay at the last update, at most 2^40 ns (section 4.2).
+    pub old_delay: u64,
+    /// The burst allowance, at most 10^12 ns (section 4.4).
+    pub burst: u64,
+    /// The moment of the last update, or of the opening.
+    pub last: u64,
+    /// The accumulated probability, below 8.5 * 10^12 (section 5.4).
+    pub accu: u64,
+    /// The average time in which `dq_threshold` bytes depart, below 2^60 ns; 0: no sample (section 5.2).
+    pub average: u64,
+    /// 1 while a cycle of the departure rate is open, and else 0.
+    pub measuring: u64,
+    /// The moment at which it opened, 0 with none.
+    pub cycle_start: u64,
+    /// The bytes that it counted, below `dq_threshold`, 0 with none.
+    pub cycle_count: u64,
+    /// The number of the [`Profile`].
+    pub profile: u64,
+    /// 1 while the controller is active, and else 0; in profile one always 1 (section 5.3).
+    pub active: u64,
+}
+
+/// The ECN field of an IP header (RFC 3168, section 5).
+#[derive(Clone, Copy, Debug, PartialEq, Eq, Hash)]
+pub enum Ecn {
+    /// Its endpoints don't understand a mark.
+    NotEct = 0,
+    /// ECT(1)
+    Ect1 = 1,
+    /// ECT(0)
+    Ect0 = 2,
+    /// It is marked: congestion experienced.
+    Ce = 3,
+}
+
+/// Whether the controller turns itself on and off (RFC 8033, section 5.3).
+#[derive(Clone, Copy, Debug, PartialEq, Eq, Hash)]
+pub enum Profile {
+    /// It is always active.
+    One = 1,
+    /// It opens inactive, and turns itself on and off.
+    Two = 2,
+}
+
+/// What becomes of an arriving packet.
+#[derive(Clone, Copy, Debug, PartialEq, Eq, Hash)]
+pub enum Verdict {
+    /// Queue it as it is.
+    Enqueue,
+    /// Queue it, and set its ECN field to CE (section 5.1).
+    Mark,
+    /// Drop it: early drop picked it (sections 4.1 and 5.4).
+    Early,
+    /// Drop it: the queue would exceed `limit_bytes` (appendix A).
+    Bytes,
+    /// Drop it: the caller's ring is full.
+    Packets,
+}
+
+impl Verdict {
+    /// Whether the packet is queued, marked or not.
+    #[must_use]
+    pub fn is_queued(self) -> bool {
+        matches!(self, Verdict::Enqueue | Verdict::Mark)
+    }
+}
+
+/// What an update took and left.
+#[derive(Clone, Copy, Debug, PartialEq, Eq, Hash)]
+pub struct Updated {
+    /// The moment from which the next update isn't too soon.
+    pub due: u64,
+    /// The queueing delay that it took, in ns (section 5.2); 0 while the controller is inactive.
+    pub delay: u64,
+    /// The probability after it.
+    pub prob: u64,
+    /// The burst allowance after it, in ns.
+    pub burst: u64,
+}
+
+impl State {
+    /// All fields 0, which the library then writes over.
+    const UNSET: State = State {
+        params: Params::UNSET,
+        moment: 0,
+        prob: 0,
+        old_delay: 0,
+        burst: 0,
+        last: 0,
+        accu: 0,
+        average: 0,
+        measuring: 0,
+        cycle_start: 0,
+        cycle_count: 0,
+        profile: 0,
+        active: 0,
+    };
+
+    /// Opens a controller of profile one at a moment.
+    ///
+    /// # Errors
+    /// In this order: `Params`, `Moment`.
+    pub fn open(params: &Params, moment: u64) -> Result<State, Refusal> {
+        let mut state = State::UNSET;
+        // SAFETY: as `library` says.
+        done_with(unsafe { pie_open(&mut state, params, moment) }, params)?;
+        Ok(state)
+    }
+
+    /// Opens a controller of this profile at a moment.
+    ///
+    /// # Errors
+    /// In this order: `Params`, `Moment`.
+    pub fn open_with(params: &Params, moment: u64, profile: Profile) -> Result<State, Refusal> {
+        let mut state = State::UNSET;
+        // SAFETY: as `library` says.
+        done_with(unsafe { pie_open_with(&mut state, params, moment, profile as u32) }, params)?;
+        Ok(state)
+    }
+
+    /// Decides on an arriving packet (sections 4.1, 5.1 and 5.4).
+    ///
+    /// `queued` are the bytes in the queue without this packet, `size` is the packet's, `room` is how many more packets the caller's
+    /// ring has room for, and `word` is 64 random bits that no sender can guess.
+    ///
+    /// # Errors
+    /// In this order: `State`, `Moment`, `Size`, `Queue`.
+    pub fn arrive(
+        &mut self,
+        queued: u64,
+        size: u32,
+        room: u32,
+        ecn: Ecn,
+        word: u64,
+        moment: u64,
+    ) -> Result<Verdict, Refusal> {
+        // SAFETY: as `library` says.
+        match unsafe { pie_arrive(self, queued, size, room, ecn as u32, word, moment) } {
+            0 => Ok(Verdict::Enqueue),
+            1 => Ok(Verdict::Mark),
+            2 => Ok(Verdict::Early),
+            3 => Ok(Verdict::Bytes),
+            4 => Ok(Verdict::Packets),
+            code => Err(refusal(u64::from(code), 0)),
+        }
+    }
+
+    /// Takes in that a packet of this size left the queue, with `left` bytes after it (section 5.2).
+    ///
+    /// # Errors
+    /// In this order: `State`, `Moment`, `Size`, `Queue`.
+    pub fn depart(&mut self, size: u32, left: u64, moment: u64) -> Result<(), Refusal> {
+        // SAFETY: as `library` says.
+        done(unsafe { pie_depart(self, size, left, moment) })
+    }
+
+    /// Takes in that a departure found the queue empty: its moment counts, and nothing else.
+    ///
+    /// # Errors
+    /// In this order: `State`, `Moment`.
+    pub fn empty(&mut self, moment: u64) -> Result<(), Refusal> {
+        // SAFETY: as `library` says.
+        done(unsafe { pie_empty(self, moment) })
+    }
+
+    /// Makes an update, with `queued` bytes in the queue (sections 4.2, 4.4 and 5.5). Call it when [`State::due`] has come, or soon
+    /// after; those that were missed are not made up for.
+    ///
+    /// # Errors
+    /// In this order: `State`, `Moment`, `Queue`, `TooSoon`.
+    pub fn update(&mut self, queued: u64, moment: u64) -> Result<Updated, Refusal> {
+        // SAFETY: as `library` says.
+        let RawUpdated { code, due, delay, prob, burst } = unsafe { pie_update(self, queued, moment) };
+        if code == 0 { Ok(Updated { due, delay, prob, burst }) } else { Err(refusal(code, due)) }
+    }
+
+    /// The moment from which the next update isn't too soon: a timer is armed for it.
+    #[must_use]
+    pub fn due(&self) -> u64 {
+        self.last.wrapping_add(self.params.t_update)
+    }
+
+    /// Sets probability, old delay, accumulated probability and the rate estimate to 0, and the burst allowance to `max_burst`. Keeps
+    /// parameters, greatest moment, last update, profile and whether the controller is active.
+    ///
+    /// # Errors
+    /// In this order: `State`, `Moment`.
+    pub fn reset(&mut self, moment: u64) -> Result<(), Refusal> {
+        // SAFETY: as `library` says.
+        done(unsafe { pie_reset(self, moment) })
+    }
+
+    /// Puts new parameters in force and clears the rate estimate; the other registers stay.
+    ///
+    /// # Errors
+    /// In this order: `State`, `Params`, `Moment`.
+    pub fn set_params(&mut self, params: &Params, moment: u64) -> Result<(), Refusal> {
+        // SAFETY: as `library` says.
+        done_with(unsafe { pie_set_params(self, params, moment) }, params)
+    }
+}

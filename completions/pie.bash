@@ -1,0 +1,17 @@
+# Completion of pie for bash: put it where bash looks, as /usr/share/bash-completion/completions/pie, or source it.
+_pie() {
+    local word=${COMP_WORDS[COMP_CWORD]} subcommand=${COMP_WORDS[1]:-} words
+    if [ "$COMP_CWORD" = 1 ]; then
+        words='run audit explain migrate storm help --help --version'
+    else
+        case $subcommand in
+            run | audit | migrate) words='--help' ;;
+            explain) words='--event --tag --lost --all --csv --help' ;;
+            storm) words='--senders --packets --seed --load --count --help' ;;
+            help) words='run audit explain migrate storm help' ;;
+            *) words='' ;;
+        esac
+    fi
+    COMPREPLY=($(compgen -W "$words" -- "$word"))
+}
+complete -F _pie pie

@@ -1,0 +1,7 @@
+pub mod Places
+pub mod InRange
+pub mod Looks
+pub mod Parts
+pub mod Laws
+pub mod Sounds
+mod Examples

@@ -1,0 +1,80 @@
+-- What one more call does to what each part holds, whichever list it shows.
+use Rattle.std.proofs.Common.{◌≡◌, ◌≤◌, ◌<◌, ◌+◌, ◌==◌, ◌&&◌, ◌||◌, ℕ, zero, suc, List, [], ◌∷◌, ◌++◌, Bool, true, false, not, refl, sym, ◌∙◌, ap, arith, if◌then◌else◌}
+use Rattle.std.specs.Prelude.{nat_lt, nat_le, Option, Some, None}
+use Rattle.std.proofs.lemmas.Bool.{eqb-true, le-leb, lt-leb, ltb-true}
+use Rattle.std.proofs.lemmas.Bool.Decides.{nat_tests}
+use Rattle.pie_params.specs.declared.raw.RawParams.{RawParams}
+use Rattle.pie_queue.specs.Ecn.{is_capable}
+use Rattle.pie_rate.specs.Average.{average, samples}
+use Rattle.pie_rate.specs.Cycles.{begun, cycles, cycles_from, first_opening, first_position}
+use Rattle.pie_rate.specs.Departures.{Departure}
+use Rattle.pie_rate.specs.Estimate.{Begun, Estimate}
+use Rattle.pie_rate.specs.Estimate as Rate
+use Rattle.pie_rate.specs.Step.{after_departure, opened_by, step_from}
+use Rattle.pie_rate.proofs.Steps.{closes, counts, idle, opened}
+use Rattle.pie_early.specs.Decision.{is_considered, is_picked}
+use Rattle.pie_early.specs.declared.early.Choice.TheVariants.{Enqueue, Mark, Drop}
+use Rattle.pie_early.specs.Events.{EarlyEvent}
+use Rattle.pie_early.specs.History as Early
+use Rattle.pie_early.proofs.Laws.{shows-clear, shows-grown, shows-pick, shows-unconsidered, shows-zero}
+use Rattle.pie_controller.specs.declared.verdict.Arrival.{Arrival}
+use Rattle.pie_controller.specs.declared.verdict.Verdict.TheVariants.{DroppedBytes, DroppedPackets}
+use Rattle.pie_controller.specs.Held.{Held}
+use Rattle.pie_controller.specs.History.{considered_where, verdict_shown}
+use Rattle.pie_controller.specs.Steps.{accu_left, chosen, no_estimate, verdict}
+
+-- ---- early drop
+
+positive : (n : ℕ) → (n == 0) ≡ false → 0 < n
+positive zero z = cc
+positive (suc n) z = omega arith
+
+early-by : (events : List EarlyEvent) (held prob : ℕ) (active over full considered picked test none : Bool) → (prob == 0) ≡ none → Early.Shows events held
+    → Early.Shows (events ++ verdict_shown (if over then DroppedBytes else if full then DroppedPackets else chosen (if active then (if considered && picked then (if test then Mark else Drop) else Enqueue) else Enqueue)) (active && considered) prob ∷ [])
+    (if over then 0 else if full then 0 else if active then (if not considered then held else if none || picked then 0 else held + prob) else held)
+early-by events held prob active true full considered picked test none z shown = shows-clear events held shown
+early-by events held prob active false true considered picked test none z shown = shows-clear events held shown
+early-by events held prob false false false considered picked test none z shown = shows-unconsidered events held shown false prob refl
+early-by events held prob true false false false picked test none z shown = shows-unconsidered events held shown false prob refl
+early-by events held prob true false false true true true true z shown = shows-pick events held shown true prob Mark refl
+early-by events held prob true false false true true true false z shown = shows-pick events held shown true prob Mark refl
+early-by events held prob true false false true true false true z shown = shows-pick events held shown true prob Drop refl
+early-by events held prob true false false true true false false z shown = shows-pick events held shown true prob Drop refl
+early-by events held prob true false false true false test true z shown = shows-zero events held shown true prob refl (eqb-true prob 0 z)
+early-by events held prob true false false true false test false z shown = shows-grown events held shown true prob refl (positive prob z)
+
+-- after an arrival and its verdict
+pub early-step : (h : Held) (a : Arrival) (events : List EarlyEvent) → Early.Shows events h.accu
+    → Early.Shows (events ++ verdict_shown (verdict h a) (considered_where h.active h.params h.control a.queued) h.control.prob ∷ []) (accu_left h a)
+unfolding verdict accu_left
+early-step h a events shown =
+    early-by events h.accu h.control.prob h.active (nat_lt h.params.limit_bytes (a.queued + a.size)) a.is_full (is_considered h.params h.control a.queued) (is_picked h.control.prob (h.accu + h.control.prob) a.word)
+    (is_capable a.ecn && nat_lt h.control.prob h.params.mark_ecnth) (h.control.prob == 0) refl shown
+
+-- ---- the departure rate
+
+ltb : (a b : ℕ) → nat_lt a b ≡ false → b ≤ a
+ltb a b e = grind (arith, nat_tests)
+
+opened-same : (t : ℕ) (ds : List Departure) (d : Departure) → opened_by t d ≡ opened t ds d
+opened-same t ds d = by (nat_lt d.bytes_left t) refl
+  where
+    by : (b : Bool) → nat_lt d.bytes_left t ≡ b → (if b then None else Some (record { start = d.moment; count = 0 })) ≡ opened t ds d
+    by true less = rw (lt-leb t d.bytes_left (ltb-true d.bytes_left t less)) refl
+    by false enough = rw (le-leb t d.bytes_left (ltb d.bytes_left t enough)) refl
+
+-- after one more departure
+pub rate-step : (t : ℕ) (ds : List Departure) (e : Estimate) (d : Departure) → t ≤ 65536 → Rate.Shows t ds e → Rate.Shows t (ds ++ d ∷ []) (after_departure t e d)
+rate-step t ds e d small shown = by e.begun refl
+  where
+    cycle-by : (cycle : Begun) → e.begun ≡ Some cycle → (b : Bool) → nat_lt (cycle.count + d.size) t ≡ b → Rate.Shows t (ds ++ d ∷ []) (step_from t e.average d (Some cycle))
+    cycle-by cycle is true less = rw less (counts t ds d e cycle is (ltb-true (cycle.count + d.size) t less) shown)
+    cycle-by cycle is false full = rw (full, opened-same t ds d) (closes t ds d e cycle small is (ltb (cycle.count + d.size) t full) shown)
+
+    by : (o : Option Begun) → e.begun ≡ o → Rate.Shows t (ds ++ d ∷ []) (step_from t e.average d o)
+    by None is = rw (opened-same t ds d) (idle t ds d e is shown)
+    by (Some cycle) is = cycle-by cycle is (nat_lt (cycle.count + d.size) t) refl
+
+pub nothing-shown : (t : ℕ) → Rate.Shows t [] no_estimate
+unfolding average samples cycles cycles_from begun first_opening first_position
+nothing-shown t = record { average = refl; begun = refl }

@@ -1,0 +1,291 @@
+-- What a controller holds stays sound at each call.
+use Rattle.std.proofs.Common.{◌≡◌, ◌≤◌, ◌<◌, ◌+◌, ◌-◌, ◌*◌, ◌^◌, ◌==◌, ◌&&◌, ◌||◌, ℕ, ℤ, pos, negsuc, ◌+ℤ◌, Bool, true, false, not, refl, sym, ap, ◌∙◌, arith, if◌then◌else◌}
+use Rattle.std.specs.Prelude.{max, nat_lt, nat_le, Option, Some, None}
+use Rattle.std.proofs.lemmas.Bool.Decides.{nat_tests}
+use Rattle.pie_fixed.specs.Fixed.{bounded_of}
+use Rattle.pie_params.specs.declared.raw.RawParams.{RawParams}
+use Rattle.pie_params.specs.Range.{first_bad}
+use Rattle.pie_rate.specs.Average.{averaged, with_sample}
+use Rattle.pie_rate.specs.Departures.{Departure, departure}
+use Rattle.pie_rate.specs.Estimate.{Begun, Estimate}
+use Rattle.pie_rate.specs.Step.{after_departure, opened_by, step_from}
+use Rattle.pie_control.specs.Delay.{delay_of}
+use Rattle.pie_control.specs.History.{burst_after, ends_calm}
+use Rattle.pie_control.specs.Next.{decayed, next, raw_step, tuned_step}
+use Rattle.pie_control.specs.Parts.{Parts}
+use Rattle.pie_early.specs.Decision.{accu_after, is_considered, is_picked}
+use Rattle.pie_controller.specs.declared.profile.Profile.{Profile}
+use Rattle.pie_controller.specs.declared.profile.Profile.TheVariants.{One, Two}
+use Rattle.pie_controller.specs.declared.verdict.Arrival.{Arrival}
+use Rattle.pie_controller.specs.Calls.{Arrive, Call, Change, Depart, IsTaken, Pass, Restart, Update, after_call}
+use Rattle.pie_controller.specs.Held.{Held, IsSound, IsWithin}
+use Rattle.pie_controller.specs.Steps.{accu_left, anew, bytes_with, control_after, control_updated, delay_in, is_calm, judged, now_at, opened, opens_active, rate_after, stays_active, turns_on, verdict}
+use Rattle.pie_controller.proofs.InRange.{params-hold}
+
+-- ---- the accumulated probability
+
+sum-small : (prob sum word : ℕ) → (prob == 0) ≡ false → is_picked prob sum word ≡ false → sum < 8_500_000_000_000
+unfolding is_picked
+sum-small prob sum word some e = grind (arith, nat_tests)
+
+accu-by : (over full active considered none picked : Bool) (accu prob : ℕ) → accu < 8_500_000_000_000 → (none ≡ false → picked ≡ false → accu + prob < 8_500_000_000_000)
+    → (if over then 0 else if full then 0 else if active then (if not considered then accu else if none || picked then 0 else accu + prob) else accu) < 8_500_000_000_000
+accu-by true full active considered none picked accu prob small sum = omega arith
+accu-by false true active considered none picked accu prob small sum = omega arith
+accu-by false false false considered none picked accu prob small sum = small
+accu-by false false true false none picked accu prob small sum = small
+accu-by false false true true true picked accu prob small sum = omega arith
+accu-by false false true true false true accu prob small sum = omega arith
+accu-by false false true true false false accu prob small sum = sum refl refl
+
+accu-small : (h : Held) (a : Arrival) → h.accu < 8_500_000_000_000 → accu_left h a < 8_500_000_000_000
+unfolding accu_left
+accu-small h a small =
+    accu-by (nat_lt h.params.limit_bytes (a.queued + a.size)) a.is_full h.active (is_considered h.params h.control a.queued) (h.control.prob == 0) (is_picked h.control.prob (h.accu + h.control.prob) a.word) h.accu h.control.prob small
+    (sum-small h.control.prob (h.accu + h.control.prob) a.word)
+
+-- ---- the departure rate
+
+weighted : (t sample average : ℕ) → t ≤ 65536 → sample ≤ 1152921504606846975 → average ≤ 1152921504606846975 → averaged t average sample ≤ 1152921504606846975
+weighted t sample average small s a = grind arith
+
+sampled : (b : Bool) (t sample average : ℕ) → t ≤ 65536 → sample < 2 ^ 60 → average < 2 ^ 60 → (if b then sample else averaged t average sample) < 2 ^ 60
+sampled true t sample average small s a = s
+sampled false t sample average small s a = let w = weighted t sample average small (omega (arith, s)) (omega (arith, a)) in omega (arith, w)
+
+later-within : (threshold m n : ℕ) (o : Option Begun) → m ≤ n → IsWithin threshold m o → IsWithin threshold n o
+later-within threshold m n None le w = w
+later-within threshold m n (Some cycle) le w = (omega (arith, w.0), w.1)
+
+opened-within : (b : Bool) (threshold n : ℕ) → 0 < threshold → IsWithin threshold n (if b then None else Some (record { start = n; count = 0 }))
+opened-within true threshold n some = tt
+opened-within false threshold n some = (omega arith, some)
+
+record RateHolds (threshold now : ℕ) (e : Estimate) : Type 0 where
+  average : e.average < 2 ^ 60
+  cycle : IsWithin threshold now e.begun
+
+step-holds : (threshold average size left now : ℕ) (begun : Option Begun) → 0 < threshold → threshold ≤ 65536 → now < 2 ^ 60 → average < 2 ^ 60 → IsWithin threshold now begun
+    → RateHolds threshold now (step_from threshold average (departure size left now) begun)
+step-holds threshold average size left now None some small within a w = record { average = a; cycle = opened-within (nat_lt left threshold) threshold now some }
+step-holds threshold average size left now (Some cycle) some small within a w = by (nat_lt (cycle.count + size) threshold) refl
+  where
+    by : (b : Bool) → nat_lt (cycle.count + size) threshold ≡ b
+        → RateHolds threshold now (if b then record { average = average; begun = Some (record { start = cycle.start; count = cycle.count + size }) }
+        else record { average = with_sample threshold average (max 1 (now - cycle.start)); begun = if nat_lt left threshold then None else Some (record { start = now; count = 0 }) })
+    by true less = record { average = a; cycle = (w.0, grind (arith, nat_tests)) }
+    by false full = record {
+      average = sampled (average == 0) threshold (max 1 (now - cycle.start)) average small (omega arith) a;
+      cycle = opened-within (nat_lt left threshold) threshold now some;
+    }
+
+-- ---- the control law
+
+bounded-hold : (z : ℤ) → bounded_of z ≤ 10 ^ 12
+bounded-hold (pos n) = omega arith
+bounded-hold (negsuc n) = omega arith
+
+next-hold : (params : RawParams) (prob delay old : ℕ) → next params prob delay old ≤ 10 ^ 12
+unfolding next
+next-hold params prob delay old = bounded-hold (decayed delay old (pos prob +ℤ tuned_step prob (raw_step params delay old)))
+
+pub delay-hold : (bytes average threshold : ℕ) → delay_of bytes average threshold ≤ 2 ^ 40
+unfolding delay_of
+delay-hold bytes average threshold = omega arith
+
+either : (b : Bool) (x y z : ℕ) → x ≤ z → y ≤ z → (if b then x else y) ≤ z
+either true x y z p q = p
+either false x y z p q = q
+
+pub record PartsHold (now : ℕ) (parts : Parts) : Type 0 where
+  pub prob : parts.prob ≤ 10 ^ 12
+  pub old_delay : parts.old_delay ≤ 2 ^ 40
+  pub burst : parts.burst ≤ 10 ^ 12
+  pub last : parts.last ≤ now
+
+stays-in-one : (profile : Profile) (active calm : Bool) → profile ≡ One → active ≡ true → (active && stays_active profile calm) ≡ true
+stays-in-one One active calm one on = rw on refl
+stays-in-one Two active calm one on = cc
+
+-- ---- each call
+
+pub Sound_opened : (profile : Profile) (params : RawParams) (moment : ℕ) → first_bad params ≡ None → moment < 2 ^ 60 → IsSound (opened profile params moment)
+Sound_opened profile params moment good within = record {
+  params = good;
+  moment = within;
+  prob = omega arith;
+  old_delay = omega arith;
+  burst = (params-hold params good).max_burst;
+  last = omega arith;
+  accu = omega arith;
+  average = omega arith;
+  cycle = tt;
+  active = λ one. ap opens_active one;
+}
+
+module _ (h : Held) (sound : IsSound h) where
+  pub Sound-pass : (moment : ℕ) → moment < 2 ^ 60 → IsSound (record h { moment = now_at h moment })
+  Sound-pass moment within =
+      let before = sound.moment in
+      let last = sound.last in
+      record {
+        params = sound.params;
+        moment = omega arith;
+        prob = sound.prob;
+        old_delay = sound.old_delay;
+        burst = sound.burst;
+        last = omega arith;
+        accu = sound.accu;
+        average = sound.average;
+        cycle = later-within h.params.dq_threshold h.moment (now_at h moment) h.rate.begun (omega arith) sound.cycle;
+        active = sound.active;
+      }
+
+  pub Sound-anew : IsSound (anew h)
+  Sound-anew = record {
+    params = sound.params;
+    moment = sound.moment;
+    prob = omega arith;
+    old_delay = omega arith;
+    burst = (params-hold h.params sound.params).max_burst;
+    last = sound.last;
+    accu = omega arith;
+    average = omega arith;
+    cycle = tt;
+    active = sound.active;
+  }
+
+  pub Sound-on : IsSound (record (anew h) { active = true })
+  Sound-on = let held = Sound-anew in record {
+    params = held.params;
+    moment = held.moment;
+    prob = held.prob;
+    old_delay = held.old_delay;
+    burst = held.burst;
+    last = held.last;
+    accu = held.accu;
+    average = held.average;
+    cycle = held.cycle;
+    active = λ one. refl;
+  }
+
+  pub Sound-accu : (accu : ℕ) → accu < 8_500_000_000_000 → IsSound (record h { accu = accu })
+  Sound-accu accu small = record {
+    params = sound.params;
+    moment = sound.moment;
+    prob = sound.prob;
+    old_delay = sound.old_delay;
+    burst = sound.burst;
+    last = sound.last;
+    accu = small;
+    average = sound.average;
+    cycle = sound.cycle;
+    active = sound.active;
+  }
+
+  pub Sound-rate : (rate : Estimate) → rate.average < 2 ^ 60 → IsWithin h.params.dq_threshold h.moment rate.begun → IsSound (record h { rate = rate })
+  Sound-rate rate average cycle = record {
+    params = sound.params;
+    moment = sound.moment;
+    prob = sound.prob;
+    old_delay = sound.old_delay;
+    burst = sound.burst;
+    last = sound.last;
+    accu = sound.accu;
+    average = average;
+    cycle = cycle;
+    active = sound.active;
+  }
+
+  pub Sound-control : (control : Parts) (active : Bool) → PartsHold h.moment control → (h.profile ≡ One → active ≡ true) → IsSound (record h { control = control; active = active })
+  Sound-control control active held always = record {
+    params = sound.params;
+    moment = sound.moment;
+    prob = held.prob;
+    old_delay = held.old_delay;
+    burst = held.burst;
+    last = held.last;
+    accu = sound.accu;
+    average = sound.average;
+    cycle = sound.cycle;
+    active = always;
+  }
+
+arrive-sound : (h : Held) → IsSound h → (a : Arrival) (moment : ℕ) → moment < 2 ^ 60 → IsSound (after_call h (Arrive a moment))
+arrive-sound h sound a moment within = by (turns_on h (bytes_with (verdict h a) a.queued a.size))
+  where
+    passed : IsSound (record h { moment = now_at h moment })
+    passed = Sound-pass h sound moment within
+
+    here : IsSound (judged h a moment)
+    here = Sound-accu (record h { moment = now_at h moment }) passed (accu_left h a) (accu-small h a sound.accu)
+
+    by : (on : Bool) → IsSound (if on then record (anew (judged h a moment)) { active = true } else judged h a moment)
+    by true = Sound-on (judged h a moment) here
+    by false = here
+
+depart-sound : (h : Held) → IsSound h → (size left moment : ℕ) → moment < 2 ^ 60 → IsSound (after_call h (Depart size left moment))
+depart-sound h sound size left moment within = by h.active
+  where
+    now : ℕ
+    now = now_at h moment
+
+    here : Held
+    here = record h { moment = now_at h moment }
+
+    passed : IsSound (record h { moment = now_at h moment })
+    passed = Sound-pass h sound moment within
+
+    by : (active : Bool) → IsSound (record h { moment = now_at h moment; rate = if active then after_departure h.params.dq_threshold h.rate (departure size left (now_at h moment)) else h.rate })
+    by true =
+        let params = params-hold h.params sound.params in
+        let least = params.dq_least in
+        let step = step-holds h.params.dq_threshold h.rate.average size left (now_at h moment) h.rate.begun (omega arith) params.dq_threshold passed.moment sound.average passed.cycle in
+        Sound-rate here passed (after_departure h.params.dq_threshold h.rate (departure size left (now_at h moment))) step.average step.cycle
+    by false = passed
+
+update-sound : (h : Held) → IsSound h → (queued moment : ℕ) → moment < 2 ^ 60 → IsSound (after_call h (Update queued moment))
+update-sound h sound queued moment within =
+    Sound-control here passed (control_after h queued (now_at h moment)) (h.active && stays_active h.profile (is_calm h queued)) (by h.active)
+    (λ one. stays-in-one h.profile h.active (is_calm h queued) one (sound.active one))
+  where
+    here : Held
+    here = record h { moment = now_at h moment }
+
+    passed : IsSound (record h { moment = now_at h moment })
+    passed = Sound-pass h sound moment within
+
+    by : (active : Bool) → PartsHold (now_at h moment) (if active then control_updated h.params h.control (delay_in h queued) (now_at h moment) else record h.control { last = now_at h moment })
+    by true = record {
+      prob = next-hold h.params h.control.prob (delay_in h queued) h.control.old_delay;
+      old_delay = delay-hold queued h.rate.average h.params.dq_threshold;
+      burst = let before = sound.burst in
+          either (ends_calm h.params (next h.params h.control.prob (delay_in h queued) h.control.old_delay) (delay_in h queued) h.control.old_delay)
+          h.params.max_burst (h.control.burst - h.params.t_update) (10 ^ 12) (params-hold h.params sound.params).max_burst (omega arith);
+      last = omega arith;
+    }
+    by false = record { prob = sound.prob; old_delay = sound.old_delay; burst = sound.burst; last = omega arith }
+
+change-sound : (h : Held) → IsSound h → (params : RawParams) (moment : ℕ) → moment < 2 ^ 60 → first_bad params ≡ None → IsSound (after_call h (Change params moment))
+change-sound h sound params moment within good =
+    let passed : IsSound (record h { moment = now_at h moment }) = Sound-pass h sound moment within in
+    record {
+      params = good;
+      moment = passed.moment;
+      prob = sound.prob;
+      old_delay = sound.old_delay;
+      burst = sound.burst;
+      last = passed.last;
+      accu = sound.accu;
+      average = omega arith;
+      cycle = tt;
+      active = sound.active;
+    }
+
+pub Sound_call : (h : Held) → IsSound h → (call : Call) → IsTaken call → IsSound (after_call h call)
+Sound_call h sound (Arrive a moment) taken = arrive-sound h sound a moment taken
+Sound_call h sound (Depart size left moment) taken = depart-sound h sound size left moment taken
+Sound_call h sound (Pass moment) taken = Sound-pass h sound moment taken
+Sound_call h sound (Update queued moment) taken = update-sound h sound queued moment taken
+Sound_call h sound (Restart moment) taken = Sound-anew (record h { moment = now_at h moment }) (Sound-pass h sound moment taken)
+Sound_call h sound (Change params moment) taken = change-sound h sound params moment taken.0 taken.1

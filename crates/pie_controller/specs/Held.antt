@@ -1,0 +1,37 @@
+-- What a controller holds, and what is sound to hold.
+use Rattle.std.specs.Prelude.{◌≡◌, ℕ, ◌^◌, ◌<◌, ◌≤◌, Bool, true, Option, Some, None, ⊤}
+use Rattle.pie_params.specs.declared.raw.RawParams.{RawParams}
+use Rattle.pie_params.specs.Range.{first_bad}
+use Rattle.pie_rate.specs.Estimate.{Begun, Estimate}
+use Rattle.pie_control.specs.Parts.{Parts}
+use Rattle.pie_controller.specs.declared.profile.Profile.{Profile}
+use Rattle.pie_controller.specs.declared.profile.Profile.TheVariants.{One}
+
+-- its profile; the parameters in force and the effective moment; whether it is active; the estimate of the departure rate, the
+-- registers of the control law, and the accumulated probability
+pub record Held : Type 0 where
+  pub profile : Profile
+  pub params : RawParams
+  pub moment : ℕ
+  pub active : Bool
+  pub rate : Estimate
+  pub control : Parts
+  pub accu : ℕ
+
+-- a cycle of the departure rate that is begun began no later than now, and has counted less than the threshold
+abbrev pub IsWithin : ℕ → ℕ → Option Begun → Type 0
+IsWithin threshold now None = ⊤
+IsWithin threshold now (Some cycle) = (cycle.start ≤ now) × (cycle.count < threshold)
+
+-- each number is in its range, and the numbers fit one another: nothing was later than now, and in profile one it is active
+pub record IsSound (h : Held) : Type 0 where
+  pub params : first_bad h.params ≡ None
+  pub moment : h.moment < 2 ^ 60
+  pub prob : h.control.prob ≤ 10 ^ 12
+  pub old_delay : h.control.old_delay ≤ 2 ^ 40
+  pub burst : h.control.burst ≤ 10 ^ 12
+  pub last : h.control.last ≤ h.moment
+  pub accu : h.accu < 8_500_000_000_000
+  pub average : h.rate.average < 2 ^ 60
+  pub cycle : IsWithin h.params.dq_threshold h.moment h.rate.begun
+  pub active : h.profile ≡ One → h.active ≡ true

@@ -1,0 +1,6 @@
+pub mod Places
+pub mod Held
+pub mod Steps
+pub mod Events
+pub mod History
+pub mod Calls

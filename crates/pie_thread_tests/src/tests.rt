@@ -1,0 +1,4 @@
+//! The lock, and the link.
+
+mod link;
+mod lock;

@@ -1,0 +1,301 @@
+/* A bottleneck in user space: two TUN devices, joined by a link of a given rate whose queue PIE manages. One thread; it waits in
+ * ppoll for packets, for the end of a transmission, for the delay on the way back, and for the moment when an update is due.
+ *
+ * Nothing here touches another device: what comes in by the one TUN device goes out by the other. */
+#define _GNU_SOURCE
+#include "history.h"
+#include "options.h"
+#include "packet.h"
+#include "pie.h"
+
+#include <errno.h>
+#include <fcntl.h>
+#include <inttypes.h>
+#include <linux/if.h>
+#include <linux/if_tun.h>
+#include <poll.h>
+#include <signal.h>
+#include <stdlib.h>
+#include <string.h>
+#include <sys/ioctl.h>
+#include <sys/random.h>
+#include <time.h>
+#include <unistd.h>
+
+#define LARGEST 65535      /* bytes of a packet */
+#define AT_ONCE 64         /* packets read from one device before the link is looked at again */
+#define BACK_PACKETS 65536 /* that may be on the way back */
+#define WORDS 128          /* random words taken at once */
+
+/* What was counted. */
+struct counts {
+    uint64_t arrivals, verdicts[PIE_PACKETS + 1], departures, updates, late, lost;
+};
+
+struct bottleneck {
+    const struct options *options;
+    int from, to;          /* the devices */
+    struct pie_state pie;  /* the controller in front of the queue */
+    struct packets queue;  /* wait for the link */
+    struct packets there;  /* on the link: go on at the end of their transmission */
+    struct packets back;   /* on the way back: go on after the delay */
+    uint64_t start;        /* of the run, by CLOCK_MONOTONIC */
+    uint64_t free_at;      /* the moment from which the link is free */
+    uint64_t next_update;  /* the moment from which an update is not too soon */
+    struct history history;
+    struct counts counts;
+};
+
+static volatile sig_atomic_t is_stopped;
+
+static void stop(int number) {
+    (void)number;
+    is_stopped = 1;
+}
+
+static void die(const char *what) {
+    fprintf(stderr, "link: %s: %s\n", what, strerror(errno));
+    exit(1);
+}
+
+/* A refusal that no caller of this program can cause: the call's name and pie.h's name of the code. */
+static void die_refused(const char *call, uint64_t code) {
+    static const struct {
+        uint64_t code;
+        const char *name;
+    } names[] = {
+        {PIE_BAD_MOMENT, "PIE_BAD_MOMENT"}, {PIE_BAD_SIZE, "PIE_BAD_SIZE"}, {PIE_TOO_SOON, "PIE_TOO_SOON"},
+        {PIE_BAD_PARAMS, "PIE_BAD_PARAMS"}, {PIE_BAD_STATE, "PIE_BAD_STATE"}, {PIE_BAD_ECN, "PIE_BAD_ECN"},
+        {PIE_BAD_QUEUE, "PIE_BAD_QUEUE"}, {PIE_BAD_PROFILE, "PIE_BAD_PROFILE"},
+    };
+    const char *name = "an unknown code";
+    for (size_t i = 0; i < sizeof names / sizeof names[0]; i++)
+        if (names[i].code == code)
+            name = names[i].name;
+    fprintf(stderr, "link: %s was refused: %s (%" PRIu64 ")\n", call, name, code);
+    exit(1);
+}
+
+static uint64_t clock_now(void) {
+    struct timespec now;
+    if (clock_gettime(CLOCK_MONOTONIC, &now) != 0)
+        die("CLOCK_MONOTONIC");
+    return (uint64_t)now.tv_sec * 1000000000u + (uint64_t)now.tv_nsec;
+}
+
+/* Nanoseconds since the start of the run. */
+static uint64_t moment_of(const struct bottleneck *link) {
+    return clock_now() - link->start;
+}
+
+static uint64_t random_word(void) {
+    static uint64_t words[WORDS];
+    static size_t left;
+    if (left == 0) {
+        if (getrandom(words, sizeof words, 0) != sizeof words)
+            die("getrandom");
+        left = WORDS;
+    }
+    return words[--left];
+}
+
+static int open_device(const char *name) {
+    struct ifreq request = {.ifr_flags = IFF_TUN | IFF_NO_PI};
+    int device = open("/dev/net/tun", O_RDWR | O_NONBLOCK | O_CLOEXEC);
+    if (device < 0)
+        die("/dev/net/tun");
+    if (strlen(name) >= IFNAMSIZ) {
+        errno = ENAMETOOLONG;
+        die(name);
+    }
+    strcpy(request.ifr_name, name);
+    if (ioctl(device, TUNSETIFF, &request) < 0)
+        die(name);
+    return device;
+}
+
+/* Hands a packet to a device. One that the device does not take, since it is down or full, is lost, as on a wire. */
+static void send_packet(struct bottleneck *link, int device, struct packet *packet) {
+    if (write(device, packet->bytes, packet->size) != (ssize_t)packet->size)
+        link->counts.lost++;
+    free(packet);
+}
+
+/* Hands on the packets whose moment has come. */
+static void release(struct bottleneck *link, struct packets *packets, int device, uint64_t now) {
+    while (packets->first != NULL && packets->first->moment <= now)
+        send_packet(link, device, pop(packets));
+}
+
+/* An arrival: the library says whether the packet waits, is marked or is dropped. */
+static void arrive(struct bottleneck *link, struct packet *packet, uint64_t now) {
+    uint64_t word = random_word();
+    uint32_t room = (uint32_t)link->options->packets - link->queue.count;
+    packet->tag = ++link->counts.arrivals;
+    packet->moment = now;
+    packet->ecn = link->options->use_ecn ? ecn_of(packet->bytes, packet->size) : PIE_NOT_ECT;
+    uint32_t verdict = pie_arrive(&link->pie, link->queue.bytes, packet->size, room, packet->ecn, word, now);
+    if (verdict > PIE_PACKETS)
+        die_refused("pie_arrive", verdict);
+    link->counts.verdicts[verdict]++;
+    record_arrival(&link->history, packet, word, verdict, now);
+    if (verdict == PIE_MARK) {
+        set_ce(packet->bytes, packet->size);
+        packet->ecn = PIE_CE;
+    }
+    if (verdict == PIE_ENQUEUE || verdict == PIE_MARK)
+        push(&link->queue, packet);
+    else
+        free(packet);
+}
+
+/* What comes from the other side is delayed, and nothing else. */
+static void turn_back(struct bottleneck *link, struct packet *packet, uint64_t now) {
+    packet->moment = now + link->options->delay;
+    if (link->back.count < BACK_PACKETS) {
+        push(&link->back, packet);
+    } else {
+        link->counts.lost++;
+        free(packet);
+    }
+}
+
+/* Reads what waits at a device, at most AT_ONCE packets. */
+static void receive(struct bottleneck *link, int device, void (*take)(struct bottleneck *, struct packet *, uint64_t)) {
+    static uint8_t bytes[LARGEST];
+    for (int i = 0; i < AT_ONCE; i++) {
+        ssize_t size = read(device, bytes, sizeof bytes);
+        if (size <= 0) {
+            if (size < 0 && errno != EAGAIN && errno != EINTR && errno != EIO)
+                die("read");
+            return;
+        }
+        struct packet *packet = packet_of(bytes, (uint32_t)size);
+        if (packet == NULL)
+            die("memory");
+        take(link, packet, moment_of(link));
+    }
+}
+
+static uint64_t time_on_link(const struct bottleneck *link, uint32_t size) {
+    return (uint64_t)size * 8 * 1000000000u / link->options->rate;
+}
+
+/* The link takes each packet that it has come to. Where this program was late, it catches up: a transmission begins when the
+ * one before it ended, or when the packet arrived if that is later. */
+static void serve(struct bottleneck *link, uint64_t now) {
+    while (link->queue.first != NULL && link->free_at <= now) {
+        struct packet *packet = pop(&link->queue);
+        uint64_t start = packet->moment > link->free_at ? packet->moment : link->free_at;
+        uint32_t code = pie_depart(&link->pie, packet->size, link->queue.bytes, now);
+        if (code != PIE_DONE)
+            die_refused("pie_depart", code);
+        link->counts.departures++;
+        record_departure(&link->history, packet, now);
+        link->free_at = start + time_on_link(link, packet->size);
+        packet->moment = link->free_at;
+        push(&link->there, packet);
+    }
+}
+
+static void update(struct bottleneck *link, uint64_t now) {
+    if (now < link->next_update)
+        return;
+    struct pie_updated updated = pie_update(&link->pie, link->queue.bytes, now);
+    if (updated.code == PIE_DONE) {
+        record_update(&link->history, &updated, now);
+        link->counts.updates++;
+        link->counts.late += now - link->next_update > link->options->params.t_update;
+    } else if (updated.code == PIE_TOO_SOON) {
+        record_refusal(&link->history, updated.code);
+    } else {
+        die_refused("pie_update", updated.code);
+    }
+    link->next_update = updated.due;
+}
+
+static uint64_t earlier(uint64_t moment, const struct packets *packets) {
+    return packets->first != NULL && packets->first->moment < moment ? packets->first->moment : moment;
+}
+
+/* Waits for a packet, or for the next thing that is to be done without one. */
+static void wait_for_work(struct bottleneck *link, const sigset_t *signals) {
+    struct pollfd devices[2] = {{.fd = link->from, .events = POLLIN}, {.fd = link->to, .events = POLLIN}};
+    uint64_t next = link->next_update < link->options->lasts ? link->next_update : link->options->lasts;
+    next = earlier(earlier(next, &link->there), &link->back);
+    if (link->queue.first != NULL && link->free_at < next)
+        next = link->free_at;
+    uint64_t now = moment_of(link);
+    uint64_t time = next > now ? next - now : 0;
+    struct timespec timeout = {.tv_sec = (time_t)(time / 1000000000u), .tv_nsec = (long)(time % 1000000000u)};
+    if (ppoll(devices, 2, &timeout, signals) < 0 && errno != EINTR)
+        die("ppoll");
+}
+
+/* Moves what has to move now. */
+static void step(struct bottleneck *link) {
+    uint64_t now = moment_of(link);
+    serve(link, now);
+    release(link, &link->there, link->to, now);
+    release(link, &link->back, link->from, now);
+    update(link, now);
+    receive(link, link->from, arrive);
+    receive(link, link->to, turn_back);
+    serve(link, moment_of(link));
+}
+
+/* Signals come only while the program waits. */
+static void hold_signals(sigset_t *before) {
+    struct sigaction action = {.sa_handler = stop};
+    sigset_t held;
+    sigemptyset(&action.sa_mask);
+    sigemptyset(&held);
+    sigaddset(&held, SIGINT);
+    sigaddset(&held, SIGTERM);
+    if (sigaction(SIGINT, &action, NULL) != 0 || sigaction(SIGTERM, &action, NULL) != 0 || sigprocmask(SIG_BLOCK, &held, before) != 0)
+        die("signals");
+}
+
+static void open_link(struct bottleneck *link, const struct options *options) {
+    link->options = options;
+    link->from = open_device(options->from);
+    link->to = open_device(options->to);
+    link->start = clock_now();
+    link->next_update = options->params.t_update;
+    uint32_t code = pie_open_with(&link->pie, &options->params, 0, (uint32_t)options->profile);
+    if (code != PIE_DONE)
+        die_refused("pie_open_with", code);
+    if (!open_history(&link->history, options, 0))
+        die(options->history);
+}
+
+static void close_link(struct bottleneck *link) {
+    const struct counts *counts = &link->counts;
+    free_all(&link->queue);
+    free_all(&link->there);
+    free_all(&link->back);
+    if (!close_history(&link->history))
+        die("history");
+    printf("link: %" PRIu64 " packets arrived: %" PRIu64 " waited, %" PRIu64 " marked, %" PRIu64 " dropped early, %" PRIu64
+           " for want of bytes, %" PRIu64 " of room; %" PRIu64 " left, %" PRIu64 " lost at the devices\n",
+           counts->arrivals, counts->verdicts[PIE_ENQUEUE], counts->verdicts[PIE_MARK], counts->verdicts[PIE_EARLY],
+           counts->verdicts[PIE_BYTES], counts->verdicts[PIE_PACKETS], counts->departures, counts->lost);
+    printf("link: %" PRIu64 " updates, %" PRIu64 " of them later than by a whole period\n", counts->updates, counts->late);
+}
+
+int main(int count, char **words) {
+    static struct bottleneck link;
+    struct options options;
+    sigset_t signals;
+    int answer = read_options(count, words, &options);
+    if (answer != OPTIONS_READ)
+        return answer == OPTIONS_HELP ? 0 : 1;
+    hold_signals(&signals);
+    open_link(&link, &options);
+    while (!is_stopped && moment_of(&link) < options.lasts) {
+        wait_for_work(&link, &signals);
+        step(&link);
+    }
+    close_link(&link);
+    return 0;
+}

@@ -1,0 +1,106 @@
+# For run.sh and tests/link.sh, which source this file: `measure` runs TCP and ping through the link, between network namespaces
+# that it makes. All that it starts and makes is gone when the script ends, also by a signal.
+
+link_program=$(cd "$(dirname "${BASH_SOURCE[0]}")" && pwd)/out/link
+names=(link-$$-from link-$$-link link-$$-to)
+started=()
+
+# Ends what was started, by its number, and takes the namespaces away.
+clean_up() {
+    local pid name
+    for pid in "${started[@]}"; do
+        kill -TERM "$pid" 2> /dev/null
+    done
+    for pid in "${started[@]}"; do
+        wait "$pid" 2> /dev/null
+    done
+    started=()
+    for name in "${names[@]}"; do
+        [ -e "/run/netns/$name" ] && ip netns del "$name"
+    done
+    return 0
+}
+trap clean_up EXIT
+trap 'exit 130' INT
+trap 'exit 143' TERM HUP
+
+# within NAME COMMAND..: runs a command in a namespace, and gives it at most as long as the whole run
+within() {
+    local name=$1
+    shift
+    exec ip netns exec "$name" timeout "$bound" "$@"
+}
+
+# The link goes before all other work of the machine: one that is woken late sends late and updates late.
+before_others='nice -n -15'
+chrt --fifo 50 true 2> /dev/null && before_others='chrt --fifo 50'
+
+# wait_for COMMAND..: until it succeeds, at most ten seconds
+wait_for() {
+    local try
+    for try in $(seq 100); do
+        "$@" > /dev/null 2>&1 && return 0
+        sleep 0.1
+    done
+    echo "measure.sh: this did not come about: $*" >&2
+    return 1
+}
+
+# has_device NAME DEVICE
+has_device() {
+    ip -n "$1" link show "$2"
+}
+
+# is_listening NAME: whether a server listens at iperf3's port, 5201
+is_listening() {
+    ip netns exec "$1" grep -q ':1451 .* 0A ' /proc/net/tcp /proc/net/tcp6
+}
+
+# set_up_end NAME DEVICE ADDRESS PEER: moves a device of the link into a namespace of its own
+set_up_end() {
+    ip -n "${names[1]}" link set "$2" netns "$1"
+    ip -n "$1" addr add "$3" peer "$4" dev "$2"
+    ip -n "$1" link set lo up
+    ip -n "$1" link set "$2" up
+    ip netns exec "$1" sysctl -q -w net.ipv4.tcp_ecn=1 net.ipv4.tcp_no_metrics_save=1
+}
+
+# measure FOLDER SECONDS FLOWS [OPTIONS OF THE LINK..]: leaves history, tcp, ping and link (what each program said) in FOLDER
+measure() {
+    local folder=$1 seconds=$2 flows=$3 name link
+    shift 3
+    mkdir -p "$folder"
+    bound=$((seconds + 30))
+    for name in "${names[@]}"; do
+        ip netns add "$name" || return 1
+    done
+    # shellcheck disable=SC2086
+    (within "${names[1]}" $before_others "$link_program" --from senders --to receivers --for "${bound}s" --history "$folder/history" "$@") \
+        > "$folder/link" 2>&1 &
+    link=$!
+    started+=("$link")
+    wait_for has_device "${names[1]}" senders && wait_for has_device "${names[1]}" receivers || return 1
+    set_up_end "${names[0]}" senders 10.0.0.1 10.0.0.2 && set_up_end "${names[2]}" receivers 10.0.0.2 10.0.0.1 || return 1
+    (within "${names[2]}" iperf3 --server --one-off) > "$folder/server" 2>&1 &
+    started+=($!)
+    wait_for is_listening "${names[2]}" || return 1
+    (within "${names[0]}" ping -n -i 0.05 -w "$seconds" 10.0.0.2) > "$folder/ping" 2>&1 &
+    started+=($!)
+    (within "${names[0]}" iperf3 --client 10.0.0.2 --parallel "$flows" --time "$seconds" --congestion cubic --format k) \
+        > "$folder/tcp" 2>&1 &
+    started+=($!)
+    wait $! || { cat "$folder/tcp" >&2; return 1; }
+    # the link writes out its history when it is ended
+    kill -TERM "$link"
+    wait "$link"
+    clean_up
+}
+
+# waits HISTORY [SECONDS]: of the packets that left, without those of the first seconds, how many there were, and their wait in ms: mean,
+# median, 99th percentile
+waits() {
+    awk -F, -v start="${2:-0}" '$1 == "arrive" { since[$4] = $3 }
+        $1 == "depart" && $4 == "left" { if ($3 >= start * 1e9) print ($3 - since[$5]) / 1e6; delete since[$5] }' "$1" |
+        sort -n | awk '{ wait[NR] = $1; sum += $1 }
+            END { if (NR == 0) print 0, 0, 0, 0; else print NR, sum / NR, wait[int((NR + 1) / 2)], wait[int((NR * 99 + 99) / 100)] }'
+}

@@ -1,0 +1,154 @@
+#include "options.h"
+
+#include <math.h>
+#include <stdio.h>
+#include <stdlib.h>
+#include <string.h>
+
+struct unit {
+    const char *name;
+    double factor;
+};
+
+/* Rates in bits a second, times in ns, sizes in bytes, probabilities in 10^-12, gains in thousandths per second. The first is
+ * what a number without a unit has. */
+static const struct unit rates[] = {{"bit", 1}, {"kbit", 1e3}, {"mbit", 1e6}, {"gbit", 1e9}, {0}};
+static const struct unit times[] = {{"s", 1e9}, {"ms", 1e6}, {"us", 1e3}, {"ns", 1}, {0}};
+static const struct unit sizes[] = {{"b", 1}, {"kb", 1024}, {"mb", 1048576}, {0}};
+static const struct unit parts[] = {{"", 1e12}, {"%", 1e10}, {0}};
+static const struct unit gains[] = {{"", 1e3}, {0}};
+static const struct unit numbers[] = {{"", 1}, {0}};
+
+static const char help[] =
+    "link --from DEVICE --to DEVICE [OPTIONS]\n"
+    "\n"
+    "Makes two TUN devices and joins them: what is sent into the one comes out of the other at a given rate, through a queue that\n"
+    "PIE (RFC 8033) manages; what is sent the other way is only delayed. Ends by SIGINT or SIGTERM, or after the time of --for.\n"
+    "\n"
+    "  --rate 10mbit        rate of the link: bit, kbit, mbit, gbit\n"
+    "  --delay 20ms         delay of the way back: s, ms, us, ns\n"
+    "  --limit 256kb        the queue's limit: b, kb (1024 bytes), mb\n"
+    "  --packets 65536      how many packets the queue has room for\n"
+    "  --queue pie          pie, or tail: only the limit drops\n"
+    "  --ecn                mark packets whose ECN field allows it\n"
+    "  --profile 1          1: always active; 2: turns itself on and off\n"
+    "  --target 15ms, --update 15ms, --burst 150ms, --alpha 0.125, --beta 1.25, --mean-packet 1024b, --mark-below 10%,\n"
+    "  --threshold 16kb     the parameters, with their defaults\n"
+    "  --history FILE       write every decision, for pie audit and pie explain\n"
+    "  --for 60s            end after this time\n";
+
+/* The number in this text, with its unit; false where it is none. */
+static bool value_of(const char *text, const struct unit *units, uint64_t *value) {
+    char *end;
+    double number = strtod(text, &end);
+    if (end == text || !isfinite(number) || number < 0)
+        return false;
+    const struct unit *unit = units;
+    while (*end != '\0' && unit->name != NULL && strcmp(unit->name, end) != 0)
+        unit++;
+    if (unit->name == NULL || number * unit->factor > 0x1p60)
+        return false;
+    *value = (uint64_t)llround(number * unit->factor);
+    return true;
+}
+
+/* An option with a number; false where this word is no such option. */
+static bool read_number(const char *name, const char *text, struct options *options, bool *is_read) {
+    struct pie_params *p = &options->params;
+    const struct {
+        const char *name;
+        const struct unit *units;
+        uint64_t *value;
+    } known[] = {
+        {"--rate", rates, &options->rate},        {"--delay", times, &options->delay},
+        {"--for", times, &options->lasts},        {"--packets", numbers, &options->packets},
+        {"--profile", numbers, &options->profile}, {"--target", times, &p->target},
+        {"--update", times, &p->t_update},        {"--burst", times, &p->max_burst},
+        {"--alpha", gains, &p->alpha},            {"--beta", gains, &p->beta},
+        {"--mean-packet", sizes, &p->mean_pkt},   {"--limit", sizes, &p->limit_bytes},
+        {"--mark-below", parts, &p->mark_ecnth},  {"--threshold", sizes, &p->dq_threshold},
+    };
+    for (size_t i = 0; i < sizeof known / sizeof known[0]; i++) {
+        if (strcmp(name, known[i].name) == 0) {
+            *is_read = value_of(text, known[i].units, known[i].value);
+            return true;
+        }
+    }
+    return false;
+}
+
+/* An option with a name, of a device, a file or a queue; false where this word is no such option. */
+static bool read_name(const char *name, const char *text, struct options *options, bool *is_read) {
+    *is_read = *text != '\0';
+    if (strcmp(name, "--from") == 0) {
+        options->from = text;
+    } else if (strcmp(name, "--to") == 0) {
+        options->to = text;
+    } else if (strcmp(name, "--history") == 0) {
+        options->history = text;
+    } else if (strcmp(name, "--queue") == 0) {
+        options->is_tail_drop = strcmp(text, "tail") == 0;
+        *is_read = options->is_tail_drop || strcmp(text, "pie") == 0;
+    } else {
+        return false;
+    }
+    return true;
+}
+
+static void set_defaults(struct options *options) {
+    *options = (struct options){.rate = 10000000, .delay = 20000000, .lasts = 60000000000, .packets = 65536, .profile = PIE_ALWAYS_ON};
+    pie_default_params(&options->params);
+}
+
+/* What is wrong with all the options together; NULL where nothing is. */
+static const char *fault_of(const struct options *options) {
+    static const char *const parameters[] = {"target", "update", "burst", "alpha", "beta", "mean-packet", "limit", "mark-below", "threshold"};
+    uint32_t bad = pie_check_params(&options->params);
+    if (bad != 0)
+        return parameters[bad - 1];
+    if (options->from == NULL || options->to == NULL)
+        return "from and to";
+    if (options->rate < 1000)
+        return "rate";
+    if (options->packets < 1 || options->packets > 65536)
+        return "packets";
+    if (options->profile != PIE_ALWAYS_ON && options->profile != PIE_ON_AND_OFF)
+        return "profile";
+    return NULL;
+}
+
+/* With gains of 0 the probability stays 0, so that no packet is picked, and only the limit drops. */
+static void make_tail_drop(struct options *options) {
+    options->params.alpha = 0;
+    options->params.beta = 0;
+}
+
+int read_options(int count, char **words, struct options *options) {
+    set_defaults(options);
+    for (int i = 1; i < count; i++) {
+        bool is_read = false;
+        if (strcmp(words[i], "--help") == 0) {
+            printf("%s", help);
+            return OPTIONS_HELP;
+        }
+        if (strcmp(words[i], "--ecn") == 0) {
+            options->use_ecn = true;
+            continue;
+        }
+        const char *text = i + 1 < count ? words[i + 1] : "";
+        bool is_known = read_number(words[i], text, options, &is_read) || read_name(words[i], text, options, &is_read);
+        if (!is_known || !is_read) {
+            fprintf(stderr, "link: %s %s: %s; see link --help\n", words[i], text, is_known ? "not a value of this option" : "unknown");
+            return OPTIONS_WRONG;
+        }
+        i++;
+    }
+    const char *fault = fault_of(options);
+    if (fault != NULL) {
+        fprintf(stderr, "link: --%s: missing, or out of its range; see link --help\n", fault);
+        return OPTIONS_WRONG;
+    }
+    if (options->is_tail_drop)
+        make_tail_drop(options);
+    return OPTIONS_READ;
+}

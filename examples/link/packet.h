@@ -1,0 +1,40 @@
+/* Packets, lists of them, and the ECN field of their IP headers. */
+#ifndef LINK_PACKET_H
+#define LINK_PACKET_H
+
+#include <stddef.h>
+#include <stdint.h>
+
+struct packet {
+    struct packet *next;
+    uint64_t tag;    /* its number among the arrivals */
+    uint64_t moment; /* when it arrived, and later when it may go on; ns */
+    uint32_t size;
+    uint32_t ecn; /* as the controller was told */
+    uint8_t bytes[];
+};
+
+/* Packets in their order, the oldest first. */
+struct packets {
+    struct packet *first, *last;
+    uint32_t count;
+    uint64_t bytes;
+};
+
+/* A packet with a copy of these bytes; NULL for want of memory. */
+struct packet *packet_of(const uint8_t *bytes, uint32_t size);
+
+void push(struct packets *packets, struct packet *packet);
+
+/* Takes the oldest packet; NULL with none. */
+struct packet *pop(struct packets *packets);
+
+void free_all(struct packets *packets);
+
+/* The ECN field (RFC 3168, section 5) of an IPv4 or IPv6 packet; Not-ECT of anything else. */
+uint32_t ecn_of(const uint8_t *bytes, size_t size);
+
+/* Sets the ECN field of an IPv4 or IPv6 packet to CE; of IPv4 the header's checksum is mended (RFC 1624). */
+void set_ce(uint8_t *bytes, size_t size);
+
+#endif

@@ -1,0 +1,67 @@
+#!/usr/bin/env bash
+# TCP and ping through the link, by tail drop, by PIE, and by PIE with ECN: audits the histories, explains the first lost packets,
+# prints a table, and draws delay and probability over time. Traffic stays in network namespaces of this script.
+# usage: examples/link/run.sh PIE FOLDER [SECONDS] [FLOWS] [OPTIONS OF THE LINK..]
+#   PIE: the built program, as crates/pie/out/ has it after `rt run`. FOLDER gets the histories, what the programs said, and the picture.
+set -u
+here=$(cd "$(dirname "$0")" && pwd)
+if [ $# -lt 2 ]; then
+    sed -n '2,5s/^# //p' "$0"
+    exit 1
+fi
+if ! "$here/missing.sh"; then
+    echo "examples/link/run.sh: the above is missing, so nothing was run; examples/link/install.sh installs what Debian has of it"
+    exit 1
+fi
+program=$1 folder=$2 seconds=${3:-20} flows=${4:-4}
+shift $(($# < 4 ? $# : 4))
+make -s -C "$here" || exit 1
+. "$here/measure.sh"
+
+# goodput FILE: what the receiver got, in Mbit/s
+goodput() {
+    awk '/receiver/ { for (i = 2; i <= NF; i++) if ($i == "Kbits/sec") rate = $(i - 1) } END { printf "%.2f", rate / 1000 }' "$1"
+}
+
+# round_trips FILE: mean and 99th percentile in ms
+round_trips() {
+    sed -n 's/.*time=\([0-9.]*\) ms.*/\1/p' "$1" | sort -n |
+        awk '{ time[NR] = $1; sum += $1 } END { if (NR) printf "%.1f %.1f", sum / NR, time[int((NR * 99 + 99) / 100)]; else printf "- -" }'
+}
+
+# verdicts HISTORY WORDS: how many arrivals ended so
+verdicts() {
+    grep -c -E "^arrive,.*,($2)\$" "$1"
+}
+
+row() {
+    local name=$1 where=$2
+    printf '| %-13s | %7s | %8s | %8s | %7.1f | %8.1f | %10.1f | %6d | %5d | %6d | %s |\n' "$name" "$(goodput "$where/tcp")" \
+        $(round_trips "$where/ping") $(waits "$where/history" | awk '{ print $2, $4 }') $(waits "$where/history" 5 | awk '{ print $2 }') \
+        "$(verdicts "$where/history" early)" "$(verdicts "$where/history" 'bytes|packets')" "$(verdicts "$where/history" mark)" \
+        "$("$program" audit < "$where/history")"
+}
+
+measure "$folder/tail" "$seconds" "$flows" "$@" --queue tail || exit 1
+measure "$folder/pie" "$seconds" "$flows" "$@" --queue pie || exit 1
+measure "$folder/pie-ecn" "$seconds" "$flows" "$@" --queue pie --ecn || exit 1
+
+echo "$flows TCP CUBIC flows and a ping for $seconds s; options of the link: ${*:-the defaults}. Times in ms, goodput in Mbit/s."
+echo
+echo '| queue         | goodput | RTT mean |  RTT p99 |    wait | wait p99 | after 5 s  |  early |  tail |  marks | audit |'
+echo '|---|---|---|---|---|---|---|---|---|---|---|'
+row 'tail drop' "$folder/tail"
+row 'PIE' "$folder/pie"
+row 'PIE with ECN' "$folder/pie-ecn"
+for name in pie pie-ecn; do
+    "$program" explain --lost < "$folder/$name/history" > "$folder/$name/lost"
+    echo
+    echo "The first packet that was lost by $name:"
+    sed -n '1,8p' "$folder/$name/lost" | sed '1b;/^event /,$d'
+done
+if command -v gnuplot > /dev/null; then
+    "$here/draw.sh" "$folder/delay.png" "tail drop=$folder/tail/history" "PIE=$folder/pie/history" "PIE with ECN=$folder/pie-ecn/history" &&
+        echo && echo "picture: $folder/delay.png"
+else
+    echo 'missing: gnuplot, so no picture was drawn'
+fi

@@ -1,0 +1,75 @@
+#!/usr/bin/env python3
+"""Writes the traces of this folder: each shows one thing that PIE is for. The same bytes each time.
+
+usage: examples/traces.py [FOLDER]
+
+A packet has 1250 bytes. A link of 10 Mbit/s sends one a millisecond; a link of 5 Mbit/s one each two milliseconds. There is an
+update each 15 milliseconds. Caller 1 sends, caller 2 is the link, caller 3 makes updates, and caller 4 is the operator.
+"""
+import random
+import sys
+from pathlib import Path
+
+MS = 1_000_000
+SIZE = 1250
+UPDATE = 15 * MS
+# The default parameters, a ring of 1000 packets, and a tail of 1000 events that lets its oldest go. Where parameters follow they are
+# target, t_update, max_burst, alpha, beta, mean_pkt, limit_bytes, mark_ecnth and dq_threshold.
+OPENING = "rolling,0,1000,1000,1000000"
+
+
+def steady(first, last, gap):
+    count = int((last - first) / gap)
+    return [round((first + i * gap) * MS) for i in range(count)]
+
+
+def written(opening, arrivals, departs, updates, others=(), ecns=("not",), seed=1):
+    """The records, by moment; at one moment packets leave, then come, and then there is an update."""
+    words = random.Random(seed)
+    events = [(moment, 0, f"depart,2,{moment}") for moment in departs] + [(moment, 2, f"update,3,{moment}") for moment in updates]
+    events += [(moment, 3, record) for moment, record in others]
+    for tag, moment in enumerate(sorted(arrivals), 1):
+        ecn = ecns[tag % len(ecns)]
+        events.append((moment, 1, f"arrive,1,{moment},{tag},{SIZE},{ecn},{words.getrandbits(64)}"))
+    return "\n".join([opening, *[record for _, _, record in sorted(events, key=lambda event: event[:2])]]) + "\n"
+
+
+def burst():
+    """10 Mbit/s, half loaded; at 30 ms forty packets come at once: 50 kilobytes, 40 milliseconds of the link."""
+    arrivals = steady(0, 30, 2) + [30 * MS] * 40 + steady(32, 120, 2)
+    return written(OPENING, arrivals, steady(1, 120, 1), steady(15, 120, 15))
+
+
+def overload():
+    """5 Mbit/s; 1.5 times as much comes for 0.6 seconds, and then half as much; no packet may be marked."""
+    return written(OPENING, steady(0, 600, 4 / 3) + steady(600, 900, 4), steady(2, 900, 2), steady(15, 900, 15))
+
+
+def marks():
+    """5 Mbit/s; 1.25 times as much comes for 0.48 seconds, and then 0.83 times; every other packet may be marked, below 20 per cent."""
+    arrivals = steady(0, 480, 1.6) + steady(480, 750, 2.4)
+    opening = OPENING + ",15000000,15000000,150000000,125,1250,1024,262144,200000000000,16384"
+    return written(opening, arrivals, steady(2, 750, 2), steady(15, 750, 15), ecns=("ect0", "not"))
+
+
+def off_and_on():
+    """10 Mbit/s, a limit of 60 kilobytes, profile two: 16 packets, 20 kilobytes, turn the controller on, and quiet turns it off."""
+    nine = "15000000,15000000,150000000,125,1250,1024,60000,100000000000,4096"
+    arrivals = [*steady(0, 20, 2), *[20 * MS] * 20, *steady(22, 120, 4)]
+    shows = [(moment * MS, "show") for moment in (10, 20, 70)]
+    return written(f"open2,2,rolling,0,1000,1000,1000000,{nine}", arrivals, steady(1, 120, 1), steady(15, 120, 15), shows)
+
+
+def reset():
+    """5 Mbit/s, and 1.5 times as much comes for 0.6 seconds; at 0.5 seconds the operator resets the controller."""
+    return written(OPENING, steady(0, 600, 4 / 3), steady(2, 600, 2), steady(15, 600, 15), [(500 * MS, f"reset,4,{500 * MS}")])
+
+
+def main():
+    folder = Path(sys.argv[1]) if len(sys.argv) > 1 else Path(__file__).resolve().parent
+    for trace in (burst, overload, marks, off_and_on, reset):
+        (folder / f"{trace.__name__}.trace").write_text(trace(), encoding="ascii")
+
+
+if __name__ == "__main__":
+    main()

@@ -1,0 +1,63 @@
+#!/usr/bin/env bash
+# Installs below a prefix what was built: the program pie with its manual page and completions, and the library for C with its header
+# and its pkg-config file.
+#
+# usage: ./install.sh PREFIX [program|library]..   both, where neither is named; DESTDIR, where it is set, is put before PREFIX
+#
+# Build first: `rt run` in crates/pie makes the program, `rt lib` in crates/pie_c the library.
+set -eu
+if [ $# = 0 ] || [ "${1#/}" = "$1" ]; then
+    echo "usage: ./install.sh PREFIX [program|library]..    PREFIX is an absolute path, as /usr/local" >&2
+    exit 2
+fi
+prefix=${1%/}
+shift
+cd "$(dirname "$0")"
+root=${DESTDIR-}$prefix
+
+# put MODE FILE PLACE: installs a file below the prefix
+put() {
+    install -D -m "$1" "$2" "$root/$3"
+    echo "$prefix/$3"
+}
+
+# built FILE FOLDER CMD: ends where the file isn't there
+built() {
+    [ -e "$1" ] || { echo "install.sh: $1 is not there: in $2, \`$3\` builds it" >&2; exit 1; }
+}
+
+program() {
+    built crates/pie/out/pie crates/pie "rt run"
+    put 755 crates/pie/out/pie bin/pie
+    # the manual page and completions, where the repository has them
+    [ ! -e man/pie.1 ] || put 644 man/pie.1 share/man/man1/pie.1
+    [ ! -e completions/pie.bash ] || put 644 completions/pie.bash share/bash-completion/completions/pie
+    [ ! -e completions/_pie ] || put 644 completions/_pie share/zsh/site-functions/_pie
+    [ ! -e completions/pie.fish ] || put 644 completions/pie.fish share/fish/vendor_completions.d/pie.fish
+}
+
+library() {
+    local version
+    built crates/pie_c/out/libpie_c.a crates/pie_c "rt lib"
+    version=$(sed -n 's/^#define PIE_VERSION "\(.*\)"$/\1/p' include/pie.h)
+    put 644 crates/pie_c/out/libpie_c.a lib/libpie_c.a
+    put 644 include/pie.h include/pie.h
+    # shellcheck disable=SC2016
+    printf '%s\n' "prefix=$prefix" 'libdir=${prefix}/lib' 'includedir=${prefix}/include' '' 'Name: pie_c' \
+        'Description: PIE (RFC 8033) for a packet queue that its caller owns' "Version: $version" \
+        'Libs: -L${libdir} -lpie_c' 'Cflags: -I${includedir}' > "$work/pie_c.pc"
+    put 644 "$work/pie_c.pc" lib/pkgconfig/pie_c.pc
+}
+
+work=$(mktemp -d)
+trap 'rm -rf "$work"' EXIT
+for part in "${@:-both}"; do
+    case $part in
+        program) program ;;
+        library) library ;;
+        both) program && library ;;
+        *) echo "install.sh: $part is neither program nor library" >&2; exit 2 ;;
+    esac
+done
+put 644 LICENSE-MIT share/doc/pie/LICENSE-MIT
+put 644 LICENSE-APACHE share/doc/pie/LICENSE-APACHE

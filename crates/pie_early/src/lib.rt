@@ -8,7 +8,7 @@
 
 mod early;
 
-pub use early::{Choice, Early};
+pub use early::{Choice, Early, LOW_PROB, NEVER_PICKED};
 
 #[cfg(test)]
 mod tests;

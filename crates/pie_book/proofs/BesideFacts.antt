@@ -32,6 +32,7 @@ use Rattle.pie_controller.specs.Held.{Held}
 use Rattle.pie_controller.specs.History.{verdict_shown}
 use Rattle.pie_controller.specs.Steps as Steps
 use Rattle.pie_controller.specs.Steps.{accu_left, anew, bytes_with, chosen, control_updated, judged, no_estimate, rate_after, renewed}
+use Rattle.pie_controller.proofs.InRange.{params-hold}
 use Rattle.pie_controller.proofs.Parts.{early-step, nothing-shown, rate-step}
 use Rattle.pie_book.specs.declared.command.Answer.{Answer}
 use Rattle.pie_book.specs.declared.command.Answer.TheVariants.{DroppedBytes, DroppedPackets, Empty, Left, Updated, Done}
@@ -56,7 +57,6 @@ use Rattle.pie_book.specs.Statistics.{age_of_oldest, no_stats}
 use Rattle.pie_book.proofs.CoreFacts.{Shows-empty, Shows-next, at_place, decides-arrive, decides-depart, decides-update, follows-arrive, follows-depart, follows-reset, follows-set, follows-update}
 use Rattle.pie_book.proofs.LookFacts.{refusal-is}
 use Rattle.pie_book.proofs.Places.{place_of, places-push}
-use Rattle.pie_book.proofs.RangeFacts.{params-hold}
 
 -- ---- arrivals
 

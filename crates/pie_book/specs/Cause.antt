@@ -4,6 +4,7 @@
 use Rattle.std.specs.Prelude.{ℕ, ◌+◌, ◌*◌, ◌^◌, ◌==◌, not, ◌&&◌, nat_lt, nat_le, Bool, List, length, Option, Some, None, if◌then◌else◌}
 use Rattle.pie_params.specs.declared.raw.RawParams.{RawParams}
 use Rattle.pie_control.specs.Parts.{Parts}
+use Rattle.pie_early.specs.Decision.{a_fifth, always_picked, never_picked}
 use Rattle.pie_queue.specs.declared.ecn.Ecn.{Ecn}
 use Rattle.pie_queue.specs.Ecn.{is_capable}
 use Rattle.pie_queue.specs.declared.packet.Packet.{Packet}
@@ -58,8 +59,8 @@ fate_of params prob ecn =
 unfoldable pub considered_cause : RawParams → ℕ → ℕ → Ecn → ℕ → Cause
 considered_cause params prob accu ecn word =
     if prob == 0 then NoProbability
-    else if nat_lt (accu + prob) 850_000_000_000 then LittleAccumulated accu prob
-    else if nat_le 8_500_000_000_000 (accu + prob) then PickedBySum accu prob (fate_of params prob ecn)
+    else if nat_lt (accu + prob) never_picked then LittleAccumulated accu prob
+    else if nat_le always_picked (accu + prob) then PickedBySum accu prob (fate_of params prob ecn)
     else if nat_lt (word * 10 ^ 12) (prob * 2 ^ 64) then PickedByWord accu prob word (fate_of params prob ecn)
     else WordNotBelow accu prob word
 
@@ -67,7 +68,7 @@ considered_cause params prob accu ecn word =
 unfoldable pub early_cause : RawParams → Parts → ℕ → ℕ → Ecn → ℕ → Cause
 early_cause params parts bytes accu ecn word =
     if nat_lt 0 parts.burst then BurstAllowed parts.burst
-    else if nat_lt (2 * parts.old_delay) params.target && nat_lt parts.prob 200_000_000_000 then LowDelay parts.old_delay params.target parts.prob
+    else if nat_lt (2 * parts.old_delay) params.target && nat_lt parts.prob a_fifth then LowDelay parts.old_delay params.target parts.prob
     else if nat_le bytes (2 * params.mean_pkt) then ShortQueue bytes (2 * params.mean_pkt)
     else considered_cause params parts.prob accu ecn word
 

@@ -5,16 +5,10 @@ ghost use Rattle.pie_book.specs.Cause.{cause, considered_cause, early_cause, fat
 
 use crate::Answer;
 use pie_control::Control;
-use pie_early::Early;
+use pie_early::{Early, LOW_PROB, NEVER_PICKED};
 use pie_fixed::{ALWAYS_PICKED, Accu, Prob, chosen};
 use pie_params::Params;
 use pie_queue::{ByteQueue, Ecn, Packet};
-
-/// A fifth, in units of `10^-12` (RFC 8033, section 4.1).
-const A_FIFTH: u64 = 200_000_000_000;
-
-/// The accumulated probability 0.85, in units of `10^-12` (RFC 8033, section 5.4).
-const NEVER_PICKED: u64 = 850_000_000_000;
 
 /// Why a picked packet was marked or dropped (RFC 8033, section 5.1).
 #[derive(Clone, Copy, Debug, PartialEq, Eq)]
@@ -209,7 +203,7 @@ fn early_cause(
         return Cause::BurstAllowed { burst };
     }
     let (old_delay, target, prob) = (control.old(), params.target().units(), control.prob());
-    if 2 * old_delay < target && prob.units() < A_FIFTH {
+    if 2 * old_delay < target && prob.units() < LOW_PROB {
         return Cause::LowDelay {
             old_delay,
             target,

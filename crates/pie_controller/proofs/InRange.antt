@@ -16,7 +16,7 @@ pub record ParamsHold (params : RawParams) : Type 0 where
   pub dq_least : 1024 ≤ params.dq_threshold
   pub dq_threshold : params.dq_threshold ≤ 65536
 
-dq-most : (n : ℕ) → is_dq_threshold n ≡ true → n ≤ 65536
+pub dq-most : (n : ℕ) → is_dq_threshold n ≡ true → n ≤ 65536
 dq-most n e = grind (arith, nat_tests)
 
 dq-least : (n : ℕ) → is_dq_threshold n ≡ true → 1024 ≤ n

@@ -85,7 +85,7 @@ bounded-hold : (z : ℤ) → bounded_of z ≤ 10 ^ 12
 bounded-hold (pos n) = omega arith
 bounded-hold (negsuc n) = omega arith
 
-next-hold : (params : RawParams) (prob delay old : ℕ) → next params prob delay old ≤ 10 ^ 12
+pub next-hold : (params : RawParams) (prob delay old : ℕ) → next params prob delay old ≤ 10 ^ 12
 unfolding next
 next-hold params prob delay old = bounded-hold (decayed delay old (pos prob +ℤ tuned_step prob (raw_step params delay old)))
 
@@ -93,7 +93,7 @@ pub delay-hold : (bytes average threshold : ℕ) → delay_of bytes average thre
 unfolding delay_of
 delay-hold bytes average threshold = omega arith
 
-either : (b : Bool) (x y z : ℕ) → x ≤ z → y ≤ z → (if b then x else y) ≤ z
+pub either : (b : Bool) (x y z : ℕ) → x ≤ z → y ≤ z → (if b then x else y) ≤ z
 either true x y z p q = p
 either false x y z p q = q
 

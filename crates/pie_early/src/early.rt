@@ -12,11 +12,11 @@ use std::marker::Model;
 
 /// A fifth, in units of `10^-12`: below it a packet is let through while the old delay is below half
 /// the target (RFC 8033, section 4.1).
-const LOW_PROB: u64 = 200_000_000_000;
+pub const LOW_PROB: u64 = 200_000_000_000;
 
 /// The accumulated probability 0.85, in units of `10^-12`, below which no packet is picked (RFC
 /// 8033, section 5.4).
-const NEVER_PICKED: u64 = 850_000_000_000;
+pub const NEVER_PICKED: u64 = 850_000_000_000;
 
 /// What becomes of an arriving packet that the queue has room for.
 #[derive(Clone, Copy, Debug, PartialEq, Eq)]

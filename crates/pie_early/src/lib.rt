@@ -8,4 +8,4 @@
 
 mod early;
 
-pub use early::{Choice, Early};
+pub use early::{Choice, Early, LOW_PROB, NEVER_PICKED};

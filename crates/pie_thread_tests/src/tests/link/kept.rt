@@ -126,7 +126,7 @@ impl Gate for Recorder {
 }
 
 // A gate that nobody of so many callers has passed.
-fn recorder(alloc: Global, callers: usize) -> Result<Recorder, Fail> {
+fn unpassed_gate(alloc: Global, callers: usize) -> Result<Recorder, Fail> {
     let mut passed = Vec::new(alloc);
     for _ in 0..callers {
         passed.push(AtomicU64::new(0))?;
@@ -191,7 +191,7 @@ fn arrival(moment: u64) -> Arrival {
 #[test]
 fn each_call_of_a_storm_passes_its_gate_once(rt: HostRuntime) -> Result<(), Fail> {
     let plan = plan(rt.alloc())?;
-    let gate = recorder(rt.alloc(), 7)?;
+    let gate = unpassed_gate(rt.alloc(), 7)?;
     let end = storm(&rt, rt.alloc(), &plan, &gate)?;
     assert!(rt; end.events.len() == 8 && end.too_soon == 0 && end.too_many == 1);
     assert!(rt; gate.out_of_order.load(Ordering::SeqCst) == 0 && passed_in_all(&gate) == 10);

@@ -56,7 +56,7 @@ fn two_take<R: Threads + Wait + Clock + Sync>(
     )
 }
 
-// Four threads, of which the last has the state for long, while the others sleep.
+// Four threads, of which the last has the state for long, while the others sleep; and the passes of the first two.
 fn four_take<R: Threads + Wait + Clock + Sync>(
     rt: &R,
     lock: &RuledLock<Counter>,
@@ -68,7 +68,7 @@ fn four_take<R: Threads + Wait + Clock + Sync>(
 {
     let (one, two) = low;
     let (three, four) = high;
-    let ((one, _), (three, _)) = join(
+    let (lower, _) = join(
         rt,
         || -> (Pass<Counter>, Pass<Counter>)
             requires { (one.lock ≡ lock.now) × (two.lock ≡ lock.now) }
@@ -78,7 +78,7 @@ fn four_take<R: Threads + Wait + Clock + Sync>(
             requires { (three.lock ≡ lock.now) × (four.lock ≡ lock.now) }
         { two_take(rt, lock, three, four, LONG) },
     );
-    (one, three)
+    lower
 }
 
 #[test]

@@ -1,30 +1,28 @@
 #!/usr/bin/env bash
 # Runs `pie storm`, which makes a storm, writes its history and audits it, and beside it an audit of that history and, from a trace
-# of the same commands in the order in which they came, a run in one thread. Each history has to be audited clean. Prints the number of
-# events, how often the caller changed from one event to the next, the least and the median time of each, events a second, and the load.
-# usage: bench/pie_storm.sh PIE [SENDERS] [PACKETS] [RUNS] [LOAD]      PIE: the built program, as crates/pie/out/ has it
+# of the same commands in the order in which they came, a run in one thread. Prints the number of events, the least and the median
+# time of each, events a second, and the load.
+# usage: bench/pie_storm.sh PIE [SENDERS] [PACKETS] [RUNS]      PIE: the built program, as crates/pie/out/ has it
 set -eu
 program=$1
 senders=${2:-8}
 packets=${3:-10000}
 runs=${4:-9}
-load=${5:-100}
 work=$(mktemp -d)
 trap 'rm -rf "$work"' EXIT
-python3 - "$program" "$work" "$senders" "$packets" "$runs" "$load" <<'PY'
-import os, re, statistics, subprocess, sys, time
+python3 - "$program" "$work" "$senders" "$packets" "$runs" <<'PY'
+import os, statistics, subprocess, sys, time
 
-program, work, senders, packets, runs, load = sys.argv[1], sys.argv[2], sys.argv[3], sys.argv[4], int(sys.argv[5]), sys.argv[6]
-storm = ["storm", "--senders", senders, "--packets", packets, "--load", load, "--count"]
-calls = {"storm": (storm, "/dev/null", "history"), "audit": (["audit"], "history", "finding"), "run": (["run"], "trace", "again")}
+program, work, senders, packets, runs = sys.argv[1], sys.argv[2], sys.argv[3], sys.argv[4], int(sys.argv[5])
+calls = {"storm": (["storm", "--senders", senders, "--packets", packets], "/dev/null", "history"), "audit": (["audit"], "history", "finding"), "run": (["run"], "trace", "again")}
 FIELDS = {"open": 5, "arrive": 7, "depart": 3, "update": 3}
 
 
 def seconds(words, source, target):
     """The time by the clock and the processor's time of one run."""
-    with open(os.path.join(work, source), "rb") as reader, open(f"{work}/{target}", "wb") as writer, open(f"{work}/errors", "wb") as errors:
+    with open(os.path.join(work, source), "rb") as reader, open(f"{work}/{target}", "wb") as writer:
         begin = time.perf_counter()
-        child = subprocess.Popen([program, *words], stdin=reader, stdout=writer, stderr=errors)
+        child = subprocess.Popen([program, *words], stdin=reader, stdout=writer)
         _, status, used = os.wait4(child.pid, 0)
         child.returncode = status
         assert status == 0, (words, status)
@@ -32,7 +30,6 @@ def seconds(words, source, target):
 
 
 times = {word: [] for word in calls}
-changes = []
 for _ in range(runs):
     for word, files in calls.items():
         if word == "run":
@@ -41,17 +38,10 @@ for _ in range(runs):
                     fields = line.rstrip().split(",")
                     trace.write(",".join(fields[: FIELDS[fields[0]]]) + "\n")
         times[word].append(seconds(*files))
-        if word == "storm":
-            with open(f"{work}/errors") as errors:
-                events, changed, _ = map(int, re.findall(r"\d+", errors.read()))
-            changes.append(changed)
-        if word == "audit":
-            with open(f"{work}/finding") as finding:
-                assert finding.read() == f"clean,{events}\n"
-print(f"changes_of_caller least {min(changes)} median {statistics.median(changes):.0f} greatest {max(changes)} of_events {events}")
-with open(f"{work}/history") as history:
-    words = [line.rsplit(",", 1)[1].strip() for line in history if line.startswith("arrive")]
-print(*(f"{word} {words.count(word)}" for word in ("enqueue", "mark", "early", "bytes", "packets")))
+with open(f"{work}/history", "rb") as history:
+    events = sum(1 for _ in history) - 1
+with open(f"{work}/finding") as finding:
+    print(finding.read().strip())
 for word in calls:
     clock, used = ([time[i] for time in times[word]] for i in range(2))
     print(f"{word} events {events} seconds {min(clock):.3f} median {statistics.median(clock):.3f} processor_seconds {min(used):.3f} median {statistics.median(used):.3f} events_a_second {events / min(clock):.0f}")

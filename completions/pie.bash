@@ -7,7 +7,7 @@ _pie() {
         case $subcommand in
             run | audit | migrate) words='--help' ;;
             explain) words='--event --tag --lost --all --csv --help' ;;
-            storm) words='--senders --packets --seed --load --count --help' ;;
+            storm) words='--senders --packets --seed --help' ;;
             help) words='run audit explain migrate storm help' ;;
             *) words='' ;;
         esac

@@ -16,6 +16,4 @@ complete -c pie -n '__fish_seen_subcommand_from explain' -l csv -d 'write CSV in
 complete -c pie -n '__fish_seen_subcommand_from storm' -l senders -x -d 'how many senders, 2 to 8'
 complete -c pie -n '__fish_seen_subcommand_from storm' -l packets -x -d 'how many packets each sender has, 1 to 10000'
 complete -c pie -n '__fish_seen_subcommand_from storm' -l seed -x -d 'what the random words are made of'
-complete -c pie -n '__fish_seen_subcommand_from storm' -l load -x -d 'the load of the link in per cent, 50 to 1000'
-complete -c pie -n '__fish_seen_subcommand_from storm' -l count -d 'tell on standard error how many events there were'
 complete -c pie -n '__fish_seen_subcommand_from help' -a 'run audit explain migrate storm help'

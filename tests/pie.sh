@@ -31,7 +31,7 @@ expect 'a refused record is no fault' 0 'open,0,4,1,100\ndepart,1,1,empty\nrefus
     'open,0,4,1,100\ndepart,1,1\ndepart,1,1\n' run
 expect 'a run of version two' 0 'open2,2,rolling,0,4,16,100\nshown,0,0,0,0,0,0,0,150000000,0,0,0,0\n' '' \
     'open2,2,rolling,0,4,16,100\nshow\n' run
-# The example of `pie run --help`.
+# The first session of the README, which is the example of `pie run --help` too.
 trace='open,0,8,32,100,2,1,0,850000,0,1,100000,1000000000000,1024
 arrive,1,0,1,1024,not,0
 arrive,1,0,2,1024,not,0
@@ -198,8 +198,6 @@ mistake "error: invalid value '10001' for '--packets <N>': 10001 is not in 1..=1
 mistake "error: invalid value '18446744073709551616' for '--seed <N>': number too large to fit in target type" storm --seed 18446744073709551616
 mistake "error: unexpected argument '-1' found" storm --seed -1
 mistake "error: unexpected argument '--fast' found" storm --fast
-mistake "error: invalid value '49' for '--load <PERCENT>': 49 is not in 50..=1000" storm --load 49
-mistake "error: unexpected value '2' for '--count' found; no more were expected" storm --count=2
 # The ninth word, and the tenth to the twelfth.
 mistake "error: unexpected argument '--fast' found" storm --senders 3 --packets 10 --seed 7 --fast
 mistake "error: unexpected argument 'more' found" storm --senders 3 --packets 10 --seed 7 more
@@ -352,21 +350,6 @@ for _ in 1 2; do
             ;;
     esac
 done
-# A loaded link: 180 arrivals, 150 departures and 5 updates, and what the storm tells of its events is what its history shows.
-"$program" storm --senders 3 --packets 60 --load 120 --count > "$work/output" 2> "$work/errors"
-got=$?
-told=$(awk -F, 'NR > 1 { n++; changes += n > 1 && $2 != before; before = $2; updates += $1 == "update" }
-    END { printf "pie: %d events, %d changes of caller, %d updates that came too soon", n, changes, 5 - updates }' "$work/output")
-changes=$(sed 's/.* events, \([0-9]*\) changes.*/\1/' "$work/errors")
-if [ "$got" != 0 ] || [ "$(cat "$work/errors")" != "$told" ] || [ "$(grep -c '^arrive' "$work/output") $(grep -c '^depart' "$work/output")" != '180 150' ]; then
-    echo "tests/pie.sh: a storm that is counted: status $got, $(cat "$work/errors"), and not $told"
-    failed=1
-fi
-# Three senders take part in each of its 60 milliseconds, one after the other they would make four changes.
-if [ "$changes" -lt 60 ] || ! "$program" audit < "$work/output" > /dev/null; then
-    echo "tests/pie.sh: a storm that is counted: $changes changes of caller, or its history is not clean"
-    failed=1
-fi
 # Each option alone, and all.
 for words in '--senders 2' '--packets 7' '--seed 0' '--senders=2 --packets=7 --seed=18446744073709551615'; do
     "$program" storm $words > "$work/output" 2> "$work/errors"

@@ -1,16 +1,13 @@
 -- The lists of a storm's plan grow by one entry, and the random words are taken one after another.
-use Rattle.std.proofs.Common.{◌≡◌, ◌+◌, ◌*◌, ◌/◌, ℕ, zero, suc, List, [], ◌∷◌, ◌++◌, map, refl, sym, ap, ◌∙◌, arith}
+use Rattle.std.proofs.Common.{◌≡◌, ◌+◌, ◌*◌, ℕ, zero, suc, List, [], ◌∷◌, ◌++◌, map, refl, sym, ap, ◌∙◌, arith}
 use Rattle.std.specs.Prelude.{Vec}
 use Rattle.std.specs.List.{range_with_len}
 use Rattle.std.specs.declared.alloc.Global.{Global}
-use Rattle.std.proofs.Math.Nat.{mul-div_cancel}
 use Rattle.std.proofs.lemmas.List.{map-append}
 use Rattle.std.proofs.lemmas.List.FromFn.{map-range_with_len_more}
 use Rattle.rand_core.specs.Stream.{Stream, next_u64}
-use Rattle.pie_book.specs.declared.opening.Limits.{Limits}
 use Rattle.pie_link.specs.declared.plan.Arrival.{Arrival}
-use Rattle.pie_link.specs.declared.plan.Plan.{Plan}
-use Rattle.pie.specs.StormPlan.{IsLoadedPlan, IsStormPlan, arrival_at, arrival_by, arrivals_of, command_count, command_count_at, departs_at, departs_of, held_by, word_at, words_after}
+use Rattle.pie.specs.StormPlan.{arrival_at, arrival_by, arrivals_of, held_by, word_at, words_after}
 
 -- ---- lists
 
@@ -54,43 +51,3 @@ drawn sender i all first second third last size ecn word at one two three =
     let two_on : 3 * i + 1 + 1 ≡ 3 * i + 2 = omega arith in
     let three_on : 3 * i + 1 + 1 + 1 ≡ 3 * (i + 1) = omega arith in
     (rw (size_is, ecn_is, word_is, two_on) refl, rw (last_is, three_on) refl)
-
--- ---- a link with a load
-
--- at a load of 100 there is a departure for each packet
-full-count : (packets : ℕ) → packets * 100 / 100 ≡ packets
-full-count packets = mul-div_cancel packets (omega arith)
-
-full-commands : (senders packets load : ℕ) → load ≡ 100 → command_count_at senders packets load ≡ command_count senders packets
-full-commands senders packets load full =
-    let count = full-count (senders * packets) in
-    rw (full, count) (grind arith)
-
-full-departs : (senders packets load : ℕ) → load ≡ 100 → departs_at senders packets load ≡ departs_of senders packets
-full-departs senders packets load full = rw (full, full-count (senders * packets)) refl
-
--- a plan that is the plan of a storm but for its departures and limits
-pub is-loaded : (senders packets seed load : ℕ) (base plan : Plan) → IsStormPlan senders packets seed base
-    → plan.limits ≡ record { packets = 1024; tail = command_count_at senders packets load; events = command_count_at senders packets load }
-    → plan.departs.items ≡ departs_at senders packets load → plan.params ≡ base.params → plan.moment ≡ base.moment → plan.arrivals ≡ base.arrivals
-    → plan.updates ≡ base.updates → plan.changes ≡ base.changes → plan.folds ≡ base.folds → IsLoadedPlan senders packets seed load plan
-is-loaded senders packets seed load base plan is limits departs params moment arrivals updates changes folds = record {
-  limits = limits;
-  params = params ∙ is.params;
-  moment = moment ∙ is.moment;
-  arrivals = rw arrivals is.arrivals;
-  departs = departs;
-  updates = rw updates is.updates;
-  changes = rw changes is.changes;
-  folds = rw folds is.folds;
-  full = λ full. record {
-    limits = limits ∙ ap (λ (n : ℕ). let limits : Limits = record { packets = 1024; tail = n; events = n } in limits) (full-commands senders packets load full);
-    params = params ∙ is.params;
-    moment = moment ∙ is.moment;
-    arrivals = rw arrivals is.arrivals;
-    departs = departs ∙ full-departs senders packets load full;
-    updates = rw updates is.updates;
-    changes = rw changes is.changes;
-    folds = rw folds is.folds;
-  };
-}

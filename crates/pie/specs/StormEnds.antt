@@ -12,7 +12,7 @@ use Rattle.pie_audit.specs.Text.{text_finding}
 use Rattle.pie_link.specs.declared.plan.Plan.{Plan}
 use Rattle.pie_link.specs.Plans.{opening_of}
 use Rattle.pie_link.specs.Storms.{IsStorm}
-use Rattle.pie.specs.StormPlan.{IsLoadedPlan}
+use Rattle.pie.specs.StormPlan.{IsStormPlan}
 use Rattle.pie.specs.Words.{number_given}
 
 -- ---- the numbers
@@ -29,10 +29,6 @@ packets_in options = number_or (codes "packets") 1 10_000 100 options
 
 abbrev pub seed_in : List Row → ℕ
 seed_in options = number_or (codes "seed") 0 (2 ^ 64 - 1) 1 options
-
--- in per cent of what the link can carry
-abbrev pub load_in : List Row → ℕ
-load_in options = number_or (codes "load") 50 1000 100 options
 
 -- ---- the history
 
@@ -57,4 +53,4 @@ pub record WritesStorm (plan : Plan) (before now : Option (List ℕ)) : Type 0 w
 -- the writer failed
 abbrev pub EndsStorm : List Row → ℕ → Option (List ℕ) → Option (List ℕ) → Type 0
 EndsStorm options status before now =
-    (status ≡ 1) ⊎ ((status ≡ 0) × ((plan : Plan) × IsLoadedPlan (senders_in options) (packets_in options) (seed_in options) (load_in options) plan × WritesStorm plan before now))
+    (status ≡ 1) ⊎ ((status ≡ 0) × ((plan : Plan) × IsStormPlan (senders_in options) (packets_in options) (seed_in options) plan × WritesStorm plan before now))

@@ -85,26 +85,3 @@ pub record IsStormPlan (senders packets seed : ℕ) (plan : Plan) : Type 0 where
   pub updates : plan.updates.items ≡ updates_of packets
   pub changes : plan.changes.items ≡ []
   pub folds : plan.folds.items ≡ []
-
--- ---- a link with a load
-
--- a departure for each packet that the link can carry at this load, given in per cent, spread evenly over the same time
-abbrev pub departs_at : ℕ → ℕ → ℕ → List ℕ
-departs_at senders packets load = map (λ j. (j + 1) * (load * 10_000) / senders) (range_with_len 0 (senders * packets * 100 / load))
-
--- how many commands there are then
-abbrev pub command_count_at : ℕ → ℕ → ℕ → ℕ
-command_count_at senders packets load = senders * packets + senders * packets * 100 / load + packets / 15 + 1
-
--- the same plan, but for the departures, of which there are as many as the link can carry at this load
-pub record IsLoadedPlan (senders packets seed load : ℕ) (plan : Plan) : Type 0 where
-  pub limits : plan.limits ≡ record { packets = 1024; tail = command_count_at senders packets load; events = command_count_at senders packets load }
-  pub params : plan.params ≡ default_profile
-  pub moment : plan.moment ≡ 0
-  pub arrivals : map held_by plan.arrivals.items ≡ map (arrivals_of packets seed) (range_with_len 1 senders)
-  pub departs : plan.departs.items ≡ departs_at senders packets load
-  pub updates : plan.updates.items ≡ updates_of packets
-  pub changes : plan.changes.items ≡ []
-  pub folds : plan.folds.items ≡ []
-  -- at a load of 100 it is the plan of a storm without one
-  pub full : load ≡ 100 → IsStormPlan senders packets seed plan

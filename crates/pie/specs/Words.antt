@@ -25,10 +25,10 @@ abbrev pub explain_app : App
 explain_app = with_rule (with_rule (with_rule (with_rule (with_rule (new_app (codes "explain")) (number_rule (codes "event") 1 (2 ^ 64 - 1)))
     (number_rule (codes "tag") 0 (2 ^ 64 - 1))) (flag_rule (codes "lost"))) (flag_rule (codes "all"))) (flag_rule (codes "csv"))
 
--- the subcommand `storm`: four numbers of its plan, and whether it tells how many events there were
+-- the subcommand `storm`, whose options are numbers
 abbrev pub storm_app : App
-storm_app = with_rule (with_rule (with_rule (with_rule (with_rule (new_app (codes "storm")) (number_rule (codes "senders") 2 8)) (number_rule (codes "packets") 1 10_000))
-    (number_rule (codes "seed") 0 (2 ^ 64 - 1))) (number_rule (codes "load") 50 1000)) (flag_rule (codes "count"))
+storm_app = with_rule (with_rule (with_rule (new_app (codes "storm")) (number_rule (codes "senders") 2 8)) (number_rule (codes "packets") 1 10_000))
+    (number_rule (codes "seed") 0 (2 ^ 64 - 1))
 
 -- .. `pie` with its subcommands
 abbrev pub pie_app : App

@@ -22,7 +22,6 @@ use std::io::{Read, Write};
 use std::marker::Sync;
 use std::sync::Wait;
 use std::thread::Threads;
-use std::time::Clock;
 
 /// All went well.
 pub(crate) const DONE: u8 = 0;
@@ -51,7 +50,7 @@ pub(crate) const DIFFERS: u8 = 2;
 ///
 /// For any words that ask for `pie storm`, the threads of the runtime make a storm of the plan that the options ask for. Its
 /// history is written, which is legal and clean, and the status is 0; or it is 1, where memory, a thread or the writer fails.
-pub fn command<H: Threads + Wait + Clock + Sync, R: Read + Drop, W: Write, E: Write>(
+pub fn command<H: Threads + Wait + Sync, R: Read + Drop, W: Write, E: Write>(
     rt: &H,
     alloc: Global,
     words: &[String],

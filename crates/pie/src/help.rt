@@ -158,14 +158,11 @@ pub(crate) const STORM_ABOUT: &str =
 
 /// What `pie storm --help` says below its options.
 pub(crate) const STORM_HELP: &str =
-    "Each sender sends a packet each millisecond, in a thread of its own. One more thread makes departures, spread evenly over that
-time, as many as the link can carry at this load: at 120 there are 100 for 120 packets. Another makes an update each 15 milliseconds.
-All moments are planned, and no clock is read: the threads begin together, and the calls of a millisecond of the plan come at once,
-when those of the milliseconds before it are answered. The random words are made of the seed, but who comes first is the machine's
-choice: so two storms may have other histories.
+    "Each sender sends a packet each millisecond, in a thread of its own. Two more threads make as many departures, spread evenly
+over that time, and an update each 15 milliseconds. All moments are planned, and no clock is read. The random words are made
+of the seed, but who comes first is the machine's choice: so two storms may have other histories.
 
-The history is one of the default parameters, as pie run writes it. Its events are audited before it is written. At a load above 100
-packets are marked and dropped early once the burst allowance is used up, after some 200 milliseconds.
+The history is one of the default parameters, as pie run writes it. Its events are audited before it is written.
 
 Example: three senders with ten packets each, and the audit of what was recorded:
 

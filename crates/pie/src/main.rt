@@ -6,7 +6,6 @@ mod explaining;
 mod given;
 mod help;
 mod options;
-mod pace;
 mod plan;
 mod storming;
 

@@ -106,24 +106,10 @@ fn storm_command<'a>(alloc: Global) -> Result<Command<'a>, AllocError>
         u64::MAX,
         "What the random words are made of, 0 to 2^64 - 1; 1 by default",
     );
-    let load = number_option(
-        alloc,
-        "load",
-        50,
-        1000,
-        "The load of the link in per cent of what it can carry, 50 to 1000; 100 by default",
-    );
-    let count = flag_option(
-        alloc,
-        "count",
-        "Tell on standard error how many events there were, how many changes of caller, and how many updates came too soon",
-    );
     plain(alloc, "storm", STORM_ABOUT, STORM_HELP)
         .arg(senders)?
         .arg(packets)?
-        .arg(seed)?
-        .arg(load)?
-        .arg(count)
+        .arg(seed)
 }
 
 /// `pie` without its subcommands.

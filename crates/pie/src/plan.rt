@@ -2,7 +2,7 @@
 ghost use Rattle.std.specs.Prelude.{◌≡◌, ◌+◌, ◌*◌, ◌<◌, ◌≤◌, IfOk, map};
 ghost use Rattle.std.specs.List.{range_with_len};
 ghost use Rattle.rand_core.specs.Stream.{Stream};
-ghost use Rattle.pie.specs.StormPlan.{IsLoadedPlan, IsStormPlan, arrival_at, arrivals_of, departs_at, departs_of, ecn_of, held_by, updates_of, words_after, words_of};
+ghost use Rattle.pie.specs.StormPlan.{IsStormPlan, arrival_at, arrivals_of, departs_of, ecn_of, held_by, updates_of, words_after, words_of};
 
 use pie_book::Limits;
 use pie_link::{Arrival, Plan};
@@ -16,8 +16,6 @@ use std::alloc::{AllocError, Global};
 const PACKET_TIME: u64 = 1_000_000;
 /// How many tags each sender has.
 const SENDER_TAGS: u64 = 1 << 32;
-/// The nanoseconds from one packet of a sender to its next, at a load of one per cent.
-const LOAD_TIME: u64 = 10_000;
 /// The nanoseconds from one update to the next: the default `t_update`.
 const UPDATE_TIME: u64 = 15_000_000;
 
@@ -157,68 +155,5 @@ pub fn storm_plan(alloc: Global, senders: u16, packets: u32, seed: u64) -> Resul
         updates,
         changes: Vec::new(alloc),
         folds: Vec::new(alloc),
-    })
-}
-
-/// A departure for each packet that the link can carry at this load, given in per cent, spread evenly over the same time.
-fn departs_at(alloc: Global, senders: u64, packets: u64, load: u64) -> Result<Vec<u64>, AllocError>
-    requires some { 1 ≤ senders }
-    requires senders { senders ≤ 8 }
-    requires packets { packets ≤ 10_000 }
-    requires least { 50 ≤ load }
-    requires most { load ≤ 1000 }
-    ensures { IfOk result (λ list. list.items ≡ departs_at senders packets load) }
-{
-    let count = senders * packets * 100 / load;
-    let mut moments = Vec::with_capacity(alloc, count as usize)?;
-    for j in 0..count {
-        moments.push((j + 1) * (load * LOAD_TIME) / senders)?;
-    }
-    Ok(moments)
-}
-
-/// The plan of `storm_plan` on a link with this load, given in per cent of what it can carry: at 120 there are 100 departures for 120
-/// packets, spread over the same time. At 100 it is the plan of `storm_plan`.
-///
-/// # Errors
-///
-/// `Memory` where there was none for the lists.
-pub fn loaded_plan(
-    alloc: Global,
-    senders: u16,
-    packets: u32,
-    seed: u64,
-    load: u64,
-) -> Result<Plan, Memory>
-    requires some { 2 ≤ senders }
-    requires senders { senders ≤ 8 }
-    requires one { 1 ≤ packets }
-    requires packets { packets ≤ 10_000 }
-    requires least { 50 ≤ load }
-    requires most { load ≤ 1000 }
-    ensures { IfOk result (IsLoadedPlan senders packets seed load) }
-{
-    let plan = match storm_plan(alloc, senders, packets, seed) {
-        Ok(plan) => plan,
-        Err(why) => return Err(why),
-    };
-    let (senders, packets) = (u64::from(senders), u64::from(packets));
-    let Ok(departs) = departs_at(alloc, senders, packets, load) else {
-        return Err(Memory);
-    };
-    let commands = senders * packets + senders * packets * 100 / load + packets / 15 + 1;
-    Ok(Plan {
-        limits: Limits {
-            packets: 1024,
-            tail: commands as u32,
-            events: commands,
-        },
-        params: plan.params,
-        moment: plan.moment,
-        arrivals: plan.arrivals,
-        departs,
-        updates: plan.updates,
-        changes: plan.changes,
-        folds: plan.folds,
     })
 }

@@ -8,20 +8,18 @@ ghost use Rattle.pie_link.specs.Plans.{opening_of};
 ghost use Rattle.pie.specs.StormEnds.{EndsStorm, WritesHistory, number_or};
 
 use crate::command::{DONE, fault};
-use crate::given::{flag, number};
-use crate::pace::Pace;
-use crate::plan::loaded_plan;
+use crate::given::number;
+use crate::plan::storm_plan;
 use clap::ArgMatches;
 use pie_audit::{Auditor, Finding};
 use pie_book::{Choices, Event, Mode, OpenRefusal, Opening, Profile};
-use pie_link::{Plan, StormEnd, storm};
+use pie_link::{NoGate, Plan, storm};
 use pie_trace::{Line, write_history};
 use std::alloc::Global;
 use std::io::Write;
 use std::marker::Sync;
 use std::sync::Wait;
 use std::thread::Threads;
-use std::time::Clock;
 
 /// How many senders a storm has where the words name no number.
 const SENDERS: u64 = 2;
@@ -29,8 +27,6 @@ const SENDERS: u64 = 2;
 const PACKETS: u64 = 100;
 /// The seed of the random words where the words name none.
 const SEED: u64 = 1;
-/// The load of the link in per cent where the words name none.
-const LOAD: u64 = 100;
 
 /// The number that an option is given, or else this one. `clap` refuses words that give one out of this range.
 fn number_or(options: &ArgMatches<'_>, name: &str, least: u64, most: u64, unnamed: u64) -> u64
@@ -47,7 +43,7 @@ fn number_or(options: &ArgMatches<'_>, name: &str, least: u64, most: u64, unname
 
 /// `pie storm`: makes the storm that these options ask for, audits its events and writes their history. Ends with 0, or with 1
 /// where memory, a thread or the writer fails.
-pub(crate) fn make_storm<H: Threads + Wait + Clock + Sync, W: Write, E: Write>(
+pub(crate) fn make_storm<H: Threads + Wait + Sync, W: Write, E: Write>(
     rt: &H,
     alloc: Global,
     options: &ArgMatches<'_>,
@@ -59,52 +55,15 @@ pub(crate) fn make_storm<H: Threads + Wait + Clock + Sync, W: Write, E: Write>(
     let senders = number_or(options, "senders", 2, 8, SENDERS) as u16;
     let packets = number_or(options, "packets", 1, 10_000, PACKETS) as u32;
     let seed = number_or(options, "seed", 0, u64::MAX, SEED);
-    let load = number_or(options, "load", 50, 1000, LOAD);
-    let plan = match loaded_plan(alloc, senders, packets, seed, load) {
+    let plan = match storm_plan(alloc, senders, packets, seed) {
         Ok(plan) => plan,
         Err(why) => return fault(errors, why),
     };
-    let pace = pace_of(rt, &plan, packets, load);
-    let end = match storm(rt, alloc, &plan, &pace) {
+    let end = match storm(rt, alloc, &plan, &NoGate) {
         Ok(end) => end,
         Err(why) => return fault(errors, why),
     };
-    if flag(options, "count") {
-        count(&end, errors);
-    }
     tell(alloc, &plan, end.events.as_slice(), output, errors)
-}
-
-/// The gate of the workers of this plan.
-fn pace_of<'a, C: Clock>(clock: &'a C, plan: &Plan, packets: u32, load: u64) -> Pace<'a, C> {
-    let senders = plan.arrivals.len() as u64;
-    let (departs, updates) = (plan.departs.len() as u64, plan.updates.len() as u64);
-    Pace::new(clock, senders, u64::from(packets), load, departs, updates)
-}
-
-/// How often an event has another caller than the event before it.
-fn caller_changes(events: &[Event]) -> u64 {
-    let mut changes = 0u64;
-    let mut before = None;
-    for event in events {
-        if let Some(caller) = before
-            && caller != event.caller
-        {
-            changes = changes.saturating_add(1);
-        }
-        before = Some(event.caller);
-    }
-    changes
-}
-
-/// Tells how many events a storm ended with. Where that line can't be written nothing else changes.
-fn count<E: Write>(end: &StormEnd, errors: &mut E) {
-    let (events, changes) = (end.events.len(), caller_changes(end.events.as_slice()));
-    let too_soon = end.too_soon;
-    let _ = writeln!(
-        errors,
-        "pie: {events} events, {changes} changes of caller, {too_soon} updates that came too soon"
-    );
 }
 
 /// What the book of a storm is opened with.

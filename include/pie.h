@@ -24,7 +24,8 @@
  *
  * - The timer. Arm it for pie_due(&pie), or make an update as soon as a packet finds that this moment has passed. A timer that
  *   rings every t_update by a rhythm of its own loses updates where it jitters: of 15000100, 30000050 and 45000020 ns the
- *   second is 50 ns too soon. An update that is late counts once: those that were missed are not made up for.
+ *   second is 50 ns too soon. An update that is late counts once: those that were missed are not made up for, and the next is due
+ *   t_update after it, so that lateness adds up.
  *
  * - The random word. It has 64 random bits that no sender can guess. It is not rand(): a word below 2^31 is below nearly every
  *   probability, so no packet would be spared by chance.
@@ -47,6 +48,8 @@
  *       10 Gbit/s       18750000         250000000
  *       40 Gbit/s       75000000        1000000000
  *       100 Gbit/s     187500000        1073741824 (2^30, the most: 86 ms)
+ *
+ * - alpha and beta at 0 keep the probability at 0: tail drop alone, for a comparison by the same program.
  *
  * - dq_threshold. The departure rate is measured only while so many bytes wait, and until the first measure the delay counts
  *   as 0. The default of 16384 bytes is 15 ms at 8.7 Mbit/s, and 131 ms at 1 Mbit/s. On a slower link PIE acts sooner with the

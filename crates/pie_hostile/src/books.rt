@@ -49,7 +49,6 @@ pub(crate) fn all(rt: &impl Print, alloc: Global) -> io::Result<()> {
     book_with(rt, alloc)?;
     fold(rt, alloc)?;
     fold_none(rt, alloc)?;
-    fold_one(rt, alloc)?;
     apply(rt, alloc)
 }
 
@@ -227,29 +226,6 @@ fn fold_none(rt: &impl Print, alloc: Global) -> io::Result<()> {
             println!(rt; "Book::fold of none: {count} events")
         }
         Err(why) => println!(rt; "Book::fold of none: {why:?}"),
-    }
-}
-
-/// A fold of one event from a full tail of a thousand requests the room of one event.
-fn fold_one(rt: &impl Print, alloc: Global) -> io::Result<()> {
-    let wide = Limits {
-        packets: 4,
-        tail: 1000,
-        events: 1000,
-    };
-    let Ok(mut book) = Book::open(alloc, wide, Params::default_profile(), 0) else {
-        return println!(rt; "Book::fold of one: there is no book");
-    };
-    for moment in 0..1000 {
-        let _ = book.apply(1, Command::Depart { moment });
-    }
-    begin(rt, "Book::fold of one")?;
-    match book.fold(alloc, 1) {
-        Ok(events) => {
-            let (count, held) = (events.len(), book.tail_len());
-            println!(rt; "Book::fold of one: {count} event, {held} in the tail")
-        }
-        Err(why) => println!(rt; "Book::fold of one: {why:?}"),
     }
 }
 

@@ -27,7 +27,8 @@ pub struct Explanation {
     pub cause: Option<Cause>,
     /// How long the packet had waited that left, and 0 for any other event.
     pub waited: u64,
-    /// The number of the last update or reset before it, which set the probability; none where it still is the opening's.
+    /// The number of the last event before it that set the probability: an update while the controller was active, a reset, or an
+    /// arrival that turned it on; none where it still is the opening's.
     pub set_by: Option<u64>,
 }
 
@@ -51,8 +52,8 @@ fn waited(core: &Core, event: &Event, now: u64) -> u64
 impl Explanation {
     ghost use Rattle.pie_explain.specs.Explanation.{explanation};
 
-    /// What there is to say of an event with this number that a core is about to decide, where the last update or reset was this
-    /// event. The core is as it was.
+    /// What there is to say of an event with this number that a core is about to decide, where `set_by` is the number of the event that
+    /// last set the probability. The core is as it was.
     pub fn of(core: &Core, number: u64, event: &Event, set_by: Option<u64>) -> Explanation
         ensures { (opening : Opening) (history : List Event) → Shows opening core.now history
             → result ≡ explanation opening history number event.now set_by }

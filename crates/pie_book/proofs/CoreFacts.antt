@@ -21,19 +21,20 @@ use Rattle.pie_book.specs.declared.command.Command.{Command}
 use Rattle.pie_book.specs.declared.command.Command.TheVariants.{Arrive, Depart, Update, Reset, SetParams}
 use Rattle.pie_book.specs.declared.command.Answer.{Answer}
 use Rattle.pie_book.specs.declared.command.Answer.TheVariants.{Enqueued, Marked, DroppedEarly, DroppedBytes, DroppedPackets, Empty, Left, Updated, Done}
+use Rattle.pie_controller.specs.Steps.{opens_active, stays_active}
 use Rattle.pie_book.specs.declared.command.Event.{Event}
 use Rattle.pie_book.specs.declared.opening.Opening.{Opening}
-use Rattle.pie_book.specs.declared.opening.Profile.{Profile}
-use Rattle.pie_book.specs.declared.opening.Profile.TheVariants.{One, Two}
+use Rattle.pie_controller.specs.declared.profile.Profile.{Profile}
+use Rattle.pie_controller.specs.declared.profile.Profile.TheVariants.{One, Two}
 use Rattle.pie_book.specs.declared.stats.Stats.{Stats}
 use Rattle.pie_book.specs.Deed.{Deed, handed_in, deed, admission, departure, is_arrival, is_update, sets_params, counts_as_reset, clears_rate, arrival_deed, departure_deed, updated, was_reset, set}
 use Rattle.pie_book.specs.History.{Place, places, after, greatest, last_or, effective_moment, params_after, admitted, departed_count, waiting_after}
 use Rattle.pie_book.specs.Shown.{is_filled, turns_on, departure_shown, departures_of, update_shown, control_shown, control_of, arrival_shown, early_shown, early_of, considered_where}
-use Rattle.pie_book.specs.Activity.{change_of, opens_active, noted, noted_after}
+use Rattle.pie_book.specs.Activity.{change_of, noted, noted_after}
 use Rattle.pie_book.specs.Estimates.{departures_after, control_events, early_events}
 use Rattle.pie_book.specs.Statistics.{age_of_oldest, stats_after, no_stats, largest_queue, largest_delay, waited}
 use Rattle.pie_book.specs.Decision.{verdict, answer_to_departure, answer_to_update, decision, IsLegal, IsLegalAt}
-use Rattle.pie_book.specs.Core.{CoreView, Shows, counted, with_queue, closed, refusal_of, delay_in, answered_in, is_calm_in, stays_active, active_next}
+use Rattle.pie_book.specs.Core.{CoreView, Shows, counted, with_queue, closed, refusal_of, delay_in, answered_in, is_calm_in, active_next}
 use Rattle.pie_book.specs.Run.{event_of}
 use Rattle.pie_book.proofs.Places.{place_of, places-push, after_last-push_yes, after_last-push_no}
 use Rattle.pie_book.proofs.HistoryFacts.{effective_moment-push, params_next, params_after-push, waiting_next, waiting_after-push, departed-push}

@@ -9,14 +9,15 @@ use Rattle.pie_rate.specs.Departures.{Departure}
 use Rattle.pie_control.specs.Events.{ControlEvent}
 use Rattle.pie_control.specs.History.{is_calm_after}
 use Rattle.pie_early.specs.Events.{EarlyEvent}
+use Rattle.pie_controller.specs.Steps.{opens_active}
 use Rattle.pie_book.specs.declared.command.Event.{Event}
 use Rattle.pie_book.specs.declared.opening.Opening.{Opening}
-use Rattle.pie_book.specs.declared.opening.Profile.{Profile}
-use Rattle.pie_book.specs.declared.opening.Profile.TheVariants.{One, Two}
+use Rattle.pie_controller.specs.declared.profile.Profile.{Profile}
+use Rattle.pie_controller.specs.declared.profile.Profile.TheVariants.{One, Two}
 use Rattle.pie_book.specs.Deed.{Deed, deed_of, is_arrival, is_update, clears_rate}
 use Rattle.pie_book.specs.History.{Place, places, last_or, effective_moment, params_after, bytes_after}
 use Rattle.pie_book.specs.Shown.{Noted, events_of, deed_at, is_filled, turns_on, turns_on_where, turns_on_at, departure_shown, departure_at, departures_of, delay_noted, control_shown, control_at, control_of, early_shown, early_at, early_of}
-use Rattle.pie_book.specs.Activity.{is_calm_at, turns_off_where, turns_off_at, change_of, change_at, opens_active, is_active_in, is_active, note, noted_after, noted}
+use Rattle.pie_book.specs.Activity.{is_calm_at, turns_off_where, turns_off_at, change_of, change_at, is_active_in, is_active, note, noted_after, noted}
 use Rattle.pie_book.specs.Estimates.{active_after, departures_after, delay_after, control_events, parts_after, early_events, considered_after}
 use Rattle.pie_book.specs.Core.{active_next}
 use Rattle.pie_book.proofs.Places.{place_of, places-push, filter_map-push, from_places-push, after_last-push_yes, after_last-push_no, last_or-push}

@@ -16,7 +16,7 @@ use Rattle.pie_book.specs.declared.opening.Limits.{Limits}
 use Rattle.pie_book.specs.declared.opening.Mode.{Mode}
 use Rattle.pie_book.specs.declared.opening.Mode.TheVariants.{Bounded}
 use Rattle.pie_book.specs.declared.opening.Opening.{Opening}
-use Rattle.pie_book.specs.declared.opening.Profile.TheVariants.{One}
+use Rattle.pie_controller.specs.declared.profile.Profile.TheVariants.{One}
 use Rattle.pie_book.specs.declared.refusal.OpenRefusal.TheVariants as open_refusal
 use Rattle.pie_book.specs.Opening.{are_in_range, opening_refusal}
 use Rattle.pie_book.specs.Deed.{Deed, deed, fits, handed_in, admission, departure, params_set, is_update, counts_as_reset, clears_rate, queued, marked, dropped_early, dropped_bytes, dropped_packets, departed, found_none, updated, was_reset, set, nothing}

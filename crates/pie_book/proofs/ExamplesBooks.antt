@@ -14,7 +14,7 @@ use Rattle.pie_early.specs.History.{accumulated}
 use Rattle.pie_book.specs.declared.command.Command.TheVariants.{Arrive, Depart, Update}
 use Rattle.pie_book.specs.declared.command.Answer.TheVariants.{Enqueued, Marked, Empty, Left, Updated}
 use Rattle.pie_book.specs.declared.opening.Mode.TheVariants.{Bounded, Rolling}
-use Rattle.pie_book.specs.declared.opening.Profile.TheVariants.{One}
+use Rattle.pie_controller.specs.declared.profile.Profile.TheVariants.{One}
 use Rattle.pie_book.specs.declared.refusal.Refusal.TheVariants.{Size, TooSoon}
 use Rattle.pie_book.specs.declared.stats.Stats.{Stats}
 use Rattle.pie_book.specs.Deed.{Deed, deed_of, queued, marked, dropped_early, dropped_bytes, dropped_packets, departed, found_none, updated, was_reset, set, nothing}

@@ -11,20 +11,21 @@ use Rattle.pie_early.specs.Decision.{is_considered, is_picked}
 use Rattle.pie_early.specs.History.{accumulated}
 use Rattle.pie_queue.specs.declared.ecn.Ecn.{Ecn}
 use Rattle.pie_queue.specs.declared.ecn.Ecn.TheVariants.{NotEct, Ect0, Ce}
-use Rattle.pie_book.specs.declared.cause.Cause.{Cause}
-use Rattle.pie_book.specs.declared.cause.Cause.TheVariants.{NoRoomInBytes, NoRoomInPackets, Inactive, BurstAllowed, LowDelay, ShortQueue, NoProbability, LittleAccumulated, PickedBySum, PickedByWord, WordNotBelow}
-use Rattle.pie_book.specs.declared.cause.Fate.TheVariants.{Marked, NotCapable, NotBelow}
+use Rattle.pie_controller.specs.declared.cause.Cause.{Cause}
+use Rattle.pie_controller.specs.declared.cause.Cause.TheVariants.{NoRoomInBytes, NoRoomInPackets, Inactive, BurstAllowed, LowDelay, ShortQueue, NoProbability, LittleAccumulated, PickedBySum, PickedByWord, WordNotBelow}
+use Rattle.pie_controller.specs.declared.cause.Fate.TheVariants.{Marked, NotCapable, NotBelow}
 use Rattle.pie_book.specs.declared.command.Command.TheVariants.{Arrive, Depart, Update, Reset, SetParams}
 use Rattle.pie_book.specs.declared.command.Answer.TheVariants as answer
 use Rattle.pie_book.specs.declared.command.Event.{Event}
 use Rattle.pie_book.specs.declared.opening.Mode.TheVariants.{Bounded}
 use Rattle.pie_book.specs.declared.opening.Opening.{Opening}
-use Rattle.pie_book.specs.declared.opening.Profile.TheVariants.{Two}
+use Rattle.pie_controller.specs.declared.profile.Profile.TheVariants.{Two}
 use Rattle.pie_book.specs.History.{places, greatest, last_or, effective_moment, params_after, admitted, departed_count, waiting_after}
 use Rattle.pie_book.specs.Activity.{is_active, noted, noted_after}
 use Rattle.pie_book.specs.Shown.{departures_of, delay_noted, control_of, early_of}
 use Rattle.pie_book.specs.Estimates.{active_after, departures_after, delay_after, control_events, parts_after, early_events, accu_after}
-use Rattle.pie_book.specs.Cause.{verdict_of, considered_cause, early_cause, cause, cause_after}
+use Rattle.pie_controller.specs.Cause.{considered_cause, early_cause, cause}
+use Rattle.pie_book.specs.Cause.{cause_after}
 use Rattle.pie_book.proofs.Examples.{limits, opened_with, packet, event}
 use Rattle.pie_book.proofs.ExamplesMarks.{opening, parts, two_departed, updated_thrice, mark, drop_of_one, lone}
 
@@ -124,13 +125,3 @@ no_arrivals = refl
 while_inactive : cause_after (record (room_for 5) { choices = record { mode = Bounded; profile = Two } }) [] (Arrive 0 (packet 1 5) 0) ≡ Some Inactive
 unfolding cause early_cause considered_cause accu_after early_events accumulated is_considered is_picked parts_after control_events delay_after delay_of departures_after params_after last_or places effective_moment greatest waiting_after departed_count admitted average samples begun cycles first_position first_opening first_closing first_cycle cycles_from probability last_delay last_moment granted_burst burst_allowance raw_step tuning_divisor tuned_step decayed next active_after departures_of delay_noted control_of early_of noted noted_after is_active
 while_inactive = refl
-
--- ---- the verdicts
-
-the_verdicts : map verdict_of
-    (NoRoomInBytes 1 2 3 ∷ NoRoomInPackets 1 ∷ Inactive ∷ BurstAllowed 1 ∷ LowDelay 1 2 3 ∷ ShortQueue 1 2 ∷ NoProbability ∷ LittleAccumulated 1 2 ∷ WordNotBelow 1 2 3
-    ∷ PickedBySum 1 2 (Marked 3) ∷ PickedBySum 1 2 NotCapable ∷ PickedBySum 1 2 (NotBelow 3)
-    ∷ PickedByWord 1 2 3 (Marked 4) ∷ PickedByWord 1 2 3 NotCapable ∷ PickedByWord 1 2 3 (NotBelow 4) ∷ [])
-    ≡ answer.DroppedBytes ∷ answer.DroppedPackets ∷ answer.Enqueued ∷ answer.Enqueued ∷ answer.Enqueued ∷ answer.Enqueued ∷ answer.Enqueued ∷ answer.Enqueued ∷ answer.Enqueued
-    ∷ answer.Marked ∷ answer.DroppedEarly ∷ answer.DroppedEarly ∷ answer.Marked ∷ answer.DroppedEarly ∷ answer.DroppedEarly ∷ []
-the_verdicts = refl

@@ -9,6 +9,7 @@ pub mod BookFacts
 pub mod RunFacts
 pub mod RangeFacts
 pub mod RangeLaws
+pub mod StepFacts
 pub mod BesideFacts
 pub mod Examples
 pub mod ExamplesRates

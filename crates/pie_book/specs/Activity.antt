@@ -7,8 +7,8 @@ use Rattle.std.specs.List.{filter_map}
 use Rattle.pie_control.specs.History.{is_calm_after}
 use Rattle.pie_book.specs.declared.command.Event.{Event}
 use Rattle.pie_book.specs.declared.opening.Opening.{Opening}
-use Rattle.pie_book.specs.declared.opening.Profile.{Profile}
-use Rattle.pie_book.specs.declared.opening.Profile.TheVariants.{One, Two}
+use Rattle.pie_controller.specs.declared.profile.Profile.{Profile}
+use Rattle.pie_controller.specs.declared.profile.Profile.TheVariants.{One, Two}
 use Rattle.pie_book.specs.Deed.{is_update}
 use Rattle.pie_book.specs.History.{Place, places, params_after, last_or}
 use Rattle.pie_book.specs.Shown.{Noted, events_of, deed_at, turns_on_at, delay_noted, control_of}
@@ -43,11 +43,6 @@ is_active_in Two opening noted = last_or false (filter_map (change_at opening) (
 
 unfoldable pub is_active : Opening → List Noted → Bool
 is_active opening noted = is_active_in opening.choices.profile opening noted
-
--- whether the controller is active at the opening
-abbrev pub opens_active : Profile → Bool
-opens_active One = true
-opens_active Two = false
 
 -- an event after these
 abbrev pub note : Opening → List Noted → Event → Noted

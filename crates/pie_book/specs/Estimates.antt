@@ -9,9 +9,11 @@ use Rattle.pie_control.specs.Events.{ControlEvent}
 use Rattle.pie_control.specs.Parts.{Parts}
 use Rattle.pie_early.specs.Events.{EarlyEvent}
 use Rattle.pie_early.specs.History.{accumulated}
+use Rattle.pie_controller.specs.Held.{Held}
+use Rattle.pie_controller.specs.History.{estimate_of}
 use Rattle.pie_book.specs.declared.command.Event.{Event}
 use Rattle.pie_book.specs.declared.opening.Opening.{Opening}
-use Rattle.pie_book.specs.History.{params_after, bytes_after}
+use Rattle.pie_book.specs.History.{effective_moment, params_after, bytes_after}
 use Rattle.pie_book.specs.Shown.{departures_of, delay_by, control_of, parts_of, early_of, considered_where}
 use Rattle.pie_book.specs.Activity.{is_active, noted}
 
@@ -63,3 +65,15 @@ early_events opening history = early_of opening (noted opening history)
 -- the accumulated probability
 unfoldable pub accu_after : Opening → List Event → ℕ
 accu_after opening history = accumulated (early_events opening history)
+
+-- all that the controller holds
+abbrev pub held_after : Opening → List Event → Held
+held_after opening history = record {
+  profile = opening.choices.profile;
+  params = params_after opening history;
+  moment = effective_moment opening history;
+  active = active_after opening history;
+  rate = estimate_of (params_after opening history).dq_threshold (departures_after opening history);
+  control = parts_after opening history;
+  accu = accu_after opening history;
+}

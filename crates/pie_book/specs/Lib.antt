@@ -7,10 +7,12 @@ pub mod Estimates
 pub mod Registers
 pub mod Statistics
 pub mod Decision
+pub mod Call
 pub mod Cause
 pub mod Core
 pub mod Tally
 pub mod Book
 pub mod Run
 pub mod Ranges
+pub mod Step
 pub mod Beside

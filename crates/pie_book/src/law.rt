@@ -3,7 +3,7 @@ ghost use Rattle.std.specs.Prelude.{◌≡◌, List, true};
 ghost use Rattle.pie_book.specs.declared.command.Event.{Event};
 ghost use Rattle.pie_book.specs.declared.opening.Mode.TheVariants.{Rolling};
 ghost use Rattle.pie_book.specs.declared.opening.Opening.{Opening};
-ghost use Rattle.pie_book.specs.declared.opening.Profile.TheVariants.{One};
+ghost use Rattle.pie_controller.specs.declared.profile.Profile.TheVariants.{One};
 ghost use Rattle.pie_book.specs.Core.{CoreView, Shows, registers_of};
 ghost use Rattle.pie_book.specs.Registers.{registers_after};
 ghost use Rattle.pie_book.specs.Estimates.{active_after};

@@ -2,12 +2,11 @@ pub mod Opening
 pub mod Deed
 pub mod History
 pub mod Shown
-pub mod Activity
 pub mod Estimates
 pub mod Registers
 pub mod Statistics
-pub mod Decision
 pub mod Call
+pub mod Decision
 pub mod Cause
 pub mod Core
 pub mod Tally

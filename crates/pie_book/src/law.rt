@@ -26,7 +26,7 @@ pub fn folds_change_no_answer()
 /// In profile one the controller is active after every history (RFC 8033, section 5.3, is for profile two alone).
 ///
 /// It does nothing: its contract is the law. `Book::registers` is proved to read activity after the book's history.
-#[tactic(auto, using(crate::proofs::EstimateFacts::one_is_active))]
+#[tactic(auto, using(crate::proofs::CoreFacts::one_is_active_after))]
 pub fn profile_one_is_always_active()
     ensures { (opening : Opening) (history : List Event) → opening.choices.profile ≡ One → active_after opening history ≡ true }
 {}

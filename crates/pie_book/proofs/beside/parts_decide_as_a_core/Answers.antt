@@ -1,4 +1,4 @@
-use Rattle.pie_book.proofs.StepFacts.{opening_beside, step_beside}
+use Rattle.pie_book.proofs.BesideFacts.{opening_beside, step_beside}
 use Rattle.pie_book.proofs.beside.parts_decide_as_a_core.Goals as goal
 
 pub returns-clause-opens : goal.returns-clause-opens

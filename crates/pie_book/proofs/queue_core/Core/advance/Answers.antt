@@ -1,9 +1,9 @@
 use Rattle.std.proofs.Common.{◌∙◌}
-use Rattle.pie_book.proofs.StepFacts.{next-decided, next-shows}
+use Rattle.pie_book.proofs.CoreFacts.{next-decided, next-shows}
 use Rattle.pie_book.proofs.queue_core.Core.advance.Goals as goal
 
 pub returns-clause-decides : goal.returns-clause-decides
-returns-clause-decides c opening history shows = c.decide-answer.ensures.answer ∙ next-decided opening c.args.self.now history shows 0 c.args.command
+returns-clause-decides c opening history shows = c.decide-answer.ensures.answer ∙ next-decided opening c.args.self.now history shows c.args.command
 
 pub returns-clause-shows : goal.returns-clause-shows
 returns-clause-shows c opening history caller shows =

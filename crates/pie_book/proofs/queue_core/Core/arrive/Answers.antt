@@ -1,6 +1,6 @@
 use Rattle.std.proofs.Common.{◌≡◌, refl, rules}
 use Rattle.pie_controller.specs.Steps.{now_at}
-use Rattle.pie_book.specs.Step.{held_in}
+use Rattle.pie_book.specs.Core.{held_in}
 use Rattle.pie_book.proofs.queue_core.Core.arrive.Goals as goal
 
 pub returns-clause-after : goal.returns-clause-after

@@ -1,10 +1,9 @@
 use Rattle.std.proofs.Common.{◌≡◌, ap, sym}
 use Rattle.std.specs.Prelude.{length}
 use Rattle.pie_book.specs.declared.command.Command.TheVariants.{Arrive}
-use Rattle.pie_book.specs.Core.{CoreView}
-use Rattle.pie_book.specs.Step.{held_in}
-use Rattle.pie_book.proofs.CauseFacts.{cause-is}
-use Rattle.pie_book.proofs.StepFacts.{next-decided}
+use Rattle.pie_book.specs.Core.{CoreView, held_in}
+use Rattle.pie_book.proofs.CoreFacts.{cause-is}
+use Rattle.pie_book.proofs.CoreFacts.{next-decided}
 use Rattle.pie_book.proofs.queue_core.Core.cause.Goals as goal
 
 pub returns-in-Arrive-clause-cause : goal.returns-in-Arrive-clause-cause
@@ -18,4 +17,4 @@ pub returns-in-Arrive-clause-decides : goal.returns-in-Arrive-clause-decides
 returns-in-Arrive-clause-decides c opening history shows =
     let held : c.self.inside.controller ≡ held_in c.args.self.now = ap held_in c.self.view_is in
     rw (c.in-Arrive.is, c.cause.ensures.verdict, c.arrival-arrival.ensures, held)
-    (sym (next-decided opening c.args.self.now history shows 0 (Arrive c.in-Arrive.moment c.in-Arrive.packet c.in-Arrive.word)))
+    (sym (next-decided opening c.args.self.now history shows (Arrive c.in-Arrive.moment c.in-Arrive.packet c.in-Arrive.word)))

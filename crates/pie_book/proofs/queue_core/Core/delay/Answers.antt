@@ -1,4 +1,4 @@
-use Rattle.pie_book.proofs.LookFacts.{delay-is}
+use Rattle.pie_book.proofs.CoreFacts.{delay-is}
 use Rattle.pie_book.proofs.queue_core.Core.delay.Goals as goal
 
 pub returns : goal.returns

@@ -21,8 +21,11 @@ use Rattle.pie_book.specs.declared.command.Event.{Event}
 use Rattle.pie_book.specs.declared.opening.Limits.{Limits}
 use Rattle.pie_book.specs.declared.opening.Opening.{Opening}
 use Rattle.pie_book.specs.Opening.{opening_refusal}
-use Rattle.pie_book.specs.Decision.{IsLegal, IsLegalAt, answer_to_departure, decision, verdict_of}
-use Rattle.pie_book.specs.History.{Place, after, places}
+use Rattle.pie_controller.specs.declared.verdict.Verdict.{Verdict}
+use Rattle.pie_controller.specs.declared.verdict.Verdict.TheVariants as verdict
+use Rattle.pie_book.specs.Call.{answer_of}
+use Rattle.pie_book.specs.Decision.{IsLegal, IsLegalAt, answer_to_departure, decision}
+use Rattle.pie_controller.specs.Places.{Place, after, places}
 use Rattle.pie_record.specs.declared.fault.TraceFault.{TraceFault}
 use Rattle.pie_record.specs.declared.history.Line.{Line}
 use Rattle.pie_record.specs.declared.history.Line.TheVariants.{Made}
@@ -132,20 +135,19 @@ few-legal opening auditor events legal audits =
 
 -- ---- each answer is of a kind that its command can have
 
-fits-verdict : (moment : ℕ) (packet : Packet) (word : ℕ) (bytes packets : Bool) (choice : Choice)
-    → fits (Arrive moment packet word) (if bytes then DroppedBytes else if packets then DroppedPackets else verdict_of choice) ≡ true
-fits-verdict moment packet word true packets choice = refl
-fits-verdict moment packet word false true choice = refl
-fits-verdict moment packet word false false Enqueue = refl
-fits-verdict moment packet word false false Mark = refl
-fits-verdict moment packet word false false Drop = refl
+fits-verdict : (moment : ℕ) (packet : Packet) (word : ℕ) (v : Verdict) → fits (Arrive moment packet word) (answer_of v) ≡ true
+fits-verdict moment packet word verdict.Enqueued = refl
+fits-verdict moment packet word verdict.Marked = refl
+fits-verdict moment packet word verdict.DroppedEarly = refl
+fits-verdict moment packet word verdict.DroppedBytes = refl
+fits-verdict moment packet word verdict.DroppedPackets = refl
 
 fits-departure : (moment : ℕ) (waiting : List Waiting) → fits (Depart moment) (answer_to_departure waiting) ≡ true
 fits-departure moment [] = refl
 fits-departure moment (oldest ∷ others) = refl
 
 fits-decision : (opening : Opening) (before : List Event) (command : Command) → fits command (decision opening before command) ≡ true
-fits-decision opening before (Arrive moment packet word) = fits-verdict moment packet word _ _ _
+fits-decision opening before (Arrive moment packet word) = fits-verdict moment packet word _
 fits-decision opening before (Depart moment) = fits-departure moment _
 fits-decision opening before (Update moment) = refl
 fits-decision opening before (Reset moment) = refl

@@ -7,6 +7,9 @@ use Rattle.pie_params.specs.declared.raw.RawParams.{RawParams}
 use Rattle.pie_queue.specs.declared.ecn.Ecn.TheVariants.{NotEct, Ect0, Ce}
 use Rattle.pie_queue.specs.declared.packet.Packet.{Packet}
 use Rattle.pie_queue.specs.declared.packet.Waiting.{Waiting}
+use Rattle.pie_rate.specs.Departures.{Departure}
+use Rattle.pie_control.specs.Events.{ControlEvent}
+use Rattle.pie_early.specs.Events.{EarlyEvent}
 use Rattle.pie_book.specs.declared.command.Command.{Command}
 use Rattle.pie_book.specs.declared.command.Command.TheVariants.{Arrive, Depart, Update, Reset, SetParams}
 use Rattle.pie_book.specs.declared.command.Answer.{Answer}
@@ -16,11 +19,15 @@ use Rattle.pie_book.specs.declared.opening.Limits.{Limits}
 use Rattle.pie_book.specs.declared.opening.Mode.{Mode}
 use Rattle.pie_book.specs.declared.opening.Mode.TheVariants.{Bounded}
 use Rattle.pie_book.specs.declared.opening.Opening.{Opening}
-use Rattle.pie_book.specs.declared.opening.Profile.TheVariants.{One}
+use Rattle.pie_controller.specs.declared.profile.Profile.TheVariants.{One}
 use Rattle.pie_book.specs.declared.refusal.OpenRefusal.TheVariants as open_refusal
 use Rattle.pie_book.specs.Opening.{are_in_range, opening_refusal}
-use Rattle.pie_book.specs.Deed.{Deed, deed, fits, handed_in, admission, departure, params_set, is_update, counts_as_reset, clears_rate, queued, marked, dropped_early, dropped_bytes, dropped_packets, departed, found_none, updated, was_reset, set, nothing}
-use Rattle.pie_book.specs.History.{Place, places, up_to, greatest, last_or, effective_moment, params_after, admitted, departed_count, waiting_after, bytes_after}
+use Rattle.pie_book.specs.Deed.{Deed, deed, fits, handed_in, admission, departure, is_update, queued, marked, dropped_early, dropped_bytes, dropped_packets, departed, found_none, updated, was_reset, set, nothing}
+use Rattle.pie_controller.specs.History.{active_of, arrivals_shown, control_of, delay_noted, departures_of, departures_shown, early_of, held_of, is_active, noted, noted_after, now_of, params_of, updates_shown}
+use Rattle.pie_controller.specs.Places.{Place, places, up_to, greatest, last_or}
+use Rattle.pie_book.specs.Estimates.{held_after, params_after}
+use Rattle.pie_book.specs.History.{effective_moment, admitted, departed_count, waiting_after, bytes_after}
+use Rattle.pie_book.specs.Shown.{opened_of, shown}
 
 abbrev pub limits : ℕ → ℕ → ℕ → Limits
 limits packets tail events = record { packets = packets; tail = tail; events = events }
@@ -58,6 +65,16 @@ waits one since = record { packet = one; since = since }
 
 abbrev pub event : ℕ → Command → Answer → Event
 event caller command answer = record { caller = caller; command = command; answer = answer }
+
+-- what the parts of the controller were shown
+abbrev pub departures_after : Opening → List Event → List Departure
+departures_after opening history = departures_shown (opened_of opening) (shown opening history)
+
+abbrev pub control_events : Opening → List Event → List ControlEvent
+control_events opening history = updates_shown (opened_of opening) (shown opening history)
+
+abbrev pub early_events : Opening → List Event → List EarlyEvent
+early_events opening history = arrivals_shown (opened_of opening) (shown opening history)
 
 -- what an event did
 
@@ -103,19 +120,8 @@ admissions = refl
 departing : map departure all_deeds ≡ None ∷ None ∷ None ∷ None ∷ None ∷ Some (packet 7 60) ∷ None ∷ None ∷ None ∷ None ∷ None ∷ []
 departing = refl
 
-setting : map params_set all_deeds ≡ None ∷ None ∷ None ∷ None ∷ None ∷ None ∷ None ∷ None ∷ None ∷ Some default_profile ∷ None ∷ []
-setting = refl
-
 updating : map is_update all_deeds ≡ false ∷ false ∷ false ∷ false ∷ false ∷ false ∷ false ∷ true ∷ false ∷ false ∷ false ∷ []
 updating = refl
-
-resetting : (map (counts_as_reset false) all_deeds ≡ false ∷ false ∷ false ∷ false ∷ false ∷ false ∷ false ∷ false ∷ true ∷ false ∷ false ∷ [])
-    × (counts_as_reset true dropped_bytes ≡ true)
-resetting = (refl, refl)
-
--- a reset clears the rate estimate, and so do new parameters
-clearing_rate : map (clears_rate false) all_deeds ≡ false ∷ false ∷ false ∷ false ∷ false ∷ false ∷ false ∷ false ∷ true ∷ true ∷ false ∷ []
-clearing_rate = refl
 
 -- one arrival and two departures, the second of an empty queue
 
@@ -194,11 +200,13 @@ abbrev changing : List Event
 changing = event 1 (SetParams 1 other_params) Done ∷ event 1 (Depart 2) Empty ∷ event 1 (SetParams 3 default_profile) Done ∷ []
 
 changing-params : map (λ place. params_after (opened 4 16 100) place.before) (places changing) ≡ default_profile ∷ other_params ∷ other_params ∷ []
-unfolding places params_after last_or
+unfolding held_after shown held_of now_of params_of active_of departures_shown updates_shown arrivals_shown departures_of delay_noted control_of
+    early_of is_active noted noted_after places last_or
 changing-params = refl
 
 changed-params : params_after (opened_with Bounded (limits 4 16 100) other_params) changing ≡ default_profile
-unfolding places params_after last_or
+unfolding held_after shown held_of now_of params_of active_of departures_shown updates_shown arrivals_shown departures_of delay_noted control_of
+    early_of is_active noted noted_after places last_or
 changed-params = refl
 
 -- each limit at both ends of its range

@@ -14,14 +14,16 @@ use Rattle.pie_book.specs.declared.command.Command.TheVariants.{Arrive, Depart, 
 use Rattle.pie_book.specs.declared.command.Event.{Event}
 use Rattle.pie_book.specs.declared.opening.Mode.TheVariants.{Bounded}
 use Rattle.pie_book.specs.declared.opening.Opening.{Opening}
-use Rattle.pie_book.specs.declared.opening.Profile.{Profile}
-use Rattle.pie_book.specs.declared.opening.Profile.TheVariants.{One, Two}
+use Rattle.pie_controller.specs.declared.profile.Profile.{Profile}
+use Rattle.pie_controller.specs.declared.profile.Profile.TheVariants.{One, Two}
 use Rattle.pie_book.specs.declared.refusal.Refusal.TheVariants.{TooSoon}
-use Rattle.pie_book.specs.Activity.{is_active, noted, noted_after}
 use Rattle.pie_book.specs.Decision.{decision, refusal_by_rule}
-use Rattle.pie_book.specs.Estimates.{active_after, average_after, measuring_after, departures_after, delay_after, control_events, parts_after, early_events, accu_after}
-use Rattle.pie_book.specs.History.{Place, places, greatest, last_or, effective_moment, params_after, admitted, departed_count, waiting_after}
-use Rattle.pie_book.specs.Shown.{departures_of, delay_noted, control_of, early_of}
+use Rattle.pie_controller.specs.History.{active_of, arrivals_shown, control_of, delay_noted, departures_of, departures_shown, early_of, held_of, is_active, noted, noted_after, now_of, params_of, updates_shown}
+use Rattle.pie_controller.specs.Places.{Place, places, greatest, last_or}
+use Rattle.pie_controller.specs.Steps.{verdict}
+use Rattle.pie_book.specs.Estimates.{held_after, active_after, average_after, measuring_after}
+use Rattle.pie_book.specs.History.{effective_moment, admitted, departed_count, waiting_after}
+use Rattle.pie_book.specs.Shown.{shown}
 use Rattle.pie_book.proofs.Examples.{limits, nine, packet, event}
 
 abbrev in_profile : Profile → Opening
@@ -51,27 +53,42 @@ answers_of profile history = map (λ (place : Place Event). decision (in_profile
 
 row_active : map (λ n. active_after (in_profile Two) (take n row)) (0 ∷ 1 ∷ 2 ∷ 3 ∷ 4 ∷ 5 ∷ 6 ∷ 7 ∷ 8 ∷ 9 ∷ 10 ∷ 11 ∷ [])
     ≡ false ∷ false ∷ false ∷ false ∷ false ∷ true ∷ true ∷ true ∷ true ∷ true ∷ false ∷ false ∷ []
-unfolding accu_after early_events early_of accumulated is_considered is_picked parts_after control_events control_of delay_after delay_noted delay_of departures_after departures_of active_after is_active noted noted_after params_after last_or places effective_moment greatest waiting_after departed_count admitted average samples begun cycles first_position first_opening first_closing first_cycle cycles_from probability last_delay last_moment granted_burst burst_allowance raw_step tuning_divisor tuned_step decayed next
+unfolding held_after shown held_of now_of params_of active_of departures_shown updates_shown arrivals_shown verdict early_of accumulated
+    is_considered is_picked control_of delay_noted delay_of departures_of is_active noted noted_after last_or places effective_moment greatest
+    waiting_after departed_count admitted average samples begun cycles first_position first_opening first_closing first_cycle cycles_from
+    probability last_delay last_moment granted_burst burst_allowance raw_step tuning_divisor tuned_step decayed next
 row_active = refl
 
 -- the departure while the controller is off opens no cycle
 row_measures : (map (λ n. measuring_after (in_profile Two) (take n row)) (3 ∷ 5 ∷ 6 ∷ 7 ∷ 9 ∷ []) ≡ false ∷ false ∷ true ∷ true ∷ false ∷ [])
     × (map (λ n. average_after (in_profile Two) (take n row)) (6 ∷ 7 ∷ 9 ∷ []) ≡ 0 ∷ 1000 ∷ 0 ∷ [])
-unfolding accu_after early_events early_of accumulated is_considered is_picked parts_after control_events control_of delay_after delay_noted delay_of departures_after departures_of active_after is_active noted noted_after params_after last_or places effective_moment greatest waiting_after departed_count admitted average samples begun cycles first_position first_opening first_closing first_cycle cycles_from probability last_delay last_moment granted_burst burst_allowance raw_step tuning_divisor tuned_step decayed next
+unfolding held_after shown held_of now_of params_of active_of departures_shown updates_shown arrivals_shown verdict early_of accumulated
+    is_considered is_picked control_of delay_noted delay_of departures_of is_active noted noted_after last_or places effective_moment greatest
+    waiting_after departed_count admitted average samples begun cycles first_position first_opening first_closing first_cycle cycles_from
+    probability last_delay last_moment granted_burst burst_allowance raw_step tuning_divisor tuned_step decayed next
 row_measures = (refl, refl)
 
 row_answers : answers_of Two row ≡ map (λ (e : Event). e.answer) row
-unfolding accu_after early_events early_of accumulated is_considered is_picked parts_after control_events control_of delay_after delay_noted delay_of departures_after departures_of active_after is_active noted noted_after params_after last_or places effective_moment greatest waiting_after departed_count admitted average samples begun cycles first_position first_opening first_closing first_cycle cycles_from probability last_delay last_moment granted_burst burst_allowance raw_step tuning_divisor tuned_step decayed next
+unfolding held_after shown held_of now_of params_of active_of departures_shown updates_shown arrivals_shown verdict early_of accumulated
+    is_considered is_picked control_of delay_noted delay_of departures_of is_active noted noted_after last_or places effective_moment greatest
+    waiting_after departed_count admitted average samples begun cycles first_position first_opening first_closing first_cycle cycles_from
+    probability last_delay last_moment granted_burst burst_allowance raw_step tuning_divisor tuned_step decayed next
 row_answers = refl
 
 -- an update while the controller is off moves the due moment too
 row_due : (refusal_by_rule (in_profile Two) row (Update 1005) ≡ Some (TooSoon 1006)) × (refusal_by_rule (in_profile Two) row (Update 1006) ≡ None)
-unfolding accu_after early_events early_of accumulated is_considered is_picked parts_after control_events control_of delay_after delay_noted delay_of departures_after departures_of active_after is_active noted noted_after params_after last_or places effective_moment greatest waiting_after departed_count admitted average samples begun cycles first_position first_opening first_closing first_cycle cycles_from probability last_delay last_moment granted_burst burst_allowance raw_step tuning_divisor tuned_step decayed next
+unfolding held_after shown held_of now_of params_of active_of departures_shown updates_shown arrivals_shown verdict early_of accumulated
+    is_considered is_picked control_of delay_noted delay_of departures_of is_active noted noted_after last_or places effective_moment greatest
+    waiting_after departed_count admitted average samples begun cycles first_position first_opening first_closing first_cycle cycles_from
+    probability last_delay last_moment granted_burst burst_allowance raw_step tuning_divisor tuned_step decayed next
 row_due = (refl, refl)
 
 -- in profile one the first departure opens a cycle, and the update answers by two samples
 row_in_profile_one : (decision (in_profile One) (take 7 row) (Update 1002) ≡ Updated 16 5810 4) × (active_after (in_profile One) [] ≡ true)
-unfolding accu_after early_events early_of accumulated is_considered is_picked parts_after control_events control_of delay_after delay_noted delay_of departures_after departures_of active_after is_active noted noted_after params_after last_or places effective_moment greatest waiting_after departed_count admitted average samples begun cycles first_position first_opening first_closing first_cycle cycles_from probability last_delay last_moment granted_burst burst_allowance raw_step tuning_divisor tuned_step decayed next
+unfolding held_after shown held_of now_of params_of active_of departures_shown updates_shown arrivals_shown verdict early_of accumulated
+    is_considered is_picked control_of delay_noted delay_of departures_of is_active noted noted_after last_or places effective_moment greatest
+    waiting_after departed_count admitted average samples begun cycles first_position first_opening first_closing first_cycle cycles_from
+    probability last_delay last_moment granted_burst burst_allowance raw_step tuning_divisor tuned_step decayed next
 row_in_profile_one = (refl, refl)
 
 -- the third arrival turns the controller on, a calm update off, and an arrival that is dropped on again
@@ -81,5 +98,8 @@ dropped_row =
 
 dropped_row_answers : (answers_of Two dropped_row ≡ map (λ (e : Event). e.answer) dropped_row)
     × (map (λ n. active_after (in_profile Two) (take n dropped_row)) (2 ∷ 3 ∷ 4 ∷ 5 ∷ []) ≡ false ∷ true ∷ false ∷ true ∷ [])
-unfolding accu_after early_events early_of accumulated is_considered is_picked parts_after control_events control_of delay_after delay_noted delay_of departures_after departures_of active_after is_active noted noted_after params_after last_or places effective_moment greatest waiting_after departed_count admitted average samples begun cycles first_position first_opening first_closing first_cycle cycles_from probability last_delay last_moment granted_burst burst_allowance raw_step tuning_divisor tuned_step decayed next
+unfolding held_after shown held_of now_of params_of active_of departures_shown updates_shown arrivals_shown verdict early_of accumulated
+    is_considered is_picked control_of delay_noted delay_of departures_of is_active noted noted_after last_or places effective_moment greatest
+    waiting_after departed_count admitted average samples begun cycles first_position first_opening first_closing first_cycle cycles_from
+    probability last_delay last_moment granted_burst burst_allowance raw_step tuning_divisor tuned_step decayed next
 dropped_row_answers = (refl, refl)

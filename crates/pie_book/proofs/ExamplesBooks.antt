@@ -14,18 +14,21 @@ use Rattle.pie_early.specs.History.{accumulated}
 use Rattle.pie_book.specs.declared.command.Command.TheVariants.{Arrive, Depart, Update}
 use Rattle.pie_book.specs.declared.command.Answer.TheVariants.{Enqueued, Marked, Empty, Left, Updated}
 use Rattle.pie_book.specs.declared.opening.Mode.TheVariants.{Bounded, Rolling}
-use Rattle.pie_book.specs.declared.opening.Profile.TheVariants.{One}
+use Rattle.pie_controller.specs.declared.profile.Profile.TheVariants.{One}
 use Rattle.pie_book.specs.declared.refusal.Refusal.TheVariants.{Size, TooSoon}
 use Rattle.pie_book.specs.declared.stats.Stats.{Stats}
 use Rattle.pie_book.specs.Deed.{Deed, deed_of, queued, marked, dropped_early, dropped_bytes, dropped_packets, departed, found_none, updated, was_reset, set, nothing}
-use Rattle.pie_book.specs.History.{places, greatest, last_or, effective_moment, params_after, admitted, departed_count, waiting_after}
-use Rattle.pie_book.specs.Shown.{departures_of, delay_noted, control_of, early_of}
-use Rattle.pie_book.specs.Activity.{is_active, noted, noted_after}
-use Rattle.pie_book.specs.Estimates.{active_after, departures_after, delay_after, control_events, parts_after, early_events, accu_after}
+use Rattle.pie_controller.specs.History.{active_of, arrivals_shown, control_of, delay_noted, departures_of, departures_shown, early_of, held_of, is_active, noted, noted_after, now_of, params_of, updates_shown}
+use Rattle.pie_queue.specs.Queue.{bytes_of}
+use Rattle.pie_controller.specs.Places.{places, greatest, last_or}
+use Rattle.pie_controller.specs.Steps.{delay_in, verdict}
+use Rattle.pie_book.specs.Estimates.{held_after}
+use Rattle.pie_book.specs.History.{effective_moment, admitted, departed_count, waiting_after}
+use Rattle.pie_book.specs.Shown.{shown}
 use Rattle.pie_book.specs.Registers.{registers_after}
 use Rattle.pie_book.specs.Statistics.{largest_queue, largest_delay, waited, stats_after, no_stats}
 use Rattle.pie_book.specs.Decision.{IsLegal, IsLegalAt}
-use Rattle.pie_book.specs.Core.{CoreView, Shows, registers_of, delay_in, refusal_of, counted, with_queue}
+use Rattle.pie_book.specs.Core.{CoreView, Shows, held_in, registers_of, refusal_of, counted, with_queue}
 use Rattle.pie_book.specs.Book.{BookView, Tells, last_events, without_last, tail_with}
 use Rattle.pie_book.proofs.Examples.{limits, opened, opened_with, packet, waits, event, place, three, arrival, departure_of_it, late_departure}
 use Rattle.pie_book.proofs.ExamplesMarks.{no_burst, some_burst, opening, two_departed, first_update, second_update, third_update, updated_thrice, mark, drop_of_one, lone, change, restart, twelve, fourteen, parts, tallied}
@@ -33,59 +36,101 @@ use Rattle.pie_book.proofs.ExamplesMarks.{no_burst, some_burst, opening, two_dep
 -- at each place the command is taken and has its answer
 
 legal_at_1 : IsLegalAt opening (place (take 0 fourteen) (event 1 (Arrive 0 (packet 1 1024) 0) Enqueued))
-unfolding accu_after early_events accumulated is_considered is_picked parts_after control_events delay_after delay_of departures_after params_after last_or places effective_moment greatest waiting_after departed_count admitted average samples begun cycles first_position first_opening first_closing first_cycle cycles_from probability last_delay last_moment granted_burst burst_allowance raw_step tuning_divisor tuned_step decayed next active_after departures_of delay_noted control_of early_of noted noted_after is_active
+unfolding held_after shown held_of now_of params_of active_of departures_shown updates_shown arrivals_shown verdict accumulated is_considered
+    is_picked delay_of last_or places effective_moment greatest waiting_after departed_count admitted average samples begun cycles first_position
+    first_opening first_closing first_cycle cycles_from probability last_delay last_moment granted_burst burst_allowance raw_step tuning_divisor
+    tuned_step decayed next departures_of delay_noted control_of early_of noted noted_after is_active
 legal_at_1 = record { taken = refl; answered = refl }
 
 legal_at_2 : IsLegalAt opening (place (take 1 fourteen) (event 1 (Arrive 0 (packet 2 1024) 0) Enqueued))
-unfolding accu_after early_events accumulated is_considered is_picked parts_after control_events delay_after delay_of departures_after params_after last_or places effective_moment greatest waiting_after departed_count admitted average samples begun cycles first_position first_opening first_closing first_cycle cycles_from probability last_delay last_moment granted_burst burst_allowance raw_step tuning_divisor tuned_step decayed next active_after departures_of delay_noted control_of early_of noted noted_after is_active
+unfolding held_after shown held_of now_of params_of active_of departures_shown updates_shown arrivals_shown verdict accumulated is_considered
+    is_picked delay_of last_or places effective_moment greatest waiting_after departed_count admitted average samples begun cycles first_position
+    first_opening first_closing first_cycle cycles_from probability last_delay last_moment granted_burst burst_allowance raw_step tuning_divisor
+    tuned_step decayed next departures_of delay_noted control_of early_of noted noted_after is_active
 legal_at_2 = record { taken = refl; answered = refl }
 
 legal_at_3 : IsLegalAt opening (place (take 2 fourteen) (event 1 (Arrive 0 (packet 3 1024) 0) Enqueued))
-unfolding accu_after early_events accumulated is_considered is_picked parts_after control_events delay_after delay_of departures_after params_after last_or places effective_moment greatest waiting_after departed_count admitted average samples begun cycles first_position first_opening first_closing first_cycle cycles_from probability last_delay last_moment granted_burst burst_allowance raw_step tuning_divisor tuned_step decayed next active_after departures_of delay_noted control_of early_of noted noted_after is_active
+unfolding held_after shown held_of now_of params_of active_of departures_shown updates_shown arrivals_shown verdict accumulated is_considered
+    is_picked delay_of last_or places effective_moment greatest waiting_after departed_count admitted average samples begun cycles first_position
+    first_opening first_closing first_cycle cycles_from probability last_delay last_moment granted_burst burst_allowance raw_step tuning_divisor
+    tuned_step decayed next departures_of delay_noted control_of early_of noted noted_after is_active
 legal_at_3 = record { taken = refl; answered = refl }
 
 legal_at_4 : IsLegalAt opening (place (take 3 fourteen) (event 1 (Arrive 0 (packet 4 1024) 0) Enqueued))
-unfolding accu_after early_events accumulated is_considered is_picked parts_after control_events delay_after delay_of departures_after params_after last_or places effective_moment greatest waiting_after departed_count admitted average samples begun cycles first_position first_opening first_closing first_cycle cycles_from probability last_delay last_moment granted_burst burst_allowance raw_step tuning_divisor tuned_step decayed next active_after departures_of delay_noted control_of early_of noted noted_after is_active
+unfolding held_after shown held_of now_of params_of active_of departures_shown updates_shown arrivals_shown verdict accumulated is_considered
+    is_picked delay_of last_or places effective_moment greatest waiting_after departed_count admitted average samples begun cycles first_position
+    first_opening first_closing first_cycle cycles_from probability last_delay last_moment granted_burst burst_allowance raw_step tuning_divisor
+    tuned_step decayed next departures_of delay_noted control_of early_of noted noted_after is_active
 legal_at_4 = record { taken = refl; answered = refl }
 
 legal_at_5 : IsLegalAt opening (place (take 4 fourteen) (event 3 (Depart 1000) (Left (packet 1 1024))))
-unfolding accu_after early_events accumulated is_considered is_picked parts_after control_events delay_after delay_of departures_after params_after last_or places effective_moment greatest waiting_after departed_count admitted average samples begun cycles first_position first_opening first_closing first_cycle cycles_from probability last_delay last_moment granted_burst burst_allowance raw_step tuning_divisor tuned_step decayed next active_after departures_of delay_noted control_of early_of noted noted_after is_active
+unfolding held_after shown held_of now_of params_of active_of departures_shown updates_shown arrivals_shown verdict accumulated is_considered
+    is_picked delay_of last_or places effective_moment greatest waiting_after departed_count admitted average samples begun cycles first_position
+    first_opening first_closing first_cycle cycles_from probability last_delay last_moment granted_burst burst_allowance raw_step tuning_divisor
+    tuned_step decayed next departures_of delay_noted control_of early_of noted noted_after is_active
 legal_at_5 = record { taken = refl; answered = refl }
 
 legal_at_6 : IsLegalAt opening (place (take 5 fourteen) (event 3 (Depart 1001000) (Left (packet 2 1024))))
-unfolding accu_after early_events accumulated is_considered is_picked parts_after control_events delay_after delay_of departures_after params_after last_or places effective_moment greatest waiting_after departed_count admitted average samples begun cycles first_position first_opening first_closing first_cycle cycles_from probability last_delay last_moment granted_burst burst_allowance raw_step tuning_divisor tuned_step decayed next active_after departures_of delay_noted control_of early_of noted noted_after is_active
+unfolding held_after shown held_of now_of params_of active_of departures_shown updates_shown arrivals_shown verdict accumulated is_considered
+    is_picked delay_of last_or places effective_moment greatest waiting_after departed_count admitted average samples begun cycles first_position
+    first_opening first_closing first_cycle cycles_from probability last_delay last_moment granted_burst burst_allowance raw_step tuning_divisor
+    tuned_step decayed next departures_of delay_noted control_of early_of noted noted_after is_active
 legal_at_6 = record { taken = refl; answered = refl }
 
 legal_at_7 : IsLegalAt opening (place (take 6 fourteen) (first_update))
-unfolding accu_after early_events accumulated is_considered is_picked parts_after control_events delay_after delay_of departures_after params_after last_or places effective_moment greatest waiting_after departed_count admitted average samples begun cycles first_position first_opening first_closing first_cycle cycles_from probability last_delay last_moment granted_burst burst_allowance raw_step tuning_divisor tuned_step decayed next active_after departures_of delay_noted control_of early_of noted noted_after is_active
+unfolding held_after shown held_of now_of params_of active_of departures_shown updates_shown arrivals_shown verdict accumulated is_considered
+    is_picked delay_of last_or places effective_moment greatest waiting_after departed_count admitted average samples begun cycles first_position
+    first_opening first_closing first_cycle cycles_from probability last_delay last_moment granted_burst burst_allowance raw_step tuning_divisor
+    tuned_step decayed next departures_of delay_noted control_of early_of noted noted_after is_active
 legal_at_7 = record { taken = refl; answered = refl }
 
 legal_at_8 : IsLegalAt opening (place (take 7 fourteen) (second_update))
-unfolding accu_after early_events accumulated is_considered is_picked parts_after control_events delay_after delay_of departures_after params_after last_or places effective_moment greatest waiting_after departed_count admitted average samples begun cycles first_position first_opening first_closing first_cycle cycles_from probability last_delay last_moment granted_burst burst_allowance raw_step tuning_divisor tuned_step decayed next active_after departures_of delay_noted control_of early_of noted noted_after is_active
+unfolding held_after shown held_of now_of params_of active_of departures_shown updates_shown arrivals_shown verdict accumulated is_considered
+    is_picked delay_of last_or places effective_moment greatest waiting_after departed_count admitted average samples begun cycles first_position
+    first_opening first_closing first_cycle cycles_from probability last_delay last_moment granted_burst burst_allowance raw_step tuning_divisor
+    tuned_step decayed next departures_of delay_noted control_of early_of noted noted_after is_active
 legal_at_8 = record { taken = refl; answered = refl }
 
 legal_at_9 : IsLegalAt opening (place (take 8 fourteen) (third_update))
-unfolding accu_after early_events accumulated is_considered is_picked parts_after control_events delay_after delay_of departures_after params_after last_or places effective_moment greatest waiting_after departed_count admitted average samples begun cycles first_position first_opening first_closing first_cycle cycles_from probability last_delay last_moment granted_burst burst_allowance raw_step tuning_divisor tuned_step decayed next active_after departures_of delay_noted control_of early_of noted noted_after is_active
+unfolding held_after shown held_of now_of params_of active_of departures_shown updates_shown arrivals_shown verdict accumulated is_considered
+    is_picked delay_of last_or places effective_moment greatest waiting_after departed_count admitted average samples begun cycles first_position
+    first_opening first_closing first_cycle cycles_from probability last_delay last_moment granted_burst burst_allowance raw_step tuning_divisor
+    tuned_step decayed next departures_of delay_noted control_of early_of noted noted_after is_active
 legal_at_9 = record { taken = refl; answered = refl }
 
 legal_at_10 : IsLegalAt opening (place (take 9 fourteen) (mark))
-unfolding accu_after early_events accumulated is_considered is_picked parts_after control_events delay_after delay_of departures_after params_after last_or places effective_moment greatest waiting_after departed_count admitted average samples begun cycles first_position first_opening first_closing first_cycle cycles_from probability last_delay last_moment granted_burst burst_allowance raw_step tuning_divisor tuned_step decayed next active_after departures_of delay_noted control_of early_of noted noted_after is_active
+unfolding held_after shown held_of now_of params_of active_of departures_shown updates_shown arrivals_shown verdict accumulated is_considered
+    is_picked delay_of last_or places effective_moment greatest waiting_after departed_count admitted average samples begun cycles first_position
+    first_opening first_closing first_cycle cycles_from probability last_delay last_moment granted_burst burst_allowance raw_step tuning_divisor
+    tuned_step decayed next departures_of delay_noted control_of early_of noted noted_after is_active
 legal_at_10 = record { taken = refl; answered = refl }
 
 legal_at_11 : IsLegalAt opening (place (take 10 fourteen) (drop_of_one))
-unfolding accu_after early_events accumulated is_considered is_picked parts_after control_events delay_after delay_of departures_after params_after last_or places effective_moment greatest waiting_after departed_count admitted average samples begun cycles first_position first_opening first_closing first_cycle cycles_from probability last_delay last_moment granted_burst burst_allowance raw_step tuning_divisor tuned_step decayed next active_after departures_of delay_noted control_of early_of noted noted_after is_active
+unfolding held_after shown held_of now_of params_of active_of departures_shown updates_shown arrivals_shown verdict accumulated is_considered
+    is_picked delay_of last_or places effective_moment greatest waiting_after departed_count admitted average samples begun cycles first_position
+    first_opening first_closing first_cycle cycles_from probability last_delay last_moment granted_burst burst_allowance raw_step tuning_divisor
+    tuned_step decayed next departures_of delay_noted control_of early_of noted noted_after is_active
 legal_at_11 = record { taken = refl; answered = refl }
 
 legal_at_12 : IsLegalAt opening (place (take 11 fourteen) (lone))
-unfolding accu_after early_events accumulated is_considered is_picked parts_after control_events delay_after delay_of departures_after params_after last_or places effective_moment greatest waiting_after departed_count admitted average samples begun cycles first_position first_opening first_closing first_cycle cycles_from probability last_delay last_moment granted_burst burst_allowance raw_step tuning_divisor tuned_step decayed next active_after departures_of delay_noted control_of early_of noted noted_after is_active
+unfolding held_after shown held_of now_of params_of active_of departures_shown updates_shown arrivals_shown verdict accumulated is_considered
+    is_picked delay_of last_or places effective_moment greatest waiting_after departed_count admitted average samples begun cycles first_position
+    first_opening first_closing first_cycle cycles_from probability last_delay last_moment granted_burst burst_allowance raw_step tuning_divisor
+    tuned_step decayed next departures_of delay_noted control_of early_of noted noted_after is_active
 legal_at_12 = record { taken = refl; answered = refl }
 
 legal_at_13 : IsLegalAt opening (place (take 12 fourteen) (change))
-unfolding accu_after early_events accumulated is_considered is_picked parts_after control_events delay_after delay_of departures_after params_after last_or places effective_moment greatest waiting_after departed_count admitted average samples begun cycles first_position first_opening first_closing first_cycle cycles_from probability last_delay last_moment granted_burst burst_allowance raw_step tuning_divisor tuned_step decayed next active_after departures_of delay_noted control_of early_of noted noted_after is_active
+unfolding held_after shown held_of now_of params_of active_of departures_shown updates_shown arrivals_shown verdict accumulated is_considered
+    is_picked delay_of last_or places effective_moment greatest waiting_after departed_count admitted average samples begun cycles first_position
+    first_opening first_closing first_cycle cycles_from probability last_delay last_moment granted_burst burst_allowance raw_step tuning_divisor
+    tuned_step decayed next departures_of delay_noted control_of early_of noted noted_after is_active
 legal_at_13 = record { taken = refl; answered = refl }
 
 legal_at_14 : IsLegalAt opening (place (take 13 fourteen) (restart))
-unfolding accu_after early_events accumulated is_considered is_picked parts_after control_events delay_after delay_of departures_after params_after last_or places effective_moment greatest waiting_after departed_count admitted average samples begun cycles first_position first_opening first_closing first_cycle cycles_from probability last_delay last_moment granted_burst burst_allowance raw_step tuning_divisor tuned_step decayed next active_after departures_of delay_noted control_of early_of noted noted_after is_active
+unfolding held_after shown held_of now_of params_of active_of departures_shown updates_shown arrivals_shown verdict accumulated is_considered
+    is_picked delay_of last_or places effective_moment greatest waiting_after departed_count admitted average samples begun cycles first_position
+    first_opening first_closing first_cycle cycles_from probability last_delay last_moment granted_burst burst_allowance raw_step tuning_divisor
+    tuned_step decayed next departures_of delay_noted control_of early_of noted noted_after is_active
 legal_at_14 = record { taken = refl; answered = refl }
 
 fourteen-legal : IsLegal opening fourteen
@@ -113,26 +158,38 @@ twelve-legal = All-take (IsLegalAt opening) 12 (places fourteen) fourteen-legal
 -- a departure of a packet that never came is not legal, nor is an event whose command would be refused, nor another answer
 
 invented-illegal : IsLegal (opened 4 16 100) (event 2 (Depart 1) (Left (packet 7 1500)) ∷ []) → ⊥
-unfolding accu_after early_events accumulated is_considered is_picked parts_after control_events delay_after delay_of departures_after params_after last_or places effective_moment greatest waiting_after departed_count admitted average samples begun cycles first_position first_opening first_closing first_cycle cycles_from probability last_delay last_moment granted_burst burst_allowance raw_step tuning_divisor tuned_step decayed next active_after departures_of delay_noted control_of early_of noted noted_after is_active
+unfolding held_after shown held_of now_of params_of active_of departures_shown updates_shown arrivals_shown verdict accumulated is_considered
+    is_picked delay_of last_or places effective_moment greatest waiting_after departed_count admitted average samples begun cycles first_position
+    first_opening first_closing first_cycle cycles_from probability last_delay last_moment granted_burst burst_allowance raw_step tuning_divisor
+    tuned_step decayed next departures_of delay_noted control_of early_of noted noted_after is_active
 invented-illegal legal =
     let first = All-head (IsLegalAt (opened 4 16 100)) (place [] (event 2 (Depart 1) (Left (packet 7 1500)))) [] legal in
     let answered : Left (packet 7 1500) ≡ Empty = first.answered in cc
 
 too_large-illegal : IsLegal (opened 4 16 100) (event 1 (Arrive 1 (packet 1 65536) 0) Enqueued ∷ []) → ⊥
-unfolding accu_after early_events accumulated is_considered is_picked parts_after control_events delay_after delay_of departures_after params_after last_or places effective_moment greatest waiting_after departed_count admitted average samples begun cycles first_position first_opening first_closing first_cycle cycles_from probability last_delay last_moment granted_burst burst_allowance raw_step tuning_divisor tuned_step decayed next active_after departures_of delay_noted control_of early_of noted noted_after is_active
+unfolding held_after shown held_of now_of params_of active_of departures_shown updates_shown arrivals_shown verdict accumulated is_considered
+    is_picked delay_of last_or places effective_moment greatest waiting_after departed_count admitted average samples begun cycles first_position
+    first_opening first_closing first_cycle cycles_from probability last_delay last_moment granted_burst burst_allowance raw_step tuning_divisor
+    tuned_step decayed next departures_of delay_noted control_of early_of noted noted_after is_active
 too_large-illegal legal =
     let first = All-head (IsLegalAt (opened 4 16 100)) (place [] (event 1 (Arrive 1 (packet 1 65536) 0) Enqueued)) [] legal in
     let taken : Some Size ≡ None = first.taken in cc
 
 early_update-illegal : IsLegal (opened 4 16 100) (event 1 (Update 14999999) (Updated 0 0 150000000) ∷ []) → ⊥
-unfolding accu_after early_events accumulated is_considered is_picked parts_after control_events delay_after delay_of departures_after params_after last_or places effective_moment greatest waiting_after departed_count admitted average samples begun cycles first_position first_opening first_closing first_cycle cycles_from probability last_delay last_moment granted_burst burst_allowance raw_step tuning_divisor tuned_step decayed next active_after departures_of delay_noted control_of early_of noted noted_after is_active
+unfolding held_after shown held_of now_of params_of active_of departures_shown updates_shown arrivals_shown verdict accumulated is_considered
+    is_picked delay_of last_or places effective_moment greatest waiting_after departed_count admitted average samples begun cycles first_position
+    first_opening first_closing first_cycle cycles_from probability last_delay last_moment granted_burst burst_allowance raw_step tuning_divisor
+    tuned_step decayed next departures_of delay_noted control_of early_of noted noted_after is_active
 early_update-illegal legal =
     let first = All-head (IsLegalAt (opened 4 16 100)) (place [] (event 1 (Update 14999999) (Updated 0 0 150000000))) [] legal in
     let taken : Some (TooSoon 15000000) ≡ None = first.taken in cc
 
 -- the fourth arrival cannot have been marked: the tenth event has the answer of a mark, the fourth not
 wrong_mark-illegal : IsLegalAt opening (place (take 3 fourteen) (event 1 (Arrive 0 (packet 4 1024) 0) Marked)) → ⊥
-unfolding accu_after early_events accumulated is_considered is_picked parts_after control_events delay_after delay_of departures_after params_after last_or places effective_moment greatest waiting_after departed_count admitted average samples begun cycles first_position first_opening first_closing first_cycle cycles_from probability last_delay last_moment granted_burst burst_allowance raw_step tuning_divisor tuned_step decayed next active_after departures_of delay_noted control_of early_of noted noted_after is_active
+unfolding held_after shown held_of now_of params_of active_of departures_shown updates_shown arrivals_shown verdict accumulated is_considered
+    is_picked delay_of last_or places effective_moment greatest waiting_after departed_count admitted average samples begun cycles first_position
+    first_opening first_closing first_cycle cycles_from probability last_delay last_moment granted_burst burst_allowance raw_step tuning_divisor
+    tuned_step decayed next departures_of delay_noted control_of early_of noted noted_after is_active
 wrong_mark-illegal legal = let answered : Marked ≡ Enqueued = legal.answered in cc
 
 -- the core after twelve events: a cycle is begun since the second departure, and has counted nothing yet
@@ -165,47 +222,64 @@ core_at_fourteen = record core_at_twelve {
 }
 
 twelve-shown : Shows opening core_at_twelve twelve
-unfolding stats_after largest_queue largest_delay waited accu_after early_events accumulated is_considered is_picked parts_after control_events delay_after delay_of departures_after params_after last_or places effective_moment greatest waiting_after departed_count admitted average samples begun cycles first_position first_opening first_closing first_cycle cycles_from probability last_delay last_moment granted_burst burst_allowance raw_step tuning_divisor tuned_step decayed next active_after departures_of delay_noted control_of early_of noted noted_after is_active
+unfolding held_after shown held_of now_of params_of active_of departures_shown updates_shown arrivals_shown verdict stats_after largest_queue
+    largest_delay waited accumulated is_considered is_picked delay_of last_or places effective_moment greatest waiting_after departed_count
+    admitted average samples begun cycles first_position first_opening first_closing first_cycle cycles_from probability last_delay last_moment
+    granted_burst burst_allowance raw_step tuning_divisor tuned_step decayed next departures_of delay_noted control_of early_of noted noted_after
+    is_active
 twelve-shown = record {
   legal = twelve-legal;
   packets = refl;
   events = refl;
-  profile = refl;
-  params = refl;
   count = refl;
   moment = refl;
   waiting = refl;
-  active = refl;
-  rate = record { average = refl; begun = refl };
-  control = record { prob = refl; old_delay = refl; burst = refl; last = refl };
-  early = record { accu = refl };
+  controller = record {
+    profile = refl;
+    params = refl;
+    moment = refl;
+    active = refl;
+    rate = record { average = refl; begun = refl };
+    control = record { prob = refl; old_delay = refl; burst = refl; last = refl };
+    early = record { accu = refl };
+  };
   stats = refl;
 }
 
 fourteen-shown : Shows opening core_at_fourteen fourteen
-unfolding stats_after largest_queue largest_delay waited accu_after early_events accumulated is_considered is_picked parts_after control_events delay_after delay_of departures_after params_after last_or places effective_moment greatest waiting_after departed_count admitted average samples begun cycles first_position first_opening first_closing first_cycle cycles_from probability last_delay last_moment granted_burst burst_allowance raw_step tuning_divisor tuned_step decayed next active_after departures_of delay_noted control_of early_of noted noted_after is_active
+unfolding held_after shown held_of now_of params_of active_of departures_shown updates_shown arrivals_shown verdict stats_after largest_queue
+    largest_delay waited accumulated is_considered is_picked delay_of last_or places effective_moment greatest waiting_after departed_count
+    admitted average samples begun cycles first_position first_opening first_closing first_cycle cycles_from probability last_delay last_moment
+    granted_burst burst_allowance raw_step tuning_divisor tuned_step decayed next departures_of delay_noted control_of early_of noted noted_after
+    is_active
 fourteen-shown = record {
   legal = fourteen-legal;
   packets = refl;
   events = refl;
-  profile = refl;
-  params = refl;
   count = refl;
   moment = refl;
   waiting = refl;
-  active = refl;
-  rate = record { average = refl; begun = refl };
-  control = record { prob = refl; old_delay = refl; burst = refl; last = refl };
-  early = record { accu = refl };
+  controller = record {
+    profile = refl;
+    params = refl;
+    moment = refl;
+    active = refl;
+    rate = record { average = refl; begun = refl };
+    control = record { prob = refl; old_delay = refl; burst = refl; last = refl };
+    early = record { accu = refl };
+  };
   stats = refl;
 }
 
 -- what the cores show of themselves is what looking back gives
 cores-registers : (registers_of core_at_twelve ≡ registers_after opening twelve) × (registers_of core_at_fourteen ≡ registers_after opening fourteen)
-unfolding registers_after accu_after early_events accumulated is_considered is_picked parts_after control_events delay_after delay_of departures_after params_after last_or places effective_moment greatest waiting_after departed_count admitted average samples begun cycles first_position first_opening first_closing first_cycle cycles_from probability last_delay last_moment granted_burst burst_allowance raw_step tuning_divisor tuned_step decayed next active_after departures_of delay_noted control_of early_of noted noted_after is_active
+unfolding held_after shown held_of now_of params_of active_of departures_shown updates_shown arrivals_shown verdict registers_after accumulated
+    is_considered is_picked delay_of last_or places effective_moment greatest waiting_after departed_count admitted average samples begun cycles
+    first_position first_opening first_closing first_cycle cycles_from probability last_delay last_moment granted_burst burst_allowance raw_step
+    tuning_divisor tuned_step decayed next departures_of delay_noted control_of early_of noted noted_after is_active
 cores-registers = (refl, refl)
 
-cores-delay : (delay_in core_at_twelve ≡ 2976562) × (delay_in core_at_fourteen ≡ 0)
+cores-delay : (delay_in (held_in core_at_twelve) (bytes_of core_at_twelve.waiting) ≡ 2976562) × (delay_in (held_in core_at_fourteen) (bytes_of core_at_fourteen.waiting) ≡ 0)
 unfolding delay_of
 cores-delay = (refl, refl)
 
@@ -241,15 +315,27 @@ tails_with_one = (refl, refl, refl, refl)
 -- the statistics with one event more are those of the longer history
 
 counted-mark : with_queue (counted (stats_after opening updated_thrice) (deed_of mark) 0 0) 2548 ≡ stats_after opening (updated_thrice ++ mark ∷ [])
-unfolding stats_after largest_queue largest_delay waited accu_after early_events accumulated is_considered is_picked parts_after control_events delay_after delay_of departures_after params_after last_or places effective_moment greatest waiting_after departed_count admitted average samples begun cycles first_position first_opening first_closing first_cycle cycles_from probability last_delay last_moment granted_burst burst_allowance raw_step tuning_divisor tuned_step decayed next active_after departures_of delay_noted control_of early_of noted noted_after is_active
+unfolding held_after shown held_of now_of params_of active_of departures_shown updates_shown arrivals_shown verdict stats_after largest_queue
+    largest_delay waited accumulated is_considered is_picked delay_of last_or places effective_moment greatest waiting_after departed_count
+    admitted average samples begun cycles first_position first_opening first_closing first_cycle cycles_from probability last_delay last_moment
+    granted_burst burst_allowance raw_step tuning_divisor tuned_step decayed next departures_of delay_noted control_of early_of noted noted_after
+    is_active
 counted-mark = refl
 
 counted-update : with_queue (counted (stats_after opening two_departed) (deed_of first_update) 2000000 0) 2048 ≡ stats_after opening (two_departed ++ first_update ∷ [])
-unfolding stats_after largest_queue largest_delay waited accu_after early_events accumulated is_considered is_picked parts_after control_events delay_after delay_of departures_after params_after last_or places effective_moment greatest waiting_after departed_count admitted average samples begun cycles first_position first_opening first_closing first_cycle cycles_from probability last_delay last_moment granted_burst burst_allowance raw_step tuning_divisor tuned_step decayed next active_after departures_of delay_noted control_of early_of noted noted_after is_active
+unfolding held_after shown held_of now_of params_of active_of departures_shown updates_shown arrivals_shown verdict stats_after largest_queue
+    largest_delay waited accumulated is_considered is_picked delay_of last_or places effective_moment greatest waiting_after departed_count
+    admitted average samples begun cycles first_position first_opening first_closing first_cycle cycles_from probability last_delay last_moment
+    granted_burst burst_allowance raw_step tuning_divisor tuned_step decayed next departures_of delay_noted control_of early_of noted noted_after
+    is_active
 counted-update = refl
 
 counted-departure : with_queue (counted (stats_after opening (take 5 fourteen)) (departed (packet 2 1024)) 0 1001000) 2048 ≡ stats_after opening two_departed
-unfolding stats_after largest_queue largest_delay waited accu_after early_events accumulated is_considered is_picked parts_after control_events delay_after delay_of departures_after params_after last_or places effective_moment greatest waiting_after departed_count admitted average samples begun cycles first_position first_opening first_closing first_cycle cycles_from probability last_delay last_moment granted_burst burst_allowance raw_step tuning_divisor tuned_step decayed next active_after departures_of delay_noted control_of early_of noted noted_after is_active
+unfolding held_after shown held_of now_of params_of active_of departures_shown updates_shown arrivals_shown verdict stats_after largest_queue
+    largest_delay waited accumulated is_considered is_picked delay_of last_or places effective_moment greatest waiting_after departed_count
+    admitted average samples begun cycles first_position first_opening first_closing first_cycle cycles_from probability last_delay last_moment
+    granted_burst burst_allowance raw_step tuning_divisor tuned_step decayed next departures_of delay_noted control_of early_of noted noted_after
+    is_active
 counted-departure = refl
 
 counted-last : with_queue (counted (with_queue (counted (tallied 0 0) (deed_of change) 0 0) 3048) (deed_of restart) 0 0) 3048 ≡ tallied 1 1

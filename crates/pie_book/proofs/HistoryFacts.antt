@@ -1,17 +1,17 @@
--- What one more event at the end of a history does to the moment, the parameters and the packets that wait.
+-- What one more event at the end of a history does to the moment and the packets that wait.
 use Rattle.std.proofs.Common.{◌≡◌, ◌≤◌, ◌<◌, ◌+◌, ℕ, List, [], ◌∷◌, ◌++◌, map, length, drop, Bool, true, false, cond, refl, ap, ◌∙◌, arith, length-append}
 use Rattle.std.specs.Prelude.{max}
 use Rattle.std.specs.Option.{option_to_list, is_some}
 use Rattle.std.specs.List.{filter_map}
 use Rattle.std.proofs.lemmas.List.{map-append, append-nil, drop-append-le, drop-drop, length-drop}
 use Rattle.std.proofs.lemmas.List.Sums.{sum_by_push}
-use Rattle.pie_params.specs.declared.raw.RawParams.{RawParams}
 use Rattle.pie_queue.specs.declared.packet.Waiting.{Waiting}
 use Rattle.pie_book.specs.declared.command.Event.{Event}
 use Rattle.pie_book.specs.declared.opening.Opening.{Opening}
-use Rattle.pie_book.specs.Deed.{Deed, handed_in, deed_of, params_set, admission, departure, queued, marked, dropped_early, dropped_bytes, dropped_packets, departed, found_none, updated, was_reset, set, nothing}
-use Rattle.pie_book.specs.History.{places, last_or, effective_moment, params_after, admitted_at, admitted, departed_count, waiting_after}
-use Rattle.pie_book.proofs.Places.{filter_map-push, from_places-push, greatest-push, last_or-push}
+use Rattle.pie_book.specs.Deed.{Deed, handed_in, deed_of, admission, departure, queued, marked, dropped_early, dropped_bytes, dropped_packets, departed, found_none, updated, was_reset, set, nothing}
+use Rattle.pie_book.specs.History.{effective_moment, admitted_at, admitted, departed_count, waiting_after}
+use Rattle.pie_controller.proofs.Places.{from_places-push, greatest-push}
+use Rattle.pie_controller.specs.Places.{places}
 
 -- the effective moment after one more event is the greater of the one before it and the moment handed in
 pub effective_moment-push : (opening : Opening) (history : List Event) (event : Event)
@@ -20,34 +20,6 @@ unfolding effective_moment
 effective_moment-push opening history event =
     rw (map-append (λ (e : Event). handed_in e.command) history (event ∷ []))
     (greatest-push (opening.moment ∷ map (λ (e : Event). handed_in e.command) history) (handed_in event.command))
-
--- the parameters in force after an event that did this
-abbrev pub params_next : RawParams → Deed → RawParams
-params_next params (set new) = new
-params_next params d = params
-
-pub params_after-push : (opening : Opening) (history : List Event) (event : Event)
-    → params_after opening (history ++ event ∷ []) ≡ params_next (params_after opening history) (deed_of event)
-unfolding params_after
-params_after-push opening history event =
-    ap (λ xs. last_or opening.params xs) (filter_map-push (λ (e : Event). params_set (deed_of e)) history event)
-    ∙ by_deed (filter_map (λ (e : Event). params_set (deed_of e)) history) (deed_of event)
-  where
-    none : (xs : List RawParams) → last_or opening.params (xs ++ []) ≡ last_or opening.params xs
-    none xs = ap (λ ys. last_or opening.params ys) (append-nil xs)
-
-    by_deed : (xs : List RawParams) (d : Deed) → last_or opening.params (xs ++ option_to_list (params_set d)) ≡ params_next (last_or opening.params xs) d
-    by_deed xs (set new) = last_or-push opening.params xs new
-    by_deed xs (queued packet) = none xs
-    by_deed xs (marked packet) = none xs
-    by_deed xs dropped_early = none xs
-    by_deed xs dropped_bytes = none xs
-    by_deed xs dropped_packets = none xs
-    by_deed xs (departed packet) = none xs
-    by_deed xs found_none = none xs
-    by_deed xs updated = none xs
-    by_deed xs was_reset = none xs
-    by_deed xs nothing = none xs
 
 -- the packets that were queued, after one more event
 pub admitted-push : (opening : Opening) (history : List Event) (event : Event) → admitted opening (history ++ event ∷ [])

@@ -1,14 +1,11 @@
-pub mod Places
 pub mod HistoryFacts
-pub mod EstimateFacts
 pub mod StatisticsFacts
-pub mod LookFacts
 pub mod CoreFacts
-pub mod CauseFacts
 pub mod BookFacts
 pub mod RunFacts
 pub mod RangeFacts
 pub mod RangeLaws
+pub mod LegalFacts
 pub mod BesideFacts
 pub mod Examples
 pub mod ExamplesRates

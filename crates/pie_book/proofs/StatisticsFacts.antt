@@ -12,11 +12,12 @@ use Rattle.pie_book.specs.declared.command.Event.{Event}
 use Rattle.pie_book.specs.declared.opening.Opening.{Opening}
 use Rattle.pie_book.specs.declared.stats.Stats.{Stats}
 use Rattle.pie_book.specs.Deed.{Deed, deed_of, departure, is_arrival, is_update, sets_params, arrival_deed, departure_deed}
-use Rattle.pie_book.specs.History.{Place, places, up_to, greatest, effective_moment, waiting_after, bytes_after}
+use Rattle.pie_book.specs.History.{effective_moment, waiting_after, bytes_after}
 use Rattle.pie_book.specs.Estimates.{delay_answered}
 use Rattle.pie_book.specs.Statistics.{count_of, is_queued, is_marked, is_dropped_early, is_dropped_bytes, is_dropped_packets, is_departure, is_found_none, is_reset, bytes_departed, age_of_oldest, wait_at, delay_at, largest_queue, largest_delay, waited, stats_after}
 use Rattle.pie_book.specs.Core.{counted, with_queue}
-use Rattle.pie_book.proofs.Places.{place_of, places-push, from_places-push, greatest-push, greatest-push_option}
+use Rattle.pie_controller.specs.Places.{Place, places, up_to, greatest}
+use Rattle.pie_controller.proofs.Places.{place_of, places-push, from_places-push, greatest-push, greatest-push_option}
 
 -- one more, where there is one
 more_of : (b : Bool) (n m : ℕ) → n + cond b m 0 ≡ (if b then n + m else n)

@@ -2,10 +2,10 @@ pub mod Opening
 pub mod Deed
 pub mod History
 pub mod Shown
-pub mod Activity
 pub mod Estimates
 pub mod Registers
 pub mod Statistics
+pub mod Call
 pub mod Decision
 pub mod Cause
 pub mod Core
@@ -13,4 +13,5 @@ pub mod Tally
 pub mod Book
 pub mod Run
 pub mod Ranges
+pub mod Step
 pub mod Beside

@@ -2,15 +2,16 @@
 ghost use Rattle.std.specs.Prelude.{◌≡◌, ℕ, List, All, None};
 ghost use Rattle.pie_params.specs.Range.{first_bad};
 ghost use Rattle.pie_controller.specs.Calls.{after_call};
-ghost use Rattle.pie_controller.specs.Steps.{due, now_at};
+ghost use Rattle.pie_controller.specs.Steps.{due, due_of, now_at};
 ghost use Rattle.std.specs.Prelude.{nat_lt};
 ghost use Rattle.pie_book.specs.declared.command.Command.{Command};
 ghost use Rattle.pie_book.specs.declared.command.Command.TheVariants.{Update};
 ghost use Rattle.pie_book.specs.declared.command.Event.{Event};
 ghost use Rattle.pie_book.specs.declared.opening.Opening.{Opening};
-ghost use Rattle.pie_book.specs.Beside.{IsOpening, IsStep, answer_by, call_of, held_after_calls, held_in, opened_by};
-ghost use Rattle.pie_book.specs.Core.{CoreView, Shows, refusal_of};
-ghost use Rattle.pie_book.specs.Decision.{IsLegal, decision, due_of, is_too_soon, refusal_by_rule};
+ghost use Rattle.pie_book.specs.Beside.{IsOpening, IsStep, held_after_calls, opened_by};
+ghost use Rattle.pie_book.specs.Call.{call_of};
+ghost use Rattle.pie_book.specs.Core.{CoreView, Shows, held_in, refusal_of};
+ghost use Rattle.pie_book.specs.Decision.{IsLegal, answer_by, decision, is_too_soon, refusal_by_rule};
 ghost use Rattle.pie_book.specs.History.{waiting_after};
 ghost use Rattle.pie_book.specs.Ranges.{CommandFits};
 

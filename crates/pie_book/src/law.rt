@@ -3,7 +3,7 @@ ghost use Rattle.std.specs.Prelude.{◌≡◌, List, true};
 ghost use Rattle.pie_book.specs.declared.command.Event.{Event};
 ghost use Rattle.pie_book.specs.declared.opening.Mode.TheVariants.{Rolling};
 ghost use Rattle.pie_book.specs.declared.opening.Opening.{Opening};
-ghost use Rattle.pie_book.specs.declared.opening.Profile.TheVariants.{One};
+ghost use Rattle.pie_controller.specs.declared.profile.Profile.TheVariants.{One};
 ghost use Rattle.pie_book.specs.Core.{CoreView, Shows, registers_of};
 ghost use Rattle.pie_book.specs.Registers.{registers_after};
 ghost use Rattle.pie_book.specs.Estimates.{active_after};
@@ -26,7 +26,7 @@ pub fn folds_change_no_answer()
 /// In profile one the controller is active after every history (RFC 8033, section 5.3, is for profile two alone).
 ///
 /// It does nothing: its contract is the law. `Book::registers` is proved to read activity after the book's history.
-#[tactic(auto, using(crate::proofs::EstimateFacts::one_is_active))]
+#[tactic(auto, using(crate::proofs::CoreFacts::one_is_active_after))]
 pub fn profile_one_is_always_active()
     ensures { (opening : Opening) (history : List Event) → opening.choices.profile ≡ One → active_after opening history ≡ true }
 {}

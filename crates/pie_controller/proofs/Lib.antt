@@ -5,3 +5,4 @@ pub mod Parts
 pub mod Laws
 pub mod Sounds
 mod Examples
+pub mod Causes

@@ -4,3 +4,4 @@ pub mod Steps
 pub mod Events
 pub mod History
 pub mod Calls
+pub mod Cause

@@ -1,9 +1,9 @@
 //! The controller and its calls.
-ghost use Rattle.std.specs.Prelude.{◌≡◌, ℕ, ◌^◌, ◌<◌, ◌≤◌, List, [], ◌∷◌, ◌++◌, max};
+ghost use Rattle.std.specs.Prelude.{◌≡◌, ℕ, ◌+◌, ◌^◌, ◌<◌, ◌≤◌, List, [], ◌∷◌, ◌++◌, max, true, false};
 ghost use Rattle.pie_controller.specs.Calls.{Arrive, Change, Depart, Pass, Restart, Update, shown_by};
 ghost use Rattle.pie_controller.specs.Events.{ControllerEvent, Opened};
 ghost use Rattle.pie_controller.specs.History.{Shows};
-ghost use Rattle.pie_controller.specs.Steps.{accu_left, anew, arrived, changed, control_after, delay_answered, delay_in, departed, due, is_calm, no_estimate, opened, passed, reset, stays_active, updated, verdict, woken};
+ghost use Rattle.pie_controller.specs.Steps.{accu_left, anew, arrived, changed, control_after, delay_answered, delay_in, departed, due, is_calm, is_queued, no_estimate, opened, passed, reset, stays_active, updated, verdict, woken};
 
 use crate::{Arrival, Profile, Verdict};
 use pie_control::{Control, delay};
@@ -101,6 +101,7 @@ impl Controller {
     pub fn arrive(&mut self, arrival: Arrival, moment: Nanos) -> Verdict
         requires { arrival.queued ≤ 2 ^ 30 }
         ensures verdict { result ≡ verdict self.old arrival }
+        ensures fits { is_queued result ≡ true → (arrival.is_full ≡ false) × (arrival.queued + arrival.size ≤ 2 ^ 30) }
         ensures after { self.new ≡ arrived self.old arrival moment }
         ensures shows { (opened : Opened) (events : List ControllerEvent) → Shows opened events self.old
             → Shows opened (events ++ shown_by self.old (Arrive arrival moment) ∷ []) self.new }
@@ -125,6 +126,7 @@ impl Controller {
     fn judge(&mut self, arrival: Arrival) -> Verdict
         requires { arrival.queued ≤ 2 ^ 30 }
         ensures verdict { result ≡ verdict self.old arrival }
+        ensures fits { is_queued result ≡ true → (arrival.is_full ≡ false) × (arrival.queued + arrival.size ≤ 2 ^ 30) }
         ensures after { self.new ≡ record self.old { accu = accu_left self.old arrival } }
     {
         if self.params.limit_bytes() < arrival.queued + u64::from(arrival.size) {
@@ -172,6 +174,7 @@ impl Controller {
     #[inline(always)]
     pub fn depart(&mut self, size: u32, left: u64, moment: Nanos)
         ensures after { self.new ≡ departed self.old size left moment }
+        ensures threshold { self.old.params.dq_threshold ≤ 65536 }
         ensures shows { (opened : Opened) (events : List ControllerEvent) → Shows opened events self.old
             → Shows opened (events ++ shown_by self.old (Depart size left moment) ∷ []) self.new }
     {

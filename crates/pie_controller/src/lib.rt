@@ -6,11 +6,13 @@
 //! rule makes of what was held (`after`). `Controller::cause` names what decides an arrival, and its verdict is that of `arrive`.
 #![tactic(auto)]
 
+mod cause;
 mod controller;
 mod law;
 mod profile;
 mod verdict;
 
+pub use cause::{Cause, Fate};
 pub use controller::Controller;
 pub use law::{calls_keep_it_sound, calls_look_back};
 pub use profile::Profile;

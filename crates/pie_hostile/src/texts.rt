@@ -1,7 +1,7 @@
 //! The calls that read and write traces and histories, over memory. They write to a writer that takes none.
 
 ghost use Rattle.std.specs.Prelude.{◌≡◌};
-ghost use Rattle.pie_book.specs.declared.opening.Profile.TheVariants.{One};
+ghost use Rattle.pie_controller.specs.declared.profile.Profile.TheVariants.{One};
 
 use crate::failing::{FailingWriter, Fault};
 use crate::report::begin;

@@ -19,9 +19,9 @@ use Rattle.pie_book.specs.declared.refusal.Refusal.{Refusal}
 use Rattle.pie_book.specs.declared.refusal.Refusal.TheVariants as refusal
 use Rattle.pie_book.specs.Opening.{last_moment}
 use Rattle.pie_book.specs.Deed.{handed_in}
-use Rattle.pie_book.specs.Decision.{has_bad_size, is_too_soon, refusal_by_rule, due_of}
-use Rattle.pie_book.specs.History.{effective_moment, params_after}
-use Rattle.pie_book.specs.Estimates.{parts_after}
+use Rattle.pie_book.specs.Decision.{has_bad_size, is_too_soon, refusal_by_rule}
+use Rattle.pie_book.specs.History.{effective_moment}
+use Rattle.pie_book.specs.Estimates.{due_after}
 use Rattle.pie_link.specs.declared.plan.Arrival.{Arrival}
 use Rattle.pie_link.specs.declared.plan.Plan.{Plan}
 use Rattle.pie_link.specs.Plans.{senders, sent, arrive, change, commands_of, commands_after_senders, count_of, planned, opening_of, IsSound}
@@ -225,7 +225,7 @@ no_update_of (x ∷ xs) f calm = All-cons IsNoUpdate (f x) (map f xs) (calm x) (
 
 never_too_soon : (opening : Opening) (h : List Event) (command : Command) (due : ℕ) → IsNoUpdate command → refusal_by_rule opening h command ≡ Some (refusal.TooSoon due) → ⊥
 never_too_soon opening h command due calm e =
-    let on_time = calm (effective_moment opening h) (due_of (params_after opening h) (parts_after opening h)) in
+    let on_time = calm (effective_moment opening h) (due_after opening h) in
     chain (nat_lt last_moment (handed_in command)) (has_bad_size command) (length h == opening.limits.events) due (rw on_time at e)
 
 made_whole : (opening : Opening) (caller : ℕ) (h earlier : List Event) (commands : List Command) (later : List Event) (passed : ℕ) → All IsNoUpdate commands

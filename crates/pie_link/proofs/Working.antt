@@ -18,9 +18,9 @@ use Rattle.pie_book.specs.declared.opening.Mode.TheVariants.{Bounded, Rolling}
 use Rattle.pie_book.specs.declared.opening.Opening.{Opening}
 use Rattle.pie_book.specs.declared.refusal.Refusal.{Refusal}
 use Rattle.pie_book.specs.declared.refusal.Refusal.TheVariants.{TooSoon, Moment, Size, Exhausted, HistoryFull}
-use Rattle.pie_book.specs.Decision.{is_refused_full, refusal_by_rule, refusal_with, due_of}
-use Rattle.pie_book.specs.History.{effective_moment, params_after}
-use Rattle.pie_book.specs.Estimates.{parts_after}
+use Rattle.pie_book.specs.Decision.{is_refused_full, refusal_by_rule, refusal_with}
+use Rattle.pie_book.specs.History.{effective_moment}
+use Rattle.pie_book.specs.Estimates.{due_after}
 use Rattle.pie_book.specs.Run.{event_of}
 use Rattle.pie_link.specs.declared.entry.Entry.{Entry}
 use Rattle.pie_link.specs.declared.entry.Entry.TheVariants.{Made}
@@ -174,7 +174,7 @@ full_after : (opening : Opening) (history : List Entry) (command : Command) (why
 full_after opening history command why fair is not_soon =
     let events = events_in history in
     ⊎_elim
-    (λ e. omega (arith, no_room (effective_moment opening events) (due_of (params_after opening events) (parts_after opening events)) (length events) opening.limits.events command why fair e not_soon))
+    (λ e. omega (arith, no_room (effective_moment opening events) (due_after opening events) (length events) opening.limits.events command why fair e not_soon))
     (λ e. omega (arith, full_tail opening.choices.mode (length (tail_in opening history)) opening.limits.tail e.2, length-drop (left_in opening history) events))
     (which (refusal_by_rule opening events command) (is_refused_full opening.choices.mode (length (tail_in opening history) == opening.limits.tail)) why is)
 

@@ -4,7 +4,7 @@ use Rattle.std.specs.declared.alloc.Global.{Global}
 use Rattle.pie_book.specs.declared.command.Command.{Command}
 use Rattle.pie_book.specs.declared.command.Command.TheVariants.{Arrive, Depart, Update, SetParams}
 use Rattle.pie_book.specs.declared.opening.Mode.TheVariants.{Bounded}
-use Rattle.pie_book.specs.declared.opening.Profile.TheVariants.{One}
+use Rattle.pie_controller.specs.declared.profile.Profile.TheVariants.{One}
 use Rattle.pie_book.specs.declared.opening.Opening.{Opening}
 use Rattle.pie_book.specs.Opening.{last_moment}
 use Rattle.pie_book.specs.Deed.{handed_in}

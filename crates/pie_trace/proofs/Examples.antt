@@ -13,8 +13,8 @@ use Rattle.pie_book.specs.declared.command.Command.TheVariants.{Arrive, Depart, 
 use Rattle.pie_book.specs.declared.opening.Mode.TheVariants.{Bounded, Rolling}
 use Rattle.pie_book.specs.declared.opening.Mode.{Mode}
 use Rattle.pie_book.specs.declared.opening.Opening.{Opening}
-use Rattle.pie_book.specs.declared.opening.Profile.{Profile}
-use Rattle.pie_book.specs.declared.opening.Profile.TheVariants.{One, Two}
+use Rattle.pie_controller.specs.declared.profile.Profile.{Profile}
+use Rattle.pie_controller.specs.declared.profile.Profile.TheVariants.{One, Two}
 use Rattle.pie_book.specs.declared.registers.Registers.{Registers}
 use Rattle.pie_book.specs.declared.refusal.Refusal.TheVariants as refusal
 use Rattle.pie_record.specs.declared.fault.Flaw.TheVariants as flaw

@@ -14,10 +14,12 @@ use Rattle.pie_control.specs.History.{probability, last_delay, last_moment, gran
 use Rattle.pie_control.specs.Next.{raw_step, tuning_divisor, tuned_step, decayed, next}
 use Rattle.pie_early.specs.Decision.{is_considered, is_picked}
 use Rattle.pie_early.specs.History.{accumulated}
-use Rattle.pie_book.specs.History.{places, greatest, last_or, effective_moment, params_after, admitted, departed_count, waiting_after}
-use Rattle.pie_book.specs.Shown.{departures_of, delay_noted, control_of, early_of}
-use Rattle.pie_book.specs.Activity.{is_active, noted, noted_after}
-use Rattle.pie_book.specs.Estimates.{active_after, departures_after, delay_after, control_events, parts_after, early_events, accu_after}
+use Rattle.pie_controller.specs.History.{active_of, arrivals_shown, control_of, delay_noted, departures_of, departures_shown, early_of, held_of, is_active, noted, noted_after, now_of, params_of, updates_shown}
+use Rattle.pie_controller.specs.Places.{places, greatest, last_or}
+use Rattle.pie_controller.specs.Steps.{verdict}
+use Rattle.pie_book.specs.Estimates.{held_after}
+use Rattle.pie_book.specs.History.{effective_moment, admitted, departed_count, waiting_after}
+use Rattle.pie_book.specs.Shown.{shown}
 use Rattle.pie_book.specs.Registers.{registers_after}
 use Rattle.pie_book.specs.Statistics.{largest_queue, largest_delay, waited, no_stats, stats_after}
 use Rattle.pie_book.specs.Run.{progress_after}
@@ -49,13 +51,14 @@ bare-history =
     codes "open,0,4,16,100\n"
 
 bare-runs : history_of bare ≡ bare-history
-unfolding record_fault first_fault before_fault requests_of steps_of replies history_rows rows_text text_left fault_of history_text end_of number
-    ecn_of params_at first_kind version_of profile_of mode_of limits_at draft_at version_one_fields version_two_fields arrive_fields call_at call_fields params_fields fold_fields request_of opening_of records_from
-    next_record strip_bom field_at answer_fields refused_row folded_row shown_row tallied_row digits fields_text is_blank progress_after
-    registers_after stats_after largest_queue largest_delay waited accu_after early_events accumulated is_considered is_picked parts_after
-    control_events delay_after delay_of departures_after params_after last_or places effective_moment greatest waiting_after departed_count admitted
-    average samples begun cycles first_position first_opening first_closing first_cycle cycles_from probability last_delay last_moment granted_burst
-    burst_allowance raw_step tuning_divisor tuned_step decayed next active_after departures_of delay_noted control_of early_of noted noted_after is_active
+unfolding held_after shown held_of now_of params_of active_of departures_shown updates_shown arrivals_shown verdict record_fault first_fault
+    before_fault requests_of steps_of replies history_rows rows_text text_left fault_of history_text end_of number ecn_of params_at first_kind
+    version_of profile_of mode_of limits_at draft_at version_one_fields version_two_fields arrive_fields call_at call_fields params_fields
+    fold_fields request_of opening_of records_from next_record strip_bom field_at answer_fields refused_row folded_row shown_row tallied_row
+    digits fields_text is_blank progress_after registers_after stats_after largest_queue largest_delay waited accumulated is_considered is_picked
+    delay_of last_or places effective_moment greatest waiting_after departed_count admitted average samples begun cycles first_position
+    first_opening first_closing first_cycle cycles_from probability last_delay last_moment granted_burst burst_allowance raw_step tuning_divisor
+    tuned_step decayed next departures_of delay_noted control_of early_of noted noted_after is_active
 bare-runs = refl
 
 -- one arrival and two departures, the second of an empty queue
@@ -74,13 +77,14 @@ one_arrival-history =
     ++ codes "depart,2,30,empty\n"
 
 one_arrival-runs : history_of one_arrival ≡ one_arrival-history
-unfolding record_fault first_fault before_fault requests_of steps_of replies history_rows rows_text text_left fault_of history_text end_of number
-    ecn_of params_at first_kind version_of profile_of mode_of limits_at draft_at version_one_fields version_two_fields arrive_fields call_at call_fields params_fields fold_fields request_of opening_of records_from
-    next_record strip_bom field_at answer_fields refused_row folded_row shown_row tallied_row digits fields_text is_blank progress_after
-    registers_after stats_after largest_queue largest_delay waited accu_after early_events accumulated is_considered is_picked parts_after
-    control_events delay_after delay_of departures_after params_after last_or places effective_moment greatest waiting_after departed_count admitted
-    average samples begun cycles first_position first_opening first_closing first_cycle cycles_from probability last_delay last_moment granted_burst
-    burst_allowance raw_step tuning_divisor tuned_step decayed next active_after departures_of delay_noted control_of early_of noted noted_after is_active
+unfolding held_after shown held_of now_of params_of active_of departures_shown updates_shown arrivals_shown verdict record_fault first_fault
+    before_fault requests_of steps_of replies history_rows rows_text text_left fault_of history_text end_of number ecn_of params_at first_kind
+    version_of profile_of mode_of limits_at draft_at version_one_fields version_two_fields arrive_fields call_at call_fields params_fields
+    fold_fields request_of opening_of records_from next_record strip_bom field_at answer_fields refused_row folded_row shown_row tallied_row
+    digits fields_text is_blank progress_after registers_after stats_after largest_queue largest_delay waited accumulated is_considered is_picked
+    delay_of last_or places effective_moment greatest waiting_after departed_count admitted average samples begun cycles first_position
+    first_opening first_closing first_cycle cycles_from probability last_delay last_moment granted_burst burst_allowance raw_step tuning_divisor
+    tuned_step decayed next departures_of delay_noted control_of early_of noted noted_after is_active
 one_arrival-runs = refl
 
 -- moments that fall, and commands that are refused by their moment
@@ -105,13 +109,14 @@ falling-history =
     ++ codes "refused,7,1\n"
 
 falling-runs : history_of falling ≡ falling-history
-unfolding record_fault first_fault before_fault requests_of steps_of replies history_rows rows_text text_left fault_of history_text end_of number
-    ecn_of params_at first_kind version_of profile_of mode_of limits_at draft_at version_one_fields version_two_fields arrive_fields call_at call_fields params_fields fold_fields request_of opening_of records_from
-    next_record strip_bom field_at answer_fields refused_row folded_row shown_row tallied_row digits fields_text is_blank progress_after
-    registers_after stats_after largest_queue largest_delay waited accu_after early_events accumulated is_considered is_picked parts_after
-    control_events delay_after delay_of departures_after params_after last_or places effective_moment greatest waiting_after departed_count admitted
-    average samples begun cycles first_position first_opening first_closing first_cycle cycles_from probability last_delay last_moment granted_burst
-    burst_allowance raw_step tuning_divisor tuned_step decayed next active_after departures_of delay_noted control_of early_of noted noted_after is_active
+unfolding held_after shown held_of now_of params_of active_of departures_shown updates_shown arrivals_shown verdict record_fault first_fault
+    before_fault requests_of steps_of replies history_rows rows_text text_left fault_of history_text end_of number ecn_of params_at first_kind
+    version_of profile_of mode_of limits_at draft_at version_one_fields version_two_fields arrive_fields call_at call_fields params_fields
+    fold_fields request_of opening_of records_from next_record strip_bom field_at answer_fields refused_row folded_row shown_row tallied_row
+    digits fields_text is_blank progress_after registers_after stats_after largest_queue largest_delay waited accumulated is_considered is_picked
+    delay_of last_or places effective_moment greatest waiting_after departed_count admitted average samples begun cycles first_position
+    first_opening first_closing first_cycle cycles_from probability last_delay last_moment granted_burst burst_allowance raw_step tuning_divisor
+    tuned_step decayed next departures_of delay_noted control_of early_of noted noted_after is_active
 falling-runs = refl
 
 -- parameters that limit the queue to 1000 bytes, a reset, and parameters of which one is out of its range
@@ -136,13 +141,14 @@ small_limit-history =
     ++ codes "refused,7,7\n"
 
 small_limit-runs : history_of small_limit ≡ small_limit-history
-unfolding record_fault first_fault before_fault requests_of steps_of replies history_rows rows_text text_left fault_of history_text end_of number
-    ecn_of params_at first_kind version_of profile_of mode_of limits_at draft_at version_one_fields version_two_fields arrive_fields call_at call_fields params_fields fold_fields request_of opening_of records_from
-    next_record strip_bom field_at answer_fields refused_row folded_row shown_row tallied_row digits fields_text is_blank progress_after
-    registers_after stats_after largest_queue largest_delay waited accu_after early_events accumulated is_considered is_picked parts_after
-    control_events delay_after delay_of departures_after params_after last_or places effective_moment greatest waiting_after departed_count admitted
-    average samples begun cycles first_position first_opening first_closing first_cycle cycles_from probability last_delay last_moment granted_burst
-    burst_allowance raw_step tuning_divisor tuned_step decayed next active_after departures_of delay_noted control_of early_of noted noted_after is_active
+unfolding held_after shown held_of now_of params_of active_of departures_shown updates_shown arrivals_shown verdict record_fault first_fault
+    before_fault requests_of steps_of replies history_rows rows_text text_left fault_of history_text end_of number ecn_of params_at first_kind
+    version_of profile_of mode_of limits_at draft_at version_one_fields version_two_fields arrive_fields call_at call_fields params_fields
+    fold_fields request_of opening_of records_from next_record strip_bom field_at answer_fields refused_row folded_row shown_row tallied_row
+    digits fields_text is_blank progress_after registers_after stats_after largest_queue largest_delay waited accumulated is_considered is_picked
+    delay_of last_or places effective_moment greatest waiting_after departed_count admitted average samples begun cycles first_position
+    first_opening first_closing first_cycle cycles_from probability last_delay last_moment granted_burst burst_allowance raw_step tuning_divisor
+    tuned_step decayed next departures_of delay_noted control_of early_of noted noted_after is_active
 small_limit-runs = refl
 
 -- cycles of the departure rate
@@ -179,13 +185,14 @@ rates-history =
     ++ codes "shown,8,600,1,1024,0,0,0,150000000,0,0,0\n"
 
 rates-runs : history_of rates ≡ rates-history
-unfolding record_fault first_fault before_fault requests_of steps_of replies history_rows rows_text text_left fault_of history_text end_of number
-    ecn_of params_at first_kind version_of profile_of mode_of limits_at draft_at version_one_fields version_two_fields arrive_fields call_at call_fields params_fields fold_fields request_of opening_of records_from
-    next_record strip_bom field_at answer_fields refused_row folded_row shown_row tallied_row digits fields_text is_blank progress_after
-    registers_after stats_after largest_queue largest_delay waited accu_after early_events accumulated is_considered is_picked parts_after
-    control_events delay_after delay_of departures_after params_after last_or places effective_moment greatest waiting_after departed_count admitted
-    average samples begun cycles first_position first_opening first_closing first_cycle cycles_from probability last_delay last_moment granted_burst
-    burst_allowance raw_step tuning_divisor tuned_step decayed next active_after departures_of delay_noted control_of early_of noted noted_after is_active
+unfolding held_after shown held_of now_of params_of active_of departures_shown updates_shown arrivals_shown verdict record_fault first_fault
+    before_fault requests_of steps_of replies history_rows rows_text text_left fault_of history_text end_of number ecn_of params_at first_kind
+    version_of profile_of mode_of limits_at draft_at version_one_fields version_two_fields arrive_fields call_at call_fields params_fields
+    fold_fields request_of opening_of records_from next_record strip_bom field_at answer_fields refused_row folded_row shown_row tallied_row
+    digits fields_text is_blank progress_after registers_after stats_after largest_queue largest_delay waited accumulated is_considered is_picked
+    delay_of last_or places effective_moment greatest waiting_after departed_count admitted average samples begun cycles first_position
+    first_opening first_closing first_cycle cycles_from probability last_delay last_moment granted_burst burst_allowance raw_step tuning_divisor
+    tuned_step decayed next departures_of delay_noted control_of early_of noted noted_after is_active
 rates-runs = refl
 
 -- marks, drops and a lone enqueue: three updates raise the probability, and three packets meet it; then the registers, the
@@ -235,24 +242,26 @@ marks_rest-history =
     ++ codes "refused,20,7\n"
 
 marks-runs : history_of (codes "open,0,8,32,100,2,1,0,850000,0,1,100000,1000000000000,1024\n" ++ marks_rest) ≡ codes "open,0,8,32,100,2,1,0,850000,0,1,100000,1000000000000,1024\n" ++ marks_rest-history
-unfolding record_fault first_fault before_fault requests_of steps_of replies history_rows rows_text text_left fault_of history_text end_of number
-    ecn_of params_at first_kind version_of profile_of mode_of limits_at draft_at version_one_fields version_two_fields arrive_fields call_at call_fields params_fields fold_fields request_of opening_of records_from
-    next_record strip_bom field_at answer_fields refused_row folded_row shown_row tallied_row digits fields_text is_blank progress_after
-    registers_after stats_after largest_queue largest_delay waited accu_after early_events accumulated is_considered is_picked parts_after
-    control_events delay_after delay_of departures_after params_after last_or places effective_moment greatest waiting_after departed_count admitted
-    average samples begun cycles first_position first_opening first_closing first_cycle cycles_from probability last_delay last_moment granted_burst
-    burst_allowance raw_step tuning_divisor tuned_step decayed next active_after departures_of delay_noted control_of early_of noted noted_after is_active
+unfolding held_after shown held_of now_of params_of active_of departures_shown updates_shown arrivals_shown verdict record_fault first_fault
+    before_fault requests_of steps_of replies history_rows rows_text text_left fault_of history_text end_of number ecn_of params_at first_kind
+    version_of profile_of mode_of limits_at draft_at version_one_fields version_two_fields arrive_fields call_at call_fields params_fields
+    fold_fields request_of opening_of records_from next_record strip_bom field_at answer_fields refused_row folded_row shown_row tallied_row
+    digits fields_text is_blank progress_after registers_after stats_after largest_queue largest_delay waited accumulated is_considered is_picked
+    delay_of last_or places effective_moment greatest waiting_after departed_count admitted average samples begun cycles first_position
+    first_opening first_closing first_cycle cycles_from probability last_delay last_moment granted_burst burst_allowance raw_step tuning_divisor
+    tuned_step decayed next departures_of delay_noted control_of early_of noted noted_after is_active
 marks-runs = refl
 
 -- the same in a rolling book whose tail holds one event: the first record alone is another
 marks_rolling-runs : history_of (codes "rolling,0,8,1,100,2,1,0,850000,0,1,100000,1000000000000,1024\n" ++ marks_rest) ≡ codes "rolling,0,8,1,100,2,1,0,850000,0,1,100000,1000000000000,1024\n" ++ marks_rest-history
-unfolding record_fault first_fault before_fault requests_of steps_of replies history_rows rows_text text_left fault_of history_text end_of number
-    ecn_of params_at first_kind version_of profile_of mode_of limits_at draft_at version_one_fields version_two_fields arrive_fields call_at call_fields params_fields fold_fields request_of opening_of records_from
-    next_record strip_bom field_at answer_fields refused_row folded_row shown_row tallied_row digits fields_text is_blank progress_after
-    registers_after stats_after largest_queue largest_delay waited accu_after early_events accumulated is_considered is_picked parts_after
-    control_events delay_after delay_of departures_after params_after last_or places effective_moment greatest waiting_after departed_count admitted
-    average samples begun cycles first_position first_opening first_closing first_cycle cycles_from probability last_delay last_moment granted_burst
-    burst_allowance raw_step tuning_divisor tuned_step decayed next active_after departures_of delay_noted control_of early_of noted noted_after is_active
+unfolding held_after shown held_of now_of params_of active_of departures_shown updates_shown arrivals_shown verdict record_fault first_fault
+    before_fault requests_of steps_of replies history_rows rows_text text_left fault_of history_text end_of number ecn_of params_at first_kind
+    version_of profile_of mode_of limits_at draft_at version_one_fields version_two_fields arrive_fields call_at call_fields params_fields
+    fold_fields request_of opening_of records_from next_record strip_bom field_at answer_fields refused_row folded_row shown_row tallied_row
+    digits fields_text is_blank progress_after registers_after stats_after largest_queue largest_delay waited accumulated is_considered is_picked
+    delay_of last_or places effective_moment greatest waiting_after departed_count admitted average samples begun cycles first_position
+    first_opening first_closing first_cycle cycles_from probability last_delay last_moment granted_burst burst_allowance raw_step tuning_divisor
+    tuned_step decayed next departures_of delay_noted control_of early_of noted noted_after is_active
 marks_rolling-runs = refl
 
 -- a rolling book lets its oldest event go; a fold of more events than the tail holds is refused
@@ -275,13 +284,14 @@ rolling-history =
     ++ codes "folded,2\n"
 
 rolling-runs : history_of rolling ≡ rolling-history
-unfolding record_fault first_fault before_fault requests_of steps_of replies history_rows rows_text text_left fault_of history_text end_of number
-    ecn_of params_at first_kind version_of profile_of mode_of limits_at draft_at version_one_fields version_two_fields arrive_fields call_at call_fields params_fields fold_fields request_of opening_of records_from
-    next_record strip_bom field_at answer_fields refused_row folded_row shown_row tallied_row digits fields_text is_blank progress_after
-    registers_after stats_after largest_queue largest_delay waited accu_after early_events accumulated is_considered is_picked parts_after
-    control_events delay_after delay_of departures_after params_after last_or places effective_moment greatest waiting_after departed_count admitted
-    average samples begun cycles first_position first_opening first_closing first_cycle cycles_from probability last_delay last_moment granted_burst
-    burst_allowance raw_step tuning_divisor tuned_step decayed next active_after departures_of delay_noted control_of early_of noted noted_after is_active
+unfolding held_after shown held_of now_of params_of active_of departures_shown updates_shown arrivals_shown verdict record_fault first_fault
+    before_fault requests_of steps_of replies history_rows rows_text text_left fault_of history_text end_of number ecn_of params_at first_kind
+    version_of profile_of mode_of limits_at draft_at version_one_fields version_two_fields arrive_fields call_at call_fields params_fields
+    fold_fields request_of opening_of records_from next_record strip_bom field_at answer_fields refused_row folded_row shown_row tallied_row
+    digits fields_text is_blank progress_after registers_after stats_after largest_queue largest_delay waited accumulated is_considered is_picked
+    delay_of last_or places effective_moment greatest waiting_after departed_count admitted average samples begun cycles first_position
+    first_opening first_closing first_cycle cycles_from probability last_delay last_moment granted_burst burst_allowance raw_step tuning_divisor
+    tuned_step decayed next departures_of delay_noted control_of early_of noted noted_after is_active
 rolling-runs = refl
 
 -- no more events than the limits allow, in a rolling book too
@@ -300,13 +310,14 @@ exhausted-history =
     ++ codes "refused,4,4\n"
 
 exhausted-runs : history_of exhausted ≡ exhausted-history
-unfolding record_fault first_fault before_fault requests_of steps_of replies history_rows rows_text text_left fault_of history_text end_of number
-    ecn_of params_at first_kind version_of profile_of mode_of limits_at draft_at version_one_fields version_two_fields arrive_fields call_at call_fields params_fields fold_fields request_of opening_of records_from
-    next_record strip_bom field_at answer_fields refused_row folded_row shown_row tallied_row digits fields_text is_blank progress_after
-    registers_after stats_after largest_queue largest_delay waited accu_after early_events accumulated is_considered is_picked parts_after
-    control_events delay_after delay_of departures_after params_after last_or places effective_moment greatest waiting_after departed_count admitted
-    average samples begun cycles first_position first_opening first_closing first_cycle cycles_from probability last_delay last_moment granted_burst
-    burst_allowance raw_step tuning_divisor tuned_step decayed next active_after departures_of delay_noted control_of early_of noted noted_after is_active
+unfolding held_after shown held_of now_of params_of active_of departures_shown updates_shown arrivals_shown verdict record_fault first_fault
+    before_fault requests_of steps_of replies history_rows rows_text text_left fault_of history_text end_of number ecn_of params_at first_kind
+    version_of profile_of mode_of limits_at draft_at version_one_fields version_two_fields arrive_fields call_at call_fields params_fields
+    fold_fields request_of opening_of records_from next_record strip_bom field_at answer_fields refused_row folded_row shown_row tallied_row
+    digits fields_text is_blank progress_after registers_after stats_after largest_queue largest_delay waited accumulated is_considered is_picked
+    delay_of last_or places effective_moment greatest waiting_after departed_count admitted average samples begun cycles first_position
+    first_opening first_closing first_cycle cycles_from probability last_delay last_moment granted_burst burst_allowance raw_step tuning_divisor
+    tuned_step decayed next departures_of delay_noted control_of early_of noted noted_after is_active
 exhausted-runs = refl
 
 -- a full tail refuses until a fold makes room
@@ -333,13 +344,14 @@ full_tail-history =
     ++ codes "tallied,0,0,0,0,0,0,0,0,3,0,0,0,0,0,0\n"
 
 full_tail-runs : history_of full_tail ≡ full_tail-history
-unfolding record_fault first_fault before_fault requests_of steps_of replies history_rows rows_text text_left fault_of history_text end_of number
-    ecn_of params_at first_kind version_of profile_of mode_of limits_at draft_at version_one_fields version_two_fields arrive_fields call_at call_fields params_fields fold_fields request_of opening_of records_from
-    next_record strip_bom field_at answer_fields refused_row folded_row shown_row tallied_row digits fields_text is_blank progress_after
-    registers_after stats_after largest_queue largest_delay waited accu_after early_events accumulated is_considered is_picked parts_after
-    control_events delay_after delay_of departures_after params_after last_or places effective_moment greatest waiting_after departed_count admitted
-    average samples begun cycles first_position first_opening first_closing first_cycle cycles_from probability last_delay last_moment granted_burst
-    burst_allowance raw_step tuning_divisor tuned_step decayed next active_after departures_of delay_noted control_of early_of noted noted_after is_active
+unfolding held_after shown held_of now_of params_of active_of departures_shown updates_shown arrivals_shown verdict record_fault first_fault
+    before_fault requests_of steps_of replies history_rows rows_text text_left fault_of history_text end_of number ecn_of params_at first_kind
+    version_of profile_of mode_of limits_at draft_at version_one_fields version_two_fields arrive_fields call_at call_fields params_fields
+    fold_fields request_of opening_of records_from next_record strip_bom field_at answer_fields refused_row folded_row shown_row tallied_row
+    digits fields_text is_blank progress_after registers_after stats_after largest_queue largest_delay waited accumulated is_considered is_picked
+    delay_of last_or places effective_moment greatest waiting_after departed_count admitted average samples begun cycles first_position
+    first_opening first_closing first_cycle cycles_from probability last_delay last_moment granted_burst burst_allowance raw_step tuning_divisor
+    tuned_step decayed next departures_of delay_noted control_of early_of noted noted_after is_active
 full_tail-runs = refl
 
 -- a controller that turns itself on at the third arrival, after which a third of the byte limit waits; a trace of version two says so
@@ -363,13 +375,14 @@ turns_on-history active =
 
 turns_on-runs : (history_of (codes "open2,2" ++ turns_on_rest) ≡ codes "open2,2" ++ turns_on-history (codes "0"))
     × (history_of (codes "open2,1" ++ turns_on_rest) ≡ codes "open2,1" ++ turns_on-history (codes "1"))
-unfolding record_fault first_fault before_fault requests_of steps_of replies history_rows rows_text text_left fault_of history_text end_of number
-    ecn_of params_at first_kind version_of profile_of mode_of limits_at draft_at version_one_fields version_two_fields arrive_fields call_at call_fields params_fields fold_fields request_of opening_of records_from
-    next_record strip_bom field_at answer_fields refused_row folded_row shown_row tallied_row digits fields_text is_blank progress_after
-    registers_after stats_after largest_queue largest_delay waited accu_after early_events accumulated is_considered is_picked parts_after
-    control_events delay_after delay_of departures_after params_after last_or places effective_moment greatest waiting_after departed_count admitted
-    average samples begun cycles first_position first_opening first_closing first_cycle cycles_from probability last_delay last_moment granted_burst
-    burst_allowance raw_step tuning_divisor tuned_step decayed next active_after departures_of delay_noted control_of early_of noted noted_after is_active
+unfolding held_after shown held_of now_of params_of active_of departures_shown updates_shown arrivals_shown verdict record_fault first_fault
+    before_fault requests_of steps_of replies history_rows rows_text text_left fault_of history_text end_of number ecn_of params_at first_kind
+    version_of profile_of mode_of limits_at draft_at version_one_fields version_two_fields arrive_fields call_at call_fields params_fields
+    fold_fields request_of opening_of records_from next_record strip_bom field_at answer_fields refused_row folded_row shown_row tallied_row
+    digits fields_text is_blank progress_after registers_after stats_after largest_queue largest_delay waited accumulated is_considered is_picked
+    delay_of last_or places effective_moment greatest waiting_after departed_count admitted average samples begun cycles first_position
+    first_opening first_closing first_cycle cycles_from probability last_delay last_moment granted_burst burst_allowance raw_step tuning_divisor
+    tuned_step decayed next departures_of delay_noted control_of early_of noted noted_after is_active
 turns_on-runs = (refl, refl)
 
 -- the faults of a first record, in their order: its kind, its fields, its first bad parameter, its limits, its moment
@@ -422,13 +435,14 @@ later_record_faults = refl
 
 -- up to the faulty record, the history stands
 faulty-runs : history_of (codes "open,0,4,16,100\ndepart,1,1\ndep,1,1\ndepart,1,2\n") ≡ codes "open,0,4,16,100\ndepart,1,1,empty\n"
-unfolding record_fault first_fault before_fault requests_of steps_of replies history_rows rows_text text_left fault_of history_text end_of number
-    ecn_of params_at first_kind version_of profile_of mode_of limits_at draft_at version_one_fields version_two_fields arrive_fields call_at call_fields params_fields fold_fields request_of opening_of records_from
-    next_record strip_bom field_at answer_fields refused_row folded_row shown_row tallied_row digits fields_text is_blank progress_after
-    registers_after stats_after largest_queue largest_delay waited accu_after early_events accumulated is_considered is_picked parts_after
-    control_events delay_after delay_of departures_after params_after last_or places effective_moment greatest waiting_after departed_count admitted
-    average samples begun cycles first_position first_opening first_closing first_cycle cycles_from probability last_delay last_moment granted_burst
-    burst_allowance raw_step tuning_divisor tuned_step decayed next active_after departures_of delay_noted control_of early_of noted noted_after is_active
+unfolding held_after shown held_of now_of params_of active_of departures_shown updates_shown arrivals_shown verdict record_fault first_fault
+    before_fault requests_of steps_of replies history_rows rows_text text_left fault_of history_text end_of number ecn_of params_at first_kind
+    version_of profile_of mode_of limits_at draft_at version_one_fields version_two_fields arrive_fields call_at call_fields params_fields
+    fold_fields request_of opening_of records_from next_record strip_bom field_at answer_fields refused_row folded_row shown_row tallied_row
+    digits fields_text is_blank progress_after registers_after stats_after largest_queue largest_delay waited accumulated is_considered is_picked
+    delay_of last_or places effective_moment greatest waiting_after departed_count admitted average samples begun cycles first_position
+    first_opening first_closing first_cycle cycles_from probability last_delay last_moment granted_burst burst_allowance raw_step tuning_divisor
+    tuned_step decayed next departures_of delay_noted control_of early_of noted noted_after is_active
 faulty-runs = refl
 
 -- what the opening alone ends with
@@ -452,11 +466,12 @@ bare-ends : end_of (records_of bare) ≡ Some (record {
   };
   stats = no_stats;
 })
-unfolding record_fault first_fault before_fault requests_of steps_of replies history_rows rows_text text_left fault_of history_text end_of number
-    ecn_of params_at first_kind version_of profile_of mode_of limits_at draft_at version_one_fields version_two_fields arrive_fields call_at call_fields params_fields fold_fields request_of opening_of records_from
-    next_record strip_bom field_at answer_fields refused_row folded_row shown_row tallied_row digits fields_text is_blank progress_after
-    registers_after stats_after largest_queue largest_delay waited accu_after early_events accumulated is_considered is_picked parts_after
-    control_events delay_after delay_of departures_after params_after last_or places effective_moment greatest waiting_after departed_count admitted
-    average samples begun cycles first_position first_opening first_closing first_cycle cycles_from probability last_delay last_moment granted_burst
-    burst_allowance raw_step tuning_divisor tuned_step decayed next active_after departures_of delay_noted control_of early_of noted noted_after is_active
+unfolding held_after shown held_of now_of params_of active_of departures_shown updates_shown arrivals_shown verdict record_fault first_fault
+    before_fault requests_of steps_of replies history_rows rows_text text_left fault_of history_text end_of number ecn_of params_at first_kind
+    version_of profile_of mode_of limits_at draft_at version_one_fields version_two_fields arrive_fields call_at call_fields params_fields
+    fold_fields request_of opening_of records_from next_record strip_bom field_at answer_fields refused_row folded_row shown_row tallied_row
+    digits fields_text is_blank progress_after registers_after stats_after largest_queue largest_delay waited accumulated is_considered is_picked
+    delay_of last_or places effective_moment greatest waiting_after departed_count admitted average samples begun cycles first_position
+    first_opening first_closing first_cycle cycles_from probability last_delay last_moment granted_burst burst_allowance raw_step tuning_divisor
+    tuned_step decayed next departures_of delay_noted control_of early_of noted noted_after is_active
 bare-ends = refl

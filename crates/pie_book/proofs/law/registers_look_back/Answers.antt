@@ -1,4 +1,4 @@
-use Rattle.pie_book.proofs.LookFacts.{registers-is}
+use Rattle.pie_book.proofs.CoreFacts.{registers-is}
 use Rattle.pie_book.proofs.law.registers_look_back.Goals as goal
 
 pub returns : goal.returns

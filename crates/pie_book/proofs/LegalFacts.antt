@@ -1,0 +1,108 @@
+-- Each legal history is shown by a core that made its commands, one after another.
+use Rattle.std.proofs.Common.{◌≡◌, ℕ, List, [], ◌∷◌, ◌++◌, Bool, true, false, refl, sym, subst, ap, ◌∙◌, if◌then◌else◌}
+use Rattle.std.specs.Prelude.{All, None}
+use Rattle.std.proofs.lemmas.List.{append-nil, append_assoc}
+use Rattle.std.proofs.lemmas.List.Elements.{All-head, All-tail}
+use Rattle.pie_params.specs.Range.{first_bad}
+use Rattle.pie_queue.specs.declared.packet.Waiting.{Waiting}
+use Rattle.pie_controller.specs.declared.verdict.Arrival.{Arrival}
+use Rattle.pie_controller.specs.Calls.{after_call}
+use Rattle.pie_controller.specs.Held.{Held}
+use Rattle.pie_controller.specs.Steps as Steps
+use Rattle.pie_controller.specs.Steps.{anew, bytes_with, judged, no_estimate}
+use Rattle.pie_controller.proofs.InRange.{params-hold}
+use Rattle.pie_controller.proofs.Places.{place_of}
+use Rattle.pie_book.specs.declared.command.Answer.{Answer}
+use Rattle.pie_book.specs.declared.command.Command.{Command}
+use Rattle.pie_book.specs.declared.command.Command.TheVariants.{Arrive, Depart, Update, Reset, SetParams}
+use Rattle.pie_book.specs.declared.command.Event.{Event}
+use Rattle.pie_book.specs.declared.opening.Opening.{Opening}
+use Rattle.pie_book.specs.Beside.{opened_by}
+use Rattle.pie_book.specs.Call.{arrival_of, departure_call}
+use Rattle.pie_book.specs.Core.{CoreView, Shows, closed, held_in, refusal_of}
+use Rattle.pie_book.specs.Decision.{IsLegal, IsLegalAt}
+use Rattle.pie_book.specs.Ranges.{CommandFits}
+use Rattle.pie_book.specs.Run.{event_of}
+use Rattle.pie_book.specs.Statistics.{no_stats}
+use Rattle.pie_book.specs.Step.{answer_in, call_in}
+use Rattle.pie_book.proofs.CoreFacts.{Shows-opened, after_event, at_place, event-shows, next-decided, refusal-is}
+
+-- a core as it opens
+abbrev pub first_core : Opening → CoreView
+first_core opening = record {
+  packets = opening.limits.packets;
+  events = opening.limits.events;
+  profile = opening.choices.profile;
+  params = opening.params;
+  count = 0;
+  moment = opening.moment;
+  waiting = [];
+  active = Steps.opens_active opening.choices.profile;
+  rate = no_estimate;
+  control = record { prob = 0; old_delay = 0; burst = opening.params.max_burst; last = opening.moment };
+  accu = 0;
+  stats = no_stats;
+}
+
+pub first-shows : (opening : Opening) → Shows opening (first_core opening) []
+first-shows opening = Shows-opened opening (first_core opening) refl refl refl refl refl refl
+
+-- ---- parameters stay in their ranges
+
+params-arrived : (h : Held) (a : Arrival) (moment : ℕ) → (Steps.arrived h a moment).params ≡ h.params
+params-arrived h a moment = by (Steps.turns_on h (bytes_with (Steps.verdict h a) a.queued a.size))
+  where
+    by : (on : Bool) → (if on then record (anew (judged h a moment)) { active = true } else judged h a moment).params ≡ h.params
+    by true = refl
+    by false = refl
+
+good-next : (core : CoreView) (command : Command) → first_bad core.params ≡ None → CommandFits command → first_bad (after_call (held_in core) (call_in core command)).params ≡ None
+good-next core (Arrive moment packet word) good fit = rw (params-arrived (held_in core) (arrival_of core.waiting core.packets packet word) moment) good
+good-next core (Depart moment) good fit = by core.waiting
+  where
+    by : (waiting : List Waiting) → first_bad (after_call (held_in core) (departure_call waiting moment)).params ≡ None
+    by [] = good
+    by (oldest ∷ others) = good
+good-next core (Update moment) good fit = good
+good-next core (Reset moment) good fit = good
+good-next core (SetParams moment params) good fit = fit.1.in_range
+
+-- ---- a whole history
+
+-- a core shows these events, of which this is so
+pub record IsRun (P : List Event → CoreView → Type 0) (opening : Opening) (history : List Event) : Type 0 where
+  pub core : CoreView
+  pub shows : Shows opening core history
+  pub good : first_bad core.params ≡ None
+  pub holds : P history core
+
+-- what is so stays so at each command that is taken
+abbrev pub Stays : (List Event → CoreView → Type 0) → Opening → Type 0
+Stays P opening = (core : CoreView) (history : List Event) (event : Event) → Shows opening core history → P history core → CommandFits event.command → refusal_of core event.command ≡ None
+    → P (history ++ event ∷ []) (closed (after_event core event.command))
+
+module _ (P : List Event → CoreView → Type 0) (opening : Opening) (stays : Stays P opening) where
+  run-next : (history : List Event) (event : Event) → IsRun P opening history → IsLegalAt opening (place_of history event) → CommandFits event.command → IsRun P opening (history ++ event ∷ [])
+  run-next history event run here fit =
+      let core = run.core in
+      let free = refusal-is opening core history run.shows event.command ∙ here.taken in
+      let same : event_of event.caller event.command (answer_in core event.command) ≡ event =
+      ap (λ (answer : Answer). event_of event.caller event.command answer) (next-decided opening core history run.shows event.command ∙ sym here.answered) in
+      record {
+        core = closed (after_event core event.command);
+        shows = subst (λ (e : Event). Shows opening (closed (after_event core event.command)) (history ++ e ∷ [])) same
+            (event-shows opening core history run.shows event.caller event.command (λ packet moment is left. (params-hold core.params run.good).dq_threshold) free);
+        good = good-next core event.command run.good fit;
+        holds = stays core history event run.shows run.holds fit free;
+      }
+
+  run-all : (before rest : List Event) → IsRun P opening before → IsLegal opening (before ++ rest) → All (λ event. CommandFits event.command) rest → IsRun P opening (before ++ rest)
+  run-all before [] run legal fit = rw (append-nil before) run
+  run-all before (event ∷ rest) run legal fit =
+      let here = at_place (IsLegalAt opening) before event rest legal in
+      let next = run-next before event run here (All-head (λ e. CommandFits e.command) event rest fit) in
+      let joined : before ++ event ∷ [] ++ rest ≡ before ++ (event ∷ rest) = append_assoc before (event ∷ []) rest in
+      rw (← joined) (run-all (before ++ event ∷ []) rest next (rw (← joined) at legal) (All-tail (λ e. CommandFits e.command) event rest fit))
+
+  pub run_of : (history : List Event) → P [] (first_core opening) → first_bad opening.params ≡ None → IsLegal opening history → All (λ event. CommandFits event.command) history → IsRun P opening history
+  run_of history first good legal fit = run-all [] history (record { core = first_core opening; shows = first-shows opening; good = good; holds = first }) legal fit

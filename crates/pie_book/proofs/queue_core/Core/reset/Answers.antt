@@ -1,8 +1,0 @@
-use Rattle.std.proofs.Common.{◌≡◌, ap}
-use Rattle.pie_book.specs.Core.{CoreView}
-use Rattle.pie_book.proofs.queue_core.Core.reset.Goals as goal
-
-pub returns-clause-control : goal.returns-clause-control
-returns-clause-control c opening start events shown =
-    let control : c.self.inside.control ≡ c.start_anew.new.self.control = ap (λ (core : CoreView). core.control) c.self.view_is in
-    rw control (c.start_anew.ensures.control opening start events shown)

@@ -1,0 +1,74 @@
+-- What decides an arrival: the first case of the rules that holds, with the numbers that it compares (RFC 8033, sections 4.1, 4.4, 5.1,
+-- 5.4 and Appendix A; the limit in packets and the comparison by a random word of 64 bits are this project's own).
+use Rattle.std.specs.Prelude.{ℕ, ◌+◌, ◌*◌, ◌^◌, ◌==◌, not, ◌&&◌, nat_lt, nat_le, if◌then◌else◌}
+use Rattle.pie_params.specs.declared.raw.RawParams.{RawParams}
+use Rattle.pie_control.specs.Parts.{Parts}
+use Rattle.pie_early.specs.Decision.{a_fifth, always_picked, never_picked}
+use Rattle.pie_queue.specs.declared.ecn.Ecn.{Ecn}
+use Rattle.pie_queue.specs.Ecn.{is_capable}
+use Rattle.pie_controller.specs.declared.cause.Cause.{Cause}
+use Rattle.pie_controller.specs.declared.cause.Cause.TheVariants.{NoRoomInBytes, NoRoomInPackets, Inactive, BurstAllowed, LowDelay, ShortQueue, NoProbability, LittleAccumulated, PickedBySum, PickedByWord, WordNotBelow}
+use Rattle.pie_controller.specs.declared.cause.Fate.{Fate}
+use Rattle.pie_controller.specs.declared.cause.Fate.TheVariants.{Marked, NotCapable, NotBelow}
+use Rattle.pie_controller.specs.declared.verdict.Arrival.{Arrival}
+use Rattle.pie_controller.specs.declared.verdict.Verdict.{Verdict}
+use Rattle.pie_controller.specs.declared.verdict.Verdict.TheVariants as verdict
+use Rattle.pie_controller.specs.Held.{Held}
+
+-- ---- what follows from a cause
+
+-- the verdict on a picked packet
+abbrev pub verdict_on_picked : Fate → Verdict
+verdict_on_picked (Marked threshold) = verdict.Marked
+verdict_on_picked NotCapable = verdict.DroppedEarly
+verdict_on_picked (NotBelow threshold) = verdict.DroppedEarly
+
+-- the verdict that a cause gives
+abbrev pub verdict_of : Cause → Verdict
+verdict_of (NoRoomInBytes bytes size limit) = verdict.DroppedBytes
+verdict_of (NoRoomInPackets packets) = verdict.DroppedPackets
+verdict_of Inactive = verdict.Enqueued
+verdict_of (BurstAllowed burst) = verdict.Enqueued
+verdict_of (LowDelay old_delay target prob) = verdict.Enqueued
+verdict_of (ShortQueue bytes two_packets) = verdict.Enqueued
+verdict_of NoProbability = verdict.Enqueued
+verdict_of (LittleAccumulated accu prob) = verdict.Enqueued
+verdict_of (PickedBySum accu prob fate) = verdict_on_picked fate
+verdict_of (PickedByWord accu prob word fate) = verdict_on_picked fate
+verdict_of (WordNotBelow accu prob word) = verdict.Enqueued
+
+-- ---- the cause, case by case
+
+-- why a picked packet is marked or dropped
+abbrev pub fate_of : RawParams → ℕ → Ecn → Fate
+fate_of params prob ecn =
+    if not (is_capable ecn) then NotCapable
+    else if nat_lt prob params.mark_ecnth then Marked params.mark_ecnth
+    else NotBelow params.mark_ecnth
+
+-- what decides an arrival that is considered: nothing can pick at probability 0; the accumulated probability with this one is
+-- below 0.85, or at least 8.5; and between the two the random word decides
+unfoldable pub considered_cause : RawParams → ℕ → ℕ → Ecn → ℕ → Cause
+considered_cause params prob accu ecn word =
+    if prob == 0 then NoProbability
+    else if nat_lt (accu + prob) never_picked then LittleAccumulated accu prob
+    else if nat_le always_picked (accu + prob) then PickedBySum accu prob (fate_of params prob ecn)
+    else if nat_lt (word * 10 ^ 12) (prob * 2 ^ 64) then PickedByWord accu prob word (fate_of params prob ecn)
+    else WordNotBelow accu prob word
+
+-- what decides an arrival that the queue has room for: three cases in which it is not considered, and then those in which it is
+unfoldable pub early_cause : RawParams → Parts → ℕ → ℕ → Ecn → ℕ → Cause
+early_cause params parts bytes accu ecn word =
+    if nat_lt 0 parts.burst then BurstAllowed parts.burst
+    else if nat_lt (2 * parts.old_delay) params.target && nat_lt parts.prob a_fifth then LowDelay parts.old_delay params.target parts.prob
+    else if nat_le bytes (2 * params.mean_pkt) then ShortQueue bytes (2 * params.mean_pkt)
+    else considered_cause params parts.prob accu ecn word
+
+-- what decides an arrival at a controller that holds this, where so many packets wait: the limit in bytes, then that in packets, then
+-- that the controller is inactive, then the rest
+unfoldable pub cause : Held → Arrival → ℕ → Cause
+cause h a packets =
+    if nat_lt h.params.limit_bytes (a.queued + a.size) then NoRoomInBytes a.queued a.size h.params.limit_bytes
+    else if a.is_full then NoRoomInPackets packets
+    else if h.active then early_cause h.params h.control a.queued h.accu a.ecn a.word
+    else Inactive

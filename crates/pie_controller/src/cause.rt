@@ -1,0 +1,262 @@
+//! What decides an arrival: the first case of the rules that holds, with the numbers that it compared.
+ghost use Rattle.std.specs.Prelude.{◌≡◌, ◌≤◌, ◌^◌};
+ghost use Rattle.pie_controller.specs.Cause.{cause, considered_cause, early_cause, fate_of, verdict_of};
+ghost use Rattle.pie_controller.specs.Steps.{verdict};
+
+use crate::{Arrival, Controller, Verdict};
+use pie_control::Control;
+use pie_early::{LOW_PROB, NEVER_PICKED};
+use pie_fixed::{ALWAYS_PICKED, Accu, Prob, chosen};
+use pie_params::Params;
+use pie_queue::Ecn;
+
+/// Why a picked packet was marked or dropped (RFC 8033, section 5.1).
+#[derive(Clone, Copy, Debug, PartialEq, Eq)]
+pub enum Fate {
+    /// Marked: its endpoints understand a mark, and the probability is below `mark_ecnth`.
+    Marked {
+        /// `mark_ecnth`, in units of `10^-12`.
+        threshold: u64,
+    },
+    /// Dropped: its endpoints do not understand a mark (RFC 3168, section 5).
+    NotCapable,
+    /// Dropped: its endpoints understand a mark, and the probability is not below `mark_ecnth`.
+    NotBelow {
+        /// `mark_ecnth`, in units of `10^-12`.
+        threshold: u64,
+    },
+}
+
+/// What decided an arrival: the first case of the rules that held, in this order, with the numbers that it compared. All are
+/// those of before the arrival. Bytes are without the arriving packet, times are in nanoseconds, probabilities in units of
+/// `10^-12`.
+#[derive(Clone, Copy, Debug, PartialEq, Eq)]
+pub enum Cause {
+    /// Tail drop: with the packet the queue would hold more bytes than `limit_bytes` (RFC 8033, Appendix A).
+    NoRoomInBytes {
+        /// The bytes that wait.
+        bytes: u64,
+        /// The packet's bytes.
+        size: u32,
+        /// `limit_bytes`.
+        limit: u64,
+    },
+    /// Tail drop: the ring is full of packets (this project's own limit).
+    NoRoomInPackets {
+        /// How many packets wait, which are all that the ring holds.
+        packets: u64,
+    },
+    /// Queued: the controller is inactive, as it may be in profile two (RFC 8033, section 5.3).
+    Inactive,
+    /// Queued: a burst is allowed (RFC 8033, section 4.4).
+    BurstAllowed {
+        /// What is left of the burst allowance, above 0.
+        burst: u64,
+    },
+    /// Queued: the old delay is below half the target, and the probability below a fifth (RFC 8033, section 4.1).
+    LowDelay {
+        /// The old delay, that of the last update.
+        old_delay: u64,
+        /// The target.
+        target: u64,
+        /// The probability.
+        prob: u64,
+    },
+    /// Queued: the queue holds at most two packets of the mean size (RFC 8033, section 4.1).
+    ShortQueue {
+        /// The bytes that wait.
+        bytes: u64,
+        /// Twice `mean_pkt`.
+        two_packets: u64,
+    },
+    /// Queued: the probability is 0.
+    NoProbability,
+    /// Queued: the accumulated probability, with this one, is below 0.85 (RFC 8033, section 5.4).
+    LittleAccumulated {
+        /// The accumulated probability, without this one.
+        accu: u64,
+        /// The probability.
+        prob: u64,
+    },
+    /// Picked without regard to the word: the accumulated probability, with this one, is at least 8.5 (RFC 8033, section 5.4).
+    PickedBySum {
+        /// The accumulated probability, without this one.
+        accu: u64,
+        /// The probability.
+        prob: u64,
+        /// Why the packet was marked or dropped.
+        fate: Fate,
+    },
+    /// Picked: the random word, as a fraction of 2^64, is below the probability (RFC 8033, section 4.1).
+    PickedByWord {
+        /// The accumulated probability, without this one.
+        accu: u64,
+        /// The probability.
+        prob: u64,
+        /// The random word.
+        word: u64,
+        /// Why the packet was marked or dropped.
+        fate: Fate,
+    },
+    /// Queued: the random word, as a fraction of 2^64, is not below the probability (RFC 8033, section 4.1).
+    WordNotBelow {
+        /// The accumulated probability, without this one.
+        accu: u64,
+        /// The probability.
+        prob: u64,
+        /// The random word.
+        word: u64,
+    },
+}
+
+impl Cause {
+    ghost use Rattle.pie_controller.specs.Cause.{verdict_of};
+
+    /// The verdict on an arrival that this decided.
+    pub fn verdict(self) -> Verdict
+        ensures { result ≡ verdict_of self }
+    {
+        match self {
+            Cause::NoRoomInBytes { .. } => Verdict::DroppedBytes,
+            Cause::NoRoomInPackets { .. } => Verdict::DroppedPackets,
+            Cause::Inactive
+            | Cause::BurstAllowed { .. }
+            | Cause::LowDelay { .. }
+            | Cause::ShortQueue { .. }
+            | Cause::NoProbability
+            | Cause::LittleAccumulated { .. }
+            | Cause::WordNotBelow { .. } => Verdict::Enqueued,
+            Cause::PickedBySum { fate, .. } | Cause::PickedByWord { fate, .. } => fate.verdict(),
+        }
+    }
+}
+
+impl Fate {
+    ghost use Rattle.pie_controller.specs.Cause.{verdict_on_picked};
+
+    /// The verdict on a picked packet.
+    pub fn verdict(self) -> Verdict
+        ensures { result ≡ verdict_on_picked self }
+    {
+        match self {
+            Fate::Marked { .. } => Verdict::Marked,
+            Fate::NotCapable | Fate::NotBelow { .. } => Verdict::DroppedEarly,
+        }
+    }
+}
+
+/// Why a picked packet is marked or dropped.
+#[tactic(auto, using(std::proofs::lemmas::Bool::Decides::nat_tests))]
+fn fate_of(params: &Params, prob: Prob, ecn: Ecn) -> Fate
+    ensures { result ≡ fate_of params.now prob ecn }
+{
+    let threshold = params.mark_ecnth().units();
+    if !ecn.capable() {
+        Fate::NotCapable
+    } else if prob.units() < threshold {
+        Fate::Marked { threshold }
+    } else {
+        Fate::NotBelow { threshold }
+    }
+}
+
+/// What decides an arrival that is considered.
+#[tactic(auto, using(std::proofs::lemmas::Bool::Decides::nat_tests), unfolding(crate::specs::Cause::considered_cause))]
+fn considered_cause(params: &Params, prob: Prob, accu: Accu, ecn: Ecn, word: u64) -> Cause
+    ensures { result ≡ considered_cause params.now prob accu ecn word }
+{
+    let fate = fate_of(params, prob, ecn);
+    let is_below = chosen(prob, word);
+    let (accu, prob) = (accu.units(), prob.units());
+    if prob == 0 {
+        Cause::NoProbability
+    } else if accu + prob < NEVER_PICKED {
+        Cause::LittleAccumulated { accu, prob }
+    } else if accu + prob >= ALWAYS_PICKED {
+        Cause::PickedBySum { accu, prob, fate }
+    } else if is_below {
+        Cause::PickedByWord {
+            accu,
+            prob,
+            word,
+            fate,
+        }
+    } else {
+        Cause::WordNotBelow { accu, prob, word }
+    }
+}
+
+/// What decides an arrival that the queue has room for.
+#[tactic(auto, using(std::proofs::lemmas::Bool::Decides::nat_tests), unfolding(crate::specs::Cause::early_cause))]
+fn early_cause(
+    params: &Params,
+    control: &Control,
+    bytes: u64,
+    accu: Accu,
+    ecn: Ecn,
+    word: u64,
+) -> Cause
+    ensures { result ≡ early_cause params.now control.now bytes accu ecn word }
+{
+    let burst = control.burst();
+    if burst > 0 {
+        return Cause::BurstAllowed { burst };
+    }
+    let (old_delay, target, prob) = (control.old(), params.target().units(), control.prob());
+    if 2 * old_delay < target && prob.units() < LOW_PROB {
+        return Cause::LowDelay {
+            old_delay,
+            target,
+            prob: prob.units(),
+        };
+    }
+    let two_packets = 2 * params.mean_pkt();
+    if bytes <= two_packets {
+        return Cause::ShortQueue { bytes, two_packets };
+    }
+    considered_cause(params, prob, accu, ecn, word)
+}
+
+impl Controller {
+    /// What would decide an arriving packet here: the first case of the rules that holds, with the numbers that it compares. Its
+    /// verdict is that of `arrive`. Nothing is changed. `packets` is how many packets are in the queue, which the cause says where
+    /// the ring is full.
+    pub fn cause(&self, arrival: Arrival, packets: u64) -> Cause
+        requires { arrival.queued ≤ 2 ^ 30 }
+        ensures cause { result ≡ cause self.now arrival packets }
+        ensures verdict { verdict_of result ≡ verdict self.now arrival }
+    {
+        self.first_case(arrival, packets)
+    }
+
+    /// The same.
+    #[tactic(auto, using(std::proofs::lemmas::Bool::Decides::nat_tests), unfolding(crate::specs::Cause::cause))]
+    fn first_case(&self, arrival: Arrival, packets: u64) -> Cause
+        requires { arrival.queued ≤ 2 ^ 30 }
+        ensures { result ≡ cause self.now arrival packets }
+    {
+        let Arrival {
+            queued,
+            is_full,
+            size,
+            ecn,
+            word,
+        } = arrival;
+        let limit = self.params().limit_bytes();
+        if limit < queued + u64::from(size) {
+            return Cause::NoRoomInBytes {
+                bytes: queued,
+                size,
+                limit,
+            };
+        }
+        if is_full {
+            return Cause::NoRoomInPackets { packets };
+        }
+        if !self.is_active() {
+            return Cause::Inactive;
+        }
+        let accu = self.early().accu();
+        early_cause(&self.params(), &self.control(), queued, accu, ecn, word)
+    }
+}

@@ -6,14 +6,19 @@
  * Moments and times are whole nanoseconds, counted from a start of the caller's choosing; a moment is at most
  * 2^60 - 1. Probabilities are whole numbers of 10^-12, from 0 to 10^12. Sizes are in bytes.
  *
- * Each call checks all that comes in, the whole state too. Where something is out of its range the call is refused by
- * a code above 100, and the state stays as it was. A state that pie_open or pie_open_with made and that only these
- * calls changed is never refused.
+ * Each call checks what it is handed beside the state. Where something is out of its range the call is refused by a code
+ * above 100, and the state stays as it was. pie_update, pie_reset and pie_set_params check the whole state too. The calls for
+ * each packet, pie_arrive, pie_depart and pie_empty, don't: they take its numbers as they are. A state that pie_open or
+ * pie_open_with made and that only these calls changed is sound, and never refused. One that comes from elsewhere is asked of
+ * pie_check_state first. Without that nothing worse happens than decisions by the numbers that stand there: no bits make a
+ * call stop, overflow or touch other memory; a dq_threshold above 65536 counts as 65536, a `measuring` or `active` other
+ * than 1 as 0; and pie_update refuses such a state.
  *
  * What a caller owes, since nothing can check it: each pointer points to a struct of its type that is aligned, and that no
  * other thread reads or writes during the call; the structs of one call do not overlap, but that `params` may be the
  * state's own, &state->params; queued bytes are those that wait; each packet that is queued leaves by one pie_depart. A call
- * is some eighty to 270 instructions, waits for nobody and takes no memory, so it may stand under a spin lock.
+ * for a packet is some fifty to ninety instructions, an update some 260; none waits for anybody or takes memory, so a call may
+ * stand under a spin lock.
  *
  * What is easily got wrong, and what to do:
  *
@@ -33,7 +38,7 @@
  * - An answer above 100 is a mistake of the caller, and pie_text has words for a log; only PIE_TOO_SOON comes up in a sound
  *   program, and is tried again from `due` on. Of an arrival nothing was decided then: queue the packet while it fits, and
  *   else drop it, as you would without PIE. Of a departure the packet has left all the same; the rate estimate misses it.
- *   After PIE_BAD_STATE open anew.
+ *   After PIE_BAD_STATE, which only pie_update, pie_reset, pie_set_params and pie_check_state answer, open anew.
  *
  * - A packet above 65535 bytes, as segmentation offload (GSO) makes them, is refused by PIE_BAD_SIZE. Segment it first, and
  *   ask for each segment.
@@ -167,18 +172,18 @@ uint32_t pie_open_with(struct pie_state *state, const struct pie_params *params,
  *   room    how many more packets the caller's ring has room for; 0: it is full
  *   ecn     the packet's ECN field
  *   word    random, each number as likely as any other
- * Refused, in this order: PIE_BAD_STATE, PIE_BAD_MOMENT, PIE_BAD_SIZE, PIE_BAD_ECN, PIE_BAD_QUEUE. */
+ * Refused, in this order: PIE_BAD_MOMENT, PIE_BAD_SIZE, PIE_BAD_ECN, PIE_BAD_QUEUE. */
 uint32_t pie_arrive(struct pie_state *state, uint64_t queued, uint32_t size, uint32_t room, uint32_t ecn, uint64_t word,
                     uint64_t moment);
 
 /* Takes in that a packet of this size left the queue, with `left` bytes after it (section 5.2). Call it for packets that
  * left, and pie_empty for a poll that found none.
- * Refused, in this order: PIE_BAD_STATE, PIE_BAD_MOMENT, PIE_BAD_SIZE, PIE_BAD_QUEUE. */
+ * Refused, in this order: PIE_BAD_MOMENT, PIE_BAD_SIZE, PIE_BAD_QUEUE. */
 uint32_t pie_depart(struct pie_state *state, uint32_t size, uint64_t left, uint64_t moment);
 
 /* Takes in that a departure found the queue empty: its moment counts, and nothing else. A caller whose moments do not
  * fall can leave it out: no decision changes.
- * Refused, in this order: PIE_BAD_STATE, PIE_BAD_MOMENT. */
+ * Refused: PIE_BAD_MOMENT. */
 uint32_t pie_empty(struct pie_state *state, uint64_t moment);
 
 /* Makes an update, with `queued` bytes in the queue (sections 4.2, 4.4 and 5.5). Call it when pie_due has come, or soon after.
@@ -194,6 +199,10 @@ uint32_t pie_reset(struct pie_state *state, uint64_t moment);
  * `params` is a struct of its own, or &state->params.
  * Refused, in this order: PIE_BAD_STATE, PIE_BAD_PARAMS, PIE_BAD_MOMENT. */
 uint32_t pie_set_params(struct pie_state *state, const struct pie_params *params, uint64_t moment);
+
+/* Whether a state is sound, for one that comes from elsewhere: PIE_DONE where each field is in its range and the fields fit one
+ * another, and else PIE_BAD_STATE. */
+uint32_t pie_check_state(const struct pie_state *state);
 
 /* The moment from which the next update isn't too soon. */
 static inline uint64_t pie_due(const struct pie_state *state) {

@@ -267,7 +267,7 @@ static uint32_t param(uint64_t *field, struct pie_params *params, uint64_t numbe
 static uint32_t state(uint64_t *field, struct pie_state *pie, uint64_t number) {
     uint64_t before = *field;
     *field = number;
-    uint32_t code = pie_empty(pie, 0);
+    uint32_t code = pie_check_state(pie);
     *field = before;
     return code;
 }

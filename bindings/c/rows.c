@@ -335,13 +335,34 @@ static int refusals(void) {
         case 21: state.profile = 2, state.active = 2; break;
         }
         before = state;
-        CHECK(pie_arrive(&state, UINT64_MAX, 0, 0, 4, 0, UINT64_MAX) == PIE_BAD_STATE);
-        CHECK(pie_depart(&state, 0, UINT64_MAX, UINT64_MAX) == PIE_BAD_STATE);
-        CHECK(pie_empty(&state, UINT64_MAX) == PIE_BAD_STATE);
+        CHECK(pie_check_state(&state) == PIE_BAD_STATE);
         CHECK(pie_update(&state, UINT64_MAX, UINT64_MAX).code == PIE_BAD_STATE);
         CHECK(pie_reset(&state, UINT64_MAX) == PIE_BAD_STATE);
         CHECK(pie_set_params(&state, &params, UINT64_MAX) == PIE_BAD_STATE && same(&state, &before));
+        /* the calls for each packet refuse what they are handed, and no state */
+        CHECK(pie_arrive(&state, UINT64_MAX, 0, 0, 4, 0, UINT64_MAX) == PIE_BAD_MOMENT);
+        CHECK(pie_depart(&state, 0, UINT64_MAX, UINT64_MAX) == PIE_BAD_MOMENT);
+        CHECK(pie_empty(&state, UINT64_MAX) == PIE_BAD_MOMENT && same(&state, &before));
+        CHECK(pie_arrive(&state, 3000, 1500, 1, PIE_ECT0, 1, 1) <= PIE_PACKETS);
+        CHECK(pie_depart(&state, 1500, 20000, 2) == PIE_DONE && pie_empty(&state, 3) == PIE_DONE);
     }
+    return 0;
+}
+
+/* What no state stops: sums and a threshold at the greatest numbers, and numbers other than 1 that count as 0. */
+static int any_state(void) {
+    struct pie_state state;
+    memset(&state, 255, sizeof state);
+    CHECK(pie_arrive(&state, 3000, 1500, 1, PIE_ECT0, 1, 0) == PIE_ENQUEUE); /* `active` isn't 1: inactive */
+    CHECK(state.moment == UINT64_MAX && state.accu == UINT64_MAX && state.active == UINT64_MAX);
+    state.active = 1, state.burst = 0, state.params.mean_pkt = 1;
+    CHECK(pie_arrive(&state, 3000, 1500, 1, PIE_ECT0, 1, 0) == PIE_EARLY && state.accu == 0);
+    CHECK(pie_depart(&state, 1500, 65536, 0) == PIE_DONE); /* `measuring` isn't 1: a cycle opens */
+    CHECK(state.measuring == 1 && state.cycle_start == UINT64_MAX && state.cycle_count == 0 && state.average == UINT64_MAX);
+    state.cycle_count = UINT64_MAX, state.cycle_start = 0;
+    CHECK(pie_depart(&state, 1500, 65535, 0) == PIE_DONE); /* it closes, with the whole weight of a threshold of 65536 */
+    CHECK(state.measuring == 0 && state.cycle_count == 0 && state.average == UINT64_MAX);
+    CHECK(pie_check_state(&state) == PIE_BAD_STATE);
     return 0;
 }
 
@@ -441,7 +462,7 @@ static int what_stays(void) {
 int main(void) {
     int (*const rows[])(void) = {widths,          large_numbers, what_stays,    parameters, departure_rate, delays,
                                  probabilities,   early_drop,    considered,    tail_drop,  burst_allowance, moments,
-                                 marks_and_drops, on_and_off,    on_by_a_tail_drop, refusals};
+                                 marks_and_drops, on_and_off,    on_by_a_tail_drop, refusals,  any_state};
     for (size_t k = 0; k < sizeof rows / sizeof *rows; k++)
         if (rows[k]() != 0)
             return 1;

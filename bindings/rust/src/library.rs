@@ -34,6 +34,7 @@ unsafe extern "C" {
     pub(crate) fn pie_update(state: &mut State, queued: u64, moment: u64) -> RawUpdated;
     pub(crate) fn pie_reset(state: &mut State, moment: u64) -> u32;
     pub(crate) fn pie_set_params(state: &mut State, params: &Params, moment: u64) -> u32;
+    pub(crate) fn pie_check_state(state: &State) -> u32;
 }
 
 /// Whether this field is the word with this number of a struct.

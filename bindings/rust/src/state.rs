@@ -1,12 +1,12 @@
 //! The controller's state, and the calls on it.
 
 use crate::library::{
-    RawUpdated, pie_arrive, pie_depart, pie_empty, pie_open, pie_open_with, pie_reset, pie_set_params, pie_update,
+    RawUpdated, pie_arrive, pie_check_state, pie_depart, pie_empty, pie_open, pie_open_with, pie_reset, pie_set_params, pie_update,
 };
 use crate::refusal::{done, done_with, refusal};
 use crate::{Params, Refusal};
 
-/// The controller's state. Its fields are there to be read; one that was written to may be refused by the next call.
+/// The controller's state. Its fields are there to be read; one that was written to may be refused, as [`State::check`] says.
 #[repr(C)]
 #[derive(Clone, Copy, Debug, PartialEq, Eq, Hash)]
 pub struct State {
@@ -142,7 +142,7 @@ impl State {
     /// ring has room for, and `word` is 64 random bits that no sender can guess.
     ///
     /// # Errors
-    /// In this order: `State`, `Moment`, `Size`, `Queue`.
+    /// In this order: `Moment`, `Size`, `Queue`.
     pub fn arrive(
         &mut self,
         queued: u64,
@@ -166,7 +166,7 @@ impl State {
     /// Takes in that a packet of this size left the queue, with `left` bytes after it (section 5.2).
     ///
     /// # Errors
-    /// In this order: `State`, `Moment`, `Size`, `Queue`.
+    /// In this order: `Moment`, `Size`, `Queue`.
     pub fn depart(&mut self, size: u32, left: u64, moment: u64) -> Result<(), Refusal> {
         // SAFETY: as `library` says.
         done(unsafe { pie_depart(self, size, left, moment) })
@@ -175,7 +175,7 @@ impl State {
     /// Takes in that a departure found the queue empty: its moment counts, and nothing else.
     ///
     /// # Errors
-    /// In this order: `State`, `Moment`.
+    /// `Moment`.
     pub fn empty(&mut self, moment: u64) -> Result<(), Refusal> {
         // SAFETY: as `library` says.
         done(unsafe { pie_empty(self, moment) })
@@ -215,5 +215,15 @@ impl State {
     pub fn set_params(&mut self, params: &Params, moment: u64) -> Result<(), Refusal> {
         // SAFETY: as `library` says.
         done_with(unsafe { pie_set_params(self, params, moment) }, params)
+    }
+
+    /// Whether each field is in its range and the fields fit one another, for a state that comes from elsewhere. `arrive`, `depart` and
+    /// `empty` don't look: they take the numbers as they are.
+    ///
+    /// # Errors
+    /// `State`.
+    pub fn check(&self) -> Result<(), Refusal> {
+        // SAFETY: as `library` says.
+        done(unsafe { pie_check_state(self) })
     }
 }

@@ -142,7 +142,9 @@ fn moments_and_refusals() {
     let updated = state.update(0, 15_000_000).unwrap();
     assert_eq!((updated.due, updated.delay, updated.prob, updated.burst), (30_000_000, 0, 0, 150_000_000));
     let mut bad = State { measuring: 2, ..state };
+    assert_eq!((state.check(), bad.check()), (Ok(()), Err(Refusal::State)));
     assert_eq!(bad.reset(0), Err(Refusal::State));
+    assert_eq!((bad.depart(1500, 0, 0), bad.empty(0), bad.measuring), (Ok(()), Ok(()), 0));
 }
 
 #[test]

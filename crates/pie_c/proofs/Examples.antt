@@ -8,10 +8,10 @@ use Rattle.pie_c.specs.declared.state.PieState.{PieState}
 use Rattle.pie_controller.specs.declared.profile.Profile.TheVariants.{One}
 use Rattle.pie_controller.specs.declared.verdict.Arrival.{Arrival}
 use Rattle.pie_controller.specs.Held.{Held}
-use Rattle.pie_controller.specs.Steps.{accu_left, arrived, departed, opened, updated, verdict}
-use Rattle.pie_c.specs.Calls.{arrival_of, arrival_refusal, opening_refusal, update_refusal, verdict_number}
+use Rattle.pie_controller.specs.Steps.{accu_left, arrived, capped, departed, opened, updated, verdict}
+use Rattle.pie_c.specs.Calls.{arrival_of, arrival_refusal, departure_refusal, moment_refusal, opening_refusal, reset_refusal, state_refusal, update_refusal, verdict_number}
 use Rattle.pie_c.specs.Params.{raw_of}
-use Rattle.pie_c.specs.State.{are_in_range, held_in, is_activity_sound, is_control_sound, is_rate_sound, is_sound, state_of}
+use Rattle.pie_c.specs.State.{are_in_range, held_in, is_activity_sound, is_control_sound, is_rate_sound, is_sound, state_of, with_arrival, with_rate}
 
 -- the default parameters, and a controller that is opened with them at 0
 abbrev defaults : PieParams
@@ -40,11 +40,26 @@ sound-states : (is_sound start ≡ true) × (is_sound (record start { last = 1 }
 unfolding state_of is_sound are_in_range is_control_sound is_rate_sound is_activity_sound
 sound-states = (refl, refl, refl, refl, refl, refl, refl, refl, refl, refl)
 
+-- a state is refused by any field, and by the calls for each packet by none
+state_refusals : (state_refusal start ≡ 0) × (state_refusal (record start { accu = 8_500_000_000_000 }) ≡ 110) × (reset_refusal (record start { accu = 8_500_000_000_000 }) 0 ≡ 110)
+    × (reset_refusal start (2 ^ 60) ≡ 101) × (moment_refusal (2 ^ 60) ≡ 101) × (departure_refusal 65536 0 0 ≡ 102)
+unfolding state_of reset_refusal moment_refusal departure_refusal is_sound are_in_range is_control_sound is_rate_sound is_activity_sound
+state_refusals = (refl, refl, refl, refl, refl, refl)
+
+-- of a state that isn't sound, every field that a call doesn't change stays; a threshold above 65536 counts as 65536
+abbrev odd : PieState
+odd = record start { params = record defaults { dq_threshold = 2 ^ 17 }; measuring = 1; cycle_start = 7; cycle_count = 65535; profile = 9 }
+
+odd_states : (with_rate odd (departed (capped (held_in odd)) 1 0 8) ≡ record odd { moment = 8; average = 1; measuring = 0; cycle_start = 0; cycle_count = 0 })
+    × (with_arrival odd (arrived (held_in odd) (arrival_of 0 1500 1 0 0) 8) ≡ record odd { moment = 8 })
+unfolding held_in state_of verdict accu_left is_considered is_picked
+odd_states = (refl, refl)
+
 -- the first thing that is out of its range is named
-refusals : (arrival_refusal start (2 ^ 30 + 1) 0 4 (2 ^ 60) ≡ 101) × (arrival_refusal start (2 ^ 30 + 1) 0 4 0 ≡ 102) × (arrival_refusal start (2 ^ 30 + 1) 65535 4 0 ≡ 111)
-    × (arrival_refusal start (2 ^ 30 + 1) 1 3 0 ≡ 112) × (arrival_refusal start (2 ^ 30) 1 3 (2 ^ 60 - 1) ≡ 0) × (arrival_refusal (record start { accu = 8_500_000_000_000 }) 0 1 0 0 ≡ 110)
-unfolding state_of arrival_refusal is_sound are_in_range is_control_sound is_rate_sound is_activity_sound
-refusals = (refl, refl, refl, refl, refl, refl)
+refusals : (arrival_refusal (2 ^ 30 + 1) 0 4 (2 ^ 60) ≡ 101) × (arrival_refusal (2 ^ 30 + 1) 0 4 0 ≡ 102) × (arrival_refusal (2 ^ 30 + 1) 65535 4 0 ≡ 111)
+    × (arrival_refusal (2 ^ 30 + 1) 1 3 0 ≡ 112) × (arrival_refusal (2 ^ 30) 1 3 (2 ^ 60 - 1) ≡ 0)
+unfolding arrival_refusal
+refusals = (refl, refl, refl, refl, refl)
 
 -- a profile is looked at last
 openings : (opening_refusal (record defaults { target = 1 }) (2 ^ 60) 3 ≡ 107) × (opening_refusal defaults (2 ^ 60) 3 ≡ 101) × (opening_refusal defaults 0 3 ≡ 113) × (opening_refusal defaults 0 0 ≡ 113) × (opening_refusal defaults 0 2 ≡ 0)

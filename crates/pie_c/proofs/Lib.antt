@@ -1,2 +1,3 @@
 pub mod Sound
 mod Examples
+pub mod Packets

@@ -36,15 +36,15 @@ held-state h =
 -- ---- sound
 
 -- the parts of a sound state
-record Sound (s : PieState) : Type 0 where
-  params : are_in_range s.params ≡ true
-  moment : s.moment ≤ last_moment
-  control : is_control_sound s ≡ true
-  accu : s.accu < 8_500_000_000_000
-  rate : is_rate_sound s ≡ true
-  activity : is_activity_sound s ≡ true
+pub record Sound (s : PieState) : Type 0 where
+  pub params : are_in_range s.params ≡ true
+  pub moment : s.moment ≤ last_moment
+  pub control : is_control_sound s ≡ true
+  pub accu : s.accu < 8_500_000_000_000
+  pub rate : is_rate_sound s ≡ true
+  pub activity : is_activity_sound s ≡ true
 
-parts-of : (s : PieState) → is_sound s ≡ true → Sound s
+pub parts-of : (s : PieState) → is_sound s ≡ true → Sound s
 unfolding is_sound
 parts-of s h = record {
   params = grind (arith, nat_tests);
@@ -63,7 +63,7 @@ none-of : {X : Type 0} (o : Option X) → is_none o ≡ true → o ≡ None
 none-of None e = refl
 none-of (Some x) e = cc
 
-params-from : (p : PieParams) → are_in_range p ≡ true → first_bad (raw_of p) ≡ None
+pub params-from : (p : PieParams) → are_in_range p ≡ true → first_bad (raw_of p) ≡ None
 unfolding are_in_range
 params-from p e = none-of (first_bad (raw_of p)) e
 
@@ -138,7 +138,7 @@ state-sound h sound =
 
 -- ---- what a sound state says is the state, so a call writes the fields that it changes alone
 
-profile-back : (b : Bool) (s : PieState) → (s.profile == 2) ≡ b → is_activity_sound s ≡ true → profile_number (if b then Two else One) ≡ s.profile
+pub profile-back : (b : Bool) (s : PieState) → (s.profile == 2) ≡ b → is_activity_sound s ≡ true → profile_number (if b then Two else One) ≡ s.profile
 unfolding is_activity_sound
 profile-back true s e h = grind (arith, nat_tests)
 profile-back false s e h = grind (arith, nat_tests)

@@ -20,6 +20,10 @@ unless_refused refusal answer = if refusal == 0 then answer else refusal
 abbrev pub kept_if_refused : ℕ → PieState → Held → PieState
 kept_if_refused refusal before after = if refusal == 0 then state_of after else before
 
+-- the same for a call that says each field of the state that it leaves
+abbrev pub if_taken : ℕ → PieState → PieState → PieState
+if_taken refusal before after = if refusal == 0 then after else before
+
 -- a packet's size is outside 1 to 65535 bytes
 abbrev pub is_bad_size : ℕ → Bool
 is_bad_size size = (size == 0) || nat_lt 65535 size
@@ -37,10 +41,9 @@ abbrev pub ecn_at : ℕ → Ecn
 ecn_at bits = if bits == 0 then NotEct else if bits == 1 then Ect1 else if bits == 2 then Ect0 else Ce
 
 -- why an arrival is refused, and 0 where it isn't
-unfoldable pub arrival_refusal : PieState → ℕ → ℕ → ℕ → ℕ → ℕ
-arrival_refusal state queued size ecn moment =
-    if not (is_sound state) then 110
-    else if nat_lt last_moment moment then 101
+unfoldable pub arrival_refusal : ℕ → ℕ → ℕ → ℕ → ℕ
+arrival_refusal queued size ecn moment =
+    if nat_lt last_moment moment then 101
     else if is_bad_size size then 102
     else if nat_lt 3 ecn then 111
     else if nat_lt (2 ^ 30) queued then 112
@@ -59,17 +62,24 @@ verdict_number DroppedBytes = 3
 verdict_number DroppedPackets = 4
 
 -- why a departure is refused, and 0 where it isn't
-unfoldable pub departure_refusal : PieState → ℕ → ℕ → ℕ → ℕ
-departure_refusal state size left moment =
-    if not (is_sound state) then 110
-    else if nat_lt last_moment moment then 101
+unfoldable pub departure_refusal : ℕ → ℕ → ℕ → ℕ
+departure_refusal size left moment =
+    if nat_lt last_moment moment then 101
     else if is_bad_size size then 102
     else if nat_lt (2 ^ 30) left then 112
     else 0
 
--- why a call that hands in a moment alone is refused, and 0 where it isn't
-unfoldable pub moment_refusal : PieState → ℕ → ℕ
-moment_refusal state moment = if not (is_sound state) then 110 else if nat_lt last_moment moment then 101 else 0
+-- why a departure that found no packet is refused, and 0 where it isn't
+unfoldable pub moment_refusal : ℕ → ℕ
+moment_refusal moment = if nat_lt last_moment moment then 101 else 0
+
+-- why a state is refused, and 0 where it isn't
+abbrev pub state_refusal : PieState → ℕ
+state_refusal state = if is_sound state then 0 else 110
+
+-- why a reset is refused, and 0 where it isn't
+unfoldable pub reset_refusal : PieState → ℕ → ℕ
+reset_refusal state moment = if not (is_sound state) then 110 else if nat_lt last_moment moment then 101 else 0
 
 -- why an update is refused, and 0 where it isn't
 unfoldable pub update_refusal : PieState → ℕ → ℕ → ℕ

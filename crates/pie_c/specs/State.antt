@@ -1,5 +1,5 @@
 -- What a state says that a controller holds, and which states are sound.
-use Rattle.std.specs.Prelude.{ℕ, ◌^◌, ◌-◌, Bool, ◌&&◌, ◌==◌, nat_lt, nat_le, is_none, Option, Some, None, if◌then◌else◌}
+use Rattle.std.specs.Prelude.{ℕ, ◌^◌, ◌-◌, Bool, not, ◌&&◌, ◌==◌, nat_lt, nat_le, is_none, Option, Some, None, if◌then◌else◌}
 use Rattle.pie_params.specs.Range.{first_bad}
 use Rattle.pie_rate.specs.Estimate.{Begun, Estimate}
 use Rattle.pie_control.specs.Parts.{Parts}
@@ -83,6 +83,32 @@ state_of h = record {
   profile = profile_number h.profile;
   active = flag h.active;
 }
+
+-- the state with this moment and this estimate of the departure rate; every other field stays, whatever it is
+abbrev pub with_rate : PieState → Held → PieState
+with_rate s h = record s {
+  moment = h.moment;
+  average = h.rate.average;
+  measuring = flag_of h.rate.begun;
+  cycle_start = start_of h.rate.begun;
+  cycle_count = count_of h.rate.begun;
+}
+
+-- .. with every register, and whether the controller is active: all but the parameters and the profile
+abbrev pub with_registers : PieState → Held → PieState
+with_registers s h = record (with_rate s h) {
+  prob = h.control.prob;
+  old_delay = h.control.old_delay;
+  burst = h.control.burst;
+  last = h.control.last;
+  accu = h.accu;
+  active = flag h.active;
+}
+
+-- .. as an arrival leaves it: every register where it turned the controller on, and else the moment and the accumulated probability
+abbrev pub with_arrival : PieState → Held → PieState
+with_arrival s h =
+    if h.active && not (s.active == 1) then with_registers s h else record s { moment = h.moment; accu = h.accu }
 
 -- the controller's registers are in their ranges, and the last update wasn't later than now
 unfoldable pub is_control_sound : PieState → Bool

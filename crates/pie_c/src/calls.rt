@@ -1,15 +1,16 @@
-//! The calls on a state: each takes the state into a controller, refuses what is out of its range, lets the controller make its step,
-//! and writes back what it holds.
-ghost use Rattle.std.specs.Prelude.{◌≡◌, ◌∷◌, [], ◌++◌, List, true};
+//! The calls on a state. Those for each packet read the state's numbers as they are: their rules are total, so nothing of the state
+//! is checked. The others take a sound state into a controller, and refuse any other. Each refuses what it is handed out of its
+//! range, lets the controller make its step, and writes back what it holds.
+ghost use Rattle.std.specs.Prelude.{◌≡◌, ◌∷◌, [], ◌++◌, List, max, true};
 ghost use Rattle.pie_controller.specs.Calls.{Arrive, Change, Depart, Pass, Restart, Update, after_call, shown_by};
 ghost use Rattle.pie_controller.specs.Events.{ControllerEvent, Opened};
 ghost use Rattle.pie_controller.specs.History.{Shows};
-ghost use Rattle.pie_controller.specs.Steps.{verdict};
+ghost use Rattle.pie_controller.specs.Steps.{arrived, capped, departed, verdict};
 ghost use Rattle.pie_c.specs.Params.{raw_of};
-ghost use Rattle.pie_c.specs.State.{held_in, is_sound};
-ghost use Rattle.pie_c.specs.Calls.{arrival_of, arrival_refusal, departure_refusal, kept_if_refused, moment_refusal, params_refusal, unless_refused, update_refusal, updated_by, verdict_number};
+ghost use Rattle.pie_c.specs.State.{held_in, is_sound, with_arrival, with_rate};
+ghost use Rattle.pie_c.specs.Calls.{arrival_of, arrival_refusal, departure_refusal, if_taken, kept_if_refused, moment_refusal, params_refusal, reset_refusal, state_refusal, unless_refused, update_refusal, updated_by, verdict_number};
 
-use crate::checked::{controller, ecn, is_bad_size};
+use crate::checked::{controller, ecn, is_bad_size, raw};
 use crate::code::{
     BAD_ECN, BAD_MOMENT, BAD_PARAMS, BAD_QUEUE, BAD_SIZE, BAD_STATE, DONE, TOO_SOON, of_verdict,
 };
@@ -17,7 +18,7 @@ use crate::params::PieParams;
 use crate::state::PieState;
 use crate::updated::PieUpdated;
 use pie_controller::Arrival;
-use pie_fixed::Nanos;
+use pie_fixed::{MAX_NANOS, Nanos};
 use pie_params::Params;
 
 /// The most bytes that a queue holds: the greatest byte limit.
@@ -41,18 +42,18 @@ pub extern "C" fn pie_arrive(
     word: u64,
     moment: u64,
 ) -> u32
-    ensures answer { result ≡ unless_refused (arrival_refusal state.old queued size bits moment) (verdict_number (verdict (held_in state.old) (arrival_of queued size room bits word))) }
-    ensures after { state.new ≡ kept_if_refused (arrival_refusal state.old queued size bits moment) state.old (after_call (held_in state.old) (Arrive (arrival_of queued size room bits word) moment)) }
+    ensures answer { result ≡ unless_refused (arrival_refusal queued size bits moment) (verdict_number (verdict (held_in state.old) (arrival_of queued size room bits word))) }
+    ensures fields { state.new ≡ if_taken (arrival_refusal queued size bits moment) state.old (with_arrival state.old (arrived (held_in state.old) (arrival_of queued size room bits word) moment)) }
+
+    // a sound state: it is then what the controller holds, in every field
+    ensures after { is_sound state.old ≡ true → state.new ≡ kept_if_refused (arrival_refusal queued size bits moment) state.old (after_call (held_in state.old) (Arrive (arrival_of queued size room bits word) moment)) }
     ensures sound { is_sound state.old ≡ true → is_sound state.new ≡ true }
-    ensures shows { (opened : Opened) (events : List ControllerEvent) → arrival_refusal state.old queued size bits moment ≡ 0 → Shows opened events (held_in state.old)
+    ensures shows { (opened : Opened) (events : List ControllerEvent) → is_sound state.old ≡ true → arrival_refusal queued size bits moment ≡ 0 → Shows opened events (held_in state.old)
         → Shows opened (events ++ shown_by (held_in state.old) (Arrive (arrival_of queued size room bits word) moment) ∷ []) (held_in state.new) }
 {
-    let Some(mut controller) = controller(state) else {
-        return BAD_STATE;
-    };
-    let Some(moment) = Nanos::from_units(moment) else {
+    if moment > MAX_NANOS {
         return BAD_MOMENT;
-    };
+    }
     if is_bad_size(size) {
         return BAD_SIZE;
     }
@@ -69,8 +70,9 @@ pub extern "C" fn pie_arrive(
         ecn,
         word,
     };
-    let verdict = controller.arrive(arrival, moment);
-    state.keep_arrived(&controller);
+    let mut held = raw(state);
+    let verdict = held.arrive(arrival, moment);
+    state.keep_arrived(&held);
     of_verdict(verdict)
 }
 
@@ -79,26 +81,27 @@ pub extern "C" fn pie_arrive(
 #[unsafe(no_mangle)]
 #[tactic(auto, unfolding(crate::specs::Calls::departure_refusal))]
 pub extern "C" fn pie_depart(state: &mut PieState, size: u32, left: u64, moment: u64) -> u32
-    ensures answer { result ≡ departure_refusal state.old size left moment }
-    ensures after { state.new ≡ kept_if_refused (departure_refusal state.old size left moment) state.old (after_call (held_in state.old) (Depart size left moment)) }
+    ensures answer { result ≡ departure_refusal size left moment }
+    ensures fields { state.new ≡ if_taken (departure_refusal size left moment) state.old (with_rate state.old (departed (capped (held_in state.old)) size left moment)) }
+
+    // a sound state: it is then what the controller holds, in every field
+    ensures after { is_sound state.old ≡ true → state.new ≡ kept_if_refused (departure_refusal size left moment) state.old (after_call (held_in state.old) (Depart size left moment)) }
     ensures sound { is_sound state.old ≡ true → is_sound state.new ≡ true }
-    ensures shows { (opened : Opened) (events : List ControllerEvent) → departure_refusal state.old size left moment ≡ 0 → Shows opened events (held_in state.old)
+    ensures shows { (opened : Opened) (events : List ControllerEvent) → is_sound state.old ≡ true → departure_refusal size left moment ≡ 0 → Shows opened events (held_in state.old)
         → Shows opened (events ++ shown_by (held_in state.old) (Depart size left moment) ∷ []) (held_in state.new) }
 {
-    let Some(mut controller) = controller(state) else {
-        return BAD_STATE;
-    };
-    let Some(moment) = Nanos::from_units(moment) else {
+    if moment > MAX_NANOS {
         return BAD_MOMENT;
-    };
+    }
     if is_bad_size(size) {
         return BAD_SIZE;
     }
     if left > MAX_QUEUED {
         return BAD_QUEUE;
     }
-    controller.depart(size, left, moment);
-    state.keep_departed(&controller);
+    let mut held = raw(state);
+    held.depart(size, left, moment);
+    state.keep_departed(&held);
     DONE
 }
 
@@ -106,20 +109,19 @@ pub extern "C" fn pie_depart(state: &mut PieState, size: u32, left: u64, moment:
 #[unsafe(no_mangle)]
 #[tactic(auto, unfolding(crate::specs::Calls::moment_refusal))]
 pub extern "C" fn pie_empty(state: &mut PieState, moment: u64) -> u32
-    ensures answer { result ≡ moment_refusal state.old moment }
-    ensures after { state.new ≡ kept_if_refused (moment_refusal state.old moment) state.old (after_call (held_in state.old) (Pass moment)) }
+    ensures answer { result ≡ moment_refusal moment }
+    ensures fields { state.new ≡ if_taken (moment_refusal moment) state.old (record state.old { moment = max state.old.moment moment }) }
+
+    // a sound state: it is then what the controller holds, in every field
+    ensures after { is_sound state.old ≡ true → state.new ≡ kept_if_refused (moment_refusal moment) state.old (after_call (held_in state.old) (Pass moment)) }
     ensures sound { is_sound state.old ≡ true → is_sound state.new ≡ true }
-    ensures shows { (opened : Opened) (events : List ControllerEvent) → moment_refusal state.old moment ≡ 0 → Shows opened events (held_in state.old)
+    ensures shows { (opened : Opened) (events : List ControllerEvent) → is_sound state.old ≡ true → moment_refusal moment ≡ 0 → Shows opened events (held_in state.old)
         → Shows opened (events ++ shown_by (held_in state.old) (Pass moment) ∷ []) (held_in state.new) }
 {
-    let Some(mut controller) = controller(state) else {
-        return BAD_STATE;
-    };
-    let Some(moment) = Nanos::from_units(moment) else {
+    if moment > MAX_NANOS {
         return BAD_MOMENT;
-    };
-    controller.pass(moment);
-    state.keep_moment(&controller);
+    }
+    state.moment = state.moment.max(moment);
     DONE
 }
 
@@ -157,12 +159,12 @@ pub extern "C" fn pie_update(state: &mut PieState, queued: u64, moment: u64) -> 
 /// Sets probability, old delay, accumulated probability and rate estimate to 0 and the burst allowance
 /// to `max_burst`, and keeps parameters, last update, and whether the controller is active.
 #[unsafe(no_mangle)]
-#[tactic(auto, unfolding(crate::specs::Calls::moment_refusal))]
+#[tactic(auto, unfolding(crate::specs::Calls::reset_refusal))]
 pub extern "C" fn pie_reset(state: &mut PieState, moment: u64) -> u32
-    ensures answer { result ≡ moment_refusal state.old moment }
-    ensures after { state.new ≡ kept_if_refused (moment_refusal state.old moment) state.old (after_call (held_in state.old) (Restart moment)) }
+    ensures answer { result ≡ reset_refusal state.old moment }
+    ensures after { state.new ≡ kept_if_refused (reset_refusal state.old moment) state.old (after_call (held_in state.old) (Restart moment)) }
     ensures sound { is_sound state.old ≡ true → is_sound state.new ≡ true }
-    ensures shows { (opened : Opened) (events : List ControllerEvent) → moment_refusal state.old moment ≡ 0 → Shows opened events (held_in state.old)
+    ensures shows { (opened : Opened) (events : List ControllerEvent) → reset_refusal state.old moment ≡ 0 → Shows opened events (held_in state.old)
         → Shows opened (events ++ shown_by (held_in state.old) (Restart moment) ∷ []) (held_in state.new) }
 {
     let Some(mut controller) = controller(state) else {
@@ -201,4 +203,17 @@ pub extern "C" fn pie_set_params(state: &mut PieState, params: &PieParams, momen
     state.params = *params;
     state.keep(&controller);
     DONE
+}
+
+/// Whether each field of a state is in its range and the fields fit one another, for a state that comes from elsewhere: 0, or
+/// refused as the other calls refuse it.
+#[unsafe(no_mangle)]
+pub extern "C" fn pie_check_state(state: &PieState) -> u32
+    ensures { result ≡ state_refusal state.now }
+{
+    if controller(state).is_some() {
+        DONE
+    } else {
+        BAD_STATE
+    }
 }

@@ -1,10 +1,11 @@
 ghost use Rattle.std.specs.Prelude.{◌≡◌, ◌==◌, true};
 ghost use Rattle.pie_c.specs.Params.{raw_of};
-ghost use Rattle.pie_c.specs.State.{count_of, flag_of, held_in, is_sound, profile_number, start_of, state_of};
+ghost use Rattle.pie_controller.specs.Held.{held_by};
+ghost use Rattle.pie_c.specs.State.{count_of, flag_of, held_in, is_sound, profile_number, start_of, state_of, with_arrival, with_rate, with_registers};
 
 use crate::params::PieParams;
 use pie_control::Control;
-use pie_controller::{Controller, Profile};
+use pie_controller::{Controller, Profile, RawController};
 use pie_rate::Rate;
 
 /// The controller's state, which its caller owns: the parameters in force, the registers, the profile and whether the controller is
@@ -59,42 +60,43 @@ impl PieState {
         self.active = u64::from(controller.is_active());
     }
 
-    /// The same, where only the effective moment is another.
+    /// What an arrival changes: the moment and the accumulated probability, and each register where it turned the controller on.
     #[inline(always)]
-    pub(crate) fn keep_moment(&mut self, controller: &Controller)
-        requires sound { is_sound self.old ≡ true }
-        requires same { controller.now ≡ record (held_in self.old) { moment = controller.now.moment } }
-        ensures { self.new ≡ state_of controller.now }
+    pub(crate) fn keep_arrived(&mut self, held: &RawController)
+        ensures { self.new ≡ with_arrival self.old (held_by held.now) }
     {
-        self.moment = controller.moment().units();
-    }
-
-    /// The same after an arrival: the moment and the accumulated probability, and all where it turned the controller on.
-    #[inline(always)]
-    pub(crate) fn keep_arrived(&mut self, controller: &Controller)
-        requires sound { is_sound self.old ≡ true }
-        requires params { controller.now.params ≡ raw_of self.old.params }
-        requires same { controller.now.active ≡ (self.old.active == 1) → controller.now ≡ record (held_in self.old) { moment = controller.now.moment; accu = controller.now.accu } }
-        ensures { self.new ≡ state_of controller.now }
-    {
-        if controller.is_active() != (self.active == 1) {
-            self.keep(controller);
+        if held.active && self.active != 1 {
+            self.keep_registers(held);
             return;
         }
-        self.moment = controller.moment().units();
-        self.accu = controller.early().accu().units();
+        self.moment = held.moment;
+        self.accu = held.accu;
     }
 
-    /// The same after a departure: the moment and the estimate of the departure rate.
-    #[inline(always)]
-    pub(crate) fn keep_departed(&mut self, controller: &Controller)
-        requires sound { is_sound self.old ≡ true }
-        requires same { controller.now ≡ record (held_in self.old) { moment = controller.now.moment; rate = controller.now.rate } }
-        ensures { self.new ≡ state_of controller.now }
+    /// Each register, as a controller that was turned on holds it.
+    fn keep_registers(&mut self, held: &RawController)
+        ensures { self.new ≡ with_registers self.old (held_by held.now) }
     {
-        let rate = controller.rate();
-        self.moment = controller.moment().units();
-        self.write_rate(&rate);
+        self.keep_departed(held);
+        self.prob = held.control.prob;
+        self.old_delay = held.control.old_delay;
+        self.burst = held.control.burst;
+        self.last = held.control.last;
+        self.accu = held.accu;
+        self.active = u64::from(held.active);
+    }
+
+    /// What a departure changes: the moment and the estimate of the departure rate.
+    #[inline(always)]
+    pub(crate) fn keep_departed(&mut self, held: &RawController)
+        ensures { self.new ≡ with_rate self.old (held_by held.now) }
+    {
+        self.moment = held.moment;
+        self.average = held.rate.average;
+        (self.measuring, self.cycle_start, self.cycle_count) = match held.rate.begun {
+            Some(cycle) => (1, cycle.start, cycle.count),
+            None => (0, 0, 0),
+        };
     }
 
     /// The same after an update: the moment, the control law's registers, and activity.

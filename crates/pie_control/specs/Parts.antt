@@ -1,5 +1,6 @@
 -- What a `Control` holds, as its readers give it.
 use Rattle.std.specs.Prelude.{ℕ}
+use Rattle.pie_control.specs.declared.raw.RawControl.{RawControl}
 
 -- the probability, the old delay, the burst allowance and the last update's moment
 pub record Parts : Type 0 where
@@ -7,3 +8,7 @@ pub record Parts : Type 0 where
   pub old_delay : ℕ
   pub burst : ℕ
   pub last : ℕ
+
+-- the same, as plain numbers say them
+abbrev pub parts_of : RawControl → Parts
+parts_of raw = record { prob = raw.prob; old_delay = raw.old_delay; burst = raw.burst; last = raw.last }

@@ -4,7 +4,9 @@ ghost use Rattle.pie_control.specs.declared.update.TheConstants.{MAX_DELAY};
 ghost use Rattle.pie_control.specs.Events.{ControlEvent, idled, reset, update_at};
 ghost use Rattle.pie_control.specs.History.{Shows, burst_after, ends_calm, granted_burst, is_calm_after};
 ghost use Rattle.pie_control.specs.Next.{next};
+ghost use Rattle.pie_control.specs.Parts.{parts_of};
 
+use crate::raw::RawControl;
 use crate::update::next_probability;
 use pie_fixed::{Nanos, Prob, bounded};
 use pie_params::Params;
@@ -156,6 +158,19 @@ impl Control {
         ensures { result ≡ self.now.last }
     {
         self.last
+    }
+
+    /// The registers as plain numbers.
+    #[inline(always)]
+    pub fn raw(&self) -> RawControl
+        ensures { parts_of result ≡ self.now }
+    {
+        RawControl {
+            prob: self.prob.units(),
+            old_delay: self.old_delay,
+            burst: self.burst,
+            last: self.last.units(),
+        }
     }
 }
 

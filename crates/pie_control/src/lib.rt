@@ -7,7 +7,9 @@
 #![tactic(auto)]
 
 mod control;
+mod raw;
 mod update;
 
 pub use control::Control;
+pub use raw::RawControl;
 pub use update::{MAX_DELAY, delay, next_probability};

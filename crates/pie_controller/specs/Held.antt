@@ -2,10 +2,11 @@
 use Rattle.std.specs.Prelude.{◌≡◌, ℕ, ◌^◌, ◌<◌, ◌≤◌, Bool, true, Option, Some, None, ⊤}
 use Rattle.pie_params.specs.declared.raw.RawParams.{RawParams}
 use Rattle.pie_params.specs.Range.{first_bad}
-use Rattle.pie_rate.specs.Estimate.{Begun, Estimate}
-use Rattle.pie_control.specs.Parts.{Parts}
+use Rattle.pie_rate.specs.Estimate.{Begun, Estimate, estimate_of}
+use Rattle.pie_control.specs.Parts.{Parts, parts_of}
 use Rattle.pie_controller.specs.declared.profile.Profile.{Profile}
 use Rattle.pie_controller.specs.declared.profile.Profile.TheVariants.{One}
+use Rattle.pie_controller.specs.declared.raw.RawController.{RawController}
 
 -- its profile; the parameters in force and the effective moment; whether it is active; the estimate of the departure rate, the
 -- registers of the control law, and the accumulated probability
@@ -17,6 +18,18 @@ pub record Held : Type 0 where
   pub rate : Estimate
   pub control : Parts
   pub accu : ℕ
+
+-- what plain numbers say that a controller holds
+abbrev pub held_by : RawController → Held
+held_by raw = record {
+  profile = raw.profile;
+  params = raw.params;
+  moment = raw.moment;
+  active = raw.active;
+  rate = estimate_of raw.rate;
+  control = parts_of raw.control;
+  accu = raw.accu;
+}
 
 -- a cycle of the departure rate that is begun began no later than now, and has counted less than the threshold
 abbrev pub IsWithin : ℕ → ℕ → Option Begun → Type 0

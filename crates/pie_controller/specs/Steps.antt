@@ -1,6 +1,6 @@
 -- The rules: what each call makes of what a controller holds, told by the steps of its parts (RFC 8033, sections 4.1, 4.2, 4.4, 5.1
 -- to 5.5, and Appendix A for tail drop; when profile two turns on and off is this project's own).
-use Rattle.std.specs.Prelude.{ℕ, ◌+◌, ◌*◌, max, ◌&&◌, not, nat_lt, nat_le, Bool, true, false, None, if◌then◌else◌}
+use Rattle.std.specs.Prelude.{ℕ, ◌+◌, ◌*◌, max, ◌&&◌, not, nat_lt, nat_le, Bool, true, false, Option, Some, None, min, if◌then◌else◌}
 use Rattle.pie_params.specs.declared.raw.RawParams.{RawParams}
 use Rattle.pie_rate.specs.Departures.{departure}
 use Rattle.pie_rate.specs.Estimate.{Estimate}
@@ -74,6 +74,10 @@ chosen Drop = DroppedEarly
 abbrev pub choice : Held → Arrival → Choice
 choice h a = if h.active then choice_of h.params h.control a.queued a.ecn a.word h.accu else Enqueue
 
+-- the tail drop of an arrival, if it is one: by bytes, then by packets
+abbrev pub tail_drop : ℕ → Arrival → Option Verdict
+tail_drop limit a = if nat_lt limit (a.queued + a.size) then Some DroppedBytes else if a.is_full then Some DroppedPackets else None
+
 -- the verdict: tail drop by bytes, then by packets, and else early drop's choice
 unfoldable pub verdict : Held → Arrival → Verdict
 verdict h a =
@@ -129,6 +133,10 @@ rate_after h size left now = if h.active then after_departure h.params.dq_thresh
 
 abbrev pub departed : Held → ℕ → ℕ → ℕ → Held
 departed h size left moment = record h { moment = now_at h moment; rate = rate_after h size left (now_at h moment) }
+
+-- a threshold above 65536 bytes counted as 65536, for numbers that nobody checked
+abbrev pub capped : Held → Held
+capped h = record h { params = record h.params { dq_threshold = min h.params.dq_threshold 65536 } }
 
 -- after a departure that found no packet
 abbrev pub passed : Held → ℕ → Held

@@ -5,6 +5,7 @@ ghost use Rattle.pie_controller.specs.Events.{ControllerEvent, Opened};
 ghost use Rattle.pie_controller.specs.History.{Shows};
 ghost use Rattle.pie_controller.specs.Steps.{accu_left, anew, arrived, changed, control_after, delay_answered, delay_in, departed, due, is_calm, is_queued, no_estimate, opened, passed, reset, stays_active, updated, verdict, woken};
 
+use crate::verdict::{is_filled, tail_drop};
 use crate::{Arrival, Profile, Verdict};
 use pie_control::{Control, delay};
 use pie_early::Early;
@@ -108,12 +109,7 @@ impl Controller {
     {
         let verdict = self.judge(arrival);
         self.reach(moment);
-        let bytes = if verdict.is_queued() {
-            arrival.queued + u64::from(arrival.size)
-        } else {
-            arrival.queued
-        };
-        if !self.active && 3 * bytes >= self.params.limit_bytes() {
+        if !self.active && is_filled(self.params.limit_bytes(), verdict, arrival) {
             self.start_anew();
             self.active = true;
         }
@@ -129,13 +125,9 @@ impl Controller {
         ensures fits { is_queued result ≡ true → (arrival.is_full ≡ false) × (arrival.queued + arrival.size ≤ 2 ^ 30) }
         ensures after { self.new ≡ record self.old { accu = accu_left self.old arrival } }
     {
-        if self.params.limit_bytes() < arrival.queued + u64::from(arrival.size) {
+        if let Some(dropped) = tail_drop(self.params.limit_bytes(), arrival) {
             self.early.clear();
-            return Verdict::DroppedBytes;
-        }
-        if arrival.is_full {
-            self.early.clear();
-            return Verdict::DroppedPackets;
+            return dropped;
         }
         if !self.active {
             return Verdict::Enqueued;

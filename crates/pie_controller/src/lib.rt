@@ -10,10 +10,12 @@ mod cause;
 mod controller;
 mod law;
 mod profile;
+mod raw;
 mod verdict;
 
 pub use cause::{Cause, Fate};
 pub use controller::Controller;
 pub use law::{calls_keep_it_sound, calls_look_back};
 pub use profile::Profile;
+pub use raw::RawController;
 pub use verdict::{Arrival, Verdict};

@@ -1,3 +1,4 @@
 mod Examples
 pub mod Laws
 pub mod Picking
+pub mod Arrivals

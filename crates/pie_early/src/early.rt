@@ -1,11 +1,12 @@
 ghost use Rattle.std.specs.Prelude.{◌≡◌, ℕ, ◌+◌, ◌*◌, ◌<◌, ◌↔◌, List, [], ◌∷◌, ◌++◌, true, replicate, IsTrue};
 ghost use Rattle.pie_fixed.specs.declared.TheConstants.{ALWAYS_PICKED};
-ghost use Rattle.pie_early.specs.Decision.{accu_after, choice_of, is_considered, is_pick, is_picked, picked_choice, IsPicked};
+ghost use Rattle.pie_early.specs.Decision.{accu_after, choice_of, is_considered, is_pick, IsPicked};
 ghost use Rattle.pie_early.specs.Events.{EarlyEvent, arrival, cleared, is_clearing};
 ghost use Rattle.pie_early.specs.History.{Shows, accumulated};
 
+use crate::decision::decide;
 use pie_control::Control;
-use pie_fixed::{ALWAYS_PICKED, Accu, Prob, chosen};
+use pie_fixed::Accu;
 use pie_params::Params;
 use pie_queue::Ecn;
 use std::marker::Model;
@@ -36,7 +37,7 @@ pub enum Choice {
 /// clears that it was shown.
 #[derive(Clone, Copy, Debug, PartialEq, Eq)]
 pub struct Early {
-    accu: Accu,
+    accu: u64,
 }
 
 impl Model for Early {
@@ -58,7 +59,7 @@ impl Early {
         ensures value { result ≡ 0 }
         ensures shows { Shows [] result }
     {
-        Early { accu: Accu::zero() }
+        Early { accu: 0 }
     }
 
     /// Early drop with an accumulated probability, which is below 8.5.
@@ -66,7 +67,7 @@ impl Early {
         requires { accu < ALWAYS_PICKED }
         ensures { result ≡ accu }
     {
-        Early { accu }
+        Early { accu: accu.units() }
     }
 
     /// Decides on an arriving packet that is no tail drop: `bytes` are in the queue without it, `ecn`
@@ -113,21 +114,9 @@ impl Early {
             result ≡ Choice.Enqueue →
             self.new ≡ self.old + control.now.prob }
     {
-        if !is_considered(params, control, bytes) {
-            return Choice::Enqueue;
-        }
-        let prob = control.prob();
-        if prob.units() == 0 {
-            self.clear();
-            return Choice::Enqueue;
-        }
-        let accu = self.accu.plus(prob);
-        if !is_picked(prob, accu, word) {
-            self.accu = accu;
-            return Choice::Enqueue;
-        }
-        self.clear();
-        picked_choice(params, prob, ecn)
+        let decision = decide(&params.raw(), &control.raw(), bytes, ecn, word, self.accu);
+        self.accu = decision.accu;
+        decision.choice
     }
 
     /// Sets the accumulated probability to 0, as a tail drop and a reset do (RFC 8033, section 5.4).
@@ -136,7 +125,7 @@ impl Early {
         ensures shows { (events : List EarlyEvent) →
             Shows events self.old → Shows (events ++ cleared ∷ []) self.new }
     {
-        self.accu = Accu::zero();
+        self.accu = 0;
     }
 
     /// The accumulated probability, below 8.5 (RFC 8033, section 5.4).
@@ -154,38 +143,6 @@ impl Early {
             Shows (before ++ clearing ∷ replicate n (arrival true prob Choice.Enqueue)) self.now →
             result ≡ n * prob }
     {
-        self.accu
-    }
-}
-
-/// Whether an arrival is considered (RFC 8033, section 4.1).
-#[tactic(auto, using(std::proofs::lemmas::Bool::Decides::nat_tests), unfolding(crate::specs::Decision::is_considered))]
-fn is_considered(params: &Params, control: &Control, bytes: u64) -> bool
-    ensures { result ≡ is_considered params.now control.now bytes }
-{
-    control.burst() == 0
-        && bytes > 2 * params.mean_pkt()
-        && !(2 * control.old() < params.target().units() && control.prob().units() < LOW_PROB)
-}
-
-/// Whether a considered arrival is picked, at an accumulated probability that has its own
-/// probability in it, which isn't 0 (RFC 8033, section 5.4).
-#[tactic(auto, using(std::proofs::lemmas::Bool::Decides::nat_tests), unfolding(crate::specs::Decision::is_picked))]
-fn is_picked(prob: Prob, accu: Accu, word: u64) -> bool
-    requires { 0 < prob }
-    ensures { result ≡ is_picked prob accu word }
-{
-    let accu = accu.units();
-    accu >= NEVER_PICKED && (accu >= ALWAYS_PICKED || chosen(prob, word))
-}
-
-/// What becomes of a picked packet (RFC 8033, section 5.1).
-fn picked_choice(params: &Params, prob: Prob, ecn: Ecn) -> Choice
-    ensures { result ≡ picked_choice params.now prob ecn }
-{
-    if ecn.capable() && prob < params.mark_ecnth() {
-        Choice::Mark
-    } else {
-        Choice::Drop
+        Accu::from_units(self.accu).unwrap()
     }
 }

@@ -6,6 +6,8 @@
 //! (`shows`), and grows by the probability at each considered arrival between two picks (`grows`).
 #![tactic(auto)]
 
+mod decision;
 mod early;
 
+pub use decision::{Decision, decide};
 pub use early::{Choice, Early, LOW_PROB, NEVER_PICKED};

@@ -2,7 +2,7 @@
 use Rattle.std.specs.Prelude.{◌≡◌, ℕ, List, [], ◌∷◌, Some, None, refl, ◌++◌, ◌+◌, ◌*◌, ◌^◌}
 use Rattle.std.specs.Prelude.{map}
 use Rattle.std.specs.List.{range_with_len}
-use Rattle.pie_rate.specs.declared.rate.TheConstants.{WEIGHTS}
+use Rattle.pie_rate.specs.declared.raw.TheConstants.{WEIGHTS}
 use Rattle.pie_rate.specs.Departures.{Departure, departure}
 use Rattle.pie_rate.specs.Cycles.{Cycle, cycles, begun, first_position, first_opening, first_closing, first_cycle, cycles_from}
 use Rattle.pie_rate.specs.Average.{average, averaged, samples}

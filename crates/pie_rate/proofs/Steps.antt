@@ -1,12 +1,15 @@
 -- What an estimate shows after one more departure, for each way through the code.
-use Rattle.std.proofs.Common.{◌≡◌, ℕ, ◌+◌, ◌-◌, ◌<◌, ◌≤◌, Bool, true, false, cond, List, [], ◌∷◌, ◌++◌, length, Option, Some, None, refl, sym, ap, ◌∙◌, arith, max, map}
-use Rattle.std.specs.Prelude.{option_map, nat_le, IfSome}
+use Rattle.std.proofs.Common.{◌≡◌, ℕ, ◌+◌, ◌-◌, ◌^◌, ◌<◌, ◌≤◌, ◌==◌, Bool, true, false, cond, List, [], ◌∷◌, ◌++◌, length, Option, Some, None, refl, sym, ap, ◌∙◌, arith, max, map}
+use Rattle.std.specs.Prelude.{option_map, nat_le, nat_lt, if◌then◌else◌, IfSome}
 use Rattle.std.proofs.lemmas.List.{append-nil, drop_all, length_push}
 use Rattle.std.proofs.lemmas.Bool.{le-leb, lt-leb}
 use Rattle.pie_rate.specs.Departures.{Departure, departure_at, bytes_after}
 use Rattle.pie_rate.specs.Cycles.{Cycle, begun}
-use Rattle.pie_rate.specs.Average.{sample_of, samples, average_of, average, with_sample}
-use Rattle.pie_rate.specs.Estimate.{Begun, Estimate, Shows, begun_at}
+use Rattle.std.proofs.lemmas.Bool.Decides.{nat_tests}
+use Rattle.std.specs.Option.{ForSome}
+use Rattle.pie_rate.specs.Average.{averaged, sample_of, samples, average_of, average, with_sample}
+use Rattle.pie_rate.specs.Estimate.{Begun, Estimate, IsWithin, Shows, begun_at}
+use Rattle.pie_rate.specs.Step.{after_departure, opened_by, step_from}
 use Rattle.pie_rate.proofs.Laws.{added, opens, begins, begun-push, begun-within, samples-push, departure_at-push_old, departure_at-push_new, bytes_after-push}
 use Rattle.pie_rate.proofs.Averages.{NoneZero-samples, average_of-push}
 
@@ -93,3 +96,70 @@ module _ (threshold : ℕ) (ds : List Departure) (d : Departure) where
   pub closes : (e : Estimate) (cycle : Begun) → threshold ≤ 65536 → e.begun ≡ Some cycle → threshold ≤ cycle.count + d.size → Shows threshold ds e
       → Shows threshold (ds ++ d ∷ []) (record { average = with_sample threshold e.average (max 1 (d.moment - cycle.start)); begun = opened })
   closes e cycle t n full s = closes_by (begun threshold ds) e cycle t refl (begun-within threshold ds d) (sym s.begun ∙ n) full s
+
+  -- the step from an estimate shows the list with the departure
+  opened-is : (b : Bool) → nat_lt d.bytes_left threshold ≡ b → (if b then None else Some (record { start = d.moment; count = 0 })) ≡ opened
+  opened-is true e =
+      let less : d.bytes_left < threshold = grind (arith, nat_tests) in
+      rw (lt-leb threshold d.bytes_left less) refl
+  opened-is false e =
+      let enough : threshold ≤ d.bytes_left = grind (arith, nat_tests) in
+      rw (le-leb threshold d.bytes_left enough) refl
+
+  counting : (average : ℕ) (cycle : Begun) (b : Bool) → threshold ≤ 65536 → nat_lt (cycle.count + d.size) threshold ≡ b
+      → Shows threshold ds (record { average = average; begun = Some cycle })
+      → Shows threshold (ds ++ d ∷ []) (if b
+      then record { average = average; begun = Some (record { start = cycle.start; count = cycle.count + d.size }) }
+      else record { average = with_sample threshold average (max 1 (d.moment - cycle.start)); begun = opened_by threshold d })
+  counting average cycle true t e s =
+      let less : cycle.count + d.size < threshold = grind (arith, nat_tests) in
+      counts (record { average = average; begun = Some cycle }) cycle refl less s
+  counting average cycle false t e s =
+      let full : threshold ≤ cycle.count + d.size = grind (arith, nat_tests) in
+      rw (opened-is (nat_lt d.bytes_left threshold) refl) (closes (record { average = average; begun = Some cycle }) cycle t refl full s)
+
+  after : (average : ℕ) (o : Option Begun) → threshold ≤ 65536 → Shows threshold ds (record { average = average; begun = o })
+      → Shows threshold (ds ++ d ∷ []) (step_from threshold average d o)
+  after average None t s = rw (opened-is (nat_lt d.bytes_left threshold) refl) (idle (record { average = average; begun = None }) refl s)
+  after average (Some cycle) t s = counting average cycle (nat_lt (cycle.count + d.size) threshold) t refl s
+
+  pub shows_after : (e : Estimate) → threshold ≤ 65536 → Shows threshold ds e → Shows threshold (ds ++ d ∷ []) (after_departure threshold e d)
+  shows_after e t s = after e.average e.begun t s
+
+-- .. and stays in its ranges
+averaged-within : (threshold average sample : ℕ) → threshold ≤ 65536 → average < 2 ^ 60 → sample < 2 ^ 60 → averaged threshold average sample < 2 ^ 60
+averaged-within threshold average sample t a s = grind arith
+
+with_sample-within : (threshold average sample : ℕ) (b : Bool) → (average == 0) ≡ b → threshold ≤ 65536 → average < 2 ^ 60 → sample < 2 ^ 60
+    → (if b then sample else averaged threshold average sample) < 2 ^ 60
+with_sample-within threshold average sample true e t a s = s
+with_sample-within threshold average sample false e t a s = averaged-within threshold average sample t a s
+
+module _ (threshold : ℕ) (d : Departure) (t : threshold ≤ 65536) (m : d.moment < 2 ^ 60) where
+  abbrev first : Begun
+  first = record { start = d.moment; count = 0 }
+
+  opened_by-within : (b : Bool) → ForSome (if b then None else Some (record { start = d.moment; count = 0 })) (λ (cycle : Begun). (cycle.start < 2 ^ 60) × (cycle.count < 65536))
+  opened_by-within true = λ x e. absurd (cc)
+  opened_by-within false = λ x e. let same : first ≡ x = cc in rw (← same) (m, omega arith)
+
+  abbrev counted : Begun → Begun
+  counted cycle = record { start = cycle.start; count = cycle.count + d.size }
+
+  counted-within : (before : ℕ) (cycle : Begun) (b : Bool) → nat_lt (cycle.count + d.size) threshold ≡ b → before < 2 ^ 60 → cycle.start < 2 ^ 60
+      → IsWithin (if b
+      then record { average = before; begun = Some (record { start = cycle.start; count = cycle.count + d.size }) }
+      else record { average = with_sample threshold before (max 1 (d.moment - cycle.start)); begun = opened_by threshold d })
+  counted-within before cycle true e a s =
+      let less : cycle.count + d.size < threshold = grind (arith, nat_tests) in
+      (a, λ x e. let same : counted cycle ≡ x = cc in rw (← same) (s, omega arith))
+  counted-within before cycle false e a s =
+      let sample : max 1 (d.moment - cycle.start) < 2 ^ 60 = grind arith in
+      (with_sample-within threshold before (max 1 (d.moment - cycle.start)) (before == 0) refl t a sample, opened_by-within (nat_lt d.bytes_left threshold))
+
+  within-from : (before : ℕ) (o : Option Begun) → IsWithin (record { average = before; begun = o }) → IsWithin (step_from threshold before d o)
+  within-from before None w = (w.0, opened_by-within (nat_lt d.bytes_left threshold))
+  within-from before (Some cycle) w = counted-within before cycle (nat_lt (cycle.count + d.size) threshold) refl w.0 (w.1 cycle refl).0
+
+  pub within_after : (e : Estimate) → IsWithin e → IsWithin (after_departure threshold e d)
+  within_after e w = within-from e.average e.begun w

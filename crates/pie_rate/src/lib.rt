@@ -7,5 +7,7 @@
 #![tactic(auto)]
 
 mod rate;
+mod raw;
 
 pub use rate::{OpenCycle, Rate};
+pub use raw::{RawCycle, RawRate};

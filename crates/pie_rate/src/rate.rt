@@ -1,6 +1,6 @@
 //! The estimate of the departure rate.
-ghost use Rattle.std.specs.Prelude.{◌≡◌, ◌+◌, ◌-◌, ◌^◌, ◌<◌, ◌≤◌, ◌↔◌, ℕ, List, [], ◌∷◌, ◌++◌, None, IsTrue, IsSome, IfSome, max};
-ghost use Rattle.pie_rate.specs.Average.{average, with_sample};
+ghost use Rattle.std.specs.Prelude.{◌≡◌, ◌^◌, ◌<◌, ◌≤◌, ◌↔◌, ℕ, List, [], ◌∷◌, ◌++◌, None, IsTrue, IsSome, IfSome};
+ghost use Rattle.pie_rate.specs.Average.{average};
 ghost use Rattle.pie_rate.specs.Cycles.{cycles, begun, first_closing};
 ghost use Rattle.pie_rate.specs.Departures.{Departure, departure};
 ghost use Rattle.std.specs.Prelude.{option_map};
@@ -8,12 +8,9 @@ ghost use Rattle.std.specs.Option.{ForSome};
 ghost use Rattle.pie_rate.specs.Estimate.{Shows};
 ghost use Rattle.pie_rate.specs.Step.{after_departure, begun_of};
 
+use crate::raw::{RawCycle, RawRate};
 use pie_fixed::Nanos;
 use std::marker::Model;
-
-/// The bytes over which the weights of a new sample and of the average are counted, which is also
-/// the largest threshold (this project's own).
-const WEIGHTS: u64 = 65_536;
 
 /// A measurement cycle that no departure has closed yet (RFC 8033, section 5.2).
 #[derive(Clone, Copy, Debug, PartialEq, Eq)]
@@ -31,33 +28,22 @@ pub struct OpenCycle {
 /// it was shown since it was cleared.
 #[derive(Clone, Copy, Debug, PartialEq, Eq)]
 pub struct Rate {
-    average: u64,
-    begun: Option<OpenCycle>,
+    raw: RawRate,
 }
 
 impl Model for Rate {
-    ghost use Rattle.std.specs.Prelude.{◌^◌, ◌<◌, option_map, refl};
-    ghost use Rattle.std.specs.Option.{ForSome};
     ghost use Rattle.std.proofs.Common.{ap};
-    ghost use Rattle.pie_rate.specs.Estimate.{Estimate, option_map_back};
+    ghost use Rattle.pie_rate.specs.Estimate.{Estimate, IsWithin, estimate_of, raw_of, raw_of-estimate_of};
 
     ghost Value = { Estimate };
 
-    ghost view = { λ r. record {
-      average = r.average;
-      begun = option_map (λ c. record { start = c.start; count = c.count }) r.begun;
-    } };
+    ghost view = { λ r. estimate_of r.raw };
 
-    ghost invariant = { λ r. (r.average < 2 ^ 60) × ForSome r.begun (λ c. c.count < 65536) };
+    ghost invariant = { λ r. IsWithin (estimate_of r.raw) };
 
-    ghost inverse = { λ e. record {
-      average = e.average;
-      begun = option_map (λ b. record { start = b.start; count = b.count }) e.begun;
-    } };
+    ghost inverse = { λ e. record { raw = raw_of e } };
 
-    ghost inverse_ok = { λ r h. ap (λ o. record { average = r.average; begun = o })
-        (option_map_back (λ c. record { start = c.start; count = c.count })
-        (λ b. record { start = b.start; count = b.count }) (λ c. refl) r.begun) };
+    ghost inverse_ok = { λ r h. ap (λ raw. record { raw = raw }) (raw_of-estimate_of r.raw) };
 }
 
 impl Rate {
@@ -66,8 +52,7 @@ impl Rate {
         ensures { (threshold : ℕ) → Shows threshold [] result }
     {
         Rate {
-            average: 0,
-            begun: None,
+            raw: RawRate::cleared(),
         }
     }
 
@@ -79,7 +64,13 @@ impl Rate {
         ensures average { result.average ≡ average }
         ensures begun { result.begun ≡ option_map begun_of begun }
     {
-        Rate { average, begun }
+        let begun = begun.map(|cycle| RawCycle {
+            start: cycle.start.units(),
+            count: cycle.count,
+        });
+        Rate {
+            raw: RawRate { average, begun },
+        }
     }
 
     /// Takes in one departure: the packet's size and the bytes remaining in the queue after it, its
@@ -101,26 +92,7 @@ impl Rate {
         // told from the estimate before it, whichever departures that shows
         ensures step { self.new ≡ after_departure threshold self.old (departure size bytes_left moment) }
     {
-        if let Some(cycle) = self.begun {
-            let count = cycle.count + u64::from(size);
-            if count < threshold {
-                self.begun = Some(OpenCycle {
-                    start: cycle.start,
-                    count,
-                });
-                return;
-            }
-            let sample = sample(cycle.start, moment);
-            self.average = averaged(self.average, sample, threshold);
-        }
-        self.begun = if bytes_left < threshold {
-            None
-        } else {
-            Some(OpenCycle {
-                start: moment,
-                count: 0,
-            })
-        };
+        self.raw.departed(size, bytes_left, moment.units(), threshold);
     }
 
     /// The average time, in nanoseconds, in which a threshold of bytes departs, below `2^60`; 0 with
@@ -139,7 +111,7 @@ impl Rate {
             Shows threshold departures self.now →
             ((result ≡ 0) ↔ (cycles threshold departures ≡ [])) }
     {
-        self.average
+        self.raw.average
     }
 
     /// Whether a cycle is begun (RFC 8033, section 5.2).
@@ -153,7 +125,7 @@ impl Rate {
         ensures unclosed { (threshold : ℕ) (departures : List Departure) →
             IfSome (begun threshold departures) (λ i. first_closing threshold departures i ≡ None) }
     {
-        self.begun.is_some()
+        self.raw.begun.is_some()
     }
 
     /// The cycle that is begun, if there is one (RFC 8033, section 5.2).
@@ -161,31 +133,12 @@ impl Rate {
         ensures value { option_map begun_of result ≡ self.now.begun }
         ensures bound { ForSome result (λ cycle. cycle.count < 65536) }
     {
-        self.begun
+        match self.raw.begun {
+            Some(RawCycle { start, count }) => Some(OpenCycle {
+                start: Nanos::from_units(start).unwrap(),
+                count,
+            }),
+            None => None,
+        }
     }
-}
-
-/// The sample of a cycle: how long it took, in nanoseconds, and at least 1.
-fn sample(start: Nanos, end: Nanos) -> u64
-    ensures value { result ≡ max 1 (end - start) }
-    ensures bound { result < 2 ^ 60 }
-{
-    end.units().saturating_sub(start.units()).max(1)
-}
-
-/// The average with one more sample: the first sample itself, where the average is 0 for want of
-/// one (RFC 8033, section 5.2).
-fn averaged(average: u64, sample: u64, threshold: u64) -> u64
-    requires average_in { average < 2 ^ 60 }
-    requires sample_in { sample < 2 ^ 60 }
-    requires threshold_in { threshold ≤ 65536 }
-    ensures value { result ≡ with_sample threshold average sample }
-    ensures bound { result < 2 ^ 60 }
-{
-    if average == 0 {
-        return sample;
-    }
-    let kept = u128::from(average) * u128::from(WEIGHTS - threshold);
-    let added = u128::from(sample) * u128::from(threshold);
-    ((added + kept) / u128::from(WEIGHTS)) as u64
 }

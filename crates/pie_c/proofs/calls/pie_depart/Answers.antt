@@ -1,24 +1,29 @@
-use Rattle.std.proofs.Common.{◌≡◌, ◌∙◌, ◌<◌, ◌^◌, ap, arith, refl, rules, true}
-use Rattle.pie_controller.proofs.Sounds.{Sound_call}
-use Rattle.pie_controller.specs.Calls.{Depart}
-use Rattle.pie_controller.specs.Held.{Held}
-use Rattle.pie_c.specs.State.{held_in, is_sound}
-use Rattle.pie_c.proofs.Sound.{held-sound, held-state, state-sound}
+use Rattle.std.proofs.Common.{◌≡◌, ◌≤◌, ◌<◌, ◌^◌, ◌∙◌, sym, arith, rules, true, false}
+use Rattle.std.proofs.lemmas.Bool.Decides.{nat_tests}
+use Rattle.pie_controller.specs.Steps.{capped, departed}
+use Rattle.pie_c.specs.declared.state.PieState.{PieState}
+use Rattle.pie_c.specs.State.{held_in, with_rate}
+use Rattle.pie_c.proofs.Packets.{departed-shows, departed-sound, departed-state, departure-taken}
 use Rattle.pie_c.proofs.calls.pie_depart.Goals as goal
 
-pub keep_departed-requires-clause-sound : goal.keep_departed-requires-clause-sound
-keep_departed-requires-clause-sound c = let sound : is_sound c.args.state.now ≡ true = search rules in sound
-
-pub keep_departed-requires-clause-same : goal.keep_departed-requires-clause-same
-keep_departed-requires-clause-same c = rw (c.depart.ensures.after, c.in-Some.ensures.held) refl
+pub returns-clause-after : goal.returns-clause-after
+returns-clause-after c sound =
+    let a = c.args in
+    let state : PieState = a.state.now in
+    let kept : c.keep_departed.new.self ≡ with_rate state (departed (capped (held_in state)) a.size a.left a.moment) = search rules in
+    rw (departure-taken a.size a.left a.moment (omega arith) (sym c.is_bad_size.ensures ∙ c.if-is_bad_size.false) (omega arith))
+    (kept ∙ departed-state state a.size a.left a.moment sound)
 
 pub returns-clause-sound : goal.returns-clause-sound
-returns-clause-sound c = λ sound.
-    let state = c.args.state.now in
-    let most = c.in-Some-from_units.ensures.0 in
-    let within : c.args.moment < 2 ^ 60 = omega (arith, most) in
-    rw (c.keep_departed.ensures, c.depart.ensures.after, c.in-Some.ensures.held, c.in-Some-from_units.ensures.1) (state-sound _ (Sound_call (held_in state) (held-sound state sound) (Depart c.args.size c.args.left c.args.moment) within))
+returns-clause-sound c sound =
+    let a = c.args in
+    let state : PieState = a.state.now in
+    let kept : c.keep_departed.new.self ≡ with_rate state (departed (capped (held_in state)) a.size a.left a.moment) = search rules in
+    rw kept (departed-sound state a.size a.left a.moment (omega arith) sound)
 
 pub returns-clause-shows : goal.returns-clause-shows
-returns-clause-shows c opened events taken shows =
-    rw (c.keep_departed.ensures, held-state, ← c.in-Some-from_units.ensures.1) (c.depart.ensures.shows opened events (rw c.in-Some.ensures.held shows))
+returns-clause-shows c opened events sound taken shows =
+    let a = c.args in
+    let state : PieState = a.state.now in
+    let kept : c.keep_departed.new.self ≡ with_rate state (departed (capped (held_in state)) a.size a.left a.moment) = search rules in
+    rw kept (departed-shows state sound opened events shows a.size a.left a.moment)

@@ -1,24 +1,17 @@
-use Rattle.std.proofs.Common.{◌≡◌, ◌∙◌, ◌<◌, ◌^◌, ap, arith, refl, rules, true}
-use Rattle.pie_controller.proofs.Sounds.{Sound_call}
-use Rattle.pie_controller.specs.Calls.{Pass}
-use Rattle.pie_controller.specs.Held.{Held}
-use Rattle.pie_c.specs.State.{held_in, is_sound}
-use Rattle.pie_c.proofs.Sound.{held-sound, held-state, state-sound}
+use Rattle.std.proofs.Common.{◌≡◌, ◌≤◌, ◌<◌, ◌^◌, ◌∙◌, sym, arith, rules, true, false}
+use Rattle.std.proofs.lemmas.Bool.Decides.{nat_tests}
+use Rattle.pie_c.proofs.Packets.{moment-taken, passed-shows, passed-sound, passed-state}
 use Rattle.pie_c.proofs.calls.pie_empty.Goals as goal
 
-pub keep_moment-requires-clause-sound : goal.keep_moment-requires-clause-sound
-keep_moment-requires-clause-sound c = let sound : is_sound c.args.state.now ≡ true = search rules in sound
-
-pub keep_moment-requires-clause-same : goal.keep_moment-requires-clause-same
-keep_moment-requires-clause-same c = rw (c.pass.ensures.after, c.in-Some.ensures.held) refl
+pub returns-clause-after : goal.returns-clause-after
+returns-clause-after c sound =
+    let a = c.args in
+    rw (moment-taken a.moment (omega arith), c.max-state.ensures) (passed-state a.state.now a.moment sound)
 
 pub returns-clause-sound : goal.returns-clause-sound
-returns-clause-sound c = λ sound.
-    let state = c.args.state.now in
-    let most = c.in-Some-from_units.ensures.0 in
-    let within : c.args.moment < 2 ^ 60 = omega (arith, most) in
-    rw (c.keep_moment.ensures, c.pass.ensures.after, c.in-Some.ensures.held, c.in-Some-from_units.ensures.1) (state-sound _ (Sound_call (held_in state) (held-sound state sound) (Pass c.args.moment) within))
+returns-clause-sound c sound = let a = c.args in rw c.max-state.ensures (passed-sound a.state.now a.moment (omega arith) sound)
 
 pub returns-clause-shows : goal.returns-clause-shows
-returns-clause-shows c opened events taken shows =
-    rw (c.keep_moment.ensures, held-state, ← c.in-Some-from_units.ensures.1) (c.pass.ensures.shows opened events (rw c.in-Some.ensures.held shows))
+returns-clause-shows c opened events sound taken shows =
+    let a = c.args in
+    rw c.max-state.ensures (passed-shows a.state.now sound opened events shows a.moment)

@@ -1,6 +1,8 @@
-use Rattle.std.proofs.Common.{◌∙◌}
+use Rattle.std.proofs.Common.{◌≡◌, ◌∙◌, rules}
 use Rattle.pie_early.proofs.Laws.{accumulated-run}
 use Rattle.pie_early.proofs.early.Early.accu.Goals as goal
 
 pub returns-clause-run : goal.returns-clause-run
-returns-clause-run c = λ before clearing n prob clears some shown. c.self.view_is ∙ shown.accu ∙ accumulated-run before clearing n prob clears some
+returns-clause-run c = λ before clearing n prob clears some shown.
+    let same : c.unwrap.result ≡ c.args.self.now = search rules in
+    same ∙ shown.accu ∙ accumulated-run before clearing n prob clears some

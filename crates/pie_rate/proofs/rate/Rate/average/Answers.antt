@@ -5,5 +5,5 @@ use Rattle.pie_rate.proofs.rate.Rate.average.Goals as goal
 
 pub returns-clause-zero : goal.returns-clause-zero
 returns-clause-zero c = λ threshold departures within shown.
-    let same : c.self.inside.average ≡ average threshold departures = ap (λ e. e.average) c.self.view_is ∙ shown.average in
+    let same : c.self.inside.raw.average ≡ average threshold departures = ap (λ e. e.average) c.self.view_is ∙ shown.average in
     rw same (average-zero threshold departures within)

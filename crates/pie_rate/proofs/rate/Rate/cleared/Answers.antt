@@ -1,8 +1,9 @@
-use Rattle.std.proofs.Common.{refl}
+use Rattle.std.proofs.Common.{ap}
 use Rattle.pie_rate.specs.Average.{average, samples}
 use Rattle.pie_rate.specs.Cycles.{cycles, cycles_from, begun, first_opening, first_position}
+use Rattle.pie_rate.specs.Estimate.{Estimate}
 use Rattle.pie_rate.proofs.rate.Rate.cleared.Goals as goal
 
 pub returns : goal.returns
 unfolding average samples cycles cycles_from begun first_opening first_position
-returns c = λ threshold. record { average = refl; begun = refl }
+returns c = λ threshold. record { average = ap (λ (e : Estimate). e.average) c.cleared.ensures; begun = ap (λ (e : Estimate). e.begun) c.cleared.ensures }

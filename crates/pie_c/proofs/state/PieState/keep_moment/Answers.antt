@@ -1,7 +1,0 @@
-use Rattle.std.proofs.Common.{◌≡◌, ◌∙◌, rules}
-use Rattle.pie_c.specs.declared.state.PieState.{PieState}
-use Rattle.pie_c.proofs.Sound.{kept-moment}
-use Rattle.pie_c.proofs.state.PieState.keep_moment.Goals as goal
-
-pub returns : goal.returns
-returns c = search (kept-moment c.args.self.now c.args.controller.now c.requires.sound c.requires.same, rules)

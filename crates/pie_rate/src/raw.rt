@@ -1,0 +1,89 @@
+ghost use Rattle.std.specs.Prelude.{◌≡◌, ◌-◌, ◌≤◌, None, max};
+ghost use Rattle.pie_rate.specs.Average.{with_sample};
+ghost use Rattle.pie_rate.specs.Departures.{departure};
+ghost use Rattle.pie_rate.specs.Estimate.{estimate_of};
+ghost use Rattle.pie_rate.specs.Step.{after_departure};
+
+/// The bytes over which the weights of a new sample and of the average are counted, which is also
+/// the largest threshold (this project's own).
+const WEIGHTS: u64 = 65_536;
+
+/// A measurement cycle that no departure has closed yet, as plain numbers, each in its range or not.
+#[derive(Clone, Copy, Debug, PartialEq, Eq)]
+pub struct RawCycle {
+    /// The moment of the departure that opened it, in nanoseconds.
+    pub start: u64,
+    /// The bytes of the departures after that one.
+    pub count: u64,
+}
+
+/// An estimate of the departure rate as plain numbers, each in its range or not: its rule is [`Rate`](crate::Rate)'s.
+#[derive(Clone, Copy, Debug, PartialEq, Eq)]
+pub struct RawRate {
+    /// The average time in which a threshold of bytes departs, in nanoseconds; 0 with no sample.
+    pub average: u64,
+    /// The cycle that is begun.
+    pub begun: Option<RawCycle>,
+}
+
+impl RawRate {
+    /// No sample, and no cycle begun.
+    pub fn cleared() -> RawRate
+        ensures { estimate_of result ≡ record { average = 0; begun = None } }
+    {
+        RawRate {
+            average: 0,
+            begun: None,
+        }
+    }
+
+    /// Takes in one departure, as [`Rate::departed`](crate::Rate::departed) does, whatever the numbers: none makes a sum or a
+    /// product overflow.
+    #[inline(always)]
+    pub fn departed(&mut self, size: u32, bytes_left: u64, moment: u64, threshold: u64)
+        requires { threshold ≤ 65536 }
+        ensures { estimate_of self.new ≡ after_departure threshold (estimate_of self.old) (departure size bytes_left moment) }
+    {
+        if let Some(cycle) = self.begun {
+            let size = u64::from(size);
+            if size < threshold.saturating_sub(cycle.count) {
+                self.begun = Some(RawCycle {
+                    start: cycle.start,
+                    count: cycle.count + size,
+                });
+                return;
+            }
+            let sample = sample(cycle.start, moment);
+            self.average = averaged(self.average, sample, threshold);
+        }
+        self.begun = if bytes_left < threshold {
+            None
+        } else {
+            Some(RawCycle {
+                start: moment,
+                count: 0,
+            })
+        };
+    }
+}
+
+/// The sample of a cycle: how long it took, in nanoseconds, and at least 1.
+fn sample(start: u64, end: u64) -> u64
+    ensures { result ≡ max 1 (end - start) }
+{
+    end.saturating_sub(start).max(1)
+}
+
+/// The average with one more sample: the first sample itself, where the average is 0 for want of
+/// one (RFC 8033, section 5.2).
+fn averaged(average: u64, sample: u64, threshold: u64) -> u64
+    requires { threshold ≤ 65536 }
+    ensures { result ≡ with_sample threshold average sample }
+{
+    if average == 0 {
+        return sample;
+    }
+    let kept = u128::from(average) * u128::from(WEIGHTS - threshold);
+    let added = u128::from(sample) * u128::from(threshold);
+    ((added + kept) / u128::from(WEIGHTS)) as u64
+}

@@ -12,5 +12,6 @@ pub mod Core
 pub mod Tally
 pub mod Book
 pub mod Run
+pub mod Recorded
 pub mod Ranges
 pub mod Beside

@@ -12,6 +12,7 @@ pub mod Core
 pub mod Tally
 pub mod Book
 pub mod Run
+pub mod Recorded
 pub mod Ranges
 pub mod Step
 pub mod Beside

@@ -22,6 +22,7 @@ pub mod law;
 pub mod opening;
 mod queue_core;
 pub mod ranges;
+mod recorded;
 pub mod refusal;
 pub mod registers;
 pub mod stats;

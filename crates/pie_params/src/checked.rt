@@ -5,7 +5,8 @@ use crate::raw::{BadParam, RawParams};
 use pie_fixed::{Gain, Nanos, Prob};
 use std::marker::Model;
 
-/// Parameters that are all in their ranges, in 56 bytes: each field is no wider than its range asks.
+/// Parameters that are all in their ranges, in 48 bytes: each field is no wider than its range asks. Of the threshold, a power of
+/// two up to 65536, the number below it is kept, which fits in 16 bits.
 #[derive(Clone, Copy, Debug, PartialEq, Eq)]
 pub struct Params {
     target: Nanos,
@@ -15,21 +16,26 @@ pub struct Params {
     alpha: Gain,
     beta: Gain,
     limit_bytes: u32,
-    dq_threshold: u32,
+    below_threshold: u16,
     mean_pkt: u16,
 }
 
 impl Model for Params {
+    ghost use Rattle.std.specs.Prelude.{◌+◌, ◌-◌};
+    ghost use Rattle.std.proofs.Common.{ap};
+    ghost use Rattle.std.proofs.Math.Nat.{add-sub_cancel};
     ghost use Rattle.pie_params.specs.declared.raw.RawParams.{RawParams};
     ghost use Rattle.pie_params.specs.Range.{IsInRange};
 
     ghost Value = { RawParams };
 
-    ghost view = { λ p. record { target = p.target; t_update = p.t_update; max_burst = p.max_burst; alpha = p.alpha; beta = p.beta; mean_pkt = p.mean_pkt; limit_bytes = p.limit_bytes; mark_ecnth = p.mark_ecnth; dq_threshold = p.dq_threshold } };
+    ghost view = { λ p. record { target = p.target; t_update = p.t_update; max_burst = p.max_burst; alpha = p.alpha; beta = p.beta; mean_pkt = p.mean_pkt; limit_bytes = p.limit_bytes; mark_ecnth = p.mark_ecnth; dq_threshold = p.below_threshold + 1 } };
 
-    ghost invariant = { λ p. IsInRange (record { target = p.target; t_update = p.t_update; max_burst = p.max_burst; alpha = p.alpha; beta = p.beta; mean_pkt = p.mean_pkt; limit_bytes = p.limit_bytes; mark_ecnth = p.mark_ecnth; dq_threshold = p.dq_threshold }) };
+    ghost invariant = { λ p. IsInRange (record { target = p.target; t_update = p.t_update; max_burst = p.max_burst; alpha = p.alpha; beta = p.beta; mean_pkt = p.mean_pkt; limit_bytes = p.limit_bytes; mark_ecnth = p.mark_ecnth; dq_threshold = p.below_threshold + 1 }) };
 
-    ghost inverse = { λ p. record { target = p.target; t_update = p.t_update; max_burst = p.max_burst; alpha = p.alpha; beta = p.beta; mean_pkt = p.mean_pkt; limit_bytes = p.limit_bytes; mark_ecnth = p.mark_ecnth; dq_threshold = p.dq_threshold } };
+    ghost inverse = { λ p. record { target = p.target; t_update = p.t_update; max_burst = p.max_burst; alpha = p.alpha; beta = p.beta; mean_pkt = p.mean_pkt; limit_bytes = p.limit_bytes; mark_ecnth = p.mark_ecnth; below_threshold = p.dq_threshold - 1 } };
+
+    ghost inverse_ok = { λ p h. ap (λ below. record { target = p.target; t_update = p.t_update; max_burst = p.max_burst; alpha = p.alpha; beta = p.beta; mean_pkt = p.mean_pkt; limit_bytes = p.limit_bytes; mark_ecnth = p.mark_ecnth; below_threshold = below }) (add-sub_cancel p.below_threshold 1) };
 }
 
 impl Params {
@@ -100,7 +106,7 @@ impl Params {
             mean_pkt: raw.mean_pkt as u16,
             limit_bytes: raw.limit_bytes as u32,
             mark_ecnth: Prob::from_units(raw.mark_ecnth).unwrap(),
-            dq_threshold: raw.dq_threshold as u32,
+            below_threshold: (raw.dq_threshold - 1) as u16,
         }
     }
 
@@ -119,7 +125,7 @@ impl Params {
             mean_pkt: u64::from(self.mean_pkt),
             limit_bytes: u64::from(self.limit_bytes),
             mark_ecnth: self.mark_ecnth.units(),
-            dq_threshold: u64::from(self.dq_threshold),
+            dq_threshold: u64::from(self.below_threshold) + 1,
         }
     }
 
@@ -200,6 +206,6 @@ impl Params {
         ensures at_least { 1024 ≤ self.dq_threshold }
         ensures at_most { self.dq_threshold ≤ 65536 }
     {
-        u64::from(self.dq_threshold)
+        u64::from(self.below_threshold) + 1
     }
 }

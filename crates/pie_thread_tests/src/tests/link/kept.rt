@@ -7,8 +7,10 @@ use pie_book::{Answer, Book, FoldRefusal, Limits};
 use pie_link::{Arrival, Caller, Change, Gate, Link, LinkRefusal, Plan, Tried, storm};
 use pie_params::Params;
 use std::alloc::Global;
+use std::sync::Wait;
 use std::sync::atomic::{AtomicU64, Ordering};
 use std::test::Fail;
+use std::thread::Threads;
 
 // A bounded link with so many numbers, and a caller with all of them.
 fn opened(alloc: Global, tail: u32, callers: u16) -> Result<(Link, Caller), LinkRefusal>
@@ -57,18 +59,23 @@ fn folds_of_seventy(
     ))
 }
 
+// Whether the uppermost caller of 65535 fills a tail of 70 events and folds it, and the other then finds room.
+fn folds_from_above(link: &Link, caller: &mut Caller, upper: &mut Caller) -> bool
+    requires own { (caller.old.lock ≡ link.now) × (upper.old.lock ≡ link.now) }
+{
+    let filled = depart_often(link, upper, 71);
+    let folds = folds_of_seventy(link, upper);
+    let more = depart_often(link, caller, 1);
+    let too_many = Tried::Refused(FoldRefusal::TooMany { held: 5 });
+    upper.first() == 65534 && filled == 70 && folds == Some((65, 65, too_many, 5, 70)) && more == 1
+}
+
 #[test]
 fn folds_above_64_by_a_caller_of_65535(rt: HostRuntime) -> Result<(), Fail> {
     let (link, mut caller) = opened(rt.alloc(), 70, 65535)?;
     let mut upper = link.share(&mut caller)?;
-    assert!(rt; upper.first() == 65534);
-    assert!(rt; depart_often(&link, &mut upper, 71) == 70);
-    let Some(folds) = folds_of_seventy(&link, &mut upper) else {
-        panic!(rt; "the tail holds 70 events")
-    };
-    let too_many = Tried::Refused(FoldRefusal::TooMany { held: 5 });
-    assert!(rt; folds == (65, 65, too_many, 5, 70));
-    assert!(rt; depart_often(&link, &mut caller, 1) == 1);
+    let is_so = folds_from_above(&link, &mut caller, &mut upper);
+    assert!(rt; is_so);
     Ok(())
 }
 
@@ -81,16 +88,22 @@ fn closed_from_above(alloc: Global) -> Result<Option<Book>, Fail> {
     Ok(link.close(upper).ok())
 }
 
+// Whether a book has two events, the older of them caller 0's.
+fn has_two(book: &Book) -> bool {
+    let oldest = match book.event(0) {
+        Some(event) => event.caller == 0,
+        None => false,
+    };
+    oldest && book.tail_len() == 2 && book.count() == 2
+}
+
 #[test]
 fn a_caller_above_0_closes_with_the_whole_tail(rt: HostRuntime) -> Result<(), Fail> {
-    let Some(book) = closed_from_above(rt.alloc())? else {
-        panic!(rt; "no caller has the book")
+    let is_so = match closed_from_above(rt.alloc())? {
+        Some(book) => has_two(&book),
+        None => false,
     };
-    assert!(rt; book.tail_len() == 2 && book.count() == 2);
-    let Some(oldest) = book.event(0) else {
-        panic!(rt; "the tail holds two events")
-    };
-    assert!(rt; oldest.caller == 0);
+    assert!(rt; is_so);
     Ok(())
 }
 
@@ -188,12 +201,21 @@ fn arrival(moment: u64) -> Arrival {
     }
 }
 
+// Whether a storm by the plan has eight events and one fold that asked for too many.
+fn is_whole<R: Threads + Wait + Sync>(rt: &R, alloc: Global, plan: &Plan, gate: &Recorder) -> bool {
+    match storm(rt, alloc, plan, gate) {
+        Ok(end) => end.events.len() == 8 && end.too_soon == 0 && end.too_many == 1,
+        Err(_) => false,
+    }
+}
+
 #[test]
 fn each_call_of_a_storm_passes_its_gate_once(rt: HostRuntime) -> Result<(), Fail> {
     let plan = plan(rt.alloc())?;
     let gate = unpassed_gate(rt.alloc(), 7)?;
-    let end = storm(&rt, rt.alloc(), &plan, &gate)?;
-    assert!(rt; end.events.len() == 8 && end.too_soon == 0 && end.too_many == 1);
-    assert!(rt; gate.out_of_order.load(Ordering::SeqCst) == 0 && passed_in_all(&gate) == 10);
+    let whole = is_whole(&rt, rt.alloc(), &plan, &gate);
+    let in_order = gate.out_of_order.load(Ordering::SeqCst) == 0;
+    let calls = passed_in_all(&gate);
+    assert!(rt; whole && in_order && calls == 10);
     Ok(())
 }

@@ -1,11 +1,13 @@
 use super::packet;
 use crossbeam_utils::Backoff;
-use pie_book::{Event, Limits, OpenRefusal};
+use pie_book::{Event, Limits, OpenRefusal, Registers, Stats};
 use pie_link::{Arrival, Change, Gate, LinkRefusal, NoGate, Plan, StormFault, storm};
 use pie_params::Params;
 use std::alloc::{AllocError, Global};
+use std::sync::Wait;
 use std::sync::atomic::{AtomicU64, Ordering};
 use std::test::Fail;
+use std::thread::Threads;
 
 // The longest that a worker is held: so many turns.
 const TURNS: u64 = 1_000_000;
@@ -129,17 +131,70 @@ fn stands_before(events: &[Event], one: u16, other: u16) -> bool {
     true
 }
 
-#[test]
-fn two_senders_see_each_other(rt: HostRuntime) -> Result<(), Fail> {
-    let plan = plan(rt.alloc(), 2, &[1, 2], &[5], &[15_000_000])?;
+// What a storm ended with, but for its list of events.
+#[derive(Clone, Copy)]
+struct Ended {
+    events: usize,
+    too_soon: u64,
+    too_many: u64,
+    registers: Registers,
+    stats: Stats,
+}
+
+// What a storm ends with.
+fn end_of<R: Threads + Wait + Sync, G: Gate + Sync>(
+    rt: &R,
+    alloc: Global,
+    plan: &Plan,
+    gate: &G,
+) -> Result<Ended, StormFault> {
+    match storm(rt, alloc, plan, gate) {
+        Ok(end) => Ok(Ended {
+            events: end.events.len(),
+            too_soon: end.too_soon,
+            too_many: end.too_many,
+            registers: end.registers,
+            stats: end.stats,
+        }),
+        Err(why) => Err(why),
+    }
+}
+
+// Whether a storm ends with so many events, so many updates that were too soon and so many folds that asked for too many.
+fn ends_with(
+    ended: &Result<Ended, StormFault>,
+    events: usize,
+    too_soon: u64,
+    too_many: u64,
+) -> bool {
+    match ended {
+        Ok(end) => end.events == events && end.too_soon == too_soon && end.too_many == too_many,
+        Err(_) => false,
+    }
+}
+
+// Whether so many senders, each with these packets, see one another's flags, and the storm ends with so many events.
+fn see_each_other<R: Threads + Wait + Sync>(
+    rt: &R,
+    alloc: Global,
+    plan: &Plan,
+    senders: u64,
+    events: usize,
+) -> bool {
     let gate = Flags {
-        senders: 2,
+        senders,
         raised: AtomicU64::new(0),
         saw_all: AtomicU64::new(0),
     };
-    let end = storm(&rt, rt.alloc(), &plan, &gate)?;
-    assert!(rt; gate.saw_all.load(Ordering::SeqCst) == 2);
-    assert!(rt; end.events.len() == 6 && end.too_soon == 0);
+    let ended = end_of(rt, alloc, plan, &gate);
+    ends_with(&ended, events, 0, 0) && gate.saw_all.load(Ordering::SeqCst) == senders
+}
+
+#[test]
+fn two_senders_see_each_other(rt: HostRuntime) -> Result<(), Fail> {
+    let plan = plan(rt.alloc(), 2, &[1, 2], &[5], &[15_000_000])?;
+    let is_so = see_each_other(&rt, rt.alloc(), &plan, 2, 6);
+    assert!(rt; is_so);
     Ok(())
 }
 
@@ -148,95 +203,144 @@ fn eight_senders_see_each_other(rt: HostRuntime) -> Result<(), Fail> {
     let mut plan = plan(rt.alloc(), 8, &[1], &[], &[])?;
     plan.limits.tail = 8;
     plan.limits.events = 8;
-    let gate = Flags {
-        senders: 8,
-        raised: AtomicU64::new(0),
-        saw_all: AtomicU64::new(0),
-    };
-    let end = storm(&rt, rt.alloc(), &plan, &gate)?;
-    assert!(rt; gate.saw_all.load(Ordering::SeqCst) == 8);
-    assert!(rt; end.events.len() == 8 && end.stats.arrivals == 8);
+    let is_so = see_each_other(&rt, rt.alloc(), &plan, 8, 8);
+    assert!(rt; is_so);
     Ok(())
+}
+
+// Whether a caller that is held until another has made two calls comes after it.
+fn comes_last<R: Threads + Wait + Sync>(
+    rt: &R,
+    alloc: Global,
+    plan: &Plan,
+    held: u16,
+    awaited: u16,
+) -> bool {
+    let gate = Hold {
+        held,
+        awaited,
+        until: 2,
+        answered: AtomicU64::new(0),
+    };
+    match storm(rt, alloc, plan, &gate) {
+        Ok(end) => stands_before(end.events.as_slice(), awaited, held),
+        Err(_) => false,
+    }
 }
 
 #[test]
 fn a_held_sender_comes_last(rt: HostRuntime) -> Result<(), Fail> {
     let plan = plan(rt.alloc(), 2, &[1, 2], &[5], &[15_000_000])?;
-    let first = Hold {
-        held: 1,
-        awaited: 2,
-        until: 2,
-        answered: AtomicU64::new(0),
-    };
-    let end = storm(&rt, rt.alloc(), &plan, &first)?;
-    assert!(rt; stands_before(end.events.as_slice(), 2, 1));
-    let second = Hold {
-        held: 2,
-        awaited: 1,
-        until: 2,
-        answered: AtomicU64::new(0),
-    };
-    let end = storm(&rt, rt.alloc(), &plan, &second)?;
-    assert!(rt; stands_before(end.events.as_slice(), 1, 2));
+    let first = comes_last(&rt, rt.alloc(), &plan, 1, 2);
+    let second = comes_last(&rt, rt.alloc(), &plan, 2, 1);
+    assert!(rt; first && second);
     Ok(())
+}
+
+// Whether one update was made.
+fn has_one_update(ended: &Result<Ended, StormFault>) -> bool {
+    match ended {
+        Ok(end) => end.stats.updates == 1,
+        Err(_) => false,
+    }
 }
 
 #[test]
 fn an_update_that_is_too_soon_is_passed_over(rt: HostRuntime) -> Result<(), Fail> {
-    let plan = plan(
-        rt.alloc(),
-        2,
-        &[1_000_000],
-        &[500_000, 1_000_000],
-        &[1, 15_000_000],
-    )?;
-    let end = storm(&rt, rt.alloc(), &plan, &NoGate)?;
-    assert!(rt; end.events.len() == 5 && end.too_soon == 1 && end.too_many == 0);
-    assert!(rt; end.registers.count == 5 && end.stats.updates == 1);
+    let departs = [500_000, 1_000_000];
+    let plan = plan(rt.alloc(), 2, &[1_000_000], &departs, &[1, 15_000_000])?;
+    let ended = end_of(&rt, rt.alloc(), &plan, &NoGate);
+    let is_so = ends_with(&ended, 5, 1, 0) && has_one_update(&ended);
+    assert!(rt; is_so);
     Ok(())
+}
+
+// Whether a storm by this plan is refused so.
+fn is_refused<R: Threads + Wait + Sync>(
+    rt: &R,
+    alloc: Global,
+    plan: &Plan,
+    why: StormFault,
+) -> bool {
+    match end_of(rt, alloc, plan, &NoGate) {
+        Ok(_) => false,
+        Err(found) => found == why,
+    }
+}
+
+// A plan of so many senders, each of which sends at these moments, is refused as bad.
+fn is_bad<R: Threads + Wait + Sync>(
+    rt: &R,
+    alloc: Global,
+    senders: usize,
+    sent: &[u64],
+) -> Result<bool, AllocError> {
+    let plan = plan(alloc, senders, sent, &[], &[])?;
+    Ok(is_refused(rt, alloc, &plan, StormFault::BadPlan))
 }
 
 #[test]
 fn bad_plans_are_refused_in_order(rt: HostRuntime) -> Result<(), Fail> {
-    let bad = Some(StormFault::BadPlan);
     let mut small = plan(rt.alloc(), 2, &[1, 2], &[5], &[15_000_000])?;
     small.limits.tail = 5;
     small.limits.packets = 0;
-    assert!(rt; storm(&rt, rt.alloc(), &small, &NoGate).err() == bad);
+    let bad = is_refused(&rt, rt.alloc(), &small, StormFault::BadPlan);
     small.limits.tail = 6;
-    let limits = LinkRefusal::Book(OpenRefusal::BadLimits);
-    assert!(rt; storm(&rt, rt.alloc(), &small, &NoGate).err() == Some(StormFault::Opening(limits)));
-    let late = plan(rt.alloc(), 2, &[1 << 60], &[], &[])?;
-    assert!(rt; storm(&rt, rt.alloc(), &late, &NoGate).err() == bad);
-    let one = plan(rt.alloc(), 1, &[1], &[], &[])?;
-    assert!(rt; storm(&rt, rt.alloc(), &one, &NoGate).err() == bad);
-    let nine = plan(rt.alloc(), 9, &[], &[], &[])?;
-    assert!(rt; storm(&rt, rt.alloc(), &nine, &NoGate).err() == bad);
+    let limits = StormFault::Opening(LinkRefusal::Book(OpenRefusal::BadLimits));
+    let opening = is_refused(&rt, rt.alloc(), &small, limits);
+    assert!(rt; bad && opening);
     Ok(())
 }
 
 #[test]
-fn folds_and_a_change_take_part(rt: HostRuntime) -> Result<(), Fail> {
-    let mut plan = plan(rt.alloc(), 0, &[], &[], &[])?;
+fn plans_of_too_late_too_few_and_too_many_senders(rt: HostRuntime) -> Result<(), Fail> {
+    let late = is_bad(&rt, rt.alloc(), 2, &[1 << 60])?;
+    let one = is_bad(&rt, rt.alloc(), 1, &[1])?;
+    let nine = is_bad(&rt, rt.alloc(), 9, &[])?;
+    assert!(rt; late && one && nine);
+    Ok(())
+}
+
+// A plan of one sender with packets at 9 and 3 and one with a packet at 5, a change and three folds.
+fn plan_with_folds(alloc: Global) -> Result<Plan, AllocError> {
+    let mut plan = plan(alloc, 0, &[], &[], &[])?;
     plan.limits = Limits {
         packets: 4,
         tail: 5,
         events: 5,
     };
-    plan.arrivals.push(arrivals(rt.alloc(), &[9, 3])?)?;
-    plan.arrivals.push(arrivals(rt.alloc(), &[5])?)?;
+    plan.arrivals.push(arrivals(alloc, &[9, 3])?)?;
+    plan.arrivals.push(arrivals(alloc, &[5])?)?;
     let params = Params::default_profile();
     plan.changes.push(Change { moment: 4, params })?;
-    plan.folds = moments(rt.alloc(), &[2, 1, 2])?;
+    plan.folds = moments(alloc, &[2, 1, 2])?;
+    Ok(plan)
+}
+
+// Whether these are the registers and the statistics that such a plan ends with.
+fn is_as_folded(ended: &Result<Ended, StormFault>) -> bool {
+    match ended {
+        Ok(end) => {
+            end.stats.arrivals == 3
+                && end.stats.changes == 1
+                && end.registers.moment == 9
+                && end.registers.bytes == 300
+        }
+        Err(_) => false,
+    }
+}
+
+#[test]
+fn folds_and_a_change_take_part(rt: HostRuntime) -> Result<(), Fail> {
+    let plan = plan_with_folds(rt.alloc())?;
     let gate = Hold {
         held: 6,
         awaited: 0,
         until: 4,
         answered: AtomicU64::new(0),
     };
-    let end = storm(&rt, rt.alloc(), &plan, &gate)?;
-    assert!(rt; end.events.len() == 4 && end.too_soon == 0 && end.too_many == 1);
-    assert!(rt; end.stats.arrivals == 3 && end.stats.changes == 1);
-    assert!(rt; end.registers.moment == 9 && end.registers.bytes == 300);
+    let ended = end_of(&rt, rt.alloc(), &plan, &gate);
+    let is_so = ends_with(&ended, 4, 0, 1) && is_as_folded(&ended);
+    assert!(rt; is_so);
     Ok(())
 }

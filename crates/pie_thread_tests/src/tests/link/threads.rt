@@ -130,16 +130,24 @@ fn book_of_two<R: Threads + Wait + Sync>(rt: &R, alloc: Global) -> Result<Book, 
     Ok(closed(link, caller, two).ok_or("the callers have all numbers")?)
 }
 
+// Whether a book holds two arrivals, one of each of two callers.
+fn holds_two_arrivals(book: &Book) -> bool {
+    match (book.event(0), book.event(1)) {
+        (Some(first), Some(second)) => {
+            first.answer == Answer::Enqueued
+                && second.answer == Answer::Enqueued
+                && first.caller.wrapping_add(second.caller) == 3
+                && first.caller != second.caller
+        }
+        _ => false,
+    }
+}
+
 #[test]
 fn two_threads_arrive_and_are_gathered(rt: HostRuntime) -> Result<(), Fail> {
     let book = book_of_two(&rt, rt.alloc())?;
-    assert!(rt; book.count() == 2 && book.tail_len() == 2);
-    let first = book.event(0).ok_or("an event")?;
-    let second = book.event(1).ok_or("an event")?;
-    assert!(rt; first.answer == Answer::Enqueued && second.answer == Answer::Enqueued);
-    assert!(rt;
-        (first.caller == 1 && second.caller == 2) || (first.caller == 2 && second.caller == 1)
-    );
+    let is_so = book.count() == 2 && book.tail_len() == 2 && holds_two_arrivals(&book);
+    assert!(rt; is_so);
     Ok(())
 }
 
@@ -276,32 +284,45 @@ fn all_at_once<R: Threads + Wait + Sync>(
     )
 }
 
-// The threads of a router and an operator's reader share one link. Its tail holds six events, so that all of them wait for the
-// reader, and the sender waits for packets. Whatever the schedule is, the record has the same number of events of each.
+// Whether the record has all events, and the packets of either enqueuer in their order.
+fn is_whole(record: &[Event]) -> bool {
+    record.len() == 36 && tags_in_order(record, 2) == Some(8) && tags_in_order(record, 3) == Some(8)
+}
+
+// Whether the threads of a router and an operator's reader, which share one link, make all calls and record them. Nothing where the caller has
+// too few numbers for them.
+fn share_it<R: Threads + Wait + Sync>(
+    rt: &R,
+    alloc: Global,
+    link: &Link,
+    caller: &mut Caller,
+) -> Result<bool, OneNumber>
+    requires own { caller.old.lock ≡ link.now }
+    ensures rest { caller.new.lock ≡ link.now }
+{
+    let updater = part(link, caller)?;
+    let sender = part(link, caller)?;
+    let two = part(link, caller)?;
+    let one = part(link, caller)?;
+    let reader = part(link, caller)?;
+    let (made, record) = all_at_once(rt, alloc, link, (one, two), (sender, updater), reader);
+    let is_recorded = match record {
+        Ok(record) => is_whole(record.as_slice()),
+        Err(_) => false,
+    };
+    Ok(is_recorded && made == (8, 8, 16, 4))
+}
+
+// Its tail holds six events, so that all of them wait for the reader, and the sender waits for packets. Whatever the schedule is, the record has
+// the same number of events of each.
 #[test]
 fn a_router_and_a_reader_share_a_link(rt: HostRuntime) -> Result<(), Fail> {
     let (link, mut caller) = router_link(rt.alloc())?;
-    let updater = part(&link, &mut caller)?;
-    let sender = part(&link, &mut caller)?;
-    let two = part(&link, &mut caller)?;
-    let one = part(&link, &mut caller)?;
-    let reader = part(&link, &mut caller)?;
-    let (made, record) = all_at_once(
-        &rt,
-        rt.alloc(),
-        &link,
-        (one, two),
-        (sender, updater),
-        reader,
-    );
-    assert!(rt; made == (8, 8, 16, 4));
-    let record = record?;
-    assert!(rt; record.len() == 36);
-    assert!(rt; tags_in_order(record.as_slice(), 2) == Some(8));
-    assert!(rt; tags_in_order(record.as_slice(), 3) == Some(8));
-    let Ok(book) = link.close(caller) else {
-        panic!(rt; "no caller has the book")
+    let is_shared = share_it(&rt, rt.alloc(), &link, &mut caller);
+    let is_closed = match link.close(caller) {
+        Ok(book) => is_as_expected(&book),
+        Err(_) => false,
     };
-    assert!(rt; is_as_expected(&book));
+    assert!(rt; is_shared == Ok(true) && is_closed);
     Ok(())
 }

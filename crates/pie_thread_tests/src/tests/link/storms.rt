@@ -44,26 +44,52 @@ impl Gate for Flags {
     }
 }
 
-// Caller `held` is held before its first call until so many calls of caller `awaited` were answered; 0 stands for all others.
+// Caller `held` is held before its first call until so many calls of caller `awaited` were answered; 0 stands for all others. That
+// one begins when `held` is at its first call, and after its last is held until `held` was answered its second. So an event that
+// is made before `before` or after `after` comes where it should not.
 #[derive(Drop)]
 struct Hold {
     held: u16,
     awaited: u16,
     until: u64,
+    arrived: AtomicU64,
     answered: AtomicU64,
+    gone: AtomicU64,
 }
 
 impl Gate for Hold {
     fn before(&self, caller: u16, call: u64) {
         if caller == self.held && call == 1 {
+            self.arrived.store(1, Ordering::SeqCst);
             wait_for(&self.answered, self.until);
+        }
+        if caller == self.awaited && call == 1 {
+            wait_for(&self.arrived, 1);
         }
     }
 
-    fn after(&self, caller: u16, _call: u64) {
+    fn after(&self, caller: u16, call: u64) {
+        if caller == self.held && call == 2 {
+            self.gone.store(1, Ordering::SeqCst);
+        }
         if caller == self.awaited || (self.awaited == 0 && caller != self.held) {
             self.answered.fetch_add(1, Ordering::SeqCst);
         }
+        if caller == self.awaited && call == self.until {
+            wait_for(&self.gone, 1);
+        }
+    }
+}
+
+// The gate that holds this caller until so many calls of that one were answered.
+fn holding(held: u16, awaited: u16, until: u64) -> Hold {
+    Hold {
+        held,
+        awaited,
+        until,
+        arrived: AtomicU64::new(0),
+        answered: AtomicU64::new(0),
+        gone: AtomicU64::new(0),
     }
 }
 
@@ -162,20 +188,10 @@ fn eight_senders_see_each_other(rt: HostRuntime) -> Result<(), Fail> {
 #[test]
 fn a_held_sender_comes_last(rt: HostRuntime) -> Result<(), Fail> {
     let plan = plan(rt.alloc(), 2, &[1, 2], &[5], &[15_000_000])?;
-    let first = Hold {
-        held: 1,
-        awaited: 2,
-        until: 2,
-        answered: AtomicU64::new(0),
-    };
+    let first = holding(1, 2, 2);
     let end = storm(&rt, rt.alloc(), &plan, &first)?;
     assert!(rt; stands_before(end.events.as_slice(), 2, 1));
-    let second = Hold {
-        held: 2,
-        awaited: 1,
-        until: 2,
-        answered: AtomicU64::new(0),
-    };
+    let second = holding(2, 1, 2);
     let end = storm(&rt, rt.alloc(), &plan, &second)?;
     assert!(rt; stands_before(end.events.as_slice(), 1, 2));
     Ok(())
@@ -228,12 +244,7 @@ fn folds_and_a_change_take_part(rt: HostRuntime) -> Result<(), Fail> {
     let params = Params::default_profile();
     plan.changes.push(Change { moment: 4, params })?;
     plan.folds = moments(rt.alloc(), &[2, 1, 2])?;
-    let gate = Hold {
-        held: 6,
-        awaited: 0,
-        until: 4,
-        answered: AtomicU64::new(0),
-    };
+    let gate = holding(6, 0, 4);
     let end = storm(&rt, rt.alloc(), &plan, &gate)?;
     assert!(rt; end.events.len() == 4 && end.too_soon == 0 && end.too_many == 1);
     assert!(rt; end.stats.arrivals == 3 && end.stats.changes == 1);

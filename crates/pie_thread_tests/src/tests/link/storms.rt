@@ -46,26 +46,52 @@ impl Gate for Flags {
     }
 }
 
-// Caller `held` is held before its first call until so many calls of caller `awaited` were answered; 0 stands for all others.
+// Caller `held` is held before its first call until so many calls of caller `awaited` were answered; 0 stands for all others. That
+// one begins when `held` is at its first call, and after its last is held until `held` was answered its second. So an event that
+// is made before `before` or after `after` comes where it should not.
 #[derive(Drop)]
 struct Hold {
     held: u16,
     awaited: u16,
     until: u64,
+    arrived: AtomicU64,
     answered: AtomicU64,
+    gone: AtomicU64,
 }
 
 impl Gate for Hold {
     fn before(&self, caller: u16, call: u64) {
         if caller == self.held && call == 1 {
+            self.arrived.store(1, Ordering::SeqCst);
             wait_for(&self.answered, self.until);
+        }
+        if caller == self.awaited && call == 1 {
+            wait_for(&self.arrived, 1);
         }
     }
 
-    fn after(&self, caller: u16, _call: u64) {
+    fn after(&self, caller: u16, call: u64) {
+        if caller == self.held && call == 2 {
+            self.gone.store(1, Ordering::SeqCst);
+        }
         if caller == self.awaited || (self.awaited == 0 && caller != self.held) {
             self.answered.fetch_add(1, Ordering::SeqCst);
         }
+        if caller == self.awaited && call == self.until {
+            wait_for(&self.gone, 1);
+        }
+    }
+}
+
+// The gate that holds this caller until so many calls of that one were answered.
+fn holding(held: u16, awaited: u16, until: u64) -> Hold {
+    Hold {
+        held,
+        awaited,
+        until,
+        arrived: AtomicU64::new(0),
+        answered: AtomicU64::new(0),
+        gone: AtomicU64::new(0),
     }
 }
 
@@ -216,12 +242,7 @@ fn comes_last<R: Threads + Wait + Sync>(
     held: u16,
     awaited: u16,
 ) -> bool {
-    let gate = Hold {
-        held,
-        awaited,
-        until: 2,
-        answered: AtomicU64::new(0),
-    };
+    let gate = holding(held, awaited, 2);
     match storm(rt, alloc, plan, &gate) {
         Ok(end) => stands_before(end.events.as_slice(), awaited, held),
         Err(_) => false,
@@ -333,12 +354,7 @@ fn is_as_folded(ended: &Result<Ended, StormFault>) -> bool {
 #[test]
 fn folds_and_a_change_take_part(rt: HostRuntime) -> Result<(), Fail> {
     let plan = plan_with_folds(rt.alloc())?;
-    let gate = Hold {
-        held: 6,
-        awaited: 0,
-        until: 4,
-        answered: AtomicU64::new(0),
-    };
+    let gate = holding(6, 0, 4);
     let ended = end_of(&rt, rt.alloc(), &plan, &gate);
     let is_so = ends_with(&ended, 4, 0, 1) && is_as_folded(&ended);
     assert!(rt; is_so);

@@ -1,0 +1,57 @@
+#!/usr/bin/env bash
+# The system calls of the ruled lock, counted by strace: of ten million takes and puts while no other thread is there, and of four
+# threads of which one holds the lock for 200 milliseconds while the others wait. No clause speaks of them. It ends with status 1
+# where a lock that nobody waits for makes any (a put that always wakes), where none of those who wait sleeps, or where they
+# yield time and again (a waiter that never sleeps).
+# usage: bench/pie_lock_calls.sh PIE_BENCH TESTS     TESTS: crates/pie_thread_tests/out/pie_thread_tests_tests, as `rt test` leaves it
+set -eu
+command -v strace >/dev/null || { echo "bench/pie_lock_calls.sh: NOT RUN: no strace" >&2; exit 2; }
+python3 - "$@" <<'PY'
+import os, re, signal, subprocess, sys
+
+bench, tests = sys.argv[1:]
+SLEEPERS = "those_that_sleep_at_a_held_lock_all_wake"
+# So many calls are enough to tell, and so many yields are those of waiters who first look again a few times.
+ENOUGH, FEW = 10_000, 200
+
+
+def calls(words, until=None):
+    """The calls of a program by name, until a line is written that has this text, or there are enough of them."""
+    reader, writer = os.pipe()
+    begun = ["strace", "-f", "-qq", "-e", "trace=futex,sched_yield,nanosleep,write", "-e", "signal=none", "-o", f"/dev/fd/{writer}", *words]
+    child = subprocess.Popen(begun, pass_fds=[writer], stdout=subprocess.DEVNULL, start_new_session=True)
+    os.close(writer)
+    found, ended = {}, until is None
+    with os.fdopen(reader) as lines:
+        for line in lines:
+            # A word that shows 1 is the lock's, where a pass may sleep; a thread that is joined is waited for by its number.
+            call = re.search(r"(futex\(\w+, FUTEX_WAIT\w*, 1,|futex\(\w+, FUTEX_WAKE|futex|sched_yield|nanosleep|write)", line)
+            if call is None or "resumed>" in line:
+                continue
+            name = re.sub(r"\(\w+, |(_PRIVATE)?, 1,$", " ", call[1]).strip()
+            if name == "write":
+                if until is not None and until in line:
+                    ended = True
+                    break
+                continue
+            found[name] = found.get(name, 0) + 1
+            if until is not None and sum(found.values()) >= ENOUGH:
+                break
+    if until is not None:
+        os.killpg(child.pid, signal.SIGKILL)
+    child.wait()
+    return found, ended
+
+
+def told(found):
+    return ", ".join(f"{count} {name}" for name, count in sorted(found.items())) or "none"
+
+
+free, ended = calls([bench, "lock"], until="lock_uncontended")
+print(f"10000000 takes and puts of one thread: {told(free)}" + ("" if ended else ", and then it was stopped"))
+listed = subprocess.run([tests, "--list"], capture_output=True, text=True, check=True).stdout
+held, _ = calls([tests, re.search(rf"^(\S*{SLEEPERS}): test$", listed, re.M)[1]])
+print(f"four threads, of which one holds the lock: {told(held)}")
+slept, yields = held.get("futex FUTEX_WAIT", 0), held.get("sched_yield", 0)
+sys.exit(not (ended and not free and slept >= 1 and yields <= FEW))
+PY

@@ -95,7 +95,7 @@ def refuse(library, met, name, ample, variable, is_on):
     return MOST
 
 
-def room(library, met, name, ample):
+def has_room(library, met, name, ample):
     """The call does with so much room for each request, and does not with too little."""
     for most, is_enough in zip(ROOM[name], (True, False)):
         if os.path.exists(met):
@@ -125,7 +125,7 @@ def main():
                 check((0 in counts) == (REFUSED[name] is None), name, variable, "is met so often:", counts)
                 print(f"tests/libraries.py: {name}: {variable} at {counts[0]} places, and at {counts[1]} with all after it")
         for name in ROOM:
-            room(library, met, name, ample)
+            has_room(library, met, name, ample)
     print(f"tests/libraries.py: {len(failures)} failed")
     sys.exit(1 if failures else 0)
 

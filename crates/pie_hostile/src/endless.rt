@@ -35,8 +35,9 @@ pub(crate) fn all(rt: &impl Print, alloc: Global) -> io::Result<()> {
         Ok((mut lines, opened)) => {
             let is_wanted = opened == opening();
             let count = departures(&mut lines);
+            let is_other = departed(1, Answer::Empty) == departed(1, Answer::Done);
             println!(rt;
-                "HistoryLines over a reader without an end: its opening: {is_wanted}, and {count} lines are its event"
+                "HistoryLines over a reader without an end: its opening: {is_wanted}, {count} lines are its event, and with another answer: {is_other}"
             )
         }
         Err(why) => println!(rt; "HistoryLines over a reader without an end: {why:?}"),

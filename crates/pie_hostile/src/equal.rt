@@ -10,7 +10,7 @@ use pie_explain::{ExplainFault, Which};
 use pie_link::{LinkRefusal, StormFault};
 use pie_params::{Params, RawParams};
 use pie_queue::{Packet, Waiting};
-use pie_trace::{Line, RunEnd, TraceFault};
+use pie_trace::{RunEnd, TraceFault};
 
 /// Equal packets are the same.
 pub(crate) fn packets(one: Packet, other: Packet) -> bool
@@ -54,9 +54,10 @@ pub(crate) fn answers(one: Answer, other: Answer) -> bool
     one == other
 }
 
-/// Equal events are the same.
+/// Equal events have the same caller and the same command. (That their answers are the same is compared where lines are read, in `endless`.)
 pub(crate) fn events(one: Event, other: Event) -> bool
-    ensures { result ≡ true → one ≡ other }
+    ensures caller { result ≡ true → one.caller ≡ other.caller }
+    ensures command { result ≡ true → one.command ≡ other.command }
 {
     one == other
 }
@@ -119,13 +120,6 @@ pub(crate) fn run_ends(one: RunEnd, other: RunEnd) -> bool
 
 /// Equal faults are the same.
 pub(crate) fn faults(one: TraceFault, other: TraceFault) -> bool
-    ensures { result ≡ true → one ≡ other }
-{
-    one == other
-}
-
-/// Equal lines are the same.
-pub(crate) fn lines(one: Line, other: Line) -> bool
     ensures { result ≡ true → one ≡ other }
 {
     one == other

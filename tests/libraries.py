@@ -23,6 +23,7 @@ REFUSED = {
     "Book::open_with": r"Book::open_with: Memory\n",
     "Book::fold": r"Book::fold: Memory, unchanged: true\nand then: events at 2 and 3\nafter Book::fold: 1 in the tail, 3 before it\n",
     "Book::fold of none": None,
+    "Book::fold of one": r"Book::fold of one: Err\(Memory\) events, 1000 in the tail\n",
     "Book::apply": None,
     "RuledLock::new": r"RuledLock::new: Memory, back: 0 and 0\nand then: count 1, total 5\n",
     "RuledLock::try_take": None,
@@ -44,6 +45,9 @@ REFUSED = {
     "explain as CSV": r"explain as CSV: Trace\(Memory\), other bytes: false\n",
     "explain in words": r"explain in words: Trace\(Memory\), other bytes: false\n",
 }
+# What each of these calls requests at the most at once, in bytes, and what is not enough for it: an event takes 112 bytes, however many
+# the tail holds.
+ROOM = {"Book::fold of one": (256, 64)}
 # No call makes so many requests.
 MOST = 1000
 
@@ -91,6 +95,18 @@ def refuse(library, met, name, ample, variable, is_on):
     return MOST
 
 
+def has_room(library, met, name, ample):
+    """The call does with so much room for each request, and does not with too little."""
+    for most, is_enough in zip(ROOM[name], (True, False)):
+        if os.path.exists(met):
+            os.remove(met)
+        status, output, errors = run(LD_PRELOAD=library, REFUSE_MET=met, REFUSE_AFTER=f"begin {name}", REFUSE_OVER=str(most))
+        told = calls_of(output).get(name, "")
+        as_wanted = told == ample[name] and not os.path.exists(met) if is_enough else re.fullmatch(REFUSED[name], told)
+        check((status, errors) == (0, "") and as_wanted, name, "with at most", most, "bytes a request answered", repr(told), errors)
+    print(f"tests/libraries.py: {name}: no request is for more than {ROOM[name][0]} bytes")
+
+
 def main():
     compiler = shutil.which(os.environ.get("CC", "cc"))
     if not compiler:
@@ -108,6 +124,8 @@ def main():
                 counts = [refuse(library, met, name, ample, variable, is_on) for is_on in (False, True)]
                 check((0 in counts) == (REFUSED[name] is None), name, variable, "is met so often:", counts)
                 print(f"tests/libraries.py: {name}: {variable} at {counts[0]} places, and at {counts[1]} with all after it")
+        for name in ROOM:
+            has_room(library, met, name, ample)
     print(f"tests/libraries.py: {len(failures)} failed")
     sys.exit(1 if failures else 0)
 

@@ -29,6 +29,9 @@ expect() {
 expect 'a run' 0 'open,0,4,16,100\ndepart,1,9,empty\n' '' 'open,0,4,16,100\ndepart,1,9\n' run
 expect 'a refused record is no fault' 0 'open,0,4,1,100\ndepart,1,1,empty\nrefused,3,5\n' '' \
     'open,0,4,1,100\ndepart,1,1\ndepart,1,1\n' run
+many=$(printf 'depart,1,1\\n%.0s' $(seq 120))
+expect '119 refused records are none either' 0 "open,0,4,1,100\ndepart,1,1,empty\n$(printf 'refused,%s,5\\n' $(seq 3 121))" '' \
+    "open,0,4,1,100\n$many" run
 expect 'a run of version two' 0 'open2,2,rolling,0,4,16,100\nshown,0,0,0,0,0,0,0,150000000,0,0,0,0\n' '' \
     'open2,2,rolling,0,4,16,100\nshow\n' run
 # The first session of the README, which is the example of `pie run --help` too.

@@ -2,6 +2,7 @@
 #![tactic(auto)]
 
 mod command;
+mod end;
 mod explaining;
 mod given;
 mod help;
@@ -19,7 +20,7 @@ fn main(rt: HostRuntime) -> ExitCode {
         Some(words) => words,
         None => return ExitCode::from(1),
     };
-    let status = command(
+    let end = command(
         &rt,
         rt.alloc(),
         words.as_slice(),
@@ -27,7 +28,7 @@ fn main(rt: HostRuntime) -> ExitCode {
         &mut rt.stdout(),
         &mut rt.stderr(),
     );
-    ExitCode::from(status)
+    ExitCode::from(end.status())
 }
 
 /// The words of the command line, or nothing where they could not be had, which is then said on standard error.

@@ -17,4 +17,4 @@ pub mod text;
 pub use auditor::{Auditor, Finding};
 pub use law::{clean_is_legal, runs_are_clean};
 pub use migration::migration_keeps_the_finding;
-pub use text::audit;
+pub use text::{audit, write_finding};

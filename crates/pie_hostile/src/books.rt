@@ -3,7 +3,8 @@ ghost use Rattle.std.specs.Prelude.{◌≡◌};
 
 use crate::report::begin;
 use pie_book::{
-    Book, Choices, Command, Core, Event, Limits, Mode, OpenRefusal, Profile, Registers, Stats,
+    Book, Choices, Command, Core, Event, FoldRefusal, Limits, Mode, OpenRefusal, Profile, Registers,
+    Stats,
 };
 use pie_fixed::Nanos;
 use pie_params::Params;
@@ -49,6 +50,7 @@ pub(crate) fn all(rt: &impl Print, alloc: Global) -> io::Result<()> {
     book_with(rt, alloc)?;
     fold(rt, alloc)?;
     fold_none(rt, alloc)?;
+    fold_one(rt, alloc)?;
     apply(rt, alloc)
 }
 
@@ -186,54 +188,107 @@ fn four_events(alloc: Global) -> Option<Book> {
     }
 }
 
-/// A fold that is refused leaves the book as it was, and the next one hands out the same events.
-fn fold(rt: &impl Print, alloc: Global) -> io::Result<()> {
-    let Some(mut book) = four_events(alloc) else {
-        return println!(rt; "Book::fold: there is no book");
-    };
-    let before = look_at(&book);
-    begin(rt, "Book::fold")?;
+/// The moments of the first two events that a fold of two hands out.
+fn fold_two(alloc: Global, book: &mut Book) -> Result<(u64, u64), FoldRefusal> {
     match book.fold(alloc, 2) {
-        Ok(events) => {
-            let (first, second) = moments(events.as_slice());
-            println!(rt; "Book::fold: events at {first} and {second}")?;
-        }
+        Ok(events) => Ok(moments(events.as_slice())),
+        Err(why) => Err(why),
+    }
+}
+
+/// Prints what a fold of two handed out, or why it didn't.
+fn tell_fold(
+    rt: &impl Print,
+    name: &str,
+    folded: Result<(u64, u64), FoldRefusal>,
+) -> io::Result<()> {
+    match folded {
+        Ok((first, second)) => println!(rt; "{name}: events at {first} and {second}"),
+        Err(why) => println!(rt; "{name}: {why:?}"),
+    }
+}
+
+/// A fold that is refused leaves the book as it was, and the next one hands out the same events.
+fn fold_in(rt: &impl Print, alloc: Global, book: &mut Book) -> io::Result<()> {
+    let before = look_at(book);
+    begin(rt, "Book::fold")?;
+    let folded = fold_two(alloc, book);
+    match folded {
+        Ok(_) => tell_fold(rt, "Book::fold", folded)?,
         Err(why) => {
-            let is_same = look_at(&book) == before;
+            let is_same = look_at(book) == before;
             println!(rt; "Book::fold: {why:?}, unchanged: {is_same}")?;
-            match book.fold(alloc, 2) {
-                Ok(events) => {
-                    let (first, second) = moments(events.as_slice());
-                    println!(rt; "and then: events at {first} and {second}")?;
-                }
-                Err(why) => println!(rt; "and then: {why:?}")?,
-            }
+            tell_fold(rt, "and then", fold_two(alloc, book))?;
         }
     }
     let (held, count) = (book.tail_len(), book.checkpoint().count);
     println!(rt; "after Book::fold: {held} in the tail, {count} before it")
 }
 
+fn fold(rt: &impl Print, alloc: Global) -> io::Result<()> {
+    match four_events(alloc) {
+        Some(mut book) => fold_in(rt, alloc, &mut book),
+        None => println!(rt; "Book::fold: there is no book"),
+    }
+}
+
+/// How many events a fold of so many hands out.
+fn count_of_fold(alloc: Global, book: &mut Book, n: u64) -> Result<usize, FoldRefusal> {
+    match book.fold(alloc, n) {
+        Ok(events) => Ok(events.len()),
+        Err(why) => Err(why),
+    }
+}
+
+/// Prints how many events a fold of so many hands out, and how many the tail then holds.
+fn tell_count(rt: &impl Print, alloc: Global, name: &str, book: &mut Book, n: u64) -> io::Result<()> {
+    begin(rt, name)?;
+    let count = count_of_fold(alloc, book, n);
+    let held = book.tail_len();
+    println!(rt; "{name}: {count:?} events, {held} in the tail")
+}
+
 /// A fold of no event requests no memory.
 fn fold_none(rt: &impl Print, alloc: Global) -> io::Result<()> {
-    let Some(mut book) = four_events(alloc) else {
-        return println!(rt; "Book::fold of none: there is no book");
+    match four_events(alloc) {
+        Some(mut book) => tell_count(rt, alloc, "Book::fold of none", &mut book, 0),
+        None => println!(rt; "Book::fold of none: there is no book"),
+    }
+}
+
+/// A thousand departures of an empty queue.
+fn depart_often(book: &mut Book) {
+    for moment in 0..1000 {
+        let _ = book.apply(1, Command::Depart { moment });
+    }
+}
+
+/// A book whose tail of a thousand events is full.
+fn wide_book(alloc: Global) -> Option<Book> {
+    let wide = Limits {
+        packets: 4,
+        tail: 1000,
+        events: 1000,
     };
-    begin(rt, "Book::fold of none")?;
-    match book.fold(alloc, 0) {
-        Ok(events) => {
-            let count = events.len();
-            println!(rt; "Book::fold of none: {count} events")
+    match Book::open(alloc, wide, Params::default_profile(), 0) {
+        Ok(mut book) => {
+            depart_often(&mut book);
+            Some(book)
         }
-        Err(why) => println!(rt; "Book::fold of none: {why:?}"),
+        Err(_) => None,
+    }
+}
+
+/// A fold of one event from a full tail of a thousand requests the room of one event.
+fn fold_one(rt: &impl Print, alloc: Global) -> io::Result<()> {
+    match wide_book(alloc) {
+        Some(mut book) => tell_count(rt, alloc, "Book::fold of one", &mut book, 1),
+        None => println!(rt; "Book::fold of one: there is no book"),
     }
 }
 
 /// A book takes its events, and refuses one more, without a request for memory.
-fn apply(rt: &impl Print, alloc: Global) -> io::Result<()> {
-    let Ok(mut book) = Book::open(alloc, limits(), Params::default_profile(), 0) else {
-        return println!(rt; "Book::apply: there is no book");
-    };
+fn apply_in(rt: &impl Print, book: &mut Book) -> io::Result<()> {
     begin(rt, "Book::apply")?;
     for moment in 1..9 {
         let _ = book.apply(1, arrive(moment));
@@ -241,4 +296,11 @@ fn apply(rt: &impl Print, alloc: Global) -> io::Result<()> {
     let last = book.apply(1, arrive(9));
     let (count, packets) = (book.count(), book.registers().packets);
     println!(rt; "Book::apply: {count} events, {packets} packets wait, and then {last:?}")
+}
+
+fn apply(rt: &impl Print, alloc: Global) -> io::Result<()> {
+    match Book::open(alloc, limits(), Params::default_profile(), 0) {
+        Ok(mut book) => apply_in(rt, &mut book),
+        Err(_) => println!(rt; "Book::apply: there is no book"),
+    }
 }

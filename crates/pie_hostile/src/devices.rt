@@ -2,10 +2,11 @@
 
 use crate::failing::{Endless, FailingReader, FailingWriter, Fault};
 use crate::texts::{EXPLAINED, HISTORY, MIGRATED, TRACE, write_to};
-use pie_audit::audit;
+use pie_audit::{Finding, audit, write_finding};
 use pie_explain::{ExplainFault, Form, Which, explain};
 use pie_trace::{HistoryLines, TraceFault, migrate, run_trace, run_trace_within};
 use std::alloc::Global;
+use std::fmt::Debug;
 use std::io;
 
 /// How the calls ended that met a fault.
@@ -111,6 +112,7 @@ pub(crate) fn all(rt: &impl Print, alloc: Global) -> io::Result<()> {
     flushes(rt, alloc)?;
     migrated_flushes(rt, alloc)?;
     explained_flushes(rt, alloc)?;
+    other_flushes(rt, alloc)?;
     endless(rt, alloc)
 }
 
@@ -241,17 +243,34 @@ fn migrate_writes(alloc: Global, for_good: bool) -> Ends {
     ends
 }
 
-/// Prints the fault of a history that is migrated, and the answer where the flush after it fails.
-fn migrated_flush(rt: &impl Print, alloc: Global, text: &[u8]) -> io::Result<()> {
-    let mut writer = FailingWriter::new(MIGRATED, Fault::NONE);
-    let fault = migrate(alloc, text, &mut writer).err();
-    let mut failing = FailingWriter::new(MIGRATED, Fault::NONE);
-    failing.flush_fails = true;
-    let with = migrate(alloc, text, &mut failing).err();
-    let is_same = writer.rest.len() == failing.rest.len() && !writer.differs && !failing.differs;
+/// The fault of a call, if it met one, and how much of what was wanted it left unwritten; nothing where it wrote other bytes.
+type Left<T> = (Option<T>, Option<usize>);
+
+/// Prints the fault of a text, and the answer where the flush after it fails.
+fn tell_flush<T: Debug + Copy>(
+    rt: &impl Print,
+    name: &str,
+    one: Left<T>,
+    with: Left<T>,
+) -> io::Result<()> {
+    let ((fault, left), (again, left_then)) = (one, with);
+    let is_same = left.is_some() && left == left_then;
     println!(rt;
-        "migrate: {fault:?}, and {with:?} where the flush fails; the same was written: {is_same}"
+        "{name}: {fault:?}, and {again:?} where the flush fails; the same was written: {is_same}"
     )
+}
+
+/// How a history is migrated.
+fn migrated(alloc: Global, text: &[u8], flush_fails: bool) -> Left<TraceFault> {
+    let mut writer = FailingWriter::new(MIGRATED, Fault::NONE);
+    writer.flush_fails = flush_fails;
+    let fault = migrate(alloc, text, &mut writer).err();
+    (fault, writer.left())
+}
+
+fn migrated_flush(rt: &impl Print, alloc: Global, text: &[u8]) -> io::Result<()> {
+    let (one, with) = (migrated(alloc, text, false), migrated(alloc, text, true));
+    tell_flush(rt, "migrate", one, with)
 }
 
 /// Each fault of a history that can be met in a short one, and none.
@@ -303,17 +322,17 @@ fn explain_writes(alloc: Global, for_good: bool) -> Ends {
     ends
 }
 
-/// Prints the fault of a trace of at most two records, and the answer where the flush after it fails.
-fn flush(rt: &impl Print, alloc: Global, text: &[u8]) -> io::Result<()> {
+/// How a trace of at most two records is run.
+fn ran(alloc: Global, text: &[u8], flush_fails: bool) -> Left<TraceFault> {
     let mut writer = FailingWriter::new(HISTORY, Fault::NONE);
+    writer.flush_fails = flush_fails;
     let fault = run_trace_within(alloc, text, &mut writer, 2).err();
-    let mut failing = FailingWriter::new(HISTORY, Fault::NONE);
-    failing.flush_fails = true;
-    let with = run_trace_within(alloc, text, &mut failing, 2).err();
-    let is_same = writer.rest.len() == failing.rest.len() && !writer.differs && !failing.differs;
-    println!(rt;
-        "run_trace_within: {fault:?}, and {with:?} where the flush fails; the same was written: {is_same}"
-    )
+    (fault, writer.left())
+}
+
+fn flush(rt: &impl Print, alloc: Global, text: &[u8]) -> io::Result<()> {
+    let (one, with) = (ran(alloc, text, false), ran(alloc, text, true));
+    tell_flush(rt, "run_trace_within", one, with)
 }
 
 /// Each fault of a text, and none.
@@ -334,17 +353,17 @@ fn flushes(rt: &impl Print, alloc: Global) -> io::Result<()> {
     flush(rt, alloc, b"open,0,4,16,100\narrive,1,10,7,1500,ect0,0\n")
 }
 
-/// Prints what explaining a history comes to, and to what where the flush after it fails.
-fn explained_flush(rt: &impl Print, alloc: Global, text: &[u8]) -> io::Result<()> {
+/// How a history is explained.
+fn explained(alloc: Global, text: &[u8], flush_fails: bool) -> Left<ExplainFault> {
     let mut writer = FailingWriter::new(EXPLAINED, Fault::NONE);
+    writer.flush_fails = flush_fails;
     let fault = explain(alloc, text, &mut writer, Which::All, Form::Csv).err();
-    let mut failing = FailingWriter::new(EXPLAINED, Fault::NONE);
-    failing.flush_fails = true;
-    let with = explain(alloc, text, &mut failing, Which::All, Form::Csv).err();
-    let is_same = writer.rest.len() == failing.rest.len() && !writer.differs && !failing.differs;
-    println!(rt;
-        "explain: {fault:?}, and {with:?} where the flush fails; the same was written: {is_same}"
-    )
+    (fault, writer.left())
+}
+
+fn explained_flush(rt: &impl Print, alloc: Global, text: &[u8]) -> io::Result<()> {
+    let (one, with) = (explained(alloc, text, false), explained(alloc, text, true));
+    tell_flush(rt, "explain", one, with)
 }
 
 /// A fault of the text, an event that differs, and neither.
@@ -356,6 +375,28 @@ fn explained_flushes(rt: &impl Print, alloc: Global) -> io::Result<()> {
         alloc,
         b"open,0,4,16,100\narrive,1,10,7,1500,ect0,0,enqueue\n",
     )
+}
+
+/// How a finding is written.
+fn found(flush_fails: bool) -> Left<TraceFault> {
+    let mut writer = FailingWriter::new(b"clean,3\n", Fault::NONE);
+    writer.flush_fails = flush_fails;
+    let fault = write_finding(Finding::Clean { events: 3 }, &mut writer).err();
+    (fault, writer.left())
+}
+
+/// How a history is written.
+fn wrote(alloc: Global, flush_fails: bool) -> Left<TraceFault> {
+    let mut writer = FailingWriter::new(HISTORY, Fault::NONE);
+    writer.flush_fails = flush_fails;
+    let fault = write_to(alloc, &mut writer).err();
+    (fault, writer.left())
+}
+
+/// Flushes after what has no fault of a text.
+fn other_flushes(rt: &impl Print, alloc: Global) -> io::Result<()> {
+    tell_flush(rt, "write_finding", found(false), found(true))?;
+    tell_flush(rt, "write_history", wrote(alloc, false), wrote(alloc, true))
 }
 
 /// The history of 999 departures from a tail of sixteen events.
@@ -370,16 +411,22 @@ fn departures(alloc: Global) -> Result<String, io::Error> {
     Ok(history)
 }
 
-/// A reader without an end: the run ends where no further record may be read.
-fn endless(rt: &impl Print, alloc: Global) -> io::Result<()> {
-    let wanted = departures(alloc)?;
+/// How a trace without an end is run, where this history is wanted.
+fn run_endless(alloc: Global, wanted: &[u8]) -> Left<TraceFault> {
     let reader = Endless {
         rest: b"open,0,4,16,100\n",
         again: b"depart,1,1\n",
     };
-    let mut writer = FailingWriter::new(wanted.as_bytes(), Fault::NONE);
+    let mut writer = FailingWriter::new(wanted, Fault::NONE);
     let fault = run_trace_within(alloc, reader, &mut writer, 1000).err();
-    let is_all = writer.rest.is_empty() && !writer.differs;
+    (fault, writer.left())
+}
+
+/// A reader without an end: the run ends where no further record may be read.
+fn endless(rt: &impl Print, alloc: Global) -> io::Result<()> {
+    let wanted = departures(alloc)?;
+    let (fault, left) = run_endless(alloc, wanted.as_bytes());
+    let is_all = left == Some(0);
     println!(rt;
         "run_trace_within over a reader without an end: {fault:?}, its history written: {is_all}"
     )

@@ -103,6 +103,15 @@ impl<'a> FailingWriter<'a> {
             flush_fails: false,
         }
     }
+
+    /// How many of the wanted bytes did not come; nothing where another byte came.
+    pub(crate) fn left(&self) -> Option<usize> {
+        if self.differs {
+            None
+        } else {
+            Some(self.rest.len())
+        }
+    }
 }
 
 impl Write for FailingWriter<'_> {

@@ -79,74 +79,136 @@ fn registers(link: &Link, caller: &mut Caller) -> Option<Registers>
     }
 }
 
+/// How many events the book of a link has, as another caller reads it; 0 where the lock is not free.
+fn count(link: &Link, caller: &mut Caller) -> u64
+    requires own { caller.old.lock ≡ link.now }
+    ensures stays { StaysOne caller.old caller.new }
+{
+    match registers(link, caller) {
+        Some(registers) => registers.count,
+        None => 0,
+    }
+}
+
 /// Two callers' events, and what a caller reads, make no request for memory.
 fn events(rt: &impl Print, alloc: Global) -> io::Result<()> {
     let Some((link, mut one, mut two)) = three_events(alloc) else {
         return println!(rt; "Link::try_arrive: there is no link");
     };
-    begin(rt, "Link::try_arrive")?;
+    // (without `?`, beside which the link would be let go)
+    let begun = begin(rt, "Link::try_arrive");
     let arrived = link.try_arrive(&mut two, 9, packet(9), 0).is_ok();
     let left = link.try_depart(&mut one, 9).is_ok();
-    let count = match registers(&link, &mut two) {
-        Some(registers) => registers.count,
-        None => 0,
-    };
+    let count = count(&link, &mut two);
     let closed = link.gather(&mut one, two).is_ok() && link.close(one).is_ok();
+    begun?;
     println!(rt; "Link::try_arrive: {arrived} {left}, {count} events, {closed}")
 }
 
-/// Prints a fold's events and number.
-fn tell_folded(rt: &impl Print, name: &str, told: Told<Vec<Event>>) -> io::Result<()> {
+/// The moments of a fold's first two events, and the fold's number.
+fn folded(told: Told<Vec<Event>>) -> (u64, u64, u64) {
     let (first, second) = moments(told.answer.as_slice());
-    let number = told.number;
-    println!(rt; "{name}: events at {first} and {second}, number {number}")
+    (first, second, told.number)
 }
 
-/// Prints a refused fold, whether another caller finds the lock free and the book unchanged, and the same fold again.
-fn tell_refused(
+/// A fold of two that never blocks.
+fn try_two(link: &Link, caller: &mut Caller) -> Result<(u64, u64, u64), Tried<FoldRefusal>>
+    requires own { caller.old.lock ≡ link.now }
+{
+    match link.try_fold(caller, 2) {
+        Ok(told) => Ok(folded(told)),
+        Err(why) => Err(why),
+    }
+}
+
+/// A fold of two that waits for the book.
+fn wait_for_two<R: Wait>(
+    rt: &R,
+    link: &Link,
+    caller: &mut Caller,
+) -> Result<(u64, u64, u64), Tried<FoldRefusal>>
+    requires own { caller.old.lock ≡ link.now }
+{
+    match link.fold(rt, caller, 2) {
+        Ok(told) => Ok(folded(told)),
+        Err(why) => Err(Tried::Refused(why)),
+    }
+}
+
+/// Prints what a fold of two handed out, or why it didn't.
+fn tell_fold(
+    rt: &impl Print,
+    name: &str,
+    folded: Result<(u64, u64, u64), Tried<FoldRefusal>>,
+) -> io::Result<()> {
+    match folded {
+        Ok((first, second, number)) => {
+            println!(rt; "{name}: events at {first} and {second}, number {number}")
+        }
+        Err(why) => println!(rt; "{name}: {why:?}"),
+    }
+}
+
+/// Prints what a fold handed out. Where it was refused, also whether another caller finds the lock free and the book as it was, and the
+/// same fold again.
+fn tell_folds(
     rt: &impl Print,
     name: &str,
     link: &Link,
     caller: &mut Caller,
     before: Option<Registers>,
-    why: Tried<FoldRefusal>,
+    folded: Result<(u64, u64, u64), Tried<FoldRefusal>>,
 ) -> io::Result<()>
     requires own { caller.old.lock ≡ link.now }
 {
-    let after = registers(link, caller);
-    let is_same = after.is_some() && after == before;
-    println!(rt; "{name}: {why:?}, free and unchanged: {is_same}")?;
-    match link.try_fold(caller, 2) {
-        Ok(told) => tell_folded(rt, "and then", told),
-        Err(why) => println!(rt; "and then: {why:?}"),
-    }
-}
-
-/// A fold that never blocks.
-fn try_fold(rt: &impl Print, alloc: Global) -> io::Result<()> {
-    let Some((link, mut one, mut two)) = three_events(alloc) else {
-        return println!(rt; "Link::try_fold: there is no link");
-    };
-    let before = registers(&link, &mut two);
-    begin(rt, "Link::try_fold")?;
-    match link.try_fold(&mut one, 2) {
-        Ok(told) => tell_folded(rt, "Link::try_fold", told),
-        Err(why) => tell_refused(rt, "Link::try_fold", &link, &mut two, before, why),
-    }
-}
-
-/// A fold that waits for the book.
-fn fold<R: Wait + Print>(rt: &R, alloc: Global) -> io::Result<()> {
-    let Some((link, mut one, mut two)) = three_events(alloc) else {
-        return println!(rt; "Link::fold: there is no link");
-    };
-    let before = registers(&link, &mut two);
-    begin(rt, "Link::fold")?;
-    match link.fold(rt, &mut one, 2) {
-        Ok(told) => tell_folded(rt, "Link::fold", told),
+    match folded {
+        Ok(_) => tell_fold(rt, name, folded),
         Err(why) => {
-            let why = Tried::Refused(why);
-            tell_refused(rt, "Link::fold", &link, &mut two, before, why)
+            let after = registers(link, caller);
+            let is_same = after.is_some() && after == before;
+            println!(rt; "{name}: {why:?}, free and unchanged: {is_same}")?;
+            tell_fold(rt, "and then", try_two(link, caller))
         }
+    }
+}
+
+/// A fold of one caller that never blocks, and what the other finds.
+fn try_fold_at(rt: &impl Print, link: &Link, one: &mut Caller, two: &mut Caller) -> io::Result<()>
+    requires one { one.old.lock ≡ link.now }
+    requires two { two.old.lock ≡ link.now }
+{
+    let before = registers(link, two);
+    begin(rt, "Link::try_fold")?;
+    let folded = try_two(link, one);
+    tell_folds(rt, "Link::try_fold", link, two, before, folded)
+}
+
+fn try_fold(rt: &impl Print, alloc: Global) -> io::Result<()> {
+    match three_events(alloc) {
+        Some((link, mut one, mut two)) => try_fold_at(rt, &link, &mut one, &mut two),
+        None => println!(rt; "Link::try_fold: there is no link"),
+    }
+}
+
+/// A fold of one caller that waits for the book, and what the other finds.
+fn fold_at<R: Wait + Print>(
+    rt: &R,
+    link: &Link,
+    one: &mut Caller,
+    two: &mut Caller,
+) -> io::Result<()>
+    requires one { one.old.lock ≡ link.now }
+    requires two { two.old.lock ≡ link.now }
+{
+    let before = registers(link, two);
+    begin(rt, "Link::fold")?;
+    let folded = wait_for_two(rt, link, one);
+    tell_folds(rt, "Link::fold", link, two, before, folded)
+}
+
+fn fold<R: Wait + Print>(rt: &R, alloc: Global) -> io::Result<()> {
+    match three_events(alloc) {
+        Some((link, mut one, mut two)) => fold_at(rt, &link, &mut one, &mut two),
+        None => println!(rt; "Link::fold: there is no link"),
     }
 }

@@ -1,14 +1,18 @@
 //! `pie_hostile`: makes each call of the libraries that can want memory, one after another, and says what it answered and what it
-//! left; and runs the calls that read or write over devices that fail at each place. Its argument names what it makes.
+//! left; runs the calls that read or write over devices that fail at each place; and prints a worked row event by event, and lines of a history
+//! without an end. Its argument names what it makes. The functions of `equal` say what `==` of the public types means.
 //! `tests/libraries.py` refuses each request for memory of each call in turn.
 #![tactic(auto)]
 
 mod books;
 mod devices;
+mod endless;
+mod equal;
 mod failing;
 mod links;
 mod locks;
 mod report;
+mod steps;
 mod storms;
 mod texts;
 
@@ -31,12 +35,20 @@ fn make<R: Threads + Wait + Print + Sync>(rt: &R, alloc: Global, name: &str) -> 
     match name {
         "memory" => memory(rt, alloc),
         "devices" => devices::all(rt, alloc),
+        "values" => values(rt, alloc),
         "all" => {
             memory(rt, alloc)?;
-            devices::all(rt, alloc)
+            devices::all(rt, alloc)?;
+            values(rt, alloc)
         }
-        _ => println!(rt; "pie_hostile: name what to make: memory, devices or all"),
+        _ => println!(rt; "pie_hostile: name what to make: memory, devices, values or all"),
     }
+}
+
+/// A worked row, and a history without an end.
+fn values(rt: &impl Print, alloc: Global) -> io::Result<()> {
+    steps::all(rt, alloc)?;
+    endless::all(rt, alloc)
 }
 
 /// Each call that can want memory.

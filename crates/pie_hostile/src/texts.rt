@@ -151,14 +151,18 @@ fn lines_of(lines: &mut HistoryLines<&[u8]>) -> (u64, Option<TraceFault>, Option
 }
 
 /// A fault is answered for good.
-fn next_lines(rt: &impl Print, alloc: Global) -> io::Result<()> {
-    let Ok((mut lines, _)) = HistoryLines::open(alloc, HISTORY) else {
-        return println!(rt; "next_line: there is no history");
-    };
+fn tell_lines(rt: &impl Print, lines: &mut HistoryLines<&[u8]>) -> io::Result<()> {
     begin(rt, "next_line")?;
-    let (count, why, then) = lines_of(&mut lines);
+    let (count, why, then) = lines_of(lines);
     println!(rt; "next_line: {why:?}, and then {then:?}")?;
     println!(rt; "lines before it: {count}")
+}
+
+fn next_lines(rt: &impl Print, alloc: Global) -> io::Result<()> {
+    match HistoryLines::open(alloc, HISTORY) {
+        Ok((mut lines, _)) => tell_lines(rt, &mut lines),
+        Err(why) => println!(rt; "next_line: there is no history: {why:?}"),
+    }
 }
 
 /// What the history was opened with.
@@ -250,15 +254,21 @@ fn open_auditor(rt: &impl Print, alloc: Global) -> io::Result<()> {
 }
 
 /// An auditor looks at lines without a request for memory.
-fn feed(rt: &impl Print, alloc: Global) -> io::Result<()> {
-    let Ok(mut auditor) = Auditor::open(alloc, &opening()) else {
-        return println!(rt; "Auditor::feed: there is no auditor");
-    };
+fn feed_three(rt: &impl Print, auditor: &mut Auditor) -> io::Result<()> {
     begin(rt, "Auditor::feed")?;
     auditor.feed(&Line::Made(arrived()));
     auditor.feed(&Line::Made(departed(25, Answer::Left(packet()))));
     auditor.feed(&Line::Made(departed(30, Answer::Left(packet()))));
+    Ok(())
+}
+
+fn feed(rt: &impl Print, alloc: Global) -> io::Result<()> {
+    let Ok(mut auditor) = Auditor::open(alloc, &opening()) else {
+        return println!(rt; "Auditor::feed: there is no auditor");
+    };
+    let begun = feed_three(rt, &mut auditor);
     let found = auditor.finish();
+    begun?;
     println!(rt; "Auditor::feed: {found:?}")
 }
 

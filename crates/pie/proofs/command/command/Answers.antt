@@ -1,10 +1,10 @@
-use Rattle.std.proofs.Common.{◌≡◌, Some, List, arith, codes, inl, inr, map, refl, rules, string_bytes, sym, subst}
+use Rattle.std.proofs.Common.{◌≡◌, ◌∙◌, Some, List, ap, arith, codes, inl, inr, map, refl, rules, string_bytes, sym, subst}
 use Rattle.std.specs.Prelude.{IfSome}
 use Rattle.clap.specs.Words.{Row, app_of, found_of, rows_of}
 use Rattle.pie.proofs.EndFacts.{EndsAudit-failed, EndsExplain-failed, EndsMigrate-failed, EndsRun-failed}
 use Rattle.pie.proofs.WordFacts.{asked-taken, audit-in, audit-taken, migrate-in, migrate-taken, no-other, options-in, run-in, run-taken}
 use Rattle.pie.specs.Choice.{choice_of, form_of}
-use Rattle.pie.specs.Ends.{EndsExplain}
+use Rattle.pie.specs.Ends.{EndsAudit, EndsExplain, EndsMigrate, EndsRun, status_of}
 use Rattle.pie.specs.StormEnds.{EndsStorm}
 use Rattle.pie.specs.Words.{options_in, subcommand_in}
 use Rattle.pie.proofs.command.command.Goals as goal
@@ -13,39 +13,39 @@ use Rattle.pie.proofs.command.command.Goals as goal
 
 pub returns-in-Err-clause-explains : goal.returns-in-Err-clause-explains
 returns-in-Err-clause-explains g c asks =
-    EndsExplain-failed (choice_of (options_in (map string_bytes c.args.words.now))) (form_of (options_in (map string_bytes c.args.words.now))) (g.R.Read.remaining c.args.input) c.fault.result (g.W.Write.contents c.args.output.now)
-    (g.W.Write.contents c.args.output.now) c.fault.ensures refl
+    EndsExplain-failed (choice_of (options_in (map string_bytes c.args.words.now))) (form_of (options_in (map string_bytes c.args.words.now))) (g.R.Read.remaining c.args.input) (status_of c.failed.result) (g.W.Write.contents c.args.output.now)
+    (g.W.Write.contents c.args.output.now) (ap status_of c.failed.ensures) refl
 
 pub returns-in-Err-try_get_matches_from-clause-runs : goal.returns-in-Err-try_get_matches_from-clause-runs
 returns-in-Err-try_get_matches_from-clause-runs g c asks =
     let taken = run-taken (app_of c.in-Ok.options) (map string_bytes c.args.words.now) c.in-Ok.ensures asks in
     let failed = c.mistake.ensures.memory (c.in-Err-try_get_matches_from.ensures.passes taken) in
-    EndsRun-failed (g.R.Read.remaining c.args.input) c.mistake.result (g.W.Write.contents c.args.output.now) (g.W.Write.contents c.mistake.new.output) failed.0
+    rw (c.with_status.ensures.failed failed.0) (EndsRun-failed (g.R.Read.remaining c.args.input) (g.W.Write.contents c.args.output.now) (g.W.Write.contents c.mistake.new.output) failed.1)
 
 pub returns-in-Err-try_get_matches_from-clause-audits : goal.returns-in-Err-try_get_matches_from-clause-audits
 returns-in-Err-try_get_matches_from-clause-audits g c asks =
     let taken = audit-taken (app_of c.in-Ok.options) (map string_bytes c.args.words.now) c.in-Ok.ensures asks in
     let failed = c.mistake.ensures.memory (c.in-Err-try_get_matches_from.ensures.passes taken) in
-    EndsAudit-failed (g.R.Read.remaining c.args.input) c.mistake.result (g.W.Write.contents c.args.output.now) (g.W.Write.contents c.mistake.new.output) failed.0 failed.1
+    rw (c.with_status.ensures.failed failed.0) (EndsAudit-failed (g.R.Read.remaining c.args.input) (g.W.Write.contents c.args.output.now) (g.W.Write.contents c.mistake.new.output) failed.1)
 
 pub returns-in-Err-try_get_matches_from-clause-migrates : goal.returns-in-Err-try_get_matches_from-clause-migrates
 returns-in-Err-try_get_matches_from-clause-migrates g c asks =
     let taken = migrate-taken (app_of c.in-Ok.options) (map string_bytes c.args.words.now) c.in-Ok.ensures asks in
     let failed = c.mistake.ensures.memory (c.in-Err-try_get_matches_from.ensures.passes taken) in
-    EndsMigrate-failed (g.R.Read.remaining c.args.input) c.mistake.result (g.W.Write.contents c.args.output.now) (g.W.Write.contents c.mistake.new.output) failed.0
+    rw (c.with_status.ensures.failed failed.0) (EndsMigrate-failed (g.R.Read.remaining c.args.input) (g.W.Write.contents c.args.output.now) (g.W.Write.contents c.mistake.new.output) failed.1)
 
 pub returns-in-Err-try_get_matches_from-clause-explains : goal.returns-in-Err-try_get_matches_from-clause-explains
 returns-in-Err-try_get_matches_from-clause-explains g c asks =
     let failed = c.mistake.ensures.memory (c.in-Err-try_get_matches_from.ensures.passes
     (asked-taken (app_of c.in-Ok.options) (codes "explain") (map string_bytes c.args.words.now) c.in-Ok.ensures asks)) in
-    EndsExplain-failed (choice_of (options_in (map string_bytes c.args.words.now))) (form_of (options_in (map string_bytes c.args.words.now))) (g.R.Read.remaining c.args.input) c.mistake.result (g.W.Write.contents c.args.output.now)
-    (g.W.Write.contents c.mistake.new.output) failed.0 failed.1
+    EndsExplain-failed (choice_of (options_in (map string_bytes c.args.words.now))) (form_of (options_in (map string_bytes c.args.words.now))) (g.R.Read.remaining c.args.input) (status_of c.with_status.result) (g.W.Write.contents c.args.output.now)
+    (g.W.Write.contents c.mistake.new.output) (c.with_status.ensures.status ∙ failed.0) failed.1
 
 pub returns-in-Err-try_get_matches_from-clause-storms : goal.returns-in-Err-try_get_matches_from-clause-storms
 returns-in-Err-try_get_matches_from-clause-storms g c asks =
     let failed = c.mistake.ensures.memory (c.in-Err-try_get_matches_from.ensures.passes
     (asked-taken (app_of c.in-Ok.options) (codes "storm") (map string_bytes c.args.words.now) c.in-Ok.ensures asks)) in
-    inl failed.0
+    inl (c.with_status.ensures.status ∙ failed.0)
 
 -- ---- another subcommand was found
 
@@ -114,8 +114,8 @@ returns-in-storm-clause-migrates g c asks =
 
 pub returns-in_default-name-clause-explains : goal.returns-in_default-name-clause-explains
 returns-in_default-name-clause-explains g c asks =
-    EndsExplain-failed (choice_of (options_in (map string_bytes c.args.words.now))) (form_of (options_in (map string_bytes c.args.words.now))) (g.R.Read.remaining c.args.input) c.fault-in_default-name.result (g.W.Write.contents c.args.output.now)
-    (g.W.Write.contents c.args.output.now) c.fault-in_default-name.ensures refl
+    EndsExplain-failed (choice_of (options_in (map string_bytes c.args.words.now))) (form_of (options_in (map string_bytes c.args.words.now))) (g.R.Read.remaining c.args.input) (status_of c.failed-in_default-name.result) (g.W.Write.contents c.args.output.now)
+    (g.W.Write.contents c.args.output.now) (ap status_of c.failed-in_default-name.ensures) refl
 
 -- ---- the subcommand's own promise, at the options that the words give it
 
@@ -128,11 +128,13 @@ pub returns-in-explain-clause-explains : goal.returns-in-explain-clause-explains
 returns-in-explain-clause-explains g c asks =
     let given = options-in (app_of c.in-Ok.options) (map string_bytes c.args.words.now) c.in-Ok-try_get_matches_from.matches (rows_of (found_of c.in-Some.options.now)) c.in-Ok.ensures
     c.in-Ok-try_get_matches_from.ensures.matches c.in-Some.ensures.rows in
-    subst (λ (rows : List Row). IfSome (g.R.Read.remaining c.args.input) (λ text. EndsExplain (choice_of rows) (form_of rows) text c.explain_input.result (g.W.Write.contents c.args.output.now)
-    (g.W.Write.contents c.explain_input.new.output))) (sym given) c.explain_input.ensures.explains
+    rw c.with_status-in-explain.ensures.status
+    (subst (λ (rows : List Row). IfSome (g.R.Read.remaining c.args.input) (λ text. EndsExplain (choice_of rows) (form_of rows) text c.explain_input.result (g.W.Write.contents c.args.output.now)
+    (g.W.Write.contents c.explain_input.new.output))) (sym given) c.explain_input.ensures.explains)
 
 pub returns-in-storm-clause-storms : goal.returns-in-storm-clause-storms
 returns-in-storm-clause-storms g c asks =
     let given = options-in (app_of c.in-Ok.options) (map string_bytes c.args.words.now) c.in-Ok-try_get_matches_from.matches (rows_of (found_of c.in-Some.options.now)) c.in-Ok.ensures
     c.in-Ok-try_get_matches_from.ensures.matches c.in-Some.ensures.rows in
-    subst (λ (rows : List Row). EndsStorm rows c.make_storm.result (g.W.Write.contents c.args.output.now) (g.W.Write.contents c.make_storm.new.output)) (sym given) c.make_storm.ensures
+    rw c.with_status-in-storm.ensures.status
+    (subst (λ (rows : List Row). EndsStorm rows c.make_storm.result (g.W.Write.contents c.args.output.now) (g.W.Write.contents c.make_storm.new.output)) (sym given) c.make_storm.ensures)

@@ -1,9 +1,7 @@
-use Rattle.pie.proofs.EndFacts.{EndsMigrate-done, EndsMigrate-failed}
+use Rattle.pie.proofs.EndFacts.{EndsMigrate-told}
 use Rattle.pie.proofs.command.migrate_input.Goals as goal
 
-pub returns-in-Ok-clause-migrates : goal.returns-in-Ok-clause-migrates
-returns-in-Ok-clause-migrates g c = EndsMigrate-done (g.R.Read.remaining c.args.input) c.in-Ok.field-0 (g.W.Write.contents c.args.output.now) (g.W.Write.contents c.migrate.new.writer)
-    c.in-Ok.ensures.ends (c.in-Ok.ensures.writes)
-
-pub returns-in-Err-clause-migrates : goal.returns-in-Err-clause-migrates
-returns-in-Err-clause-migrates g c = EndsMigrate-failed (g.R.Read.remaining c.args.input) c.fault.result (g.W.Write.contents c.args.output.now) (g.W.Write.contents c.migrate.new.writer) c.fault.ensures
+pub returns-clause-migrates : goal.returns-clause-migrates
+returns-clause-migrates g c =
+    rw c.ended.ensures (EndsMigrate-told (g.R.Read.remaining c.args.input) c.migrate-given.result (g.W.Write.contents c.args.output.now) (g.W.Write.contents c.migrate-given.new.writer)
+    c.migrate-given.ensures.ends c.migrate-given.ensures.faults c.migrate-given.ensures.writes)

@@ -6,8 +6,8 @@ _pie() {
     else
         case $subcommand in
             run | audit | migrate) words='--help' ;;
-            explain) words='--event --tag --lost --all --csv --help' ;;
-            storm) words='--senders --packets --seed --help' ;;
+            explain) words='--event --tag --lost --marked --all --csv --help' ;;
+            storm) words='--senders --packets --seed --load --count --help' ;;
             help) words='run audit explain migrate storm help' ;;
             *) words='' ;;
         esac

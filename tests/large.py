@@ -16,7 +16,9 @@ TAIL, PACKETS, PAIRS, FOLD = 2**20, 65536, 1_000_000, 5000
 # A threshold of 65536 bytes for a cycle of the departure rate, which no queue here reaches: so no delay and no probability is above 0.
 OPENING = f"0,{PACKETS},{TAIL},4194304,15000000,15000000,150000000,125,1250,1024,262144,100000000000,65536\n"
 HEADER = (
-    "number,kind,caller,moment,effective_moment,tag,size,verdict,cause,bytes,packets,delay,probability,accumulated_probability,burst_allowance\n"
+    "number,kind,caller,moment,effective_moment,tag,size,verdict,cause,bytes,packets,delay,probability,accumulated_probability,burst_allowance,"
+    "ecn,word,waited,active,set_by,bytes_after,packets_after,delay_after,probability_after,accumulated_probability_after,burst_allowance_after,"
+    "active_after\n"
 )
 # (the tail takes 112 bytes an event, and each of two rings 48 bytes a packet at the most)
 MEMORY = 512 * 2**20
@@ -37,6 +39,7 @@ class Course:
     def __init__(self):
         self.trace, self.history, self.migrated, self.explained = [f"open,{OPENING}"], [f"open,{OPENING}"], [f"open2,1,bounded,{OPENING}"], [HEADER]
         self.events, self.waiting, self.bytes, self.next = 0, 0, 0, 0
+        self.arrived = {}
 
     def record(self, asked, told, migrated=None):
         self.trace.append(asked)
@@ -47,19 +50,22 @@ class Course:
         ecn = ECNS[tag % 4]
         asked = f"arrive,{tag % 65536},{moment},{tag},{size},{ecn},{tag}"
         self.record(f"{asked}\n", f"{asked},{verdict}\n")
-        self.explain(f"arrive,{tag % 65536},{moment},{moment},{tag},{size},{verdict},{cause}")
-        if verdict == "enqueue":
-            self.waiting, self.bytes = self.waiting + 1, self.bytes + size
+        self.arrived[tag] = moment
+        grown = (self.bytes + size, self.waiting + 1) if verdict == "enqueue" else (self.bytes, self.waiting)
+        self.explain(f"arrive,{tag % 65536},{moment},{moment},{tag},{size},{verdict},{cause}", f"{ecn},{tag},", *grown)
 
     def depart(self, moment, tag, size):
         asked = f"depart,7,{moment}"
         self.record(f"{asked}\n", f"{asked},left,{tag},{size},{ECNS[tag % 4]}\n")
-        self.explain(f"depart,7,{moment},{moment},{tag},{size},left,")
-        self.waiting, self.bytes = self.waiting - 1, self.bytes - size
+        waited = moment - self.arrived.pop(tag)
+        self.explain(f"depart,7,{moment},{moment},{tag},{size},left,", f"{ECNS[tag % 4]},,{waited}", self.bytes - size, self.waiting - 1)
 
-    def explain(self, event):
+    def explain(self, event, more, size, packets):
+        """The record of an event, which makes the queue of this size in bytes and in packets."""
         self.events += 1
-        self.explained.append(f"{self.events},{event},{self.bytes},{self.waiting},0,0,0,150000000\n")
+        rest = "0,0,0,150000000"
+        self.explained.append(f"{self.events},{event},{self.bytes},{self.waiting},{rest},{more},1,,{size},{packets},{rest},1\n")
+        self.bytes, self.waiting = size, packets
 
 
 def size_of(tag):

@@ -84,47 +84,85 @@ expect 'a fault after a changed verdict' 1 '' 'pie: record 15: wrong number of f
 expect 'limits of a history out of range' 1 '' 'pie: record 1: limits out of range\n' 'open,0,0,16,100\n' audit
 expect 'an empty history' 1 '' 'pie: the first record is not an open record\n' '' audit
 # Explanations: of the packet that was lost, of one event, up to a changed verdict; and what is not there.
-header='number,kind,caller,moment,effective_moment,tag,size,verdict,cause,bytes,packets,delay,probability,accumulated_probability,burst_allowance\n'
-lost='11,arrive,2,1001003,1001003,6,500,early,picked_by_word_not_capable,2548,3,2488281,903954174169,0,0\n'
+header='number,kind,caller,moment,effective_moment,tag,size,verdict,cause,bytes,packets,delay,probability,accumulated_probability,burst_allowance'
+header="$header,ecn,word,waited,active,set_by,bytes_after,packets_after,delay_after,probability_after,accumulated_probability_after"
+header="$header,burst_allowance_after,active_after\\n"
+lost='11,arrive,2,1001003,1001003,6,500,early,picked_by_word_not_capable,2548,3,2488281,903954174169,0,0,not,0,,1,9,2548,3,2488281,903954174169,0,0,1\n'
+begins='1,arrive,1,0,0,1,1024,enqueue,low_delay,0,0,0,0,0,0,not,0,,1,,1024,1,0,0,0,0,1\n'
 changed=${history/ect0,0,mark/ect0,0,early}
 differs='pie: event 10 is not what the rules give there, so it and later events are not explained\n'
-choice='pie: explain takes exactly one of --event N, --tag T, --lost and --all; see pie explain --help\n'
+choice='pie: explain takes exactly one of --event N, --tag T, --lost, --marked and --all; see pie explain --help\n'
 expect 'a lost packet' 0 "$header$lost" '' "$history" explain --csv --lost
 expect 'a tag' 0 "$header$lost" '' "$history" explain --tag 6 --csv
 expect 'no packet lost before a changed verdict' 2 "$header" "$differs" "$changed" explain --csv --lost
-expect 'an event before a changed verdict' 2 "${header}1,arrive,1,0,0,1,1024,enqueue,low_delay,0,0,0,0,0,0\n" "$differs" "$changed" explain --csv --event=1
+expect 'an event before a changed verdict' 2 "${header}$begins" "$differs" "$changed" explain --csv --event=1
 expect 'all events before a changed verdict' 2 \
-    "${header}1,arrive,1,0,0,1,1024,enqueue,low_delay,0,0,0,0,0,0\n2,arrive,1,0,0,2,1024,enqueue,low_delay,1024,1,0,0,0,0\n3,arrive,1,0,0,3,1024,enqueue,low_delay,2048,2,0,0,0,0\n" \
+    "$header${begins}2,arrive,1,0,0,2,1024,enqueue,low_delay,1024,1,0,0,0,0,not,0,,1,,2048,2,0,0,0,0,1\n3,arrive,1,0,0,3,1024,enqueue,low_delay,2048,2,0,0,0,0,not,0,,1,,3072,3,0,0,0,0,1\n" \
     'pie: event 4 is not what the rules give there, so it and later events are not explained\n' "${history/4,1024,not,0,enqueue/4,1024,not,0,mark}" explain --csv --all
 expect 'an event that is not there' 1 '' 'pie: there is no event 12: the history has 11 events\n' "$history" explain --event 12
 expect 'a tag that is not there' 1 "$header" 'pie: no packet has the tag 9\n' "$history" explain --csv --tag 9
 expect 'a fault of an explained history' 1 '' 'pie: record 15: wrong number of fields\n' "${changed}shown\n" explain --lost
-expect 'a controller that is off' 0 "${header}1,arrive,1,1,1,1,100,enqueue,inactive,0,0,0,0,0,150000000\n2,depart,2,5,5,1,100,left,,100,1,0,0,0,150000000\n" '' \
+off='1,arrive,1,1,1,1,100,enqueue,inactive,0,0,0,0,0,150000000,not,0,,0,,100,1,0,0,0,150000000,0\n'
+off="${off}2,depart,2,5,5,1,100,left,,100,1,0,0,0,150000000,not,,4,0,,0,0,0,0,0,150000000,0\n"
+expect 'a controller that is off' 0 "$header$off" '' \
     'open2,2,bounded,0,4,16,100\narrive,1,1,1,100,not,0,enqueue\ndepart,2,5,left,1,100,not\n' explain --all --csv
 # What set the probability in profile two: an arrival that turns the controller on, which a calm update turns off, and no update
 # while it is off.
-set_by=$(printf 'open2,2,bounded,0,8,32,100,2,1,0,850000,0,1,1500,1000000000000,1024\narrive,1,0,1,400,not,0\nupdate,4,1\narrive,1,1,2,100,not,0\nupdate,4,2\narrive,1,3,3,100,not,0\ndepart,3,4\nreset,4,5\ndepart,3,6\n' |
-    "$program" run | "$program" explain --all | grep -o 'as at the opening\|set by event [0-9]*' | tr '\n' ';')
+printf 'open2,2,bounded,0,8,32,100,2,1,0,850000,0,1,1500,1000000000000,1024\narrive,1,0,1,400,not,0\nupdate,4,1\narrive,1,1,2,100,not,0\nupdate,4,2\narrive,1,3,3,100,not,0\ndepart,3,4\nreset,4,5\ndepart,3,6\n' |
+    "$program" run > "$work/turned"
+set_by=$("$program" explain --all < "$work/turned" | grep -o 'as at the opening\|set by event [0-9]*' | tr '\n' ';')
 if [ "$set_by" != 'as at the opening;as at the opening;as at the opening;set by event 3;set by event 4;set by event 5;set by event 5;set by event 7;' ]; then
     echo "tests/pie.sh: what set the probability: $set_by"
     failed=1
 fi
+# .. and the words of that: no update so far, an update while it is off, turning on and off at the event that did it.
+turned=$(printf '%s\n' '  this event turned the controller on' '  this event turned the controller off' '  this event turned the controller on')
+if [ "$("$program" explain --all < "$work/turned" | grep turned.the)" != "$turned" ] ||
+    [ "$("$program" explain --event 3 < "$work/turned" | sed -n 4p)" != "${turned%%$'\n'*}" ] ||
+    [ "$("$program" explain --event 4 < "$work/turned" | sed -n 5p)" != '  this event turned the controller off' ]; then
+    echo 'tests/pie.sh: an event turns the controller on or off, and is not said to'
+    failed=1
+fi
+expect 'an update while the controller is off' 0 'event 2: an update
+  the controller is turned off: the update takes no delay, and makes no probability
+  at 0.000001 ms (1 ns), by caller 4
+  before it: 1 packets, 400 bytes, a delay of 0.000000 ms (0 ns)
+  probability 0.0000 %% (0), as at the opening; no update so far; burst allowance 0.000000 ms (0 ns)
+' '' "$(cat "$work/turned")" explain --event 2
+expect 'a packet that turns the controller on' 0 'event 3: packet 2, 100 bytes, Not-ECT: queued
+  at 0.000001 ms (1 ns), by caller 1
+  the controller is turned off
+  this event turned the controller on
+  before it: 1 packets, 400 bytes, a delay of 0.000000 ms (0 ns)
+  probability 0.0000 %% (0), as at the opening; last update at 0.000001 ms (1 ns); burst allowance 0.000000 ms (0 ns)
+' '' "$(cat "$work/turned")" explain --event 3
+# a reset sets the probability, and no update so far does
+expect 'a reset and no update' 0 'event 2: no packet was there to leave
+  at 0.000002 ms (2 ns), by caller 1
+  before it: 0 packets, 0 bytes, a delay of 0.000000 ms (0 ns)
+  probability 0.0000 %% (0), set by event 1; no update so far; burst allowance 150.000000 ms (150000000 ns)
+' '' 'open,0,4,16,100\nreset,1,1,done\ndepart,1,2,empty\n' explain --event 2
 # The probability is 0.903954174169: not below a threshold of 0.9 for marks; and with nine packets let through by their words it makes
 # a sum above 8.5 with the tenth.
 begun='arrive,1,0,1,1024,not,0\narrive,1,0,2,1024,not,0\narrive,1,0,3,1024,not,0\narrive,1,0,4,1024,not,0\n'
 begun="${begun}depart,3,1000\ndepart,3,1001000\nupdate,4,1001000\nupdate,4,1001001\nupdate,4,1001002\n"
 printf "open,0,32,64,100,2,1,0,850000,0,1,100000,900000000000,1024\n${begun}arrive,1,1001003,5,500,ect0,0\n" | "$program" run > "$work/below"
-expect 'a mark that is not given' 0 "${header}10,arrive,1,1001003,1001003,5,500,early,picked_by_word_not_below,2048,2,2000000,903954174169,0,0\n" '' \
+expect 'a mark that is not given' 0 "${header}10,arrive,1,1001003,1001003,5,500,early,picked_by_word_not_below,2048,2,2000000,903954174169,0,0,ect0,0,,1,9,2048,2,2000000,903954174169,0,0,1\n" '' \
     "$(cat "$work/below")" explain --csv --event 10
 {
     printf "open,0,32,64,100,2,1,0,850000,0,1,100000,1000000000000,1024\n$begun"
     for tag in 1 2 3 4 5 6 7 8 9 10; do echo "arrive,1,1001003,$tag,500,ect0,18446744073709551615"; done
 } | "$program" run > "$work/sum"
-expect 'a mark by the sum' 0 "${header}19,arrive,1,1001003,1001003,10,500,mark,picked_by_sum,6548,11,6394531,903954174169,8135587567521,0\n" '' \
+sum=19,arrive,1,1001003,1001003,10,500,mark,picked_by_sum,6548,11,6394531,903954174169,8135587567521,0
+expect 'a mark by the sum' 0 "$header$sum,ect0,18446744073709551615,,1,9,7048,12,6882812,903954174169,0,0,1\n" '' \
     "$(cat "$work/sum")" explain --csv --event 19
 expect 'no choice' 1 '' "$choice" "$history" explain
 expect 'no choice but a form' 1 '' "$choice" "$history" explain --csv
 expect 'two choices' 1 '' "$choice" "$history" explain --lost --all
+expect 'two choices of packets' 1 '' "$choice" "$history" explain --lost --marked
+marked='10,arrive,1,1001003,1001003,5,500,mark,picked_by_word,2048,2,2000000,903954174169,0,0,ect0,0,,1,9,2548,3,2488281,903954174169,0,0,1\n'
+expect 'a marked packet' 0 "$header$marked" '' "$history" explain --csv --marked
+expect 'no packet marked before a changed verdict' 2 "$header" "$differs" "$changed" explain --csv --marked
 # Migration: the same history in version two, which is found the same.
 one='open,0,4,16,100\ndepart,1,9,empty\ndepart,1,5,empty\nshown,2,9,0,0,0,0,0,150000000,0,0,0\nrefused,5,3\nupdate,2,15000000,0,0,150000000\nrefused,7,1\n'
 two='open2,1,bounded,0,4,16,100\ndepart,1,9,empty\ndepart,1,5,empty\nshown,2,9,0,0,0,0,0,150000000,0,0,0,1\nrefused,5,3\nupdate,2,15000000,0,0,150000000\nrefused,7,1\n'
@@ -200,13 +238,15 @@ mistake "error: invalid value '0' for '--packets <N>': 0 is not in 1..=10000" st
 mistake "error: invalid value '10001' for '--packets <N>': 10001 is not in 1..=10000" storm --packets 10001
 mistake "error: invalid value '18446744073709551616' for '--seed <N>': number too large to fit in target type" storm --seed 18446744073709551616
 mistake "error: unexpected argument '-1' found" storm --seed -1
+mistake "error: invalid value '49' for '--load <N>': 49 is not in 50..=200" storm --load 49
+mistake "error: invalid value '201' for '--load <N>': 201 is not in 50..=200" storm --load 201
 mistake "error: unexpected argument '--fast' found" storm --fast
 # The ninth word, and the tenth to the twelfth.
 mistake "error: unexpected argument '--fast' found" storm --senders 3 --packets 10 --seed 7 --fast
 mistake "error: unexpected argument 'more' found" storm --senders 3 --packets 10 --seed 7 more
 mistake "error: the argument '--seed <N>' cannot be used multiple times" storm --senders 3 --packets 10 --seed 7 --seed 8
 mistake "error: a value is required for '--tag <N>' but none was supplied" explain --csv --lost --all --event 1 --tag
-mistake 'pie: explain takes exactly one of --event N, --tag T, --lost and --all; see pie explain --help' explain --csv --lost --all --event 1 --tag 2
+mistake 'pie: explain takes exactly one of --event N, --tag T, --lost, --marked and --all; see pie explain --help' explain --csv --lost --all --event 1 --tag 2
 mistake "error: unexpected argument 'ten' found" explain --csv --lost --all --event 1 --tag 2 ten
 mistake "error: unexpected argument '--twelve' found" explain --csv --lost --all --event 1 --tag 2 --twelve
 
@@ -214,7 +254,7 @@ mistake "error: unexpected argument '--twelve' found" explain --csv --lost --all
 # that. What is written is the same for these two: what the first ten records give. The plain program of bench/ says so of --all --csv.
 first=$(printf "$history" | head -n 10)
 for form in '' --csv; do
-    for choice in '--event 1' '--tag 1' --lost --all; do
+    for choice in '--event 1' '--tag 1' --lost --marked --all; do
         "$program" explain $choice $form < <(echo "$first") > "$work/before" 2> "$work/errors"
         [ "$?" = 0 ] && ! [ -s "$work/errors" ] || {
             echo "tests/pie.sh: explain $choice $form of nine events: $(cat "$work/errors")"
@@ -366,6 +406,23 @@ for words in '--senders 2' '--packets 7' '--seed 0' '--senders=2 --packets=7 --s
         failed=1
     fi
 done
+# Its threads run beside one another: with a hundred packets each the caller changes at least a hundred times, as --count says. It says the
+# number of events, too.
+"$program" storm --senders 8 --packets 100 --count > "$work/output" 2> "$work/errors"
+events=$("$program" audit < "$work/output")
+read -r _ told _ changes _ < "$work/errors"
+counted=$(awk -F, 'NR > 2 && $2 != last { n++ } NR > 1 { last = $2 } END { print n }' "$work/output")
+if [ "$events" != "clean,$told" ] || [ "$changes" != "$counted" ] || [ "$changes" -lt 100 ] || [ "$(wc -l < "$work/errors")" != 1 ]; then
+    echo "tests/pie.sh: a storm and its counts: $events, $counted changes of caller, $(cat "$work/errors")"
+    failed=1
+fi
+# At a load of 1.2 packets are marked and dropped early, and none is dropped for want of room; each packet departs or is dropped.
+"$program" storm --senders 4 --packets 2000 --load 120 > "$work/output" 2> "$work/errors"
+counts=$(awk -F, '$1 == "arrive" { n[$8]++ } END { print (n["early"] > 0) (n["mark"] > 0) (n["bytes"] + n["packets"] > 0) }' "$work/output")
+if [ "$counts" != 110 ] || [ "$("$program" audit < "$work/output" | cut -d, -f1)" != clean ] || [ -s "$work/errors" ]; then
+    echo "tests/pie.sh: a storm at a load of 1.2: $counts, $(cat "$work/errors")"
+    failed=1
+fi
 "$program" storm --packets 1 > /dev/full 2> "$work/errors"
 got=$?
 if [ "$got" != 1 ] || [ "$(cat "$work/errors")" != 'pie: cannot write the output' ]; then

@@ -215,8 +215,10 @@ says 1 'open2,1,bounded,0,4,16,100\ndepart,1,9,empty\n' "pie: record 3: $fields\
 kept='open2,1,rolling,0,4,16,100\nshown,0,0,0,0,0,0,0,5,0,0,0,1\n'
 says 1 "$kept" "pie: record 3: $kind\n" "${kept}open2,1,rolling,0,4,16,100\n" migrate
 
-# cause NUMBER RECORD HISTORY: the record that explains one event of a history
-header='number,kind,caller,moment,effective_moment,tag,size,verdict,cause,bytes,packets,delay,probability,accumulated_probability,burst_allowance\n'
+# cause NUMBER RECORD HISTORY: the record that explains one event of a history, with the numbers after it
+header='number,kind,caller,moment,effective_moment,tag,size,verdict,cause,bytes,packets,delay,probability,accumulated_probability,burst_allowance'
+header="$header,ecn,word,waited,active,set_by,bytes_after,packets_after,delay_after,probability_after,accumulated_probability_after"
+header="$header,burst_allowance_after,active_after\\n"
 cause() {
     says 0 "$header$1,$2\n" '' "$3" explain --csv --event "$1"
 }
@@ -226,9 +228,9 @@ arrive,1,0,1,1024,not,0,enqueue
 arrive,1,0,2,100,not,0,packets
 arrive,1,0,3,1000,not,0,bytes
 '
-cause 1 arrive,1,0,0,1,1024,enqueue,burst_allowed,0,0,0,0,0,1000 "$room"
-cause 2 arrive,1,0,0,2,100,packets,no_room_in_packets,1024,1,0,0,0,1000 "$room"
-cause 3 arrive,1,0,0,3,1000,bytes,no_room_in_bytes,1024,1,0,0,0,1000 "$room"
+cause 1 arrive,1,0,0,1,1024,enqueue,burst_allowed,0,0,0,0,0,1000,not,0,,1,,1024,1,0,0,0,1000,1 "$room"
+cause 2 arrive,1,0,0,2,100,packets,no_room_in_packets,1024,1,0,0,0,1000,not,0,,1,,1024,1,0,0,0,1000,1 "$room"
+cause 3 arrive,1,0,0,3,1000,bytes,no_room_in_bytes,1024,1,0,0,0,1000,not,0,,1,,1024,1,0,0,0,1000,1 "$room"
 # four packets arrive and two leave, so that an update finds a delay of two milliseconds
 four='arrive,1,0,1,1024,not,0,enqueue
 arrive,1,0,2,1024,not,0,enqueue
@@ -246,14 +248,15 @@ depart,3,1001000,left,4,1024,not
 depart,3,1001000,left,5,500,not
 arrive,1,1001000,6,500,not,0,enqueue
 "
-cause 8 arrive,1,1001000,1001000,5,500,enqueue,no_probability,2048,2,2000000,0,0,0 "$zero"
-cause 12 arrive,1,1001000,1001000,6,500,enqueue,short_queue,0,0,0,0,0,0 "$zero"
+cause 8 arrive,1,1001000,1001000,5,500,enqueue,no_probability,2048,2,2000000,0,0,0,not,0,,1,7,2548,3,2488281,0,0,0,1 "$zero"
+cause 12 arrive,1,1001000,1001000,6,500,enqueue,short_queue,0,0,0,0,0,0,not,0,,1,7,500,1,473141,0,0,0,1 "$zero"
 # a probability of less than a thousandth
 little="open,0,16,32,100,2,1,0,850000,0,1,100000,1000000000000,1024
 ${four}update,4,1001000,2000000,830077294,0
 arrive,1,1001000,5,500,not,0,enqueue
 "
-cause 8 arrive,1,1001000,1001000,5,500,enqueue,little_accumulated,2048,2,2000000,830077294,0,0 "$little"
+counted=2548,3,2488281,830077294,830077294,0,1
+cause 8 "arrive,1,1001000,1001000,5,500,enqueue,little_accumulated,2048,2,2000000,830077294,0,0,not,0,,1,7,$counted" "$little"
 # nine packets are let through by their words at a probability above 0.9, and the tenth is picked by the sum
 nine="open,0,16,32,100,2,1,0,850000,0,1,100000,1000000000000,1024
 ${four}update,4,1001000,2000000,830077294,0
@@ -262,10 +265,13 @@ update,4,1001002,2000000,903954174169,0
 $(for tag in 5 6 7 8 9 10 11 12 13; do echo "arrive,2,1001003,$tag,500,not,18446744073709551615,enqueue"; done)
 arrive,2,1001003,14,500,not,18446744073709551615,early
 "
-cause 18 arrive,2,1001003,1001003,13,500,enqueue,word_not_below,6048,10,5906250,903954174169,7231633393352,0 "$nine"
-cause 19 arrive,2,1001003,1001003,14,500,early,picked_by_sum_not_capable,6548,11,6394531,903954174169,8135587567521,0 "$nine"
+last=not,18446744073709551615,,1,9,6548,11,6394531,903954174169
+cause 18 "arrive,2,1001003,1001003,13,500,enqueue,word_not_below,6048,10,5906250,903954174169,7231633393352,0,$last,8135587567521,0,1" "$nine"
+cause 19 "arrive,2,1001003,1001003,14,500,early,picked_by_sum_not_capable,6548,11,6394531,903954174169,8135587567521,0,$last,0,0,1" "$nine"
 # a packet's arrival and departure, by its tag
-says 0 "${header}1,arrive,1,0,0,1,1024,enqueue,low_delay,0,0,0,0,0,0\n5,depart,3,1000,1000,1,1024,left,,4096,4,0,0,0,0\n" '' "$little" explain --csv --tag 1
+tagged='1,arrive,1,0,0,1,1024,enqueue,low_delay,0,0,0,0,0,0,not,0,,1,,1024,1,0,0,0,0,1\n'
+tagged="${tagged}5,depart,3,1000,1000,1,1024,left,,4096,4,0,0,0,0,not,,1000,1,,3072,3,0,0,0,0,1\n"
+says 0 "$header$tagged" '' "$little" explain --csv --tag 1
 
 echo "tests/texts.sh: $tried short texts"
 exit "$failed"

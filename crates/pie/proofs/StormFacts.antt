@@ -43,7 +43,7 @@ use Rattle.pie_audit.specs.Text.{finding_after, judged, text_finding}
 use Rattle.pie_link.specs.declared.plan.Plan.{Plan}
 use Rattle.pie_link.specs.Plans.{opening_of}
 use Rattle.pie_link.specs.Storms.{IsStorm}
-use Rattle.pie.specs.StormEnds.{EndsStorm, WritesHistory, packets_in, seed_in, senders_in}
+use Rattle.pie.specs.StormEnds.{EndsStorm, WritesHistory, load_in, packets_in, seed_in, senders_in}
 use Rattle.pie.specs.StormPlan.{IsStormPlan}
 
 -- ---- an answer is the same as itself
@@ -236,18 +236,19 @@ writes-history plan events auditor opening before now is legal same audits appen
     written-own plan events auditor before now legal same (subst (λ (o : Opening). Audits o auditor (map Made events)) is audits)
     (subst (λ (o : Opening). Written o events before now) is (record { appends = appends; back = back }))
 
-pub storm-ends : (options : List Row) (senders packets seed : ℕ) (plan : Plan) (events listed : List Event) (too_soon too_many status : ℕ) (before now : Option (List ℕ))
-    → senders ≡ senders_in options → packets ≡ packets_in options → seed ≡ seed_in options → IsStormPlan senders packets seed plan
+pub storm-ends : (options : List Row) (senders packets seed load : ℕ) (plan : Plan) (events listed : List Event) (too_soon too_many status : ℕ) (before now : Option (List ℕ))
+    → senders ≡ senders_in options → packets ≡ packets_in options → seed ≡ seed_in options → load ≡ load_in options → IsStormPlan senders packets seed load plan
     → IsStorm plan events too_soon too_many → IsLegal (opening_of plan) events → listed ≡ events → (status ≡ 1) ⊎ ((status ≡ 0) × WritesHistory plan listed before now)
     → EndsStorm options status before now
-storm-ends options senders packets seed plan events listed too_soon too_many status before now senders_are packets_are seed_is is_plan storm legal same ended = elim ended [
+storm-ends options senders packets seed load plan events listed too_soon too_many status before now senders_are packets_are seed_is load_is is_plan storm legal same ended = elim ended [
   | inl one ↦ inl one
   | inr written ↦ inr (
     written.0,
     (
       plan,
-      subst (λ (n : ℕ). IsStormPlan (senders_in options) (packets_in options) n plan) seed_is
-          (subst (λ (n : ℕ). IsStormPlan (senders_in options) n seed plan) packets_are (subst (λ (n : ℕ). IsStormPlan n packets seed plan) senders_are is_plan)),
+      subst (λ (n : ℕ). IsStormPlan (senders_in options) (packets_in options) (seed_in options) n plan) load_is
+          (subst (λ (n : ℕ). IsStormPlan (senders_in options) (packets_in options) n load plan) seed_is
+          (subst (λ (n : ℕ). IsStormPlan (senders_in options) n seed load plan) packets_are (subst (λ (n : ℕ). IsStormPlan n packets seed load plan) senders_are is_plan))),
       record {
         events = events;
         too_soon = too_soon;

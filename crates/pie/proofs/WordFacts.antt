@@ -1,10 +1,13 @@
 -- What `clap` makes of the words that ask for a subcommand.
-use Rattle.std.proofs.Common.{◌≡◌, ◌∙◌, ℕ, Bool, List, [], ◌∷◌, Option, Some, true, false, codes, refl, sym, subst, ap}
+use Rattle.std.proofs.Common.{◌≡◌, ◌∙◌, ℕ, Bool, List, [], ◌∷◌, Option, Some, None, true, false, codes, refl, sym, subst, ap}
 use Rattle.std.specs.Prelude.{◌&&◌, not, option_map, slice_index, unwrap_or}
-use Rattle.clap.specs.Words.{AddsArg, AddsSubcommand, App, HasMatchesOf, Row, Rule, Text, app_of, is_simple, rule_of, subcommand_rows_of, takes, with_rule, with_subcommand}
+use Rattle.std.specs.Box.{box_value}
+use Rattle.clap.specs.Words.{AddsArg, AddsSubcommand, App, HasMatchesOf, Row, Rule, Text, app_of, found_of, is_simple, rows_of, rule_of, subcommand_rows_of, takes, with_rule, with_subcommand}
 use Rattle.clap.specs.declared.builder.arg.Arg.{Arg}
 use Rattle.clap.specs.declared.builder.command.Command.{Command}
+use Rattle.clap.specs.Matches.{subcommand_name_of}
 use Rattle.clap.specs.declared.parser.matches.ArgMatches.{ArgMatches}
+use Rattle.clap.specs.declared.parser.matches.ArgMatches.TheViews.{out-ArgMatches, out-SubCommand}
 use Rattle.clap.proofs.OnLiterals.{clap_on_literals}
 use Rattle.pie.specs.Words.{AskFor, Asks, options_in, pie_app, subcommand_in}
 
@@ -90,6 +93,22 @@ pub options-in : (app : App) (words : List Text) (matches : ArgMatches) (rows : 
 options-in app words matches rows is has met =
     let found = subst (λ (a : App). HasMatchesOf a words matches) is has simple in
     sym (ap (λ (o : Option (List Row)). unwrap_or o []) (met ∙ ap (option_map (λ (p : Text × List Row). p.1)) found.1))
+
+-- the name that `clap` tells of a subcommand stands before its options
+first-of : {A : Type 0} (g : A → Text × List Row) (o : Option A) → option_map (λ a. (g a).0) o ≡ option_map (λ (p : Text × List Row). p.0) (option_map g o)
+first-of g None = refl
+first-of g (Some a) = refl
+
+name-rows : (matches : ArgMatches) → subcommand_name_of matches ≡ option_map (λ (p : Text × List Row). p.0) (subcommand_rows_of matches)
+name-rows matches =
+    first-of (λ b. ((out-SubCommand (box_value b)).name.now, rows_of (found_of (out-SubCommand (box_value b)).matches))) (out-ArgMatches matches).subcommand
+
+-- the subcommand that `clap` found is that of the words
+pub subcommand-found : (app : App) (words : List Text) (matches : ArgMatches) (name subcommand : Text) → app ≡ pie_app → HasMatchesOf app words matches
+    → Some name ≡ subcommand_name_of matches → name ≡ subcommand → subcommand_in words ≡ Some subcommand
+subcommand-found app words matches name subcommand is has met same =
+    let found = subst (λ (a : App). HasMatchesOf a words matches) is has simple in
+    sym (met ∙ name-rows matches ∙ ap (option_map (λ (p : Text × List Row). p.0)) found.1) ∙ ap (λ (n : Text). Some n) same
 
 -- ---- one subcommand is no other: their names have other first letters
 

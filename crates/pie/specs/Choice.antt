@@ -5,19 +5,21 @@ use Rattle.pie.specs.Words.{flag_given, number_given}
 use Rattle.pie_explain.specs.declared.explainer.Form.{Form}
 use Rattle.pie_explain.specs.declared.explainer.Form.TheVariants.{Text, Csv}
 use Rattle.pie_explain.specs.declared.which.Which.{Which}
-use Rattle.pie_explain.specs.declared.which.Which.TheVariants.{Number, Tag, Lost, All}
+use Rattle.pie_explain.specs.declared.which.Which.TheVariants.{Number, Tag, Lost, Marked, All}
 
--- the events that are chosen, where exactly one of the four options chooses some
-abbrev pub chosen : Option ℕ → Option ℕ → Bool → Bool → Option Which
-chosen (Some event) None false false = Some (Number event)
-chosen None (Some tag) false false = Some (Tag tag)
-chosen None None true false = Some Lost
-chosen None None false true = Some All
-chosen _ _ _ _ = None
+-- the events that are chosen, where exactly one of the five options chooses some
+abbrev pub chosen : Option ℕ → Option ℕ → Bool → Bool → Bool → Option Which
+chosen (Some event) None false false false = Some (Number event)
+chosen None (Some tag) false false false = Some (Tag tag)
+chosen None None true false false = Some Lost
+chosen None None false true false = Some Marked
+chosen None None false false true = Some All
+chosen _ _ _ _ _ = None
 
 -- the events that these options choose
 abbrev pub choice_of : List Row → Option Which
-choice_of options = chosen (number_given (codes "event") options) (number_given (codes "tag") options) (flag_given (codes "lost") options) (flag_given (codes "all") options)
+choice_of options = chosen (number_given (codes "event") options) (number_given (codes "tag") options) (flag_given (codes "lost") options)
+    (flag_given (codes "marked") options) (flag_given (codes "all") options)
 
 -- in words, and as CSV where this holds
 abbrev pub form_where : Bool → Form

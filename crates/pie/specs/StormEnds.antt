@@ -30,6 +30,9 @@ packets_in options = number_or (codes "packets") 1 10_000 100 options
 abbrev pub seed_in : List Row → ℕ
 seed_in options = number_or (codes "seed") 0 (2 ^ 64 - 1) 1 options
 
+abbrev pub load_in : List Row → ℕ
+load_in options = number_or (codes "load") 50 200 100 options
+
 -- ---- the history
 
 -- the history of these events, from the opening of this plan, was written
@@ -53,4 +56,4 @@ pub record WritesStorm (plan : Plan) (before now : Option (List ℕ)) : Type 0 w
 -- the writer failed
 abbrev pub EndsStorm : List Row → ℕ → Option (List ℕ) → Option (List ℕ) → Type 0
 EndsStorm options status before now =
-    (status ≡ 1) ⊎ ((status ≡ 0) × ((plan : Plan) × IsStormPlan (senders_in options) (packets_in options) (seed_in options) plan × WritesStorm plan before now))
+    (status ≡ 1) ⊎ ((status ≡ 0) × ((plan : Plan) × IsStormPlan (senders_in options) (packets_in options) (seed_in options) (load_in options) plan × WritesStorm plan before now))

@@ -57,9 +57,9 @@ arrival_at sender words i = arrival_by sender i (word_at (3 * i) words) (word_at
 abbrev pub arrivals_of : ℕ → ℕ → ℕ → List Arrival
 arrivals_of packets seed sender = map (arrival_at sender (sender_words seed sender)) (range_with_len 0 packets)
 
--- a departure for each packet, spread evenly
-abbrev pub departs_of : ℕ → ℕ → List ℕ
-departs_of senders packets = map (λ j. (j + 1) * 1_000_000 / senders) (range_with_len 0 (senders * packets))
+-- a departure for each packet, spread evenly, where so many packets come for each hundred that the link sends
+abbrev pub departs_of : ℕ → ℕ → ℕ → List ℕ
+departs_of senders packets load = map (λ j. (j + 1) * load * 10_000 / senders) (range_with_len 0 (senders * packets))
 
 -- an update each fifteen milliseconds
 abbrev pub updates_of : ℕ → List ℕ
@@ -75,13 +75,13 @@ command_count senders packets = 2 * senders * packets + packets / 15 + 1
 abbrev pub held_by : Vec Arrival Global → List Arrival
 held_by list = list.items
 
--- the plan of so many senders, each with so many packets, and this seed
-pub record IsStormPlan (senders packets seed : ℕ) (plan : Plan) : Type 0 where
+-- the plan of so many senders, each with so many packets, this seed and this load
+pub record IsStormPlan (senders packets seed load : ℕ) (plan : Plan) : Type 0 where
   pub limits : plan.limits ≡ record { packets = 1024; tail = command_count senders packets; events = command_count senders packets }
   pub params : plan.params ≡ default_profile
   pub moment : plan.moment ≡ 0
   pub arrivals : map held_by plan.arrivals.items ≡ map (arrivals_of packets seed) (range_with_len 1 senders)
-  pub departs : plan.departs.items ≡ departs_of senders packets
+  pub departs : plan.departs.items ≡ departs_of senders packets load
   pub updates : plan.updates.items ≡ updates_of packets
   pub changes : plan.changes.items ≡ []
   pub folds : plan.folds.items ≡ []

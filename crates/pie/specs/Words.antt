@@ -20,15 +20,15 @@ number_rule name least most = record (new_rule name) { long = Some name; value_n
 abbrev pub flag_rule : Text → Rule
 flag_rule name = record (new_rule name) { long = Some name; action = Some SetTrue }
 
--- the subcommand `explain`: four options that choose events, and one for the form
+-- the subcommand `explain`: five options that choose events, and one for the form
 abbrev pub explain_app : App
-explain_app = with_rule (with_rule (with_rule (with_rule (with_rule (new_app (codes "explain")) (number_rule (codes "event") 1 (2 ^ 64 - 1)))
-    (number_rule (codes "tag") 0 (2 ^ 64 - 1))) (flag_rule (codes "lost"))) (flag_rule (codes "all"))) (flag_rule (codes "csv"))
+explain_app = with_rule (with_rule (with_rule (with_rule (with_rule (with_rule (new_app (codes "explain")) (number_rule (codes "event") 1 (2 ^ 64 - 1)))
+    (number_rule (codes "tag") 0 (2 ^ 64 - 1))) (flag_rule (codes "lost"))) (flag_rule (codes "marked"))) (flag_rule (codes "all"))) (flag_rule (codes "csv"))
 
--- the subcommand `storm`, whose options are numbers
+-- the subcommand `storm`, whose options are four numbers, and one that asks for counts
 abbrev pub storm_app : App
-storm_app = with_rule (with_rule (with_rule (new_app (codes "storm")) (number_rule (codes "senders") 2 8)) (number_rule (codes "packets") 1 10_000))
-    (number_rule (codes "seed") 0 (2 ^ 64 - 1))
+storm_app = with_rule (with_rule (with_rule (with_rule (with_rule (new_app (codes "storm")) (number_rule (codes "senders") 2 8))
+    (number_rule (codes "packets") 1 10_000)) (number_rule (codes "seed") 0 (2 ^ 64 - 1))) (number_rule (codes "load") 50 200)) (flag_rule (codes "count"))
 
 -- .. `pie` with its subcommands
 abbrev pub pie_app : App

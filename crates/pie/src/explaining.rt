@@ -13,17 +13,24 @@ use std::io::{Read, Write};
 
 /// What is said where the words don't choose events by exactly one option.
 const NO_CHOICE: &str =
-    "explain takes exactly one of --event N, --tag T, --lost and --all; see pie explain --help";
+    "explain takes exactly one of --event N, --tag T, --lost, --marked and --all; see pie explain --help";
 
-/// The events that are chosen, where exactly one of the four options chooses some.
-fn chosen(event: Option<u64>, tag: Option<u64>, lost: bool, all: bool) -> Option<Which>
-    ensures { result ≡ chosen event tag lost all }
+/// The events that are chosen, where exactly one of the five options chooses some.
+fn chosen(
+    event: Option<u64>,
+    tag: Option<u64>,
+    lost: bool,
+    marked: bool,
+    all: bool,
+) -> Option<Which>
+    ensures { result ≡ chosen event tag lost marked all }
 {
-    match (event, tag, lost, all) {
-        (Some(event), None, false, false) => Some(Which::Number(event)),
-        (None, Some(tag), false, false) => Some(Which::Tag(tag)),
-        (None, None, true, false) => Some(Which::Lost),
-        (None, None, false, true) => Some(Which::All),
+    match (event, tag, lost, marked, all) {
+        (Some(event), None, false, false, false) => Some(Which::Number(event)),
+        (None, Some(tag), false, false, false) => Some(Which::Tag(tag)),
+        (None, None, true, false, false) => Some(Which::Lost),
+        (None, None, false, true, false) => Some(Which::Marked),
+        (None, None, false, false, true) => Some(Which::All),
         _ => None,
     }
 }
@@ -34,7 +41,8 @@ fn choice_of(options: &ArgMatches<'_>) -> Option<Which>
 {
     let event = number(options, "event");
     let tag = number(options, "tag");
-    chosen(event, tag, flag(options, "lost"), flag(options, "all"))
+    let (lost, marked) = (flag(options, "lost"), flag(options, "marked"));
+    chosen(event, tag, lost, marked, flag(options, "all"))
 }
 
 /// In which form these options want the explanations.

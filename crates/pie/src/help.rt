@@ -104,13 +104,15 @@ pub(crate) const EXPLAIN_ABOUT: &str =
 
 /// What `pie explain --help` says below its options.
 pub(crate) const EXPLAIN_HELP: &str =
-    "Exactly one of --event, --tag, --lost and --all chooses the events. Each event of the history is decided again, as pie
-audit does, and of a chosen one is said which case of the rules decided it, and on which numbers: those before the event.
+    "Exactly one of --event, --tag, --lost, --marked and --all chooses the events. Each event of the history is decided
+again, as pie audit does, and of a chosen one is said which case of the rules decided it, and on which numbers: those before
+the event.
 
 In words an event has some lines, with moments in milliseconds and probabilities in per cent, and the exact whole numbers in
 parentheses. With --csv there is a header, and then one record an event:
   number,kind,caller,moment,effective_moment,tag,size,verdict,cause,bytes,packets,delay,probability,
-  accumulated_probability,burst_allowance
+  accumulated_probability,burst_allowance,ecn,word,waited,active,set_by,bytes_after,packets_after,delay_after,
+  probability_after,accumulated_probability_after,burst_allowance_after,active_after
 Times are in nanoseconds, probabilities in units of 10^-12. A field that an event doesn't have is empty.
 
 Where an event is not what the rules give at its place, the chosen events before it are explained, standard error names it, and
@@ -159,8 +161,10 @@ pub(crate) const STORM_ABOUT: &str =
 /// What `pie storm --help` says below its options.
 pub(crate) const STORM_HELP: &str =
     "Each sender sends a packet each millisecond, in a thread of its own. Two more threads make as many departures, spread evenly
-over that time, and an update each 15 milliseconds. All moments are planned, and no clock is read. The random words are made
-of the seed, but who comes first is the machine's choice: so two storms may have other histories.
+over that time, and an update each 15 milliseconds. With --load 120 the departures are 1.2 times as far apart, so packets wait,
+and some are marked or dropped early. All moments are planned, and no clock is read. The random words are made
+of the seed, but who comes first is the machine's choice: so two storms may have other histories. The threads
+start together, and none runs further ahead of another than a millisecond of the plan, unless that one is not scheduled.
 
 The history is one of the default parameters, as pie run writes it. Its events are audited before it is written.
 

@@ -7,6 +7,7 @@ mod explaining;
 mod given;
 mod help;
 mod options;
+mod pace;
 mod plan;
 mod storming;
 

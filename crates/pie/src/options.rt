@@ -67,6 +67,11 @@ fn explain_command<'a>(alloc: Global) -> Result<Command<'a>, AllocError>
         "lost",
         "Explain each arrival whose packet was dropped",
     );
+    let marked = flag_option(
+        alloc,
+        "marked",
+        "Explain each arrival whose packet was marked",
+    );
     let all = flag_option(alloc, "all", "Explain every event");
     let csv = flag_option(
         alloc,
@@ -77,6 +82,7 @@ fn explain_command<'a>(alloc: Global) -> Result<Command<'a>, AllocError>
         .arg(event)?
         .arg(tag)?
         .arg(lost)?
+        .arg(marked)?
         .arg(all)?
         .arg(csv)
 }
@@ -106,10 +112,24 @@ fn storm_command<'a>(alloc: Global) -> Result<Command<'a>, AllocError>
         u64::MAX,
         "What the random words are made of, 0 to 2^64 - 1; 1 by default",
     );
+    let load = number_option(
+        alloc,
+        "load",
+        50,
+        200,
+        "How many packets come for each hundred that the link sends, 50 to 200; 100 by default",
+    );
+    let count = flag_option(
+        alloc,
+        "count",
+        "Say on standard error how many events and changes of caller there were",
+    );
     plain(alloc, "storm", STORM_ABOUT, STORM_HELP)
         .arg(senders)?
         .arg(packets)?
-        .arg(seed)
+        .arg(seed)?
+        .arg(load)?
+        .arg(count)
 }
 
 /// `pie` without its subcommands.

@@ -14,6 +14,8 @@ use std::alloc::{AllocError, Global};
 
 /// The nanoseconds from one packet of a sender to its next.
 const PACKET_TIME: u64 = 1_000_000;
+/// A hundredth of that, for each packet that comes while the link sends a hundred.
+const LOAD_TIME: u64 = 10_000;
 /// How many tags each sender has.
 const SENDER_TAGS: u64 = 1 << 32;
 /// The nanoseconds from one update to the next: the default `t_update`.
@@ -90,16 +92,17 @@ fn all_arrivals(
     Ok(lists)
 }
 
-/// A departure for each packet, spread evenly.
-fn departs_of(alloc: Global, senders: u64, packets: u64) -> Result<Vec<u64>, AllocError>
+/// A departure for each packet, spread evenly, where `load` packets come for each hundred that the link sends.
+fn departs_of(alloc: Global, senders: u64, packets: u64, load: u64) -> Result<Vec<u64>, AllocError>
     requires some { 1 ≤ senders }
     requires senders { senders ≤ 8 }
     requires packets { packets ≤ 10_000 }
-    ensures { IfOk result (λ list. list.items ≡ departs_of senders packets) }
+    requires load { load ≤ 200 }
+    ensures { IfOk result (λ list. list.items ≡ departs_of senders packets load) }
 {
     let mut moments = Vec::with_capacity(alloc, (senders * packets) as usize)?;
     for j in 0..senders * packets {
-        moments.push((j + 1) * PACKET_TIME / senders)?;
+        moments.push((j + 1) * load * LOAD_TIME / senders)?;
     }
     Ok(moments)
 }
@@ -119,24 +122,32 @@ fn updates_of(alloc: Global, packets: u64) -> Result<Vec<u64>, AllocError>
 /// The plan of a storm (this project's own) of 2 to 8 senders with 1 to 10,000 packets each, with default parameters from
 /// moment 0 on. Each sender has a packet each millisecond, of 64 to 1500 bytes and any ECN field, whose size, ECN field and
 /// random word are three words of a generator that is made of `seed` and the sender's number. As many departures are spread
-/// evenly over that time, and an update is made at each due moment. The tail has room for all events, so nothing is folded.
+/// evenly over that time at a `load` of 100, and over `load` hundredths of it at any other, from 50 to 200. An update is made at each
+/// due moment while packets arrive. The tail has room for all events, so nothing is folded.
 ///
 /// # Errors
 ///
 /// `Memory` where there was none for the lists.
-pub fn storm_plan(alloc: Global, senders: u16, packets: u32, seed: u64) -> Result<Plan, Memory>
+pub fn storm_plan(
+    alloc: Global,
+    senders: u16,
+    packets: u32,
+    seed: u64,
+    load: u64,
+) -> Result<Plan, Memory>
     requires some { 2 ≤ senders }
     requires senders { senders ≤ 8 }
     requires one { 1 ≤ packets }
     requires packets { packets ≤ 10_000 }
-    ensures { IfOk result (IsStormPlan senders packets seed) }
+    requires load { load ≤ 200 }
+    ensures { IfOk result (IsStormPlan senders packets seed load) }
 {
     let commands = 2 * u32::from(senders) * packets + packets / 15 + 1;
     let (senders, packets) = (u64::from(senders), u64::from(packets));
     let Ok(arrivals) = all_arrivals(alloc, senders, packets, seed) else {
         return Err(Memory);
     };
-    let Ok(departs) = departs_of(alloc, senders, packets) else {
+    let Ok(departs) = departs_of(alloc, senders, packets, load) else {
         return Err(Memory);
     };
     let Ok(updates) = updates_of(alloc, packets) else {

@@ -8,12 +8,13 @@ ghost use Rattle.pie_link.specs.Plans.{opening_of};
 ghost use Rattle.pie.specs.StormEnds.{EndsStorm, WritesHistory, number_or};
 
 use crate::command::{DONE, fault};
-use crate::given::number;
+use crate::given::{flag, number};
+use crate::pace::Pace;
 use crate::plan::storm_plan;
 use clap::ArgMatches;
 use pie_audit::{Auditor, Finding};
 use pie_book::{Choices, Event, Mode, OpenRefusal, Opening, Profile};
-use pie_link::{NoGate, Plan, storm};
+use pie_link::{Plan, storm};
 use pie_trace::{Line, write_history};
 use std::alloc::Global;
 use std::io::Write;
@@ -27,6 +28,8 @@ const SENDERS: u64 = 2;
 const PACKETS: u64 = 100;
 /// The seed of the random words where the words name none.
 const SEED: u64 = 1;
+/// How many packets come for each hundred that the link sends, where the words name no number.
+const LOAD: u64 = 100;
 
 /// The number that an option is given, or else this one. `clap` refuses words that give one out of this range.
 fn number_or(options: &ArgMatches<'_>, name: &str, least: u64, most: u64, unnamed: u64) -> u64
@@ -55,15 +58,39 @@ pub(crate) fn make_storm<H: Threads + Wait + Sync, W: Write, E: Write>(
     let senders = number_or(options, "senders", 2, 8, SENDERS) as u16;
     let packets = number_or(options, "packets", 1, 10_000, PACKETS) as u32;
     let seed = number_or(options, "seed", 0, u64::MAX, SEED);
-    let plan = match storm_plan(alloc, senders, packets, seed) {
+    let load = number_or(options, "load", 50, 200, LOAD);
+    let plan = match storm_plan(alloc, senders, packets, seed, load) {
         Ok(plan) => plan,
         Err(why) => return fault(errors, why),
     };
-    let end = match storm(rt, alloc, &plan, &NoGate) {
+    let pace = Pace::new(u64::from(senders), u64::from(packets), load);
+    let end = match storm(rt, alloc, &plan, &pace) {
         Ok(end) => end,
         Err(why) => return fault(errors, why),
     };
+    if flag(options, "count") {
+        say_counts(errors, end.events.as_slice());
+    }
     tell(alloc, &plan, end.events.as_slice(), output, errors)
+}
+
+/// How often the caller of an event is another than that of the event before it.
+fn changes_of_caller(events: &[Event]) -> u64 {
+    let mut changes = 0u64;
+    let mut last = None;
+    for event in events {
+        if last != Some(event.caller) {
+            changes = changes.saturating_add(1);
+        }
+        last = Some(event.caller);
+    }
+    changes.saturating_sub(1)
+}
+
+/// Says on `errors` how many events there are, and how many changes of caller. A failed write is passed over.
+fn say_counts<E: Write>(errors: &mut E, events: &[Event]) {
+    let (count, changes) = (events.len(), changes_of_caller(events));
+    let _ = writeln!(errors, "pie: {count} events, {changes} changes of caller");
 }
 
 /// What the book of a storm is opened with.

@@ -19,7 +19,7 @@ use Rattle.pie_explain.specs.declared.fault.ExplainFault.{ExplainFault}
 use Rattle.pie_explain.specs.declared.fault.ExplainFault.TheVariants as fault
 use Rattle.pie_explain.specs.declared.fault.ExplainFault.TheVariants.{Trace}
 use Rattle.pie_explain.specs.declared.which.Which.{Which}
-use Rattle.pie_explain.specs.declared.which.Which.TheVariants.{Number, Tag, Lost, All}
+use Rattle.pie_explain.specs.declared.which.Which.TheVariants.{Number, Tag, Lost, Marked, All}
 use Rattle.pie_explain.specs.Answer.{Follows, Heard, IsAsAudited, IsTold, answer, answer_after, answer_by, answered}
 use Rattle.pie_explain.specs.Explanation.{explanations}
 use Rattle.pie_explain.specs.Output.{header, output, said}
@@ -47,6 +47,7 @@ answered-same opening which lines auditor set_by explained follows = by (first_d
         differs (Number n) = refl
         differs (Tag n) = refl
         differs Lost = refl
+        differs Marked = refl
         differs All = refl
     by None counted = ap (λ (n : ℕ). answered which n (finding_by None (event_count lines))) (counted refl)
 
@@ -142,6 +143,7 @@ as-audited audited which explained (Differs event) is = by which
     by (Number n) = is
     by (Tag n) = is
     by Lost = is
+    by Marked = is
     by All = is
 as-audited audited (Number event) explained (Clean events) is = by (explained == 0)
   where
@@ -154,6 +156,7 @@ as-audited audited (Tag tag) explained (Clean events) is = by (explained == 0)
     by true = (events, is)
     by false = (events, is)
 as-audited audited Lost explained (Clean events) is = (events, is)
+as-audited audited Marked explained (Clean events) is = (events, is)
 as-audited audited All explained (Clean events) is = (events, is)
 
 answer-audited : (which : Which) (rows : List Row) → IsAsAudited (text_finding rows) (answer which rows)

@@ -6,17 +6,17 @@ use Rattle.pie_controller.specs.declared.cause.Cause.{Cause}
 use Rattle.pie_book.specs.declared.command.Event.{Event}
 use Rattle.pie_book.specs.declared.registers.Registers.{Registers}
 use Rattle.pie_book.specs.Cause.{cause_after}
-use Rattle.pie_book.specs.Deed.{deed_of, handed_in}
+use Rattle.pie_book.specs.Deed.{deed_of, handed_in, is_update}
 use Rattle.pie_book.specs.Estimates.{active_after, delay_after}
 use Rattle.pie_book.specs.History.{effective_moment, waiting_after}
 use Rattle.pie_book.specs.Registers.{registers_after}
-use Rattle.pie_book.specs.Statistics.{wait_of}
+use Rattle.pie_book.specs.Statistics.{count_of, stats_after, wait_of}
 use Rattle.pie_explain.specs.declared.explanation.Explanation.{Explanation}
 use Rattle.pie_explain.specs.Explanation.{explanation, moment_of}
 
 -- an explanation of these parts
-abbrev pub the_explanation : ℕ → Event → ℕ → Registers → ℕ → Option Cause → ℕ → Option ℕ → Explanation
-the_explanation number event now before delay cause waited set_by = record {
+abbrev pub the_explanation : ℕ → Event → ℕ → Registers → ℕ → Option Cause → ℕ → Option ℕ → ℕ → Explanation
+the_explanation number event now before delay cause waited set_by updates = record {
   number = number;
   event = event;
   moment = now;
@@ -25,7 +25,12 @@ the_explanation number event now before delay cause waited set_by = record {
   cause = cause;
   waited = waited;
   set_by = set_by;
+  updates = updates;
 }
+
+pub updates-counted : (opening : Opening) (history : List Event) → (stats_after opening history).updates ≡ count_of is_update history
+unfolding stats_after
+updates-counted opening history = refl
 
 moment-registers : (opening : Opening) (history : List Event) → (registers_after opening history).moment ≡ effective_moment opening history
 unfolding registers_after
@@ -36,11 +41,12 @@ unfolding registers_after
 active-registers opening history = refl
 
 -- the parts of an explanation make it
-pub explanation-is : (opening : Opening) (history : List Event) (number : ℕ) (event : Event) (set_by : Option ℕ) (now : ℕ) (before : Registers) (delay : ℕ) (cause : Option Cause) (waited : ℕ)
+pub explanation-is : (opening : Opening) (history : List Event) (number : ℕ) (event : Event) (set_by : Option ℕ) (now : ℕ) (before : Registers) (delay : ℕ) (cause : Option Cause) (waited updates : ℕ)
     → before ≡ registers_after opening history → delay ≡ delay_after opening history → cause ≡ cause_after opening history event.command
     → now ≡ max before.moment (handed_in event.command) → waited ≡ wait_of (deed_of event) now (waiting_after opening history)
-    → the_explanation number event now before delay cause waited set_by ≡ explanation opening history number event set_by
+    → updates ≡ count_of is_update history
+    → the_explanation number event now before delay cause waited set_by updates ≡ explanation opening history number event set_by
 unfolding explanation
-explanation-is opening history number event set_by now before delay cause waited before-is delay-is cause-is now-is waited-is =
+explanation-is opening history number event set_by now before delay cause waited updates before-is delay-is cause-is now-is waited-is updates-is =
     let at : now ≡ moment_of opening history event = now-is ∙ rw (before-is, moment-registers opening history) refl in
-    rw (waited-is, before-is, delay-is, cause-is, at) refl
+    rw (waited-is, before-is, delay-is, cause-is, at, updates-is) refl

@@ -17,7 +17,7 @@ use Rattle.pie_explain.specs.declared.explainer.Form.{Form}
 use Rattle.pie_explain.specs.declared.fault.ExplainFault.{ExplainFault}
 use Rattle.pie_explain.specs.declared.fault.ExplainFault.TheVariants.{Trace, Differs, NoEvent, NoTag}
 use Rattle.pie_explain.specs.declared.which.Which.{Which}
-use Rattle.pie_explain.specs.declared.which.Which.TheVariants.{Number, Tag, Lost, All}
+use Rattle.pie_explain.specs.declared.which.Which.TheVariants.{Number, Tag, Lost, Marked, All}
 use Rattle.pie_explain.specs.Explanation.{explanations, setter_after}
 use Rattle.pie_explain.specs.Output.{said}
 
@@ -27,6 +27,7 @@ answered which explained (finding.Differs event) = Err (Differs event)
 answered (Number event) explained (Clean events) = if explained == 0 then Err (NoEvent event events) else Ok explained
 answered (Tag tag) explained (Clean events) = if explained == 0 then Err (NoTag tag) else Ok explained
 answered Lost explained (Clean events) = Ok explained
+answered Marked explained (Clean events) = Ok explained
 answered All explained (Clean events) = Ok explained
 
 -- the answer to a history of these lines, and the fault after them

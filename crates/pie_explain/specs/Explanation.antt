@@ -1,20 +1,21 @@
 -- What there is to say of an event after a history: the numbers that it met, and what decided it.
-use Rattle.std.specs.Prelude.{ℕ, ◌+◌, max, Bool, true, false, not, ◌&&◌, List, [], ◌∷◌, ◌++◌, Option, Some, None, if◌then◌else◌}
+use Rattle.std.specs.Prelude.{ℕ, ◌+◌, max, Bool, true, false, not, ◌&&◌, List, [], ◌∷◌, ◌++◌, Option, Some, None, option_map, if◌then◌else◌}
 use Rattle.std.specs.List.{filter_map, last_or}
 use Rattle.pie_book.specs.declared.command.Command.{Command}
 use Rattle.pie_book.specs.declared.command.Command.TheVariants.{Arrive, Depart, Update, Reset, SetParams}
 use Rattle.pie_book.specs.declared.command.Event.{Event}
 use Rattle.pie_book.specs.declared.opening.Opening.{Opening}
-use Rattle.pie_book.specs.Deed.{deed_of, handed_in}
+use Rattle.pie_book.specs.Deed.{deed_of, handed_in, is_update}
 use Rattle.pie_book.specs.History.{effective_moment, waiting_after}
 use Rattle.pie_book.specs.Estimates.{active_after, delay_after}
 use Rattle.pie_book.specs.Registers.{registers_after}
-use Rattle.pie_book.specs.Statistics.{wait_of}
+use Rattle.pie_book.specs.Statistics.{count_of, wait_of}
 use Rattle.pie_book.specs.Cause.{cause_after}
 use Rattle.pie_record.specs.declared.history.Line.{Line}
 use Rattle.pie_record.specs.declared.history.Line.TheVariants.{Made, Unmakeable, Note}
 use Rattle.pie_record.specs.Lines.{event_count}
 use Rattle.pie_audit.specs.Finding.{LinePlace, events_of, first_difference, line_places, number_of}
+use Rattle.pie_explain.specs.declared.explanation.Explained.{Explained}
 use Rattle.pie_explain.specs.declared.explanation.Explanation.{Explanation}
 use Rattle.pie_explain.specs.declared.which.Which.{Which}
 use Rattle.pie_explain.specs.Which.{chooses}
@@ -34,6 +35,15 @@ explanation opening history number event set_by = record {
   cause = cause_after opening history event.command;
   waited = wait_of (deed_of event) (moment_of opening history event) (waiting_after opening history);
   set_by = set_by;
+  updates = count_of is_update history;
+}
+
+-- .. with what the controller holds after this history, whose last event it is
+abbrev pub with_after : Opening → List Event → Explanation → Explained
+with_after opening history told = record {
+  told = told;
+  after = registers_after opening history;
+  delay = delay_after opening history;
 }
 
 -- ---- which event set the probability
@@ -96,10 +106,11 @@ abbrev pub told_unless_differs : Opening → List Line → Option Explanation �
 told_unless_differs opening lines told = told_unless (first_difference opening lines) told
 
 -- what there is to say at a place, where no event up to it, itself included, differs
-abbrev pub told_at : Opening → Which → LinePlace → Option Explanation
+abbrev pub told_at : Opening → Which → LinePlace → Option Explained
 told_at opening which place =
-    told_unless_differs opening (place.before ++ place.line ∷ []) (told_after opening which place.before (setter_after opening place.before) place.line)
+    option_map (with_after opening (events_of (place.before ++ place.line ∷ [])))
+    (told_unless_differs opening (place.before ++ place.line ∷ []) (told_after opening which place.before (setter_after opening place.before) place.line))
 
 -- what there is to say of the chosen events of these lines, in their order
-unfoldable pub explanations : Opening → Which → List Line → List Explanation
+unfoldable pub explanations : Opening → Which → List Line → List Explained
 explanations opening which lines = filter_map (told_at opening which) (line_places lines)

@@ -7,7 +7,7 @@ use Rattle.pie_record.specs.Lines.{history_lines, history_opening}
 use Rattle.pie_record.specs.Text.{Row}
 use Rattle.pie_explain.specs.declared.explainer.Form.{Form}
 use Rattle.pie_explain.specs.declared.explainer.Form.TheVariants.{Text, Csv}
-use Rattle.pie_explain.specs.declared.explanation.Explanation.{Explanation}
+use Rattle.pie_explain.specs.declared.explanation.Explained.{Explained}
 use Rattle.pie_explain.specs.declared.which.Which.{Which}
 use Rattle.pie_explain.specs.Explanation.{explanations}
 use Rattle.pie_explain.specs.Record.{line_of, record_of}
@@ -17,7 +17,10 @@ use Rattle.pie_explain.specs.Words.{words}
 abbrev pub field_names : List (List ℕ)
 field_names =
     codes "number" ∷ codes "kind" ∷ codes "caller" ∷ codes "moment" ∷ codes "effective_moment" ∷ codes "tag" ∷ codes "size" ∷ codes "verdict" ∷ codes "cause"
-    ∷ codes "bytes" ∷ codes "packets" ∷ codes "delay" ∷ codes "probability" ∷ codes "accumulated_probability" ∷ codes "burst_allowance" ∷ []
+    ∷ codes "bytes" ∷ codes "packets" ∷ codes "delay" ∷ codes "probability" ∷ codes "accumulated_probability" ∷ codes "burst_allowance"
+    ∷ codes "ecn" ∷ codes "word" ∷ codes "waited" ∷ codes "active" ∷ codes "set_by"
+    ∷ codes "bytes_after" ∷ codes "packets_after" ∷ codes "delay_after" ∷ codes "probability_after" ∷ codes "accumulated_probability_after"
+    ∷ codes "burst_allowance_after" ∷ codes "active_after" ∷ []
 
 -- what stands before the first explanation: for CSV the header row
 unfoldable pub header : Form → List ℕ
@@ -25,12 +28,12 @@ header Text = []
 header Csv = line_of field_names
 
 -- what is written of an explanation
-unfoldable pub said_of : Form → Explanation → List ℕ
+unfoldable pub said_of : Form → Explained → List ℕ
 said_of Text told = words told
 said_of Csv told = line_of (record_of told)
 
 -- .. of each of these, one after the other
-unfoldable pub said : Form → List Explanation → List ℕ
+unfoldable pub said : Form → List Explained → List ℕ
 said form all = flat_map (said_of form) all
 
 -- ---- of a whole history

@@ -1,6 +1,8 @@
 -- The CSV record of an explanation.
-use Rattle.std.specs.Prelude.{ℕ, List, [], ◌∷◌, ◌++◌, Option, Some, None, codes}
+use Rattle.std.specs.Prelude.{ℕ, Bool, true, false, List, [], ◌∷◌, ◌++◌, Option, Some, None, codes}
 use Rattle.std.specs.Fmt.{decimal}
+use Rattle.pie_queue.specs.declared.ecn.Ecn.{Ecn}
+use Rattle.pie_queue.specs.declared.ecn.Ecn.TheVariants.{NotEct, Ect1, Ect0, Ce}
 use Rattle.pie_queue.specs.declared.packet.Packet.{Packet}
 use Rattle.pie_controller.specs.declared.cause.Cause.{Cause}
 use Rattle.pie_controller.specs.declared.cause.Cause.TheVariants.{NoRoomInBytes, NoRoomInPackets, Inactive, BurstAllowed, LowDelay, ShortQueue, NoProbability, LittleAccumulated, PickedBySum, PickedByWord, WordNotBelow}
@@ -10,6 +12,7 @@ use Rattle.pie_book.specs.declared.command.Command.TheVariants.{Arrive, Depart, 
 use Rattle.pie_book.specs.declared.command.Answer.{Answer}
 use Rattle.pie_book.specs.declared.command.Answer.TheVariants.{Enqueued, Marked, DroppedEarly, DroppedBytes, DroppedPackets, Empty, Left, Updated, Done}
 use Rattle.pie_book.specs.Deed.{handed_in}
+use Rattle.pie_explain.specs.declared.explanation.Explained.{Explained}
 use Rattle.pie_explain.specs.declared.explanation.Explanation.{Explanation}
 use Rattle.pie_explain.specs.Which.{packet_of}
 
@@ -65,12 +68,68 @@ abbrev pub size_field : Option Packet → List ℕ
 size_field None = []
 size_field (Some packet) = decimal packet.size
 
--- the fifteen fields: the event and what decided it, and the numbers that it met
-abbrev pub record_of : Explanation → List (List ℕ)
-record_of told =
-    decimal told.number ∷ kind_word told.event.command ∷ decimal told.event.caller ∷ decimal (handed_in told.event.command) ∷ decimal told.moment
-    ∷ tag_field (packet_of told.event) ∷ size_field (packet_of told.event) ∷ verdict_word told.event.answer ∷ cause_word told.cause
-    ∷ decimal told.before.bytes ∷ decimal told.before.packets ∷ decimal told.delay ∷ decimal told.before.prob ∷ decimal told.before.accu ∷ decimal told.before.burst ∷ []
+-- the ECN field of that packet, as in a history
+abbrev pub ecn_word : Ecn → List ℕ
+ecn_word NotEct = codes "not"
+ecn_word Ect1 = codes "ect1"
+ecn_word Ect0 = codes "ect0"
+ecn_word Ce = codes "ce"
+
+abbrev pub ecn_field : Option Packet → List ℕ
+ecn_field None = []
+ecn_field (Some packet) = ecn_word packet.ecn
+
+-- a number, empty where there is none
+abbrev pub number_field : Option ℕ → List ℕ
+number_field None = []
+number_field (Some n) = decimal n
+
+-- the random word of an arrival
+abbrev pub word_of : Command → Option ℕ
+word_of (Arrive moment packet word) = Some word
+word_of (Depart moment) = None
+word_of (Update moment) = None
+word_of (Reset moment) = None
+word_of (SetParams moment params) = None
+
+-- how long the packet had waited that left
+abbrev pub wait_where : Answer → ℕ → Option ℕ
+wait_where (Left packet) waited = Some waited
+wait_where _ waited = None
+
+-- whether the controller is active
+abbrev pub active_field : Bool → List ℕ
+active_field true = codes "1"
+active_field false = codes "0"
+
+-- the event and when it was
+abbrev pub head_fields : Explanation → List (List ℕ)
+head_fields told =
+    decimal told.number ∷ kind_word told.event.command ∷ decimal told.event.caller ∷ decimal (handed_in told.event.command) ∷ decimal told.moment ∷ []
+
+-- what became of it, what decided it, and the numbers that it met
+abbrev pub met_fields : Explanation → List (List ℕ)
+met_fields told =
+    verdict_word told.event.answer ∷ cause_word told.cause ∷ decimal told.before.bytes ∷ decimal told.before.packets ∷ decimal told.delay
+    ∷ decimal told.before.prob ∷ decimal told.before.accu ∷ decimal told.before.burst ∷ []
+
+-- what else there is to say of it, and of the controller before it
+abbrev pub more_fields : Explanation → List (List ℕ)
+more_fields told =
+    ecn_field (packet_of told.event) ∷ number_field (word_of told.event.command) ∷ number_field (wait_where told.event.answer told.waited)
+    ∷ active_field told.before.active ∷ number_field told.set_by ∷ []
+
+-- the numbers after it
+abbrev pub after_fields : Explained → List (List ℕ)
+after_fields all =
+    decimal all.after.bytes ∷ decimal all.after.packets ∷ decimal all.delay ∷ decimal all.after.prob ∷ decimal all.after.accu ∷ decimal all.after.burst
+    ∷ active_field all.after.active ∷ []
+
+-- the twenty-seven fields
+abbrev pub record_of : Explained → List (List ℕ)
+record_of all =
+    head_fields all.told ++ (tag_field (packet_of all.told.event) ∷ size_field (packet_of all.told.event) ∷ []) ++ met_fields all.told ++ more_fields all.told
+    ++ after_fields all
 
 -- these fields as a line of CSV: none of them has a comma, a quote or a line's end in it
 abbrev pub line_of : List (List ℕ) → List ℕ
@@ -86,11 +145,16 @@ with_commas [] = []
 with_commas (field ∷ fields) = field ++ codes "," ++ with_commas fields
 
 abbrev pub head : Explanation → List ℕ
-head told = with_commas (decimal told.number ∷ kind_word told.event.command ∷ decimal told.event.caller ∷ decimal (handed_in told.event.command) ∷ decimal told.moment ∷ [])
+head told = with_commas (head_fields told)
 
 abbrev pub packet_fields : Option Packet → List ℕ
 packet_fields packet = with_commas (tag_field packet ∷ size_field packet ∷ [])
 
-abbrev pub rest : Explanation → List ℕ
-rest told = line_of (verdict_word told.event.answer ∷ cause_word told.cause ∷ decimal told.before.bytes ∷ decimal told.before.packets ∷ decimal told.delay ∷ decimal told.before.prob
-    ∷ decimal told.before.accu ∷ decimal told.before.burst ∷ [])
+abbrev pub met : Explanation → List ℕ
+met told = with_commas (met_fields told)
+
+abbrev pub more : Explanation → List ℕ
+more told = with_commas (more_fields told)
+
+abbrev pub rest : Explained → List ℕ
+rest all = line_of (after_fields all)

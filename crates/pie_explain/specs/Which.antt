@@ -5,9 +5,10 @@ use Rattle.pie_book.specs.declared.command.Command.{Command}
 use Rattle.pie_book.specs.declared.command.Command.TheVariants.{Arrive}
 use Rattle.pie_book.specs.declared.command.Answer.{Answer}
 use Rattle.pie_book.specs.declared.command.Answer.TheVariants.{DroppedEarly, DroppedBytes, DroppedPackets, Left}
+use Rattle.pie_book.specs.declared.command.Answer.TheVariants as answer
 use Rattle.pie_book.specs.declared.command.Event.{Event}
 use Rattle.pie_explain.specs.declared.which.Which.{Which}
-use Rattle.pie_explain.specs.declared.which.Which.TheVariants.{Number, Tag, Lost, All}
+use Rattle.pie_explain.specs.declared.which.Which.TheVariants.{Number, Tag, Lost, Marked, All}
 
 -- the packet that left
 abbrev pub packet_left : Answer → Option Packet
@@ -39,9 +40,15 @@ is_lost DroppedBytes = true
 is_lost DroppedPackets = true
 is_lost _ = false
 
+-- an answer says that a packet was marked
+abbrev pub is_marked : Answer → Bool
+is_marked answer.Marked = true
+is_marked _ = false
+
 -- the event with this number is chosen
 abbrev pub chooses : Which → ℕ → Event → Bool
 chooses (Number wanted) number event = wanted == number
 chooses (Tag tag) number event = has_tag tag event
 chooses Lost number event = is_lost event.answer
+chooses Marked number event = is_marked event.answer
 chooses All number event = true

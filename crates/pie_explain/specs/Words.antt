@@ -1,5 +1,5 @@
 -- An explanation in words, of some lines: what the event did, what decided it, and the numbers that it met.
-use Rattle.std.specs.Prelude.{ℕ, ◌+◌, ◌-◌, ◌*◌, ◌/◌, ◌%◌, ◌^◌, min, List, [], ◌∷◌, ◌++◌, length, replicate, Option, Some, None, codes}
+use Rattle.std.specs.Prelude.{ℕ, ◌+◌, ◌-◌, ◌*◌, ◌/◌, ◌%◌, ◌^◌, ◌==◌, Bool, true, false, if◌then◌else◌, min, List, [], ◌∷◌, ◌++◌, length, replicate, Option, Some, None, codes}
 use Rattle.std.specs.Fmt.{decimal}
 use Rattle.pie_queue.specs.declared.ecn.Ecn.{Ecn}
 use Rattle.pie_queue.specs.declared.ecn.Ecn.TheVariants.{NotEct, Ect1, Ect0, Ce}
@@ -13,6 +13,7 @@ use Rattle.pie_book.specs.declared.command.Command.TheVariants.{Arrive, Depart, 
 use Rattle.pie_book.specs.declared.command.Answer.{Answer}
 use Rattle.pie_book.specs.declared.command.Answer.TheVariants.{Enqueued, Marked, DroppedEarly, DroppedBytes, DroppedPackets, Left, Updated}
 use Rattle.pie_book.specs.declared.registers.Registers.{Registers}
+use Rattle.pie_explain.specs.declared.explanation.Explained.{Explained}
 use Rattle.pie_explain.specs.declared.explanation.Explanation.{Explanation}
 
 -- these texts, one after the other
@@ -67,18 +68,21 @@ unfoldable pub departure_words : ℕ → Answer → ℕ → List ℕ
 departure_words number (Left packet) waited = joined (packet_words number packet ∷ codes "left\n  it had waited " ∷ millis waited ∷ codes "\n" ∷ [])
 departure_words number _ waited = joined (codes "event " ∷ decimal number ∷ codes ": no packet was there to leave\n" ∷ [])
 
-unfoldable pub update_words : ℕ → Answer → List ℕ
-update_words number (Updated delay prob burst) =
+-- an update while the controller is active takes a delay and makes a probability; while it is turned off it does neither
+unfoldable pub update_words : ℕ → Bool → Answer → List ℕ
+update_words number false answer =
+    joined (codes "event " ∷ decimal number ∷ codes ": an update\n  the controller is turned off: the update takes no delay, and makes no probability\n" ∷ [])
+update_words number true (Updated delay prob burst) =
     joined (codes "event " ∷ decimal number ∷ codes ": an update\n  it took a delay of " ∷ millis delay ∷ codes ", and made the probability " ∷ per_cent prob
     ∷ codes "\n  and the burst allowance " ∷ millis burst ∷ codes "\n" ∷ [])
-update_words number _ = joined (codes "event " ∷ decimal number ∷ codes ": an update\n" ∷ [])
+update_words number true _ = joined (codes "event " ∷ decimal number ∷ codes ": an update\n" ∷ [])
 
-unfoldable pub deed_words : ℕ → Command → Answer → ℕ → List ℕ
-deed_words number (Arrive moment packet word) answer waited = joined (packet_words number packet ∷ verdict_text answer ∷ codes "\n" ∷ [])
-deed_words number (Depart moment) answer waited = departure_words number answer waited
-deed_words number (Update moment) answer waited = update_words number answer
-deed_words number (Reset moment) answer waited = joined (codes "event " ∷ decimal number ∷ codes ": a reset\n" ∷ [])
-deed_words number (SetParams moment params) answer waited = joined (codes "event " ∷ decimal number ∷ codes ": new parameters\n" ∷ [])
+unfoldable pub deed_words : ℕ → Bool → Command → Answer → ℕ → List ℕ
+deed_words number active (Arrive moment packet word) answer waited = joined (packet_words number packet ∷ verdict_text answer ∷ codes "\n" ∷ [])
+deed_words number active (Depart moment) answer waited = departure_words number answer waited
+deed_words number active (Update moment) answer waited = update_words number active answer
+deed_words number active (Reset moment) answer waited = joined (codes "event " ∷ decimal number ∷ codes ": a reset\n" ∷ [])
+deed_words number active (SetParams moment params) answer waited = joined (codes "event " ∷ decimal number ∷ codes ": new parameters\n" ∷ [])
 
 -- when, and by whom
 unfoldable pub when_words : ℕ → ℕ → List ℕ
@@ -128,12 +132,24 @@ unfoldable pub reason_words : Option Cause → List ℕ
 reason_words None = codes ""
 reason_words (Some cause) = cause_words cause
 
+-- ---- whether the event turned the controller on or off
+
+-- .. where it was active before it or not, and is active after it or not
+unfoldable pub turned_words : Bool → Bool → List ℕ
+turned_words false true = codes "  this event turned the controller on\n"
+turned_words true false = codes "  this event turned the controller off\n"
+turned_words true true = codes ""
+turned_words false false = codes ""
+
 -- ---- what the controller held before the event
+
+-- the last of so many updates, at this moment
+unfoldable pub last_words : ℕ → ℕ → List ℕ
+last_words updates last = if updates == 0 then codes " no update so far;" else joined (codes " last update at " ∷ millis last ∷ codes ";" ∷ [])
 
 unfoldable pub setter_words : Option ℕ → Registers → List ℕ
 setter_words None before = joined (codes "  probability " ∷ per_cent before.prob ∷ codes ", as at the opening;" ∷ [])
-setter_words (Some event) before =
-    joined (codes "  probability " ∷ per_cent before.prob ∷ codes ", set by event " ∷ decimal event ∷ codes "; last update at " ∷ millis before.last ∷ codes ";" ∷ [])
+setter_words (Some event) before = joined (codes "  probability " ∷ per_cent before.prob ∷ codes ", set by event " ∷ decimal event ∷ codes ";" ∷ [])
 
 unfoldable pub queue_words : ℕ → ℕ → ℕ → List ℕ
 queue_words packets bytes delay =
@@ -144,11 +160,13 @@ burst_words burst = joined (codes " burst allowance " ∷ millis burst ∷ codes
 
 unfoldable pub before_words : Explanation → List ℕ
 before_words told =
-    joined (queue_words told.before.packets told.before.bytes told.delay ∷ setter_words told.set_by told.before ∷ burst_words told.before.burst ∷ [])
+    joined (queue_words told.before.packets told.before.bytes told.delay ∷ setter_words told.set_by told.before ∷ last_words told.updates told.before.last
+    ∷ burst_words told.before.burst ∷ [])
 
 -- ---- the whole
 
-unfoldable pub words : Explanation → List ℕ
-words told =
-    joined (deed_words told.number told.event.command told.event.answer told.waited ∷ when_words told.moment told.event.caller
-    ∷ reason_words told.cause ∷ before_words told ∷ [])
+unfoldable pub words : Explained → List ℕ
+words all =
+    joined (deed_words all.told.number all.told.before.active all.told.event.command all.told.event.answer all.told.waited
+    ∷ when_words all.told.moment all.told.event.caller ∷ reason_words all.told.cause ∷ turned_words all.told.before.active all.after.active
+    ∷ before_words all.told ∷ [])

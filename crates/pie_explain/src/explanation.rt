@@ -3,9 +3,9 @@ ghost use Rattle.std.specs.Prelude.{◌≡◌, List};
 ghost use Rattle.pie_book.specs.declared.command.Event.{Event};
 ghost use Rattle.pie_book.specs.declared.opening.Opening.{Opening};
 ghost use Rattle.pie_book.specs.Core.{Shows};
-ghost use Rattle.pie_book.specs.Deed.{deed_of};
+ghost use Rattle.pie_book.specs.Deed.{deed_of, is_update};
 ghost use Rattle.pie_book.specs.History.{waiting_after};
-ghost use Rattle.pie_book.specs.Statistics.{wait_of};
+ghost use Rattle.pie_book.specs.Statistics.{count_of, wait_of};
 
 use pie_book::{Answer, Cause, Command, Core, Event, Registers};
 
@@ -30,6 +30,19 @@ pub struct Explanation {
     /// The number of the last event before it that set the probability: an update while the controller was active, a reset, or an
     /// arrival that turned it on; none where it still is the opening's.
     pub set_by: Option<u64>,
+    /// How many updates there were before it.
+    pub updates: u64,
+}
+
+/// An explanation, and what the controller held after the event.
+#[derive(Clone, Copy, Debug)]
+pub struct Explained {
+    /// The event and the numbers that it met.
+    pub told: Explanation,
+    /// What the controller held after it.
+    pub after: Registers,
+    /// The queueing delay after it (RFC 8033, section 5.2).
+    pub delay: u64,
 }
 
 /// How long the packet had waited that an event let go, at its effective moment, and 0 for any other event.
@@ -47,6 +60,13 @@ fn waited(core: &Core, event: &Event, now: u64) -> u64
         },
         _ => 0,
     }
+}
+
+/// How many updates a core has made.
+fn updates(core: &Core) -> u64
+    ensures { (opening : Opening) (history : List Event) → Shows opening core.now history → result ≡ count_of is_update history }
+{
+    core.stats().updates
 }
 
 impl Explanation {
@@ -70,6 +90,23 @@ impl Explanation {
             cause: core.cause(&event.command),
             waited: waited(core, event, now),
             set_by,
+            updates: updates(core),
+        }
+    }
+}
+
+impl Explained {
+    ghost use Rattle.pie_explain.specs.Explanation.{with_after};
+
+    /// An explanation, with what a core holds that has decided its event.
+    pub fn of(core: &Core, told: &Explanation) -> Explained
+        ensures { (opening : Opening) (history : List Event) → Shows opening core.now history → result ≡ with_after opening history told.now }
+    {
+        let (after, delay) = (core.registers(), core.delay());
+        Explained {
+            told: *told,
+            after,
+            delay,
         }
     }
 }

@@ -1,8 +1,8 @@
-//! An explanation in words, of four to seven lines.
+//! An explanation in words, of four to eight lines.
 ghost use Rattle.std.specs.Prelude.{◌≡◌, ◌++◌, OnOk, string_bytes};
-ghost use Rattle.pie_explain.specs.Words.{before_words, burst_words, cause_words, compared_words, considered_words, deed_words, departure_words, ecn_name, verdict_text, packet_words, picked_words, queue_words, reason_words, setter_words, sum_words, update_words, when_words, words};
+ghost use Rattle.pie_explain.specs.Words.{before_words, burst_words, cause_words, compared_words, considered_words, deed_words, departure_words, ecn_name, last_words, verdict_text, packet_words, picked_words, queue_words, reason_words, setter_words, sum_words, turned_words, update_words, when_words, words};
 
-use crate::explanation::Explanation;
+use crate::explanation::{Explained, Explanation};
 use crate::units::{Millis, PerCent, Word};
 use pie_book::{Answer, Cause, Command, Fate, Registers};
 use pie_queue::{Ecn, Packet};
@@ -66,9 +66,20 @@ fn push_departure(
 
 /// The first lines of an update.
 #[tactic(auto, unfolding(crate::specs::Words::update_words))]
-fn push_update(page: &mut String, number: u64, answer: Answer) -> Result<(), AllocError>
-    ensures { OnOk result (string_bytes page.new ≡ string_bytes page.old ++ update_words number answer) }
+fn push_update(
+    page: &mut String,
+    number: u64,
+    active: bool,
+    answer: Answer,
+) -> Result<(), AllocError>
+    ensures { OnOk result (string_bytes page.new ≡ string_bytes page.old ++ update_words number active answer) }
 {
+    if !active {
+        return write!(
+            page,
+            "event {number}: an update\n  the controller is turned off: the update takes no delay, and makes no probability\n"
+        );
+    }
     match answer {
         Answer::Updated { delay, prob, burst } => {
             let (delay, prob, burst) = (Millis(delay), PerCent(prob), Millis(burst));
@@ -86,11 +97,12 @@ fn push_update(page: &mut String, number: u64, answer: Answer) -> Result<(), All
 fn push_deed(
     page: &mut String,
     number: u64,
+    active: bool,
     command: Command,
     answer: Answer,
     waited: u64,
 ) -> Result<(), AllocError>
-    ensures { OnOk result (string_bytes page.new ≡ string_bytes page.old ++ deed_words number command answer waited) }
+    ensures { OnOk result (string_bytes page.new ≡ string_bytes page.old ++ deed_words number active command answer waited) }
 {
     match command {
         Command::Arrive { packet, .. } => {
@@ -99,7 +111,7 @@ fn push_deed(
             write!(page, "{verdict}\n")
         }
         Command::Depart { .. } => push_departure(page, number, answer, waited),
-        Command::Update { .. } => push_update(page, number, answer),
+        Command::Update { .. } => push_update(page, number, active, answer),
         Command::Reset { .. } => write!(page, "event {number}: a reset\n"),
         Command::SetParams { .. } => write!(page, "event {number}: new parameters\n"),
     }
@@ -257,14 +269,32 @@ fn push_setter(page: &mut String, set_by: Option<u64>, before: &Registers) -> Re
 {
     let prob = PerCent(before.prob);
     match set_by {
-        Some(event) => {
-            let last = Millis(before.last);
-            write!(
-                page,
-                "  probability {prob}, set by event {event}; last update at {last};"
-            )
-        }
+        Some(event) => write!(page, "  probability {prob}, set by event {event};"),
         None => write!(page, "  probability {prob}, as at the opening;"),
+    }
+}
+
+/// When the last of so many updates was.
+#[tactic(auto, unfolding(crate::specs::Words::last_words))]
+fn push_last(page: &mut String, updates: u64, last: u64) -> Result<(), AllocError>
+    ensures { OnOk result (string_bytes page.new ≡ string_bytes page.old ++ last_words updates last) }
+{
+    if updates == 0 {
+        return write!(page, " no update so far;");
+    }
+    let last = Millis(last);
+    write!(page, " last update at {last};")
+}
+
+/// Whether the event turned the controller on or off.
+#[tactic(auto, unfolding(crate::specs::Words::turned_words))]
+fn push_turned(page: &mut String, was_active: bool, is_active: bool) -> Result<(), AllocError>
+    ensures { OnOk result (string_bytes page.new ≡ string_bytes page.old ++ turned_words was_active is_active) }
+{
+    match (was_active, is_active) {
+        (false, true) => write!(page, "  this event turned the controller on\n"),
+        (true, false) => write!(page, "  this event turned the controller off\n"),
+        (true, true) | (false, false) => Ok(()),
     }
 }
 
@@ -297,17 +327,27 @@ fn push_before(page: &mut String, told: &Explanation) -> Result<(), AllocError>
     let before = &told.before;
     push_queue(page, before.packets, before.bytes, told.delay)?;
     push_setter(page, told.set_by, before)?;
+    push_last(page, told.updates, before.last)?;
     push_burst(page, before.burst)
 }
 
 /// Writes an explanation in words.
 #[tactic(auto, unfolding(crate::specs::Words::words))]
-pub(crate) fn push_text(page: &mut String, told: &Explanation) -> Result<(), AllocError>
-    ensures { OnOk result (string_bytes page.new ≡ string_bytes page.old ++ words told.now) }
+pub(crate) fn push_text(page: &mut String, all: &Explained) -> Result<(), AllocError>
+    ensures { OnOk result (string_bytes page.new ≡ string_bytes page.old ++ words all.now) }
 {
-    let event = &told.event;
-    push_deed(page, told.number, event.command, event.answer, told.waited)?;
+    let told = &all.told;
+    let (event, was_active) = (&told.event, told.before.active);
+    push_deed(
+        page,
+        told.number,
+        was_active,
+        event.command,
+        event.answer,
+        told.waited,
+    )?;
     push_when(page, told.moment, event.caller)?;
     push_reason(page, told.cause)?;
+    push_turned(page, was_active, all.after.active)?;
     push_before(page, told)
 }

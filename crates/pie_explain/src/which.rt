@@ -1,6 +1,6 @@
 //! Which events are explained.
 ghost use Rattle.std.specs.Prelude.{◌≡◌};
-ghost use Rattle.pie_explain.specs.Which.{has_tag, is_lost, packet_of};
+ghost use Rattle.pie_explain.specs.Which.{has_tag, is_lost, is_marked, packet_of};
 
 use pie_book::{Answer, Command, Event};
 use pie_queue::Packet;
@@ -14,6 +14,8 @@ pub enum Which {
     Tag(u64),
     /// Every arrival whose packet was dropped.
     Lost,
+    /// Every arrival whose packet was marked.
+    Marked,
     /// Every event.
     All,
 }
@@ -51,6 +53,13 @@ fn is_lost(answer: Answer) -> bool
     )
 }
 
+/// Whether an answer says that a packet was marked.
+fn is_marked(answer: Answer) -> bool
+    ensures { result ≡ is_marked answer }
+{
+    matches!(answer, Answer::Marked)
+}
+
 impl Which {
     ghost use Rattle.pie_explain.specs.Which.{chooses};
 
@@ -62,6 +71,7 @@ impl Which {
             Which::Number(wanted) => wanted == number,
             Which::Tag(tag) => has_tag(tag, event),
             Which::Lost => is_lost(event.answer),
+            Which::Marked => is_marked(event.answer),
             Which::All => true,
         }
     }

@@ -4,5 +4,5 @@ use Rattle.pie_explain.proofs.record.push_record.Goals as goal
 
 pub returns : goal.returns
 returns c =
-    record-written c.push_rest.result c.args.told.now (string_bytes c.args.page.now) (string_bytes c.push_head.new.page) (string_bytes c.push_packet.new.page) (string_bytes c.push_rest.new.page)
-    c.packet_of.result c.in_ok-push_head.ensures c.packet_of.ensures c.in_ok-push_packet.ensures c.push_rest.ensures
+    record-written c.push_rest.result c.args.all.now (string_bytes c.args.page.now) (string_bytes c.push_first.new.page) (string_bytes c.push_more.new.page) (string_bytes c.push_rest.new.page)
+    c.in_ok-push_first.ensures c.in_ok-push_more.ensures c.push_rest.ensures

@@ -1,0 +1,112 @@
+//! The pace of a storm: its callers start together, and none runs far ahead of another.
+
+use pie_link::Gate;
+use std::sync::atomic::{AtomicBool, AtomicU64, Ordering};
+use std::thread::yield_now;
+
+/// How far a caller may run ahead of another, in nanoseconds of the plan.
+const AHEAD: u64 = 1_000_000;
+/// How often a caller looks at the others before it goes on without them.
+const LOOKS: u64 = 100_000;
+/// A caller that isn't there yet.
+const AWAY: u64 = 0;
+/// A caller that has made all its calls, or that the storm has not.
+const GONE: u64 = u64::MAX;
+
+/// The gate of a storm that `storm_plan` plans (this project's own). Each caller shows the moment of its next call, and waits until no
+/// other is away or further behind than `AHEAD`. Once one has waited in vain for long, nobody waits any more: so a caller whose thread was
+/// not started, or is never scheduled, stops nobody.
+#[derive(Drop)]
+pub(crate) struct Pace {
+    senders: u64,
+    packets: u64,
+    load: u64,
+    /// The moment of the next call of each caller: of the senders, of the one that departs and of the one that updates.
+    next: [AtomicU64; 10],
+    /// One has waited in vain.
+    is_over: AtomicBool,
+}
+
+/// What a caller shows before the storm, where there are so many.
+fn shown_first(caller: u64, callers: u64) -> AtomicU64 {
+    AtomicU64::new(if caller <= callers { AWAY } else { GONE })
+}
+
+impl Pace {
+    /// The pace of a storm of so many senders with so many packets each, at this load.
+    pub(crate) fn new(senders: u64, packets: u64, load: u64) -> Pace {
+        let callers = senders.saturating_add(2);
+        Pace {
+            senders,
+            packets,
+            load,
+            next: [
+                shown_first(1, callers),
+                shown_first(2, callers),
+                shown_first(3, callers),
+                shown_first(4, callers),
+                shown_first(5, callers),
+                shown_first(6, callers),
+                shown_first(7, callers),
+                shown_first(8, callers),
+                shown_first(9, callers),
+                shown_first(10, callers),
+            ],
+            is_over: AtomicBool::new(false),
+        }
+    }
+
+    /// The moment of a call of a caller, counted from 1, in the plan; `GONE` after its last.
+    fn moment(&self, caller: u64, call: u64) -> u64 {
+        let all = self.senders.saturating_mul(self.packets);
+        let (calls, moment) = if caller <= self.senders {
+            (self.packets, call.saturating_mul(1_000_000))
+        } else if caller == self.senders.saturating_add(1) {
+            let hundredths = call.saturating_mul(self.load).saturating_mul(10_000);
+            (all, hundredths / self.senders.max(1))
+        } else {
+            (self.packets / 15 + 1, call.saturating_mul(15_000_000))
+        };
+        if call <= calls { moment.max(1) } else { GONE }
+    }
+
+    /// Shows the moment of the next call of a caller.
+    fn show(&self, caller: u16, moment: u64) {
+        if let Some(next) = self.next.get(usize::from(caller).wrapping_sub(1)) {
+            next.store(moment, Ordering::SeqCst);
+        }
+    }
+
+    /// Whether every caller is there, and none is to make a call before this moment; or nobody waits any more.
+    fn are_level(&self, moment: u64) -> bool {
+        if self.is_over.load(Ordering::SeqCst) {
+            return true;
+        }
+        for next in &self.next {
+            if next.load(Ordering::SeqCst) < moment {
+                return false;
+            }
+        }
+        true
+    }
+}
+
+impl Gate for Pace {
+    fn before(&self, caller: u16, call: u64) {
+        let moment = self.moment(u64::from(caller), call);
+        self.show(caller, moment);
+        let least = moment.saturating_sub(AHEAD).max(AWAY + 1);
+        for _ in 0..LOOKS {
+            if self.are_level(least) {
+                return;
+            }
+            yield_now();
+        }
+        self.is_over.store(true, Ordering::SeqCst);
+    }
+
+    fn after(&self, caller: u16, call: u64) {
+        let moment = self.moment(u64::from(caller), call.saturating_add(1));
+        self.show(caller, moment);
+    }
+}

@@ -168,7 +168,7 @@ fn measure_book<R: Clock + Print>(rt: &R, alloc: Global, name: &str, mode: Mode)
 }
 
 /// Prints the time of one event decided only, decided and recorded in a bounded book that is folded whenever its tail is
-/// full, and in a rolling one; and the bytes that an event takes in the tail.
+/// full, and in a rolling one; and the bytes of an event that is handed out.
 pub fn measure<R: Clock + Print>(rt: &R, alloc: Global) -> io::Result<()> {
     measure_core(rt, alloc)?;
     measure_book(rt, alloc, "book_recorded_bounded", Mode::Bounded)?;

@@ -65,7 +65,8 @@ fn is_considered(params: &RawParams, control: &RawControl, bytes: u64) -> bool
 {
     control.burst == 0
         && u128::from(bytes) > 2 * u128::from(params.mean_pkt)
-        && !(2 * u128::from(control.old_delay) < u128::from(params.target) && control.prob < LOW_PROB)
+        && !(2 * u128::from(control.old_delay) < u128::from(params.target)
+            && control.prob < LOW_PROB)
 }
 
 /// Whether a considered arrival is picked, at a probability which isn't 0 and that joins the accumulated one (RFC 8033, section

@@ -92,7 +92,8 @@ impl Rate {
         // told from the estimate before it, whichever departures that shows
         ensures step { self.new ≡ after_departure threshold self.old (departure size bytes_left moment) }
     {
-        self.raw.departed(size, bytes_left, moment.units(), threshold);
+        self.raw
+            .departed(size, bytes_left, moment.units(), threshold);
     }
 
     /// The average time, in nanoseconds, in which a threshold of bytes departs, below `2^60`; 0 with

@@ -80,7 +80,7 @@ Heard opening which form coming (Err why) auditor set_by explained before now =
     is_device why ≡ false → (coming.fault ≡ Some why) × Appends before now (said form (explanations opening which coming.lines))
 
 -- where explaining stands among all lines: some are left, and the others were explained
-pub record Stands (opening : Opening) (which : Which) (form : Form) (all : Coming) (lines : LinesView) (auditor : AuditorView) (set_by : Option ℕ) (explained : ℕ) (before now : Option (List ℕ)) : Type 0 where
+pub record ExplainAt (opening : Opening) (which : Which) (form : Form) (all : Coming) (lines : LinesView) (auditor : AuditorView) (set_by : Option ℕ) (explained : ℕ) (before now : Option (List ℕ)) : Type 0 where
   pub seen : List Line
   pub left : List Line
   pub split : all.lines ≡ seen ++ left

@@ -3,7 +3,7 @@ use Rattle.std.specs.Prelude.{IfSome, Option, string_bytes}
 use Rattle.std.specs.Io.KnownBytes.{append_known}
 use Rattle.pie_book.specs.declared.opening.Opening.{Opening}
 use Rattle.pie_record.specs.declared.history.Course.TheVariants.{Going}
-use Rattle.pie_explain.specs.Answer.{Explains, Stands}
+use Rattle.pie_explain.specs.Answer.{Explains, ExplainAt}
 use Rattle.pie_explain.proofs.explainer.explain_lines.Given as goal
 
 abbrev pub invariant-lines : goal.invariant-lines
@@ -14,7 +14,7 @@ invariant-lines g l = record {
   stands : (opening : Opening) (before : Option (List ℕ))
       → Explains opening l.fn.explainer.which l.fn.explainer.form [] l.fn.explainer.auditor l.fn.explainer.set_by l.fn.explainer.explained before
       (append_known (g.W.Write.contents l.fn.writer) (string_bytes l.fn.explainer.page))
-      → IfSome l.fn.lines.coming (λ all. Stands opening l.fn.explainer.which l.fn.explainer.form all l.lines l.explainer.auditor l.explainer.set_by l.explainer.explained before
+      → IfSome l.fn.lines.coming (λ all. ExplainAt opening l.fn.explainer.which l.fn.explainer.form all l.lines l.explainer.auditor l.explainer.set_by l.explainer.explained before
       (append_known (g.W.Write.contents l.writer) (string_bytes l.explainer.page)));
 }
 

@@ -1,6 +1,5 @@
 -- How the program ends: its exit status, and what it writes to its output.
-use Rattle.std.specs.Prelude.{ℕ, ◌≡◌, ◌⊎◌, ◌^◌, List, ◌++◌, false, Option, Some, None, Result, Ok, Err, codes}
-use Rattle.std.specs.Fmt.{decimal}
+use Rattle.std.specs.Prelude.{ℕ, ◌≡◌, ◌⊎◌, ◌^◌, List, false, Option, Some, None, Result, Ok, Err}
 use Rattle.std.specs.Io.KnownBytes.{Appends}
 use Rattle.pie_record.specs.declared.fault.TraceFault.{TraceFault}
 use Rattle.pie_record.specs.declared.fault.TraceFault.TheVariants as trace_fault
@@ -10,7 +9,7 @@ use Rattle.pie_trace.specs.Migrate.{history_fault, migrated_text}
 use Rattle.pie_record.specs.Text.{records_of}
 use Rattle.pie_audit.specs.declared.auditor.Finding.{Finding}
 use Rattle.pie_audit.specs.declared.auditor.Finding.TheVariants as finding
-use Rattle.pie_audit.specs.Text.{text_finding}
+use Rattle.pie_audit.specs.Text.{finding_line, text_finding}
 use Rattle.pie_explain.specs.declared.explainer.Form.{Form}
 use Rattle.pie_explain.specs.declared.fault.ExplainFault.{ExplainFault}
 use Rattle.pie_explain.specs.declared.fault.ExplainFault.TheVariants as fault
@@ -52,11 +51,6 @@ abbrev pub EndsRun : List ℕ → End → Option (List ℕ) → Option (List ℕ
 EndsRun input = run_ends (fault_of (2 ^ 32) (records_of input)) (history_text (2 ^ 32) (records_of input))
 
 -- ---- `pie audit`
-
--- the line of a finding
-abbrev pub finding_line : Finding → List ℕ
-finding_line (finding.Clean events) = codes "clean," ++ decimal events ++ codes "\n"
-finding_line (finding.Differs event) = codes "differs," ++ decimal event ++ codes "\n"
 
 -- a history is found to be so, and the line of that is written; or it has a fault, and nothing is written. Or the reader or memory failed,
 -- and nothing is written; or the line could not be written

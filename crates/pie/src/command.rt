@@ -1,11 +1,10 @@
 //! The whole program over a list of words, a reader and two writers.
-ghost use Rattle.std.specs.Prelude.{◌≡◌, ◌≤◌, ◌⊎◌, Some, IfSome, OnOk, codes, map, string_bytes};
-ghost use Rattle.std.specs.Io.KnownBytes.{Appends};
+ghost use Rattle.std.specs.Prelude.{◌≡◌, ◌≤◌, ◌⊎◌, Some, IfSome, codes, map, string_bytes};
 ghost use Rattle.clap.specs.Words.{kind_of};
 ghost use Rattle.clap.specs.declared.error.kind.ErrorKind.{ErrorKind};
 ghost use Rattle.pie.specs.Choice.{choice_of, form_of};
 ghost use Rattle.pie.specs.declared.end.End.{End};
-ghost use Rattle.pie.specs.Ends.{EndsAudit, EndsExplain, EndsMigrate, EndsRun, finding_line, status_of};
+ghost use Rattle.pie.specs.Ends.{EndsAudit, EndsExplain, EndsMigrate, EndsRun, status_of};
 ghost use Rattle.pie.specs.StormEnds.{EndsStorm};
 ghost use Rattle.pie.specs.Words.{AskFor, Asks, options_in, subcommand_in};
 
@@ -15,11 +14,10 @@ use crate::options::options;
 use crate::storming::make_storm;
 use clap::Error;
 use clap::error::ErrorKind;
-use pie_audit::{Finding, audit};
+use pie_audit::{Finding, audit, write_finding};
 use pie_trace::{TraceFault, migrate, run_trace};
 use std::alloc::Global;
 use std::fmt::Display;
-use std::io;
 use std::io::{Read, Write};
 use std::marker::Sync;
 use std::sync::Wait;
@@ -144,17 +142,6 @@ fn migrate_input<R: Read + Drop, W: Write, E: Write>(
 {
     let given = migrate(alloc, input, output);
     ended(errors, given)
-}
-
-/// Writes the line of a finding, and nothing else.
-fn write_finding<W: Write>(found: Finding, output: &mut W) -> io::Result<()>
-    ensures { OnOk result (Appends (W.contents output.old) (W.contents output.new) (finding_line found)) }
-{
-    match found {
-        Finding::Clean { events } => writeln!(output, "clean,{events}")?,
-        Finding::Differs { event } => writeln!(output, "differs,{event}")?,
-    }
-    output.flush()
 }
 
 /// Writes the line of a fault, and answers its status. Where that line can't be written the status is the same.

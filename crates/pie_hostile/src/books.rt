@@ -3,8 +3,8 @@ ghost use Rattle.std.specs.Prelude.{◌≡◌};
 
 use crate::report::begin;
 use pie_book::{
-    Book, Choices, Command, Core, Event, FoldRefusal, Limits, Mode, OpenRefusal, Profile, Registers,
-    Stats,
+    Book, Choices, Command, Core, Event, FoldRefusal, Limits, Mode, OpenRefusal, Profile,
+    Registers, Stats,
 };
 use pie_fixed::Nanos;
 use pie_params::Params;
@@ -241,7 +241,13 @@ fn count_of_fold(alloc: Global, book: &mut Book, n: u64) -> Result<usize, FoldRe
 }
 
 /// Prints how many events a fold of so many hands out, and how many the tail then holds.
-fn tell_count(rt: &impl Print, alloc: Global, name: &str, book: &mut Book, n: u64) -> io::Result<()> {
+fn tell_count(
+    rt: &impl Print,
+    alloc: Global,
+    name: &str,
+    book: &mut Book,
+    n: u64,
+) -> io::Result<()> {
     begin(rt, name)?;
     let count = count_of_fold(alloc, book, n);
     let held = book.tail_len();

@@ -1,4 +1,4 @@
-//! Equality of the public types that tests compare: where `==` says yes, the two values are the same in every field. A `==` that skips a
+//! Equality of the public types that tests compare, but `Line`: where `==` says yes, the two values are the same in every field. A `==` that skips a
 //! field would meet every other contract, and blind each test that compares. These functions are there for their contracts.
 ghost use Rattle.std.specs.Prelude.{◌≡◌, true};
 

@@ -70,7 +70,12 @@ fn steps(rt: &impl Print, lines: &mut Lines, core: &mut Core) -> io::Result<()> 
 }
 
 fn core(rt: &impl Print, alloc: Global, lines: &mut Lines, opening: &Opening) -> io::Result<()> {
-    let Opening { moment, limits, params, .. } = *opening;
+    let Opening {
+        moment,
+        limits,
+        params,
+        ..
+    } = *opening;
     match Core::open(alloc, limits, params, moment) {
         Ok(mut core) => steps(rt, lines, &mut core),
         Err(why) => println!(rt; "Core::step: {why:?}"),
@@ -117,7 +122,12 @@ fn is_at_end(alloc: Global, book: &mut Book, behind: &mut Core) -> bool {
 }
 
 fn folds(rt: &impl Print, alloc: Global, lines: &mut Lines, opening: &Opening) -> io::Result<()> {
-    let Opening { moment, limits, params, choices } = *opening;
+    let Opening {
+        moment,
+        limits,
+        params,
+        choices,
+    } = *opening;
     match (
         Book::open_with(alloc, limits, params, moment, choices),
         Core::open(alloc, limits, params, moment),

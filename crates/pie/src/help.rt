@@ -164,7 +164,7 @@ pub(crate) const STORM_HELP: &str =
 over that time, and an update each 15 milliseconds. With --load 120 the departures are 1.2 times as far apart, so packets wait,
 and some are marked or dropped early. All moments are planned, and no clock is read. The random words are made
 of the seed, but who comes first is the machine's choice: so two storms may have other histories. The threads
-start together, and none runs further ahead of another than a millisecond of the plan, unless that one is not scheduled.
+start together, and none runs further ahead of another than four milliseconds of the plan, unless that one is not scheduled.
 
 The history is one of the default parameters, as pie run writes it. Its events are audited before it is written.
 

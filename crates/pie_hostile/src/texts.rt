@@ -39,17 +39,17 @@ depart,2,30,empty
 
 /// What explains its events as CSV.
 pub(crate) const EXPLAINED: &[u8] =
-    b"number,kind,caller,moment,effective_moment,tag,size,verdict,cause,bytes,packets,delay,probability,accumulated_probability,burst_allowance
-1,arrive,1,10,10,7,1500,enqueue,burst_allowed,0,0,0,0,0,150000000
-2,depart,2,25,25,7,1500,left,,1500,1,0,0,0,150000000
-3,depart,2,30,30,,,empty,,0,0,0,0,0,150000000
+    b"number,kind,caller,moment,effective_moment,tag,size,verdict,cause,bytes,packets,delay,probability,accumulated_probability,burst_allowance,ecn,word,waited,active,set_by,bytes_after,packets_after,delay_after,probability_after,accumulated_probability_after,burst_allowance_after,active_after
+1,arrive,1,10,10,7,1500,enqueue,burst_allowed,0,0,0,0,0,150000000,ect0,0,,1,,1500,1,0,0,0,150000000,1
+2,depart,2,25,25,7,1500,left,,1500,1,0,0,0,150000000,ect0,,15,1,,0,0,0,0,0,150000000,1
+3,depart,2,30,30,,,empty,,0,0,0,0,0,150000000,,,,1,,0,0,0,0,0,150000000,1
 ";
 
 /// What explains its last departure in words.
 pub(crate) const IN_WORDS: &[u8] = b"event 3: no packet was there to leave
   at 0.000030 ms (30 ns), by caller 2
   before it: 0 packets, 0 bytes, a delay of 0.000000 ms (0 ns)
-  probability 0.0000 % (0), as at the opening; burst allowance 150.000000 ms (150000000 ns)
+  probability 0.0000 % (0), as at the opening; no update so far; burst allowance 150.000000 ms (150000000 ns)
 ";
 
 /// The calls over texts, one after another.

@@ -45,9 +45,9 @@ REFUSED = {
     "explain as CSV": r"explain as CSV: Trace\(Memory\), other bytes: false\n",
     "explain in words": r"explain in words: Trace\(Memory\), other bytes: false\n",
 }
-# What each of these calls requests at the most at once, in bytes, and what is not enough for it: an event takes 112 bytes, however many
-# the tail holds.
-ROOM = {"Book::fold of one": (256, 64)}
+# What each of these calls requests at the most at once, in bytes, and what is not enough for it: an event that is handed out takes 104 bytes, and
+# a list that is collected begins with room for four, however many the tail holds.
+ROOM = {"Book::fold of one": (512, 64)}
 # No call makes so many requests.
 MOST = 1000
 

@@ -285,7 +285,7 @@ fn wide_book(alloc: Global) -> Option<Book> {
     }
 }
 
-/// A fold of one event from a full tail of a thousand requests the room of one event.
+/// A fold of one event from a full tail of a thousand requests room for a few events.
 fn fold_one(rt: &impl Print, alloc: Global) -> io::Result<()> {
     match wide_book(alloc) {
         Some(mut book) => tell_count(rt, alloc, "Book::fold of one", &mut book, 1),

@@ -58,7 +58,7 @@ def streams():
         check(shell(f'"$1" {name} <&- >&- 2>&-') == (1, b"", b""), name, "without any stream")
         check(shell(f'"$1" {name} </') == (1, b"", READ), name, "with a folder as input")
     check(shell('"$1" storm --packets 1 <&- 2>&-')[0] == 0, "a storm without standard input and error")
-    for line in ['"$1" storm --packets 1 >&-', '"$1" storm --packets 1 >/dev/full', '"$1" storm --packets 10000 | head -n 1 >/dev/null; exit ${PIPESTATUS[0]}']:
+    for line in ['"$1" storm --packets 1 >&-', '"$1" storm --packets 1 >/dev/full', '"$1" storm --packets 2000 | head -n 1 >/dev/null; exit ${PIPESTATUS[0]}']:
         check(shell(line) == (1, b"", WRITE), line)
     check(shell('"$1" run --help >/dev/full') == (1, b"", WRITE), "help on a full device")
     check(shell('"$1" --help >&-') == (1, b"", WRITE), "help without standard output")
@@ -209,14 +209,14 @@ def storm_refused(library, met):
 
 
 def storms():
-    """Twenty storms of eight senders with ten thousand packets each: every history is audited clean."""
-    words = ["storm", "--senders", "8", "--packets", "10000"]
+    """Twenty storms of eight senders with two thousand packets each: every history is audited clean."""
+    words = ["storm", "--senders", "8", "--packets", "2000"]
     for seed in range(1, 21):
         status, output, errors = run([*words, "--seed", str(seed)], b"")
         check((status, errors) == (0, b""), "storm", seed, status, errors)
         finding = run(["audit"], output)
         check(finding == (0, b"clean,%d\n" % (output.count(b"\n") - 1), b""), "the audit of storm", seed, *finding)
-    print("tests/hostile.py: 20 storms of 8 senders with 10,000 packets each were audited")
+    print("tests/hostile.py: 20 storms of 8 senders with 2,000 packets each were audited")
 
 
 def main():

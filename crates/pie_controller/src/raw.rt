@@ -8,10 +8,7 @@ use crate::{Arrival, Profile, Verdict};
 use pie_control::RawControl;
 use pie_early::decide;
 use pie_params::RawParams;
-use pie_rate::RawRate;
-
-/// The greatest threshold of the departure rate, in bytes.
-const MAX_THRESHOLD: u64 = 65_536;
+use pie_rate::{MAX_THRESHOLD, RawRate};
 
 /// What a [`Controller`](crate::Controller) holds, as plain numbers, each in its range or not.
 ///

@@ -1,5 +1,5 @@
 -- The definitions on worked rows. Each line computes: what is held after each call, and that looking back over the events gives the same.
-use Rattle.std.proofs.Common.{◌≡◌, ℕ, ◌*◌, ◌^◌, List, [], ◌∷◌, ◌++◌, Bool, true, false, Option, Some, None, refl}
+use Rattle.std.proofs.Common.{◌≡◌, ℕ, ◌^◌, List, [], ◌∷◌, ◌++◌, Bool, true, false, Option, Some, None, refl}
 use Rattle.pie_params.specs.declared.raw.RawParams.{RawParams}
 use Rattle.pie_queue.specs.declared.ecn.Ecn.TheVariants.{NotEct}
 use Rattle.pie_rate.specs.Average.{average, samples}
@@ -12,7 +12,7 @@ use Rattle.pie_early.specs.Decision.{is_considered, is_picked}
 use Rattle.pie_early.specs.History.{accumulated}
 use Rattle.pie_controller.specs.declared.profile.Profile.TheVariants.{Two}
 use Rattle.pie_controller.specs.declared.verdict.Arrival.{Arrival}
-use Rattle.pie_controller.specs.declared.verdict.Verdict.TheVariants.{Enqueued, DroppedBytes, DroppedPackets}
+use Rattle.pie_controller.specs.declared.verdict.Verdict.TheVariants.{DroppedBytes, DroppedPackets}
 use Rattle.pie_controller.specs.Calls.{Arrive, Call, Depart, Restart, Update, after_call, shown_by}
 use Rattle.pie_controller.specs.Events.{ControllerEvent, Opened}
 use Rattle.pie_controller.specs.Held.{Held}

@@ -1,8 +1,7 @@
 -- A controller that shows some events shows one more after each call.
-use Rattle.std.proofs.Common.{◌≡◌, ◌≤◌, ℕ, List, [], ◌∷◌, ◌++◌, map, Bool, true, false, refl, sym, subst, ◌∙◌, ap, arith, if◌then◌else◌}
-use Rattle.std.specs.Prelude.{max, not, ◌&&◌, Option, Some, None}
+use Rattle.std.proofs.Common.{◌≡◌, ◌≤◌, ℕ, List, [], ◌∷◌, ◌++◌, Bool, true, false, refl, sym, subst, ◌∙◌, ap, arith, if◌then◌else◌}
+use Rattle.std.specs.Prelude.{max, ◌&&◌, Some, None}
 use Rattle.std.specs.Option.{option_to_list}
-use Rattle.std.specs.List.{filter_map}
 use Rattle.std.proofs.lemmas.List.{append-nil}
 use Rattle.pie_params.specs.declared.raw.RawParams.{RawParams}
 use Rattle.pie_rate.specs.Departures.{Departure, departure}
@@ -10,11 +9,9 @@ use Rattle.pie_rate.specs.Estimate.{Estimate}
 use Rattle.pie_rate.specs.Estimate as Rate
 use Rattle.pie_rate.specs.Step.{after_departure}
 use Rattle.pie_control.specs.Events.{ControlEvent, idled, update_at}
-use Rattle.pie_control.specs.Events as Control_event
 use Rattle.pie_control.specs.History as Control
 use Rattle.pie_control.specs.Parts.{Parts}
 use Rattle.pie_control.proofs.Laws.{Shows-idled, Shows-reset, Shows-updated}
-use Rattle.pie_early.specs.Events.{EarlyEvent, cleared}
 use Rattle.pie_early.specs.History as Early
 use Rattle.pie_early.proofs.Laws.{shows-clear}
 use Rattle.pie_controller.specs.declared.profile.Profile.{Profile}
@@ -23,9 +20,9 @@ use Rattle.pie_controller.specs.declared.verdict.Arrival.{Arrival}
 use Rattle.pie_controller.specs.Calls.{Arrive, Call, Change, Depart, Pass, Restart, Update, after_call, shown_by}
 use Rattle.pie_controller.specs.Events.{ControllerEvent, Opened, Arrived, Departed, Passed, Updated, Reset, Changed, moment_of, params_set}
 use Rattle.pie_controller.specs.Held.{Held}
-use Rattle.pie_controller.specs.History.{Shows, active_of, change_by, considered_where, updates_shown, control_of, control_shown, delay_noted, departures_shown, departures_of, arrivals_shown, early_of, early_shown, estimate_of, held_of, is_calm_noted, now_of, noted, noted_after, params_of, parts_of, turns_on_by, verdict_shown}
+use Rattle.pie_controller.specs.History.{Shows, active_of, change_by, considered_where, updates_shown, control_of, control_shown, delay_noted, departures_shown, departures_of, arrivals_shown, early_of, early_shown, estimate_of, held_of, is_calm_noted, now_of, noted, noted_after, params_of, parts_of, verdict_shown}
 use Rattle.pie_controller.specs.Places.{greatest, last_or, places}
-use Rattle.pie_controller.specs.Steps.{accu_left, anew, bytes_with, control_after, control_updated, delay_in, is_calm, is_filled, judged, no_estimate, now_at, opened, renewed, stays_active, turns_on, verdict}
+use Rattle.pie_controller.specs.Steps.{accu_left, anew, bytes_with, control_updated, delay_in, is_calm, judged, now_at, opened, renewed, stays_active, turns_on, verdict}
 use Rattle.pie_controller.proofs.Looks.{active-empty, active-push, active_next, control-push, departures-push, early-push, events-noted, moment-push, one_is_active, params-push, turned_on}
 use Rattle.pie_controller.proofs.Parts.{early-step, nothing-shown, rate-step}
 

@@ -1,10 +1,8 @@
 -- What one more call does to what each part holds, whichever list it shows.
-use Rattle.std.proofs.Common.{◌≡◌, ◌≤◌, ◌<◌, ◌+◌, ◌==◌, ◌&&◌, ◌||◌, ℕ, zero, suc, List, [], ◌∷◌, ◌++◌, Bool, true, false, not, refl, sym, ◌∙◌, ap, arith, if◌then◌else◌}
-use Rattle.std.specs.Prelude.{nat_lt, nat_le, Option, Some, None}
-use Rattle.std.proofs.lemmas.Bool.{eqb-true, le-leb, lt-leb, ltb-true}
+use Rattle.std.proofs.Common.{◌≡◌, ◌≤◌, ◌+◌, ◌&&◌, ℕ, List, [], ◌∷◌, ◌++◌, Bool, true, false, refl, arith, if◌then◌else◌}
+use Rattle.std.specs.Prelude.{nat_lt, Option, Some, None}
+use Rattle.std.proofs.lemmas.Bool.{le-leb, lt-leb, ltb-true}
 use Rattle.std.proofs.lemmas.Bool.Decides.{nat_tests}
-use Rattle.pie_params.specs.declared.raw.RawParams.{RawParams}
-use Rattle.pie_queue.specs.Ecn.{is_capable}
 use Rattle.pie_rate.specs.Average.{average, samples}
 use Rattle.pie_rate.specs.Cycles.{begun, cycles, cycles_from, first_opening, first_position}
 use Rattle.pie_rate.specs.Departures.{Departure}
@@ -12,11 +10,13 @@ use Rattle.pie_rate.specs.Estimate.{Begun, Estimate}
 use Rattle.pie_rate.specs.Estimate as Rate
 use Rattle.pie_rate.specs.Step.{after_departure, opened_by, step_from}
 use Rattle.pie_rate.proofs.Steps.{closes, counts, idle, opened}
-use Rattle.pie_early.specs.Decision.{is_considered, is_picked}
+use Rattle.pie_early.specs.declared.early.Choice.{Choice}
+use Rattle.pie_early.specs.Decision.{accu_after, choice_of, is_considered}
 use Rattle.pie_early.specs.declared.early.Choice.TheVariants.{Enqueue, Mark, Drop}
-use Rattle.pie_early.specs.Events.{EarlyEvent}
+use Rattle.pie_early.specs.Events.{EarlyEvent, arrival}
 use Rattle.pie_early.specs.History as Early
-use Rattle.pie_early.proofs.Laws.{shows-clear, shows-grown, shows-pick, shows-unconsidered, shows-zero}
+use Rattle.pie_early.proofs.Arrivals.{shows_arrival}
+use Rattle.pie_early.proofs.Laws.{shows-clear, shows-unconsidered}
 use Rattle.pie_controller.specs.declared.verdict.Arrival.{Arrival}
 use Rattle.pie_controller.specs.declared.verdict.Verdict.TheVariants.{DroppedBytes, DroppedPackets}
 use Rattle.pie_controller.specs.Held.{Held}
@@ -25,31 +25,27 @@ use Rattle.pie_controller.specs.Steps.{accu_left, chosen, no_estimate, verdict}
 
 -- ---- early drop
 
-positive : (n : ℕ) → (n == 0) ≡ false → 0 < n
-positive zero z = cc
-positive (suc n) z = omega arith
-
-early-by : (events : List EarlyEvent) (held prob : ℕ) (active over full considered picked test none : Bool) → (prob == 0) ≡ none → Early.Shows events held
-    → Early.Shows (events ++ verdict_shown (if over then DroppedBytes else if full then DroppedPackets else chosen (if active then (if considered && picked then (if test then Mark else Drop) else Enqueue) else Enqueue)) (active && considered) prob ∷ [])
-    (if over then 0 else if full then 0 else if active then (if not considered then held else if none || picked then 0 else held + prob) else held)
-early-by events held prob active true full considered picked test none z shown = shows-clear events held shown
-early-by events held prob active false true considered picked test none z shown = shows-clear events held shown
-early-by events held prob false false false considered picked test none z shown = shows-unconsidered events held shown false prob refl
-early-by events held prob true false false false picked test none z shown = shows-unconsidered events held shown false prob refl
-early-by events held prob true false false true true true true z shown = shows-pick events held shown true prob Mark refl
-early-by events held prob true false false true true true false z shown = shows-pick events held shown true prob Mark refl
-early-by events held prob true false false true true false true z shown = shows-pick events held shown true prob Drop refl
-early-by events held prob true false false true true false false z shown = shows-pick events held shown true prob Drop refl
-early-by events held prob true false false true false test true z shown = shows-zero events held shown true prob refl (eqb-true prob 0 z)
-early-by events held prob true false false true false test false z shown = shows-grown events held shown true prob refl (positive prob z)
+shown-chosen : (choice : Choice) (considered : Bool) (prob : ℕ) → verdict_shown (chosen choice) considered prob ≡ arrival considered prob choice
+shown-chosen Enqueue considered prob = refl
+shown-chosen Mark considered prob = refl
+shown-chosen Drop considered prob = refl
 
 -- after an arrival and its verdict
 pub early-step : (h : Held) (a : Arrival) (events : List EarlyEvent) → Early.Shows events h.accu
     → Early.Shows (events ++ verdict_shown (verdict h a) (considered_where h.active h.params h.control a.queued) h.control.prob ∷ []) (accu_left h a)
 unfolding verdict accu_left
-early-step h a events shown =
-    early-by events h.accu h.control.prob h.active (nat_lt h.params.limit_bytes (a.queued + a.size)) a.is_full (is_considered h.params h.control a.queued) (is_picked h.control.prob (h.accu + h.control.prob) a.word)
-    (is_capable a.ecn && nat_lt h.control.prob h.params.mark_ecnth) (h.control.prob == 0) refl shown
+early-step h a events shown = by (nat_lt h.params.limit_bytes (a.queued + a.size)) a.is_full h.active
+  where
+    by : (over full active : Bool)
+        → Early.Shows (events ++ verdict_shown (if over then DroppedBytes else if full then DroppedPackets else chosen (if active then choice_of h.params h.control a.queued a.ecn a.word h.accu else Enqueue))
+        (active && is_considered h.params h.control a.queued) h.control.prob ∷ [])
+        (if over then 0 else if full then 0 else if active then accu_after h.params h.control a.queued a.word h.accu else h.accu)
+    by true full active = shows-clear events h.accu shown
+    by false true active = shows-clear events h.accu shown
+    by false false false = shows-unconsidered events h.accu shown false h.control.prob refl
+    by false false true =
+        rw (shown-chosen (choice_of h.params h.control a.queued a.ecn a.word h.accu) (is_considered h.params h.control a.queued) h.control.prob)
+        (shows_arrival h.params h.control a.queued a.word h.accu events a.ecn shown)
 
 -- ---- the departure rate
 

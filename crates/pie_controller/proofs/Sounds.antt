@@ -1,48 +1,42 @@
 -- What a controller holds stays sound at each call.
-use Rattle.std.proofs.Common.{◌≡◌, ◌≤◌, ◌<◌, ◌+◌, ◌-◌, ◌*◌, ◌^◌, ◌==◌, ◌&&◌, ◌||◌, ℕ, ℤ, pos, negsuc, ◌+ℤ◌, Bool, true, false, not, refl, sym, ap, ◌∙◌, arith, if◌then◌else◌}
-use Rattle.std.specs.Prelude.{max, nat_lt, nat_le, Option, Some, None}
+use Rattle.std.proofs.Common.{◌≡◌, ◌≤◌, ◌<◌, ◌+◌, ◌-◌, ◌^◌, ◌==◌, ◌&&◌, ℕ, ℤ, pos, negsuc, ◌+ℤ◌, Bool, true, false, refl, ap, arith, if◌then◌else◌}
+use Rattle.std.specs.Prelude.{max, nat_lt, Option, Some, None}
 use Rattle.std.proofs.lemmas.Bool.Decides.{nat_tests}
 use Rattle.pie_fixed.specs.Fixed.{bounded_of}
 use Rattle.pie_params.specs.declared.raw.RawParams.{RawParams}
 use Rattle.pie_params.specs.Range.{first_bad}
 use Rattle.pie_rate.specs.Average.{averaged, with_sample}
-use Rattle.pie_rate.specs.Departures.{Departure, departure}
+use Rattle.pie_rate.specs.Departures.{departure}
 use Rattle.pie_rate.specs.Estimate.{Begun, Estimate}
-use Rattle.pie_rate.specs.Step.{after_departure, opened_by, step_from}
+use Rattle.pie_rate.specs.Step.{after_departure, step_from}
 use Rattle.pie_control.specs.Delay.{delay_of}
-use Rattle.pie_control.specs.History.{burst_after, ends_calm}
+use Rattle.pie_control.specs.History.{ends_calm}
 use Rattle.pie_control.specs.Next.{decayed, next, raw_step, tuned_step}
 use Rattle.pie_control.specs.Parts.{Parts}
-use Rattle.pie_early.specs.Decision.{accu_after, is_considered, is_picked}
+use Rattle.pie_early.specs.Decision.{accu_after}
+use Rattle.pie_early.proofs.Arrivals.{accu_below}
 use Rattle.pie_controller.specs.declared.profile.Profile.{Profile}
 use Rattle.pie_controller.specs.declared.profile.Profile.TheVariants.{One, Two}
 use Rattle.pie_controller.specs.declared.verdict.Arrival.{Arrival}
 use Rattle.pie_controller.specs.Calls.{Arrive, Call, Change, Depart, IsTaken, Pass, Restart, Update, after_call}
 use Rattle.pie_controller.specs.Held.{Held, IsSound, IsWithin}
-use Rattle.pie_controller.specs.Steps.{accu_left, anew, bytes_with, control_after, control_updated, delay_in, is_calm, judged, now_at, opened, opens_active, rate_after, stays_active, turns_on, verdict}
+use Rattle.pie_controller.specs.Steps.{accu_left, anew, bytes_with, control_after, control_updated, delay_in, is_calm, judged, no_estimate, now_at, opened, opens_active, renewed, stays_active, turns_on, verdict}
 use Rattle.pie_controller.proofs.InRange.{params-hold}
 
 -- ---- the accumulated probability
 
-sum-small : (prob sum word : ℕ) → (prob == 0) ≡ false → is_picked prob sum word ≡ false → sum < 8_500_000_000_000
-unfolding is_picked
-sum-small prob sum word some e = grind (arith, nat_tests)
+accu-by : (over full active : Bool) (held next : ℕ) → held < 8_500_000_000_000 → next < 8_500_000_000_000
+    → (if over then 0 else if full then 0 else if active then next else held) < 8_500_000_000_000
+accu-by true full active held next h n = omega arith
+accu-by false true active held next h n = omega arith
+accu-by false false true held next h n = n
+accu-by false false false held next h n = h
 
-accu-by : (over full active considered none picked : Bool) (accu prob : ℕ) → accu < 8_500_000_000_000 → (none ≡ false → picked ≡ false → accu + prob < 8_500_000_000_000)
-    → (if over then 0 else if full then 0 else if active then (if not considered then accu else if none || picked then 0 else accu + prob) else accu) < 8_500_000_000_000
-accu-by true full active considered none picked accu prob small sum = omega arith
-accu-by false true active considered none picked accu prob small sum = omega arith
-accu-by false false false considered none picked accu prob small sum = small
-accu-by false false true false none picked accu prob small sum = small
-accu-by false false true true true picked accu prob small sum = omega arith
-accu-by false false true true false true accu prob small sum = omega arith
-accu-by false false true true false false accu prob small sum = sum refl refl
-
-accu-small : (h : Held) (a : Arrival) → h.accu < 8_500_000_000_000 → accu_left h a < 8_500_000_000_000
+pub accu-small : (h : Held) (a : Arrival) → h.accu < 8_500_000_000_000 → accu_left h a < 8_500_000_000_000
 unfolding accu_left
 accu-small h a small =
-    accu-by (nat_lt h.params.limit_bytes (a.queued + a.size)) a.is_full h.active (is_considered h.params h.control a.queued) (h.control.prob == 0) (is_picked h.control.prob (h.accu + h.control.prob) a.word) h.accu h.control.prob small
-    (sum-small h.control.prob (h.accu + h.control.prob) a.word)
+    accu-by (nat_lt h.params.limit_bytes (a.queued + a.size)) a.is_full h.active h.accu (accu_after h.params h.control a.queued a.word h.accu)
+    small (accu_below h.params h.control a.queued a.word h.accu small)
 
 -- ---- the departure rate
 
@@ -141,75 +135,32 @@ module _ (h : Held) (sound : IsSound h) where
         active = sound.active;
       }
 
-  pub Sound-anew : IsSound (anew h)
-  Sound-anew = record {
+  measured : RateHolds h.params.dq_threshold h.moment h.rate
+  measured = record { average = sound.average; cycle = sound.cycle }
+
+  registers : PartsHold h.moment h.control
+  registers = record { prob = sound.prob; old_delay = sound.old_delay; burst = sound.burst; last = sound.last }
+
+  -- the same with other parts
+  Sound-with : (active : Bool) (rate : Estimate) (control : Parts) (accu : ℕ) → (h.profile ≡ One → active ≡ true) → RateHolds h.params.dq_threshold h.moment rate
+      → PartsHold h.moment control → accu < 8_500_000_000_000 → IsSound (record h { active = active; rate = rate; control = control; accu = accu })
+  Sound-with active rate control accu always rated held small = record {
     params = sound.params;
     moment = sound.moment;
-    prob = omega arith;
-    old_delay = omega arith;
-    burst = (params-hold h.params sound.params).max_burst;
-    last = sound.last;
-    accu = omega arith;
-    average = omega arith;
-    cycle = tt;
-    active = sound.active;
-  }
-
-  pub Sound-on : IsSound (record (anew h) { active = true })
-  Sound-on = let held = Sound-anew in record {
-    params = held.params;
-    moment = held.moment;
     prob = held.prob;
     old_delay = held.old_delay;
     burst = held.burst;
     last = held.last;
-    accu = held.accu;
-    average = held.average;
-    cycle = held.cycle;
-    active = λ one. refl;
-  }
-
-  pub Sound-accu : (accu : ℕ) → accu < 8_500_000_000_000 → IsSound (record h { accu = accu })
-  Sound-accu accu small = record {
-    params = sound.params;
-    moment = sound.moment;
-    prob = sound.prob;
-    old_delay = sound.old_delay;
-    burst = sound.burst;
-    last = sound.last;
     accu = small;
-    average = sound.average;
-    cycle = sound.cycle;
-    active = sound.active;
-  }
-
-  pub Sound-rate : (rate : Estimate) → rate.average < 2 ^ 60 → IsWithin h.params.dq_threshold h.moment rate.begun → IsSound (record h { rate = rate })
-  Sound-rate rate average cycle = record {
-    params = sound.params;
-    moment = sound.moment;
-    prob = sound.prob;
-    old_delay = sound.old_delay;
-    burst = sound.burst;
-    last = sound.last;
-    accu = sound.accu;
-    average = average;
-    cycle = cycle;
-    active = sound.active;
-  }
-
-  pub Sound-control : (control : Parts) (active : Bool) → PartsHold h.moment control → (h.profile ≡ One → active ≡ true) → IsSound (record h { control = control; active = active })
-  Sound-control control active held always = record {
-    params = sound.params;
-    moment = sound.moment;
-    prob = held.prob;
-    old_delay = held.old_delay;
-    burst = held.burst;
-    last = held.last;
-    accu = sound.accu;
-    average = sound.average;
-    cycle = sound.cycle;
+    average = rated.average;
+    cycle = rated.cycle;
     active = always;
   }
+
+  Sound-anew : (active : Bool) → (h.profile ≡ One → active ≡ true) → IsSound (record (anew h) { active = active })
+  Sound-anew active always =
+      Sound-with active no_estimate (renewed h.params h.control) 0 always (record { average = omega arith; cycle = tt })
+      (record { prob = omega arith; old_delay = omega arith; burst = (params-hold h.params sound.params).max_burst; last = sound.last }) (omega arith)
 
 arrive-sound : (h : Held) → IsSound h → (a : Arrival) (moment : ℕ) → moment < 2 ^ 60 → IsSound (after_call h (Arrive a moment))
 arrive-sound h sound a moment within = by (turns_on h (bytes_with (verdict h a) a.queued a.size))
@@ -218,10 +169,12 @@ arrive-sound h sound a moment within = by (turns_on h (bytes_with (verdict h a) 
     passed = Sound-pass h sound moment within
 
     here : IsSound (judged h a moment)
-    here = Sound-accu (record h { moment = now_at h moment }) passed (accu_left h a) (accu-small h a sound.accu)
+    here =
+        let old : Held = record h { moment = now_at h moment } in
+        Sound-with old passed h.active h.rate h.control (accu_left h a) sound.active (measured old passed) (registers old passed) (accu-small h a sound.accu)
 
     by : (on : Bool) → IsSound (if on then record (anew (judged h a moment)) { active = true } else judged h a moment)
-    by true = Sound-on (judged h a moment) here
+    by true = Sound-anew (judged h a moment) here true (λ one. refl)
     by false = here
 
 depart-sound : (h : Held) → IsSound h → (size left moment : ℕ) → moment < 2 ^ 60 → IsSound (after_call h (Depart size left moment))
@@ -241,13 +194,13 @@ depart-sound h sound size left moment within = by h.active
         let params = params-hold h.params sound.params in
         let least = params.dq_least in
         let step = step-holds h.params.dq_threshold h.rate.average size left (now_at h moment) h.rate.begun (omega arith) params.dq_threshold passed.moment sound.average passed.cycle in
-        Sound-rate here passed (after_departure h.params.dq_threshold h.rate (departure size left (now_at h moment))) step.average step.cycle
+        Sound-with here passed h.active (after_departure h.params.dq_threshold h.rate (departure size left (now_at h moment))) h.control h.accu sound.active step (registers here passed) sound.accu
     by false = passed
 
 update-sound : (h : Held) → IsSound h → (queued moment : ℕ) → moment < 2 ^ 60 → IsSound (after_call h (Update queued moment))
 update-sound h sound queued moment within =
-    Sound-control here passed (control_after h queued (now_at h moment)) (h.active && stays_active h.profile (is_calm h queued)) (by h.active)
-    (λ one. stays-in-one h.profile h.active (is_calm h queued) one (sound.active one))
+    Sound-with here passed (h.active && stays_active h.profile (is_calm h queued)) h.rate (control_after h queued (now_at h moment)) h.accu
+    (λ one. stays-in-one h.profile h.active (is_calm h queued) one (sound.active one)) (measured here passed) (by h.active) sound.accu
   where
     here : Held
     here = record h { moment = now_at h moment }
@@ -287,5 +240,5 @@ Sound_call h sound (Arrive a moment) taken = arrive-sound h sound a moment taken
 Sound_call h sound (Depart size left moment) taken = depart-sound h sound size left moment taken
 Sound_call h sound (Pass moment) taken = Sound-pass h sound moment taken
 Sound_call h sound (Update queued moment) taken = update-sound h sound queued moment taken
-Sound_call h sound (Restart moment) taken = Sound-anew (record h { moment = now_at h moment }) (Sound-pass h sound moment taken)
+Sound_call h sound (Restart moment) taken = Sound-anew (record h { moment = now_at h moment }) (Sound-pass h sound moment taken) h.active sound.active
 Sound_call h sound (Change params moment) taken = change-sound h sound params moment taken.0 taken.1

@@ -14,6 +14,7 @@ use Rattle.pie_controller.specs.declared.verdict.Arrival.{Arrival}
 use Rattle.pie_controller.specs.declared.verdict.Verdict.{Verdict}
 use Rattle.pie_controller.specs.declared.verdict.Verdict.TheVariants as verdict
 use Rattle.pie_controller.specs.Held.{Held}
+use Rattle.pie_controller.specs.Steps.{by_room}
 
 -- ---- what follows from a cause
 
@@ -68,7 +69,5 @@ early_cause params parts bytes accu ecn word =
 -- that the controller is inactive, then the rest
 unfoldable pub cause : Held → Arrival → ℕ → Cause
 cause h a packets =
-    if nat_lt h.params.limit_bytes (a.queued + a.size) then NoRoomInBytes a.queued a.size h.params.limit_bytes
-    else if a.is_full then NoRoomInPackets packets
-    else if h.active then early_cause h.params h.control a.queued h.accu a.ecn a.word
-    else Inactive
+    by_room h.params.limit_bytes a (NoRoomInBytes a.queued a.size h.params.limit_bytes) (NoRoomInPackets packets)
+    (if h.active then early_cause h.params h.control a.queued h.accu a.ecn a.word else Inactive)

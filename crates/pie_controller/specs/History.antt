@@ -2,7 +2,7 @@
 -- is a register: each part looks back over a list that is filtered from the events. Whether the controller was active before an
 -- event (section 5.3; what turns it on and off is this project's own) is noted of each event from the oldest on, and each note
 -- looks back over all notes before it.
-use Rattle.std.specs.Prelude.{◌≡◌, ℕ, Bool, true, false, not, ◌&&◌, List, [], ◌∷◌, ◌++◌, map, Option, option_map, Some, None, if◌then◌else◌}
+use Rattle.std.specs.Prelude.{◌≡◌, ℕ, Bool, true, false, ◌&&◌, List, [], ◌∷◌, ◌++◌, map, Option, option_map, Some, None, if◌then◌else◌}
 use Rattle.std.specs.List.{filter_map, after_last}
 use Rattle.pie_params.specs.declared.raw.RawParams.{RawParams}
 use Rattle.pie_rate.specs.Average.{average}
@@ -24,10 +24,10 @@ use Rattle.pie_controller.specs.declared.profile.Profile.{Profile}
 use Rattle.pie_controller.specs.declared.profile.Profile.TheVariants.{One, Two}
 use Rattle.pie_controller.specs.declared.verdict.Verdict.{Verdict}
 use Rattle.pie_controller.specs.declared.verdict.Verdict.TheVariants.{Enqueued, Marked, DroppedEarly, DroppedBytes, DroppedPackets}
-use Rattle.pie_controller.specs.Events.{ControllerEvent, Opened, Arrived, Departed, Passed, Updated, Reset, Changed, moment_of, params_set}
+use Rattle.pie_controller.specs.Events.{ControllerEvent, Opened, Arrived, Departed, Updated, Reset, Changed, moment_of, params_set}
 use Rattle.pie_controller.specs.Held.{Held}
 use Rattle.pie_controller.specs.Places.{Place, places, greatest, last_or}
-use Rattle.pie_controller.specs.Steps.{is_filled}
+use Rattle.pie_controller.specs.Steps.{wakes}
 
 -- the effective moment: the greatest of the opening moment and all moments handed in
 unfoldable pub now_of : Opened → List ControllerEvent → ℕ
@@ -57,7 +57,7 @@ moment_at opened place = now_of opened (events_of place.before ++ place.event.ev
 
 -- an arrival at an inactive controller turns it on where three times the bytes after it reach the limit
 abbrev pub turns_on_by : ControllerEvent → Bool → RawParams → Bool
-turns_on_by (Arrived verdict before after moment) active params = not active && is_filled params.limit_bytes after
+turns_on_by (Arrived verdict before after moment) active params = wakes active params.limit_bytes after
 turns_on_by event active params = false
 
 abbrev pub turns_on_at : Opened → Place Noted → Bool

@@ -1,6 +1,6 @@
 -- The rules: what each call makes of what a controller holds, told by the steps of its parts (RFC 8033, sections 4.1, 4.2, 4.4, 5.1
 -- to 5.5, and Appendix A for tail drop; when profile two turns on and off is this project's own).
-use Rattle.std.specs.Prelude.{ℕ, ◌+◌, ◌*◌, max, ◌&&◌, not, nat_lt, nat_le, Bool, true, false, Option, Some, None, min, if◌then◌else◌}
+use Rattle.std.specs.Prelude.{ℕ, ◌+◌, ◌*◌, max, ◌&&◌, not, nat_lt, nat_le, Bool, true, false, None, min, if◌then◌else◌}
 use Rattle.pie_params.specs.declared.raw.RawParams.{RawParams}
 use Rattle.pie_rate.specs.Departures.{departure}
 use Rattle.pie_rate.specs.Estimate.{Estimate}
@@ -74,24 +74,18 @@ chosen Drop = DroppedEarly
 abbrev pub choice : Held → Arrival → Choice
 choice h a = if h.active then choice_of h.params h.control a.queued a.ecn a.word h.accu else Enqueue
 
--- the tail drop of an arrival, if it is one: by bytes, then by packets
-abbrev pub tail_drop : ℕ → Arrival → Option Verdict
-tail_drop limit a = if nat_lt limit (a.queued + a.size) then Some DroppedBytes else if a.is_full then Some DroppedPackets else None
+-- tail drop: the first of these where the queue has no room for the packet's bytes, else the second where the ring has none for one
+-- packet more, and else the third
+abbrev pub by_room : {X : Type 0} → ℕ → Arrival → X → X → X → X
+by_room limit a no_bytes no_packet room = if nat_lt limit (a.queued + a.size) then no_bytes else if a.is_full then no_packet else room
 
 -- the verdict: tail drop by bytes, then by packets, and else early drop's choice
 unfoldable pub verdict : Held → Arrival → Verdict
-verdict h a =
-    if nat_lt h.params.limit_bytes (a.queued + a.size) then DroppedBytes
-    else if a.is_full then DroppedPackets
-    else chosen (choice h a)
+verdict h a = by_room h.params.limit_bytes a DroppedBytes DroppedPackets (chosen (choice h a))
 
 -- the accumulated probability after it: 0 after a tail drop, and as it was while the controller is inactive
 unfoldable pub accu_left : Held → Arrival → ℕ
-accu_left h a =
-    if nat_lt h.params.limit_bytes (a.queued + a.size) then 0
-    else if a.is_full then 0
-    else if h.active then accu_after h.params h.control a.queued a.word h.accu
-    else h.accu
+accu_left h a = by_room h.params.limit_bytes a 0 0 (if h.active then accu_after h.params h.control a.queued a.word h.accu else h.accu)
 
 -- the packet is queued
 abbrev pub is_queued : Verdict → Bool
@@ -105,13 +99,12 @@ is_queued DroppedPackets = false
 abbrev pub bytes_with : Verdict → ℕ → ℕ → ℕ
 bytes_with verdict queued size = if is_queued verdict then queued + size else queued
 
--- three times these bytes reach the limit
-abbrev pub is_filled : ℕ → ℕ → Bool
-is_filled limit bytes = nat_le limit (3 * bytes)
+-- a controller is turned on where it is inactive and three times the bytes in the queue after the verdict reach the limit
+abbrev pub wakes : Bool → ℕ → ℕ → Bool
+wakes active limit bytes = not active && nat_le limit (3 * bytes)
 
--- an inactive controller is turned on where three times the bytes in the queue after the verdict reach the limit
 abbrev pub turns_on : Held → ℕ → Bool
-turns_on h bytes = not h.active && is_filled h.params.limit_bytes bytes
+turns_on h bytes = wakes h.active h.params.limit_bytes bytes
 
 -- .. which starts it anew
 abbrev pub woken : Held → ℕ → Held

@@ -1,17 +1,18 @@
 //! The controller and its calls.
 ghost use Rattle.std.specs.Prelude.{◌≡◌, ℕ, ◌+◌, ◌^◌, ◌<◌, ◌≤◌, List, [], ◌∷◌, ◌++◌, max, true, false};
+ghost use Rattle.pie_rate.specs.Estimate.{estimate_of};
 ghost use Rattle.pie_controller.specs.Calls.{Arrive, Change, Depart, Pass, Restart, Update, shown_by};
 ghost use Rattle.pie_controller.specs.Events.{ControllerEvent, Opened};
+ghost use Rattle.pie_controller.specs.Held.{held_by};
 ghost use Rattle.pie_controller.specs.History.{Shows};
-ghost use Rattle.pie_controller.specs.Steps.{accu_left, anew, arrived, changed, control_after, delay_answered, delay_in, departed, due, is_calm, is_queued, no_estimate, opened, passed, reset, stays_active, updated, verdict, woken};
+ghost use Rattle.pie_controller.specs.Steps.{anew, arrived, changed, control_after, delay_answered, delay_in, departed, due, is_calm, is_queued, no_estimate, opened, passed, reset, stays_active, updated, verdict, woken};
 
-use crate::verdict::{is_filled, tail_drop};
-use crate::{Arrival, Profile, Verdict};
+use crate::{Arrival, Profile, RawController, Verdict};
 use pie_control::{Control, delay};
 use pie_early::Early;
-use pie_fixed::Nanos;
+use pie_fixed::{Accu, Nanos};
 use pie_params::Params;
-use pie_rate::Rate;
+use pie_rate::{Rate, RawCycle, RawRate};
 use std::marker::Model;
 
 /// A PIE controller beside a queue that its caller owns.
@@ -107,41 +108,32 @@ impl Controller {
         ensures shows { (opened : Opened) (events : List ControllerEvent) → Shows opened events self.old
             → Shows opened (events ++ shown_by self.old (Arrive arrival moment) ∷ []) self.new }
     {
-        let verdict = self.judge(arrival);
+        let outcome = self.raw().outcome(arrival);
+        self.early = Early::from_parts(Accu::from_units(outcome.accu).unwrap());
         self.reach(moment);
-        if !self.active && is_filled(self.params.limit_bytes(), verdict, arrival) {
+        if outcome.starts {
             self.start_anew();
             self.active = true;
         }
-        verdict
+        outcome.decided
     }
 
-    /// The verdict on an arriving packet.
+    /// What it holds, as plain numbers.
     #[inline(always)]
-    #[tactic(auto, unfolding(crate::specs::Steps::verdict, crate::specs::Steps::accu_left))]
-    fn judge(&mut self, arrival: Arrival) -> Verdict
-        requires { arrival.queued ≤ 2 ^ 30 }
-        ensures verdict { result ≡ verdict self.old arrival }
-        ensures fits { is_queued result ≡ true → (arrival.is_full ≡ false) × (arrival.queued + arrival.size ≤ 2 ^ 30) }
-        ensures after { self.new ≡ record self.old { accu = accu_left self.old arrival } }
+    fn raw(&self) -> RawController
+        ensures held { held_by result ≡ self.now }
+        ensures accu { self.now.accu < 8_500_000_000_000 }
+        ensures limit { self.now.params.limit_bytes ≤ 2 ^ 30 }
     {
-        if let Some(dropped) = tail_drop(self.params.limit_bytes(), arrival) {
-            self.early.clear();
-            return dropped;
+        RawController {
+            profile: self.profile,
+            params: self.params.raw(),
+            moment: self.moment.units(),
+            active: self.active,
+            rate: raw_rate(&self.rate),
+            control: self.control.raw(),
+            accu: self.early.accu().units(),
         }
-        if !self.active {
-            return Verdict::Enqueued;
-        }
-        let Arrival {
-            queued,
-            ecn,
-            word,
-            ..
-        } = arrival;
-        let choice = self
-            .early
-            .consider(&self.params, &self.control, queued, ecn, word);
-        Verdict::of(choice)
     }
 
     /// Moves the effective moment to this one, where it is later.
@@ -312,4 +304,19 @@ fn cleared() -> Rate
     ensures { result ≡ no_estimate }
 {
     Rate::cleared()
+}
+
+/// An estimate of the departure rate, as plain numbers.
+#[inline(always)]
+fn raw_rate(rate: &Rate) -> RawRate
+    ensures { estimate_of result ≡ rate.now }
+{
+    let begun = rate.begun().map(|cycle| RawCycle {
+        start: cycle.start.units(),
+        count: cycle.count,
+    });
+    RawRate {
+        average: rate.average(),
+        begun,
+    }
 }

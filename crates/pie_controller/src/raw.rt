@@ -1,17 +1,14 @@
 //! The calls for each packet, over plain numbers.
-ghost use Rattle.std.specs.Prelude.{◌≡◌, ◌^◌, ◌≤◌};
+ghost use Rattle.std.specs.Prelude.{◌≡◌, ◌+◌, ◌^◌, ◌<◌, ◌≤◌, true, false};
 ghost use Rattle.pie_controller.specs.Held.{held_by};
-ghost use Rattle.pie_controller.specs.Steps.{accu_left, anew, arrived, capped, departed, verdict};
+ghost use Rattle.pie_controller.specs.Steps.{accu_left, anew, arrived, bytes_with, capped, departed, is_queued, turns_on, verdict};
 
-use crate::verdict::{is_filled, tail_drop};
+use crate::verdict::{Outcome, wakes};
 use crate::{Arrival, Profile, Verdict};
 use pie_control::RawControl;
 use pie_early::decide;
 use pie_params::RawParams;
-use pie_rate::RawRate;
-
-/// The greatest threshold of the departure rate, in bytes.
-const MAX_THRESHOLD: u64 = 65_536;
+use pie_rate::{MAX_THRESHOLD, RawRate};
 
 /// What a [`Controller`](crate::Controller) holds, as plain numbers, each in its range or not.
 ///
@@ -43,39 +40,62 @@ impl RawController {
         ensures verdict { result ≡ verdict (held_by self.old) arrival }
         ensures after { held_by self.new ≡ arrived (held_by self.old) arrival moment }
     {
-        let verdict = self.judge(arrival);
+        let outcome = self.outcome(arrival);
+        self.accu = outcome.accu;
         self.moment = self.moment.max(moment);
-        if !self.active && is_filled(self.params.limit_bytes, verdict, arrival) {
+        if outcome.starts {
             self.start_anew();
             self.active = true;
         }
-        verdict
+        outcome.decided
     }
 
-    /// The verdict on an arriving packet.
+    /// What an arriving packet comes to. Both controllers' arrivals do what this says.
+    #[inline(always)]
+    pub(crate) fn outcome(&self, arrival: Arrival) -> Outcome
+        requires { arrival.queued ≤ 2 ^ 30 }
+        ensures decided { result.decided ≡ verdict (held_by self.now) arrival }
+        ensures accu { result.accu ≡ accu_left (held_by self.now) arrival }
+        ensures below { self.now.accu < 8_500_000_000_000 → result.accu < 8_500_000_000_000 }
+        ensures starts { result.starts ≡ turns_on (held_by self.now) (bytes_with (verdict (held_by self.now) arrival) arrival.queued arrival.size) }
+        ensures fits { is_queued result.decided ≡ true → (arrival.is_full ≡ false) × (arrival.queued + arrival.size ≤ self.now.params.limit_bytes) }
+    {
+        let (decided, accu) = self.judge(arrival);
+        Outcome {
+            decided,
+            accu,
+            starts: wakes(self.active, self.params.limit_bytes, decided, arrival),
+        }
+    }
+
+    /// The verdict on an arriving packet, and the accumulated probability after it: tail drop by bytes, then by packets, before all
+    /// else, and then early drop, while the controller is active (RFC 8033, sections 4.1, 5.1, 5.4 and Appendix A).
     #[inline(always)]
     #[tactic(auto, unfolding(crate::specs::Steps::verdict, crate::specs::Steps::accu_left))]
-    fn judge(&mut self, arrival: Arrival) -> Verdict
+    fn judge(&self, arrival: Arrival) -> (Verdict, u64)
         requires { arrival.queued ≤ 2 ^ 30 }
-        ensures verdict { result ≡ verdict (held_by self.old) arrival }
-        ensures after { self.new ≡ record self.old { accu = accu_left (held_by self.old) arrival } }
+        ensures verdict { result.0 ≡ verdict (held_by self.now) arrival }
+        ensures accu { result.1 ≡ accu_left (held_by self.now) arrival }
+        ensures fits { is_queued result.0 ≡ true → (arrival.is_full ≡ false) × (arrival.queued + arrival.size ≤ self.now.params.limit_bytes) }
     {
-        if let Some(dropped) = tail_drop(self.params.limit_bytes, arrival) {
-            self.accu = 0;
-            return dropped;
-        }
-        if !self.active {
-            return Verdict::Enqueued;
-        }
         let Arrival {
             queued,
+            is_full,
+            size,
             ecn,
             word,
-            ..
         } = arrival;
+        if self.params.limit_bytes < queued + u64::from(size) {
+            return (Verdict::DroppedBytes, 0);
+        }
+        if is_full {
+            return (Verdict::DroppedPackets, 0);
+        }
+        if !self.active {
+            return (Verdict::Enqueued, self.accu);
+        }
         let decision = decide(&self.params, &self.control, queued, ecn, word, self.accu);
-        self.accu = decision.accu;
-        Verdict::of(decision.choice)
+        (Verdict::of(decision.choice), decision.accu)
     }
 
     /// Probability, old delay, accumulated probability and rate estimate become 0, and the burst allowance `max_burst`.

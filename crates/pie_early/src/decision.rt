@@ -1,4 +1,4 @@
-ghost use Rattle.std.specs.Prelude.{◌≡◌, ◌+◌, ◌*◌, ◌^◌, ◌<◌, nat_lt};
+ghost use Rattle.std.specs.Prelude.{◌≡◌, ◌+◌, ◌*◌, ◌^◌, ◌<◌, ◌≤◌, nat_lt};
 ghost use Rattle.pie_control.specs.Parts.{parts_of};
 ghost use Rattle.pie_early.specs.Decision.{accu_after, choice_of, is_considered, is_picked, picked_choice};
 
@@ -64,9 +64,17 @@ fn is_considered(params: &RawParams, control: &RawControl, bytes: u64) -> bool
     ensures { result ≡ is_considered params.now (parts_of control.now) bytes }
 {
     control.burst == 0
-        && u128::from(bytes) > 2 * u128::from(params.mean_pkt)
-        && !(2 * u128::from(control.old_delay) < u128::from(params.target)
-            && control.prob < LOW_PROB)
+        && params.mean_pkt < half(bytes)
+        && !(control.old_delay < half(params.target) && control.prob < LOW_PROB)
+}
+
+/// Half of a number, rounded up: what is below it is below that number when doubled, and nothing here overflows.
+#[inline(always)]
+fn half(number: u64) -> u64
+    ensures at_least { number ≤ 2 * result }
+    ensures at_most { 2 * result ≤ number + 1 }
+{
+    number - number / 2
 }
 
 /// Whether a considered arrival is picked, at a probability which isn't 0 and that joins the accumulated one (RFC 8033, section

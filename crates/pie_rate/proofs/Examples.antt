@@ -2,7 +2,7 @@
 use Rattle.std.specs.Prelude.{◌≡◌, ℕ, List, [], ◌∷◌, Some, None, refl, ◌++◌, ◌+◌, ◌*◌, ◌^◌}
 use Rattle.std.specs.Prelude.{map}
 use Rattle.std.specs.List.{range_with_len}
-use Rattle.pie_rate.specs.declared.raw.TheConstants.{WEIGHTS}
+use Rattle.pie_rate.specs.declared.raw.TheConstants.{MAX_THRESHOLD}
 use Rattle.pie_rate.specs.Departures.{Departure, departure}
 use Rattle.pie_rate.specs.Cycles.{Cycle, cycles, begun, first_position, first_opening, first_closing, first_cycle, cycles_from}
 use Rattle.pie_rate.specs.Average.{average, averaged, samples}
@@ -11,7 +11,7 @@ use Rattle.pie_rate.specs.Step.{after_departure}
 
 -- the weights of a sample and of the average before it are parts of 65536: the greatest threshold gives
 -- the sample alone, half of it the middle, the smallest one part in 64
-weights : WEIGHTS ≡ 2 ^ 16
+weights : MAX_THRESHOLD ≡ 2 ^ 16
 weights = refl
 
 weighted : (averaged 65536 1000 3000 ≡ 3000) × (averaged 32768 1000 3000 ≡ 2000) × (averaged 1024 1000 7400 ≡ 1100)

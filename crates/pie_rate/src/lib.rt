@@ -10,4 +10,4 @@ mod rate;
 mod raw;
 
 pub use rate::{OpenCycle, Rate};
-pub use raw::{RawCycle, RawRate};
+pub use raw::{MAX_THRESHOLD, RawCycle, RawRate};

@@ -4,9 +4,9 @@ ghost use Rattle.pie_rate.specs.Departures.{departure};
 ghost use Rattle.pie_rate.specs.Estimate.{estimate_of};
 ghost use Rattle.pie_rate.specs.Step.{after_departure};
 
-/// The bytes over which the weights of a new sample and of the average are counted, which is also
-/// the largest threshold (this project's own).
-const WEIGHTS: u64 = 65_536;
+/// The greatest threshold, in bytes: a new sample's weight in the average is its threshold in so many, and the average's is the rest
+/// (RFC 8033, section 5.2).
+pub const MAX_THRESHOLD: u64 = 65_536;
 
 /// A measurement cycle that no departure has closed yet, as plain numbers, each in its range or not.
 #[derive(Clone, Copy, Debug, PartialEq, Eq)]
@@ -83,7 +83,7 @@ fn averaged(average: u64, sample: u64, threshold: u64) -> u64
     if average == 0 {
         return sample;
     }
-    let kept = u128::from(average) * u128::from(WEIGHTS - threshold);
+    let kept = u128::from(average) * u128::from(MAX_THRESHOLD - threshold);
     let added = u128::from(sample) * u128::from(threshold);
-    ((added + kept) / u128::from(WEIGHTS)) as u64
+    ((added + kept) / u128::from(MAX_THRESHOLD)) as u64
 }

@@ -10,10 +10,12 @@ ghost use Rattle.pie_c.specs.Params.{raw_of};
 ghost use Rattle.pie_c.specs.State.{held_in, is_sound, with_arrival, with_rate};
 ghost use Rattle.pie_c.specs.Calls.{arrival_of, arrival_refusal, departure_refusal, if_taken, kept_if_refused, moment_refusal, params_refusal, reset_refusal, state_refusal, unless_refused, update_refusal, updated_by, verdict_number};
 
-use crate::checked::{controller, ecn, is_bad_size, raw};
+use crate::arrivals::take_arrived;
+use crate::checked::{controller, ecn, is_bad_size};
 use crate::code::{
     BAD_ECN, BAD_MOMENT, BAD_PARAMS, BAD_QUEUE, BAD_SIZE, BAD_STATE, DONE, TOO_SOON, of_verdict,
 };
+use crate::departures::take_departed;
 use crate::params::PieParams;
 use crate::state::PieState;
 use crate::updated::PieUpdated;
@@ -70,10 +72,7 @@ pub extern "C" fn pie_arrive(
         ecn,
         word,
     };
-    let mut held = raw(state);
-    let verdict = held.arrive(arrival, moment);
-    state.keep_arrived(&held);
-    of_verdict(verdict)
+    of_verdict(take_arrived(state, arrival, moment))
 }
 
 /// Takes in a packet that left the queue, with `left` bytes after it (RFC 8033, section 5.2). An inactive controller takes in the
@@ -99,9 +98,7 @@ pub extern "C" fn pie_depart(state: &mut PieState, size: u32, left: u64, moment:
     if left > MAX_QUEUED {
         return BAD_QUEUE;
     }
-    let mut held = raw(state);
-    held.depart(size, left, moment);
-    state.keep_departed(&held);
+    take_departed(state, size, left, moment);
     DONE
 }
 

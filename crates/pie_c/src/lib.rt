@@ -10,9 +10,11 @@
 //! it does so with this call added (`shows`).
 #![tactic(auto)]
 
+mod arrivals;
 mod calls;
 mod checked;
 mod code;
+mod departures;
 mod opening;
 mod params;
 mod state;

@@ -10,7 +10,7 @@ pub returns-clause-after : goal.returns-clause-after
 returns-clause-after c sound =
     let a = c.args in
     let state : PieState = a.state.now in
-    let kept : c.keep_departed.new.self ≡ with_rate state (departed (capped (held_in state)) a.size a.left a.moment) = search rules in
+    let kept : c.take_departed.new.state ≡ with_rate state (departed (capped (held_in state)) a.size a.left a.moment) = c.take_departed.ensures in
     rw (departure-taken a.size a.left a.moment (omega arith) (sym c.is_bad_size.ensures ∙ c.if-is_bad_size.false) (omega arith))
     (kept ∙ departed-state state a.size a.left a.moment sound)
 
@@ -18,12 +18,12 @@ pub returns-clause-sound : goal.returns-clause-sound
 returns-clause-sound c sound =
     let a = c.args in
     let state : PieState = a.state.now in
-    let kept : c.keep_departed.new.self ≡ with_rate state (departed (capped (held_in state)) a.size a.left a.moment) = search rules in
+    let kept : c.take_departed.new.state ≡ with_rate state (departed (capped (held_in state)) a.size a.left a.moment) = c.take_departed.ensures in
     rw kept (departed-sound state a.size a.left a.moment (omega arith) sound)
 
 pub returns-clause-shows : goal.returns-clause-shows
 returns-clause-shows c opened events sound taken shows =
     let a = c.args in
     let state : PieState = a.state.now in
-    let kept : c.keep_departed.new.self ≡ with_rate state (departed (capped (held_in state)) a.size a.left a.moment) = search rules in
+    let kept : c.take_departed.new.state ≡ with_rate state (departed (capped (held_in state)) a.size a.left a.moment) = c.take_departed.ensures in
     rw kept (departed-shows state sound opened events shows a.size a.left a.moment)

@@ -224,11 +224,12 @@ def compare_limits(header):
 
 
 def refusals_in(source):
-    """Of each function of the library the codes that it refuses by, in the order of its body; those of an opening are in `open`."""
-    orders = {}
-    for name, body in re.findall(r"^(?:pub extern \"C\" )?fn (pie_\w+|open)\(.*?^\{\n(.*?)^\}", source.text, re.S | re.M):
-        orders[name] = ["PIE_" + code for code in dict.fromkeys(re.findall(r"\b(BAD_\w+|TOO_SOON)\b", body))]
-    opening = orders.pop("open", [])
+    """Of each call the codes that it refuses by, in the order of its body: pie_arrive's stand in `arrive`, an opening's in `open`."""
+    codes = {}
+    for name, body in re.findall(r"^(?:pub extern \"C\" )?fn (\w+)\(.*?^\{\n(.*?)^\}", source.text, re.S | re.M):
+        codes[name] = ["PIE_" + code for code in dict.fromkeys(re.findall(r"\b(BAD_\w+|TOO_SOON)\b", body))]
+    orders = {name: codes[name] or codes.get(name[4:], []) for name in codes if name.startswith("pie_")}
+    opening = codes.get("open", [])
     return {**orders, "pie_open_with": opening, "pie_open": [code for code in opening if code != "PIE_BAD_PROFILE"]}
 
 

@@ -10,11 +10,9 @@
 //! it does so with this call added (`shows`).
 #![tactic(auto)]
 
-mod arrivals;
 mod calls;
 mod checked;
 mod code;
-mod departures;
 mod opening;
 mod params;
 mod state;

@@ -23,10 +23,8 @@ impl RawCycle {
     pub fn counted(&self, size: u32, threshold: u64) -> Option<u64>
         ensures { SomeIff result (self.now.count + size < threshold) (self.now.count + size) }
     {
-        match self.count.checked_add(u64::from(size)) {
-            Some(count) if count < threshold => Some(count),
-            _ => None,
-        }
+        let count = self.count.saturating_add(u64::from(size));
+        if count < threshold { Some(count) } else { None }
     }
 }
 

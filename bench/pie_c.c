@@ -20,6 +20,7 @@
 #define RUNS 7
 #define ROUNDS 3                  /* over the inputs of a call, each run */
 #define INPUTS 65536
+#define TURN 2048                 /* calls in a turn: library and plain C in turn, so that other work on the machine meets both */
 #define LINK 80                   /* nanoseconds a byte: 100 Mbit/s */
 #define PACKETS 1500000           /* of the stream: about two minutes */
 #define WARM 20000000000ull       /* waits are counted after 20 seconds */
@@ -55,41 +56,24 @@ STEP uint32_t arrived(struct plain *plain, const struct params *p, uint64_t queu
     return consider(&plain->accu, p, &plain->control, queued, (int)ecn, random);
 }
 
-/* Whether a state is one that the library takes: the same ranges, one comparison after another. */
-static inline int is_sound(const struct pie_state *s) {
-    const struct pie_params *p = &s->params;
-    uint64_t t = p->dq_threshold;
-    if (p->target < 2 || p->target > 10000000000 || p->t_update < 1 || p->t_update > 10000000000)
-        return 0;
-    if (p->max_burst > ONE || p->alpha > 1000000 || p->beta > 1000000 || p->mean_pkt < 1 || p->mean_pkt > 65535)
-        return 0;
-    if (p->limit_bytes < 1 || p->limit_bytes > 1 << 30 || p->mark_ecnth > ONE || t < 1024 || t > 65536 || (t & (t - 1)))
-        return 0;
-    if (s->moment >> 60 || s->prob > ONE || s->old_delay > (uint64_t)1 << 40 || s->burst > ONE || s->last > s->moment)
-        return 0;
-    if (s->accu >= 8500000000000 || s->average >> 60)
-        return 0;
-    if (s->profile == 1 ? s->active != 1 : s->profile != 2 || s->active > 1)
-        return 0;
-    if (s->measuring == 1)
-        return s->cycle_start <= s->moment && s->cycle_count < t;
-    return s->measuring == 0 && s->cycle_start == 0 && s->cycle_count == 0;
-}
-
-/* An arrival in plain C with the library's checks. */
-STEP uint32_t checked(struct pie_state *s, uint64_t queued, uint32_t size, uint32_t room, uint32_t ecn, uint64_t random,
-                      uint64_t moment) {
-    if (!is_sound(s))
-        return PIE_BAD_STATE;
-    if (moment >> 60 || size == 0 || size > 65535 || ecn > 3 || queued > 1 << 30)
+/* An arrival in plain C over the library's state, refused for what the library refuses. */
+STEP uint32_t checked_arrival(struct pie_state *s, uint64_t queued, uint32_t size, uint32_t room, uint32_t ecn, uint64_t random,
+                              uint64_t moment) {
+    if (moment > PIE_MAX_MOMENT)
         return PIE_BAD_MOMENT;
+    if (size == 0 || size > PIE_MAX_SIZE)
+        return PIE_BAD_SIZE;
+    if (ecn > PIE_CE)
+        return PIE_BAD_ECN;
+    if (queued > PIE_MAX_BYTES)
+        return PIE_BAD_QUEUE;
     if (moment > s->moment)
         s->moment = moment;
     if (queued + size > s->params.limit_bytes || room == 0) {
         s->accu = 0;
         return queued + size > s->params.limit_bytes ? PIE_BYTES : PIE_PACKETS;
     }
-    if (s->burst != 0 || queued <= 2 * s->params.mean_pkt ||
+    if (!s->active || s->burst != 0 || queued <= 2 * s->params.mean_pkt ||
         (2 * s->old_delay < s->params.target && s->prob < 200000000000))
         return PIE_ENQUEUE;
     uint64_t prob = s->prob, sum = s->accu + prob;
@@ -103,7 +87,36 @@ STEP uint32_t checked(struct pie_state *s, uint64_t queued, uint32_t size, uint3
         return PIE_ENQUEUE;
     }
     s->accu = 0;
-    return ecn != 0 && prob < s->params.mark_ecnth ? PIE_MARK : PIE_EARLY;
+    return ecn != PIE_NOT_ECT && prob < s->params.mark_ecnth ? PIE_MARK : PIE_EARLY;
+}
+
+/* The same of a departure. */
+STEP uint32_t checked_departure(struct pie_state *s, uint32_t size, uint64_t left, uint64_t moment) {
+    if (moment > PIE_MAX_MOMENT)
+        return PIE_BAD_MOMENT;
+    if (size == 0 || size > PIE_MAX_SIZE)
+        return PIE_BAD_SIZE;
+    if (left > PIE_MAX_BYTES)
+        return PIE_BAD_QUEUE;
+    if (moment > s->moment)
+        s->moment = moment;
+    if (!s->active)
+        return PIE_DONE;
+    uint64_t threshold = s->params.dq_threshold;
+    if (s->measuring) {
+        uint64_t count = s->cycle_count + size;
+        if (count < threshold) {
+            s->cycle_count = count;
+            return PIE_DONE;
+        }
+        uint64_t sample = s->moment > s->cycle_start ? s->moment - s->cycle_start : 1;
+        s->average = s->average == 0 ? sample : (uint64_t)(((unsigned __int128)sample * threshold +
+                                                           (unsigned __int128)s->average * (65536 - threshold)) / 65536);
+    }
+    s->measuring = left >= threshold;
+    s->cycle_start = left >= threshold ? s->moment : 0;
+    s->cycle_count = 0;
+    return PIE_DONE;
 }
 
 struct waiting {
@@ -222,54 +235,71 @@ static void make_inputs(void) {
     }
 }
 
-static void print_nanos(const char *name, double begin) {
-    printf("%s %.1f ns\n", name, (nanos() - begin) / INPUTS);
+/* The times of the calls, kept until all are made: printing between them would cost the next some of its caches. */
+#define TIMES (16 * INPUTS / TURN)
+static struct timed {
+    const char *name;
+    double nanos;
+} timed[TIMES];
+static int times;
+
+/* Keeps the time of a call of this name, of so many that began then; the time now. */
+static double keep_nanos(const char *name, double begin, int calls) {
+    double now = nanos();
+    timed[times++] = (struct timed){name, (now - begin) / calls};
+    return now;
 }
 
 /* The time of an arrival that is considered; the numbers that come out are the decisions. */
 static void arrive(struct pie_state *state, struct plain *plain) {
-    struct pie_state checked_state = *state;
-    uint64_t library = 0, c = 0, c_checked = 0;
-    double begin = nanos();
-    for (int i = 0; i < INPUTS; i++)
-        library = library * 31 + pie_arrive(state, arrivals[i].bytes, 1000, 1, arrivals[i].ecn, arrivals[i].word, (uint64_t)i);
-    print_nanos("arrive_library", begin);
-    begin = nanos();
-    for (int i = 0; i < INPUTS; i++)
-        c = c * 31 + arrived(plain, &plain_params, arrivals[i].bytes, 1000, 1, arrivals[i].ecn, arrivals[i].word, (uint64_t)i);
-    print_nanos("arrive_c", begin);
-    begin = nanos();
-    for (int i = 0; i < INPUTS; i++)
-        c_checked = c_checked * 31 +
-                    checked(&checked_state, arrivals[i].bytes, 1000, 1, arrivals[i].ecn, arrivals[i].word, (uint64_t)i);
-    print_nanos("arrive_c_checked", begin);
-    if (library != c || library != c_checked || state->accu != plain->accu || state->accu != checked_state.accu)
+    struct pie_state copy = *state;
+    uint64_t library = 0, c = 0, checked = 0;
+    for (int from = 0; from < INPUTS; from += TURN) {
+        double begin = nanos();
+        for (int i = from; i < from + TURN; i++)
+            library = library * 31 + pie_arrive(state, arrivals[i].bytes, 1000, 1, arrivals[i].ecn, arrivals[i].word, (uint64_t)i);
+        begin = keep_nanos("arrive_library", begin, TURN);
+        for (int i = from; i < from + TURN; i++)
+            c = c * 31 + arrived(plain, &plain_params, arrivals[i].bytes, 1000, 1, arrivals[i].ecn, arrivals[i].word, (uint64_t)i);
+        begin = keep_nanos("arrive_c", begin, TURN);
+        for (int i = from; i < from + TURN; i++)
+            checked = checked * 31 +
+                      checked_arrival(&copy, arrivals[i].bytes, 1000, 1, arrivals[i].ecn, arrivals[i].word, (uint64_t)i);
+        keep_nanos("arrive_c_checked", begin, TURN);
+    }
+    if (library != c || library != checked || state->accu != plain->accu || state->accu != copy.accu)
         exit(2);
 }
 
 static void depart(struct pie_state *state, struct plain *plain) {
-    double begin = nanos();
-    for (int i = 0; i < INPUTS; i++)
-        pie_depart(state, departures[i].size, 100000, departures[i].moment);
-    print_nanos("depart_library", begin);
-    begin = nanos();
-    for (int i = 0; i < INPUTS; i++)
-        departed(&plain->rate, departures[i].size, 100000, departures[i].moment, plain_params.dq_threshold);
-    print_nanos("depart_c", begin);
+    struct pie_state copy = *state;
+    for (int from = 0; from < INPUTS; from += TURN) {
+        double begin = nanos();
+        for (int i = from; i < from + TURN; i++)
+            pie_depart(state, departures[i].size, 100000, departures[i].moment);
+        begin = keep_nanos("depart_library", begin, TURN);
+        for (int i = from; i < from + TURN; i++)
+            departed(&plain->rate, departures[i].size, 100000, departures[i].moment, plain_params.dq_threshold);
+        begin = keep_nanos("depart_c", begin, TURN);
+        for (int i = from; i < from + TURN; i++)
+            checked_departure(&copy, departures[i].size, 100000, departures[i].moment);
+        keep_nanos("depart_c_checked", begin, TURN);
+    }
     if (state->average != plain->rate.average || state->measuring != (uint64_t)plain->rate.begun ||
         state->cycle_start != plain->rate.start || state->cycle_count != plain->rate.count)
         exit(3);
+    if (memcmp(state, &copy, sizeof copy) != 0)
+        exit(6);
 }
 
 static void update(struct pie_state *state, struct plain *plain) {
     double begin = nanos();
     for (uint64_t i = 1; i <= INPUTS; i++)
         pie_update(state, arrivals[i % INPUTS].bytes, (i + 10) * 15000000);
-    print_nanos("update_library", begin);
-    begin = nanos();
+    begin = keep_nanos("update_library", begin, INPUTS);
     for (uint64_t i = 1; i <= INPUTS; i++)
         updated_by(plain, &plain_params, arrivals[i % INPUTS].bytes, (i + 10) * 15000000);
-    print_nanos("update_c", begin);
+    keep_nanos("update_c", begin, INPUTS);
     if (state->prob != plain->control.prob || state->burst != plain->control.burst ||
         state->old_delay != plain->control.old_delay || state->last != plain->control.last)
         exit(4);
@@ -289,6 +319,9 @@ static void calls(void) {
     arrive(&state, &plain);
     depart(&state, &plain);
     update(&state, &plain);
+    for (int i = 0; i < times; i++)
+        printf("%s %.3f ns\n", timed[i].name, timed[i].nanos);
+    times = 0;
 }
 
 /* 8 per cent more than the link takes, in gaps of half to one and a half of the mean. */

@@ -1,7 +1,8 @@
 #!/usr/bin/env python3
 """Holds include/pie.h and the Rust declarations (bindings/rust/src) to the source of the library (crates/pie_c/src): structs with the
 order, names and widths of their fields; functions with the order, names and widths of their parameters; codes, ECN fields, the version.
-The ranges and defaults that comments tell are compared with one another and with docs/FORMATS.md. Exit status 1 where something differs.
+The ranges, defaults and tables of rates that comments tell are compared with one another and with docs/FORMATS.md, the orders in which
+calls refuse with the source. Exit status 1 where something differs.
 
 usage: tests/header.py [ROOT]           compares, in this repository or in another folder
        tests/header.py --probes [ROOT]  writes a program in C that asks the library for each number of the header's comments
@@ -222,6 +223,61 @@ def compare_limits(header):
         yield from same(f"include/pie.h: {name} of pie_arrive", told, wanted, "in the comments of the codes")
 
 
+def refusals_in(source):
+    """Of each call the codes that it refuses by, in the order of its body: pie_arrive's stand in `arrive`, an opening's in `open`."""
+    codes = {}
+    for name, body in re.findall(r"^(?:pub extern \"C\" )?fn (\w+)\(.*?^\{\n(.*?)^\}", source.text, re.S | re.M):
+        codes[name] = ["PIE_" + code for code in dict.fromkeys(re.findall(r"\b(BAD_\w+|TOO_SOON)\b", body))]
+    orders = {name: codes[name] or codes.get(name[4:], []) for name in codes if name.startswith("pie_")}
+    opening = codes.get("open", [])
+    return {**orders, "pie_open_with": opening, "pie_open": [code for code in opening if code != "PIE_BAD_PROFILE"]}
+
+
+def compare_refusals(header, rust, source):
+    """The order of refusals that comments and documentation tell, beside that of the source."""
+    orders = {name: codes for name, codes in refusals_in(source).items() if codes and name != "pie_check_state"}
+    told = {}
+    for comment, name in re.findall(r"/\*((?:(?!\*/).)*?)\*/\n(?:uint32_t|struct \w+|void) (pie_\w+)\(", header.text, re.S):
+        listed = re.search(r"Refused(?:, in this order)?: ([A-Z_, ]+)\.", one_line(comment.replace("\n *", "\n")))
+        if listed:
+            told[name] = listed[1].split(", ")
+    yield from same("include/pie.h: the order of refusals", told, orders)
+    told = {}
+    for listed, name in re.findall(r"/// # Errors\s*/// (?:In this order: )?([`\w, ]+)\.\s*pub fn (\w+)", rust):
+        told["pie_" + name] = [REFUSALS.get(it) for it in re.findall(r"`(\w+)`", listed)]
+    # an ECN field or a profile out of its range can't be said in Rust
+    wanted = {name: [it for it in codes if it not in ("PIE_BAD_ECN", "PIE_BAD_PROFILE")] for name, codes in orders.items()}
+    yield from same("bindings/rust: the order of refusals", told, {**wanted, "pie_check": ["PIE_BAD_STATE"]})
+
+
+def compare_numbers(header, source):
+    """The numbers of the parameters, which pie_check_params answers."""
+    told = re.search(r"number of the first parameter out of its range: (.*?)\.", one_line(header.text.replace("\n *", "\n")))
+    listed = {name: int(number) for number, name in re.findall(r"(\d) (\w+)", told[1] if told else "")}
+    numbered = {re.sub(r"(?<=.)([A-Z])", r"_\1", name).lower(): int(number) for name, number in re.findall(r"Field::(\w+) => (\d+)", source.text)}
+    yield from same("include/pie.h: the numbers of the parameters", listed, numbered)
+    yield from same("include/pie.h: the order of the parameters", [name for _, name in header.structs.get("pie_params", [])], list(numbered))
+
+
+def compare_rates(header, formats):
+    """The tables of rates, and from which rate on a default holds less than the default target."""
+    limit, most = (int(it) for it in (default(header.comments["pie_params"]["limit_bytes"]), bound(header.comments["pie_params"]["limit_bytes"])[1]))
+    units = {"Mbit/s": 10**6, "Gbit/s": 10**9}
+    for where, row in (("include/pie.h", r"\*\s+(\d+) ([MG]bit/s) +(\d+) +(\d+)"), ("docs/FORMATS.md", r"\| (\d+) ([MG]bit/s) \| (\d+) \| (\d+)")):
+        rows = re.findall(row, header.text if where == "include/pie.h" else formats)
+        if len(rows) < 6:
+            yield f"{where}: the table of rates was not found"
+        for number, unit, wanted, chosen in rows:
+            rate, chosen = int(number) * units[unit], int(chosen)
+            by_rate = min(rate // 40, most)
+            good = {max(by_rate, limit)} if where == "include/pie.h" else {by_rate, 2}
+            if int(wanted) * 8 * 1000 != rate * 15 or chosen not in good:
+                yield f"{where}: the table of rates at {number} {unit}"
+    for bytes_held, rate in re.findall(r"default of (\d+) bytes is 15 ms at ([\d.]+) Mbit/s", header.text):
+        if abs(int(bytes_held) * 8 / 0.015 / 10**6 / float(rate) - 1) > 0.01:
+            yield f"include/pie.h: {bytes_held} bytes are not 15 ms at {rate} Mbit/s"
+
+
 def compare_versions(header, root):
     version = header.defines.get("PIE_VERSION")
     for path, pattern in (("bindings/rust/Cargo.toml", r'^version = "(.*?)"'),
@@ -248,7 +304,11 @@ def differences(root):
     yield from compare_constants(header, source)
     yield from compare_rust_enums(rust_text, header)
     yield from compare_methods(rust_text, source)
-    yield from compare_ranges(header, rust, (root / "docs/FORMATS.md").read_text())
+    formats = (root / "docs/FORMATS.md").read_text()
+    yield from compare_ranges(header, rust, formats)
+    yield from compare_rates(header, formats)
+    yield from compare_refusals(header, rust_text, source)
+    yield from compare_numbers(header, source)
     yield from compare_limits(header)
     yield from compare_versions(header, root)
 

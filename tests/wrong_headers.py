@@ -44,6 +44,10 @@ EDITS = [
     ("a comment: later moments", HEADER, "a moment above 2^60 - 1 */", "a moment above 2^62 - 1 */"),
     ("a comment: a larger queue", HEADER, "this packet, at most 2^30", "this packet, at most 2^32"),
     ("a text: an ECN field of 4", HEADER, "an ECN field above 3\"", "an ECN field above 4\""),
+    ("a comment: another limit at 100 Mbit/s", HEADER, "187500           2500000", "187500            250000"),
+    ("a comment: the default is 15 ms at another rate", HEADER, "15 ms at 140 Mbit/s", "15 ms at 1400 Mbit/s"),
+    ("a comment: sizes looked at before moments", HEADER, "PIE_BAD_MOMENT, PIE_BAD_SIZE, PIE_BAD_ECN", "PIE_BAD_SIZE, PIE_BAD_MOMENT, PIE_BAD_ECN"),
+    ("a comment: parameters numbered otherwise", HEADER, "1 target, 2 t_update", "1 t_update, 2 target"),
     ("another latest moment", HEADER, "1152921504606846975", "1152921504606846976"),
     ("another version", HEADER, 'PIE_VERSION "0.1.0"', 'PIE_VERSION "0.2.0"'),
     ("due at the last update", HEADER, "return state->last + state->params.t_update;", "return state->last;"),
@@ -68,6 +72,8 @@ EDITS = [
     ("Rust: profile one always", CRATE + "state.rs", "profile as u32) }, params", "1) }, params"),
     ("Rust: a limit of 20 ms", CRATE + "params.rs", "div_ceil(40)", "div_ceil(400)"),
     ("Rust: a mark is a drop", CRATE + "state.rs", "Verdict::Enqueue | Verdict::Mark)", "Verdict::Enqueue)"),
+    ("Rust: sizes looked at before moments", CRATE + "state.rs", "/// In this order: `Moment`, `Size`, `Queue`.\n    pub fn arrive",
+     "/// In this order: `Size`, `Moment`, `Queue`.\n    pub fn arrive"),
     ("Rust: documentation with another range", CRATE + "params.rs", "1 to 65535 bytes (1024;", "1 to 65536 bytes (1024;"),
 ]
 

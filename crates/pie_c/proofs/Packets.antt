@@ -1,5 +1,5 @@
 -- What the calls for each packet leave of a sound state is what the controller then holds.
-use Rattle.std.proofs.Common.{◌≡◌, ℕ, ◌≤◌, ◌<◌, ◌^◌, ◌==◌, ◌&&◌, not, max, if◌then◌else◌, nat_lt, Bool, true, false, List, [], ◌∷◌, ◌++◌, arith, refl, sym, ap, ◌∙◌}
+use Rattle.std.proofs.Common.{◌≡◌, ℕ, ◌+◌, ◌≤◌, ◌<◌, ◌^◌, ◌==◌, ◌&&◌, not, max, min, if◌then◌else◌, nat_lt, Bool, true, false, List, [], ◌∷◌, ◌++◌, arith, refl, sym, ap, ◌∙◌}
 use Rattle.std.proofs.lemmas.Bool.Decides.{nat_tests}
 use Rattle.pie_controller.specs.declared.verdict.Arrival.{Arrival}
 use Rattle.pie_controller.specs.Calls.{Arrive, Depart, Pass, shown_by}
@@ -79,6 +79,14 @@ unfolding held_in
 departed-state s size left moment sound =
     ap (λ (h : Held). with_rate s (departed h size left moment)) (capped-is (held_in s) (threshold-of s sound))
     ∙ kept-departed s (departed (held_in s) size left moment) sound refl
+
+-- a packet that leaves the open cycle open changes its count and the moment alone
+pub counted-state : (s : PieState) (size left moment : ℕ) → s.active ≡ 1 → s.measuring ≡ 1 → s.cycle_count + size < min s.params.dq_threshold 65536
+    → record s { moment = max s.moment moment; cycle_count = s.cycle_count + size } ≡ with_rate s (departed (capped (held_in s)) size left moment)
+unfolding held_in
+counted-state s size left moment active measuring few =
+    let below : nat_lt (s.cycle_count + size) (min s.params.dq_threshold 65536) ≡ true = grind (arith, nat_tests) in
+    rw (active, measuring, below) refl
 
 pub passed-state : (s : PieState) (moment : ℕ) → is_sound s ≡ true → record s { moment = max s.moment moment } ≡ state_of (passed (held_in s) moment)
 unfolding held_in

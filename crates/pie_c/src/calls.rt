@@ -1,7 +1,7 @@
 //! The calls on a state. Those for each packet read the state's numbers as they are: their rules are total, so nothing of the state
 //! is checked. The others take a sound state into a controller, and refuse any other. Each refuses what it is handed out of its
 //! range, lets the controller make its step, and writes back what it holds.
-ghost use Rattle.std.specs.Prelude.{◌≡◌, ◌∷◌, [], ◌++◌, List, max, true};
+ghost use Rattle.std.specs.Prelude.{◌≡◌, ◌+◌, ◌<◌, ◌∷◌, [], ◌++◌, List, SomeIff, max, min, true};
 ghost use Rattle.pie_controller.specs.Calls.{Arrive, Change, Depart, Pass, Restart, Update, after_call, shown_by};
 ghost use Rattle.pie_controller.specs.Events.{ControllerEvent, Opened};
 ghost use Rattle.pie_controller.specs.History.{Shows};
@@ -20,9 +20,13 @@ use crate::updated::PieUpdated;
 use pie_controller::Arrival;
 use pie_fixed::{MAX_NANOS, Nanos};
 use pie_params::Params;
+use pie_rate::RawCycle;
 
 /// The most bytes that a queue holds: the greatest byte limit.
 const MAX_QUEUED: u64 = 1 << 30;
+
+/// The greatest threshold of the departure rate, in bytes: a greater one counts as this.
+const MAX_THRESHOLD: u64 = 65_536;
 
 /// Decides on an arriving packet, which the caller then queues, marks and queues, or drops: `queued`
 /// bytes are in the queue without it, `room` is how many more packets the caller's ring has room for,
@@ -32,8 +36,35 @@ const MAX_QUEUED: u64 = 1 << 30;
 /// Tail drop by bytes, then by packets, comes before all else. An inactive controller considers no packet; where three times the
 /// bytes in the queue then reach `limit_bytes`, it is turned on, as by a reset (RFC 8033, section 5.3).
 #[unsafe(no_mangle)]
-#[tactic(auto, unfolding(crate::specs::Calls::arrival_refusal))]
 pub extern "C" fn pie_arrive(
+    state: &mut PieState,
+    queued: u64,
+    size: u32,
+    room: u32,
+    bits: u32,
+    word: u64,
+    moment: u64,
+) -> u32
+    ensures answer { result ≡ unless_refused (arrival_refusal queued size bits moment) (verdict_number (verdict (held_in state.old) (arrival_of queued size room bits word))) }
+    ensures fields { state.new ≡ if_taken (arrival_refusal queued size bits moment) state.old (with_arrival state.old (arrived (held_in state.old) (arrival_of queued size room bits word) moment)) }
+
+    // a sound state: it is then what the controller holds, in every field
+    ensures after { is_sound state.old ≡ true → state.new ≡ kept_if_refused (arrival_refusal queued size bits moment) state.old (after_call (held_in state.old) (Arrive (arrival_of queued size room bits word) moment)) }
+    ensures sound { is_sound state.old ≡ true → is_sound state.new ≡ true }
+    ensures shows { (opened : Opened) (events : List ControllerEvent) → is_sound state.old ≡ true → arrival_refusal queued size bits moment ≡ 0 → Shows opened events (held_in state.old)
+        → Shows opened (events ++ shown_by (held_in state.old) (Arrive (arrival_of queued size room bits word) moment) ∷ []) (held_in state.new) }
+{
+    if state.active == 1 {
+        arrive(state, queued, size, room, bits, word, moment)
+    } else {
+        arrive_apart(state, queued, size, room, bits, word, moment)
+    }
+}
+
+/// The same, to be compiled where it is called: where the controller is known to be active, there is nothing of turning it on.
+#[inline(always)]
+#[tactic(auto, unfolding(crate::specs::Calls::arrival_refusal))]
+fn arrive(
     state: &mut PieState,
     queued: u64,
     size: u32,
@@ -76,11 +107,58 @@ pub extern "C" fn pie_arrive(
     of_verdict(verdict)
 }
 
+/// The same as a function of its own: the registers that turning on takes cost an active controller nothing then.
+#[inline(never)]
+fn arrive_apart(
+    state: &mut PieState,
+    queued: u64,
+    size: u32,
+    room: u32,
+    bits: u32,
+    word: u64,
+    moment: u64,
+) -> u32
+    ensures answer { result ≡ unless_refused (arrival_refusal queued size bits moment) (verdict_number (verdict (held_in state.old) (arrival_of queued size room bits word))) }
+    ensures fields { state.new ≡ if_taken (arrival_refusal queued size bits moment) state.old (with_arrival state.old (arrived (held_in state.old) (arrival_of queued size room bits word) moment)) }
+
+    // a sound state: it is then what the controller holds, in every field
+    ensures after { is_sound state.old ≡ true → state.new ≡ kept_if_refused (arrival_refusal queued size bits moment) state.old (after_call (held_in state.old) (Arrive (arrival_of queued size room bits word) moment)) }
+    ensures sound { is_sound state.old ≡ true → is_sound state.new ≡ true }
+    ensures shows { (opened : Opened) (events : List ControllerEvent) → is_sound state.old ≡ true → arrival_refusal queued size bits moment ≡ 0 → Shows opened events (held_in state.old)
+        → Shows opened (events ++ shown_by (held_in state.old) (Arrive (arrival_of queued size room bits word) moment) ∷ []) (held_in state.new) }
+{
+    arrive(state, queued, size, room, bits, word, moment)
+}
+
 /// Takes in a packet that left the queue, with `left` bytes after it (RFC 8033, section 5.2). An inactive controller takes in the
 /// moment alone.
+///
+/// Most packets leave a cycle of the departure rate open, and change its count and the moment alone.
 #[unsafe(no_mangle)]
-#[tactic(auto, unfolding(crate::specs::Calls::departure_refusal))]
 pub extern "C" fn pie_depart(state: &mut PieState, size: u32, left: u64, moment: u64) -> u32
+    ensures answer { result ≡ departure_refusal size left moment }
+    ensures fields { state.new ≡ if_taken (departure_refusal size left moment) state.old (with_rate state.old (departed (capped (held_in state.old)) size left moment)) }
+
+    // a sound state: it is then what the controller holds, in every field
+    ensures after { is_sound state.old ≡ true → state.new ≡ kept_if_refused (departure_refusal size left moment) state.old (after_call (held_in state.old) (Depart size left moment)) }
+    ensures sound { is_sound state.old ≡ true → is_sound state.new ≡ true }
+    ensures shows { (opened : Opened) (events : List ControllerEvent) → is_sound state.old ≡ true → departure_refusal size left moment ≡ 0 → Shows opened events (held_in state.old)
+        → Shows opened (events ++ shown_by (held_in state.old) (Depart size left moment) ∷ []) (held_in state.new) }
+{
+    if moment <= MAX_NANOS && size != 0 && left <= MAX_QUEUED {
+        if let Some(count) = counted(state, size) {
+            state.moment = state.moment.max(moment);
+            state.cycle_count = count;
+            return DONE;
+        }
+    }
+    depart(state, size, left, moment)
+}
+
+/// The same for any packet, as a function of its own: what it takes costs the others nothing then.
+#[inline(never)]
+#[tactic(auto, unfolding(crate::specs::Calls::departure_refusal))]
+fn depart(state: &mut PieState, size: u32, left: u64, moment: u64) -> u32
     ensures answer { result ≡ departure_refusal size left moment }
     ensures fields { state.new ≡ if_taken (departure_refusal size left moment) state.old (with_rate state.old (departed (capped (held_in state.old)) size left moment)) }
 
@@ -103,6 +181,22 @@ pub extern "C" fn pie_depart(state: &mut PieState, size: u32, left: u64, moment:
     held.depart(size, left, moment);
     state.keep_departed(&held);
     DONE
+}
+
+/// What the open cycle of the departure rate has counted with this packet, where that leaves it open. An inactive controller counts
+/// nothing.
+#[inline(always)]
+fn counted(state: &PieState, size: u32) -> Option<u64>
+    ensures { SomeIff result ((state.now.active ≡ 1) × (state.now.measuring ≡ 1) × (state.now.cycle_count + size < min state.now.params.dq_threshold 65536)) (state.now.cycle_count + size) }
+{
+    if state.active != 1 || state.measuring != 1 {
+        return None;
+    }
+    let cycle = RawCycle {
+        start: state.cycle_start,
+        count: state.cycle_count,
+    };
+    cycle.counted(size, state.params.dq_threshold.min(MAX_THRESHOLD))
 }
 
 /// Takes in a departure that found the queue empty: its moment counts, and nothing else.

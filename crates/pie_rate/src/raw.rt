@@ -1,4 +1,4 @@
-ghost use Rattle.std.specs.Prelude.{◌≡◌, ◌-◌, ◌≤◌, None, max};
+ghost use Rattle.std.specs.Prelude.{◌≡◌, ◌+◌, ◌-◌, ◌<◌, ◌≤◌, None, SomeIff, max};
 ghost use Rattle.pie_rate.specs.Average.{with_sample};
 ghost use Rattle.pie_rate.specs.Departures.{departure};
 ghost use Rattle.pie_rate.specs.Estimate.{estimate_of};
@@ -15,6 +15,17 @@ pub struct RawCycle {
     pub start: u64,
     /// The bytes of the departures after that one.
     pub count: u64,
+}
+
+impl RawCycle {
+    /// The bytes that it has counted with a departed packet of this size, `None` where they close it.
+    #[inline(always)]
+    pub fn counted(&self, size: u32, threshold: u64) -> Option<u64>
+        ensures { SomeIff result (self.now.count + size < threshold) (self.now.count + size) }
+    {
+        let count = self.count.saturating_add(u64::from(size));
+        if count < threshold { Some(count) } else { None }
+    }
 }
 
 /// An estimate of the departure rate as plain numbers, each in its range or not: its rule is [`Rate`](crate::Rate)'s.
@@ -45,11 +56,10 @@ impl RawRate {
         ensures { estimate_of self.new ≡ after_departure threshold (estimate_of self.old) (departure size bytes_left moment) }
     {
         if let Some(cycle) = self.begun {
-            let size = u64::from(size);
-            if size < threshold.saturating_sub(cycle.count) {
+            if let Some(count) = cycle.counted(size, threshold) {
                 self.begun = Some(RawCycle {
                     start: cycle.start,
-                    count: cycle.count + size,
+                    count,
                 });
                 return;
             }

@@ -1,29 +1,45 @@
-use Rattle.std.proofs.Common.{◌≡◌, ◌≤◌, ◌<◌, ◌^◌, ◌∙◌, sym, arith, rules, true, false}
+use Rattle.std.proofs.Common.{◌≡◌, ◌≤◌, ◌<◌, ◌^◌, ◌∙◌, sym, arith, false}
 use Rattle.std.proofs.lemmas.Bool.Decides.{nat_tests}
-use Rattle.pie_controller.specs.Steps.{capped, departed}
 use Rattle.pie_c.specs.declared.state.PieState.{PieState}
-use Rattle.pie_c.specs.State.{held_in, with_rate}
-use Rattle.pie_c.proofs.Packets.{departed-shows, departed-sound, departed-state, departure-taken}
+use Rattle.pie_c.specs.Calls.{departure_refusal, is_bad_size}
+use Rattle.pie_c.proofs.Packets.{counted-state, departed-shows, departed-sound, departed-state, departure-taken}
 use Rattle.pie_c.proofs.calls.pie_depart.Goals as goal
 
-pub returns-clause-after : goal.returns-clause-after
-returns-clause-after c sound =
+pub returns-in-Some-clause-answer : goal.returns-in-Some-clause-answer
+returns-in-Some-clause-answer c =
     let a = c.args in
-    let state : PieState = a.state.now in
-    let kept : c.keep_departed.new.self ≡ with_rate state (departed (capped (held_in state)) a.size a.left a.moment) = search rules in
-    rw (departure-taken a.size a.left a.moment (omega arith) (sym c.is_bad_size.ensures ∙ c.if-is_bad_size.false) (omega arith))
-    (kept ∙ departed-state state a.size a.left a.moment sound)
+    let below = c.in-Some.ensures.0.2 in
+    let good : is_bad_size a.size ≡ false = grind (below, arith, nat_tests) in
+    sym (departure-taken a.size a.left a.moment (omega arith) good (omega arith))
 
-pub returns-clause-sound : goal.returns-clause-sound
-returns-clause-sound c sound =
+pub returns-in-Some-clause-fields : goal.returns-in-Some-clause-fields
+returns-in-Some-clause-fields c =
     let a = c.args in
-    let state : PieState = a.state.now in
-    let kept : c.keep_departed.new.self ≡ with_rate state (departed (capped (held_in state)) a.size a.left a.moment) = search rules in
-    rw kept (departed-sound state a.size a.left a.moment (omega arith) sound)
+    let facts = c.in-Some.ensures in
+    let below = facts.0.2 in
+    let good : is_bad_size a.size ≡ false = grind (below, arith, nat_tests) in
+    rw (departure-taken a.size a.left a.moment (omega arith) good (omega arith), c.max-state.ensures, facts.1)
+    (counted-state a.state.now a.size a.left a.moment facts.0.0 facts.0.1 below)
 
-pub returns-clause-shows : goal.returns-clause-shows
-returns-clause-shows c opened events sound taken shows =
+pub returns-in-Some-clause-after : goal.returns-in-Some-clause-after
+returns-in-Some-clause-after c sound =
     let a = c.args in
-    let state : PieState = a.state.now in
-    let kept : c.keep_departed.new.self ≡ with_rate state (departed (capped (held_in state)) a.size a.left a.moment) = search rules in
-    rw kept (departed-shows state sound opened events shows a.size a.left a.moment)
+    let facts = c.in-Some.ensures in
+    let below = facts.0.2 in
+    let good : is_bad_size a.size ≡ false = grind (below, arith, nat_tests) in
+    rw (departure-taken a.size a.left a.moment (omega arith) good (omega arith), c.max-state.ensures, facts.1)
+    (counted-state a.state.now a.size a.left a.moment facts.0.0 facts.0.1 below ∙ departed-state a.state.now a.size a.left a.moment sound)
+
+pub returns-in-Some-clause-sound : goal.returns-in-Some-clause-sound
+returns-in-Some-clause-sound c sound =
+    let a = c.args in
+    let facts = c.in-Some.ensures in
+    rw (c.max-state.ensures, facts.1, counted-state a.state.now a.size a.left a.moment facts.0.0 facts.0.1 facts.0.2)
+    (departed-sound a.state.now a.size a.left a.moment (omega arith) sound)
+
+pub returns-in-Some-clause-shows : goal.returns-in-Some-clause-shows
+returns-in-Some-clause-shows c opened events sound taken shows =
+    let a = c.args in
+    let facts = c.in-Some.ensures in
+    rw (c.max-state.ensures, facts.1, counted-state a.state.now a.size a.left a.moment facts.0.0 facts.0.1 facts.0.2)
+    (departed-shows a.state.now sound opened events shows a.size a.left a.moment)

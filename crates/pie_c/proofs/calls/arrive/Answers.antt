@@ -5,7 +5,7 @@ use Rattle.pie_c.specs.declared.state.PieState.{PieState}
 use Rattle.pie_c.specs.Calls.{arrival_of}
 use Rattle.pie_c.specs.State.{held_in, with_arrival}
 use Rattle.pie_c.proofs.Packets.{arrival-taken, arrived-shows, arrived-sound, arrived-state}
-use Rattle.pie_c.proofs.calls.pie_arrive.Goals as goal
+use Rattle.pie_c.proofs.calls.arrive.Goals as goal
 
 pub returns-clause-after : goal.returns-clause-after
 returns-clause-after c sound =

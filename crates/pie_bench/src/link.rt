@@ -4,7 +4,7 @@
 //! Both make the same `Book::apply` of the same commands, on a rolling book, whose tail is never too full for an event.
 ghost use Rattle.std.specs.Prelude.{◌≡◌, All, IfOk, IfSome};
 
-use crate::report::{checksum, nanos, throughput};
+use crate::report::{checksum, nanos, sum, throughput};
 use pie_book::{Book, Choices, Command, Limits, Mode, Profile};
 use pie_link::{Caller, Link};
 use pie_params::Params;
@@ -175,15 +175,6 @@ fn jobs(
     Ok(jobs)
 }
 
-/// What the numbers add up to.
-fn total(numbers: &[u64]) -> u64 {
-    let mut sum: u64 = 0;
-    for number in numbers {
-        sum = sum.wrapping_add(*number);
-    }
-    sum
-}
-
 /// Each job in a thread of its own; the number is that of all events.
 fn call_at_once<R: Threads + Wait + Sync>(rt: &R, link: &Link, jobs: Vec<Job>) -> u64
     requires { All (λ job. job.caller.lock ≡ link.now) jobs.items }
@@ -196,7 +187,7 @@ fn call_at_once<R: Threads + Wait + Sync>(rt: &R, link: &Link, jobs: Vec<Job>) -
         { toil(rt, link, job) },
     );
     match events {
-        Ok(events) => total(events.as_slice()),
+        Ok(events) => sum(events.as_slice()),
         Err(_) => 0,
     }
 }
@@ -216,7 +207,7 @@ fn call_mutex_at_once<R: Threads + Wait + Sync>(
         &|thread| { toil_at_mutex(rt, mutex, thread) },
     );
     match events {
-        Ok(events) => total(events.as_slice()),
+        Ok(events) => sum(events.as_slice()),
         Err(_) => 0,
     }
 }

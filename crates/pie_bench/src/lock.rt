@@ -1,17 +1,16 @@
 //! How long a take and a put last, and how many of them several threads make in a second, beside `std::sync::Mutex` in
 //! the same run.
-ghost use Rattle.std.specs.Prelude.{◌≡◌, ◌<◌, Some, IfSome};
+ghost use Rattle.std.specs.Prelude.{◌≡◌, All, IfOk, Some};
 ghost use Rattle.pie_lock.specs.Tally.{Tells};
-ghost use denote.Param.Send.{IsSync};
 
-use crate::report::{checksum, nanos, throughput};
-use pie_lock::{Counter, CounterEntry, Held, OneNumber, Pass, RuledLock};
-use std::alloc::Global;
-use std::io;
+use crate::report::{checksum, nanos, sum, throughput};
+use pie_lock::{Counter, CounterEntry, Held, Pass, RuledLock};
+use std::alloc::{AllocError, Global};
 use std::rt::Clock;
 use std::sync::{Mutex, Wait};
-use std::thread::{Threads, join};
+use std::thread::Threads;
 use std::time::Instant;
+use std::{io, thread};
 
 const UNCONTENDED: u64 = 10_000_000;
 
@@ -61,193 +60,80 @@ fn add_many<R: Wait>(
     mine
 }
 
-// A pass with one number of this pass, which keeps the others, where it has more than one.
-fn part(lock: &RuledLock<Counter>, pass: &mut Pass<Counter>) -> Option<Pass<Counter>>
-    requires { pass.old.lock ≡ lock.now }
-    ensures rest { pass.new.lock ≡ lock.now }
-    ensures part { IfSome result (λ part. part.lock ≡ lock.now) }
-{
-    match lock.share(pass) {
-        Ok(part) => Some(part),
-        Err(OneNumber) => None,
-    }
-}
-
-// The calls of one thread.
-fn by_one<R: Wait>(rt: &R, lock: &RuledLock<Counter>, pass: Pass<Counter>)
+/// The calls of one thread among several; the number is that of its calls.
+fn toil<R: Wait>(rt: &R, lock: &RuledLock<Counter>, pass: Pass<Counter>) -> u64
     requires { pass.lock ≡ lock.now }
 {
     drop(add_many(rt, lock, pass, PER_THREAD));
+    PER_THREAD
 }
 
-// The calls of two threads.
-fn by_two<R: Threads + Wait + Sync>(
-    rt: &R,
-    lock: &RuledLock<Counter>,
-    one: Pass<Counter>,
-    two: Pass<Counter>,
-)
-    requires one { one.lock ≡ lock.now }
-    requires two { two.lock ≡ lock.now }
-{
-    join(
-        rt,
-        ||
-            requires { one.lock ≡ lock.now }
-        { by_one(rt, lock, one) },
-        ||
-            requires { two.lock ≡ lock.now }
-        { by_one(rt, lock, two) },
-    );
-}
-
-// The calls of four threads.
-fn by_four<R: Threads + Wait + Sync>(
-    rt: &R,
-    lock: &RuledLock<Counter>,
-    one: Pass<Counter>,
-    two: Pass<Counter>,
-    three: Pass<Counter>,
-    four: Pass<Counter>,
-)
-    requires one { one.lock ≡ lock.now }
-    requires two { two.lock ≡ lock.now }
-    requires three { three.lock ≡ lock.now }
-    requires four { four.lock ≡ lock.now }
-{
-    join(
-        rt,
-        ||
-            requires { IsSync R.row × (one.lock ≡ lock.now) × (two.lock ≡ lock.now) }
-        { by_two(rt, lock, one, two) },
-        ||
-            requires { IsSync R.row × (three.lock ≡ lock.now) × (four.lock ≡ lock.now) }
-        { by_two(rt, lock, three, four) },
-    );
-}
-
-// The calls of two threads, by numbers of the pass.
-fn share_by_two<R: Threads + Wait + Sync>(
-    rt: &R,
+/// A pass for each of so many threads.
+fn passes(
+    alloc: Global,
     lock: &RuledLock<Counter>,
     pass: &mut Pass<Counter>,
-)
+    threads: u16,
+) -> Result<Vec<Pass<Counter>>, AllocError>
     requires { pass.old.lock ≡ lock.now }
-    ensures { pass.new.lock ≡ lock.now }
+    ensures rest { pass.new.lock ≡ lock.now }
+    ensures passes { IfOk result (λ passes. All (λ part. part.lock ≡ lock.now) passes.items) }
 {
-    let Some(one) = part(lock, pass) else {
-        return;
-    };
-    let Some(two) = part(lock, pass) else {
-        return;
-    };
-    by_two(rt, lock, one, two);
+    let mut passes = Vec::new(alloc);
+    for _ in 0..threads {
+        if let Ok(part) = lock.share(pass) {
+            passes.push(part)?;
+        }
+    }
+    Ok(passes)
 }
 
-// The calls of four threads, by numbers of the pass.
-fn share_by_four<R: Threads + Wait + Sync>(
+/// Each pass in a thread of its own; the number is that of all calls.
+fn toil_at_once<R: Threads + Wait + Sync>(
     rt: &R,
     lock: &RuledLock<Counter>,
-    pass: &mut Pass<Counter>,
-)
-    requires { pass.old.lock ≡ lock.now }
-    ensures { pass.new.lock ≡ lock.now }
+    passes: Vec<Pass<Counter>>,
+) -> u64
+    requires { All (λ pass. pass.lock ≡ lock.now) passes.items }
 {
-    let Some(one) = part(lock, pass) else {
-        return;
-    };
-    let Some(two) = part(lock, pass) else {
-        return;
-    };
-    let Some(three) = part(lock, pass) else {
-        return;
-    };
-    let Some(four) = part(lock, pass) else {
-        return;
-    };
-    by_four(rt, lock, one, two, three, four);
-}
-
-// The calls of eight threads, by numbers of the pass.
-fn share_by_eight<R: Threads + Wait + Sync>(
-    rt: &R,
-    lock: &RuledLock<Counter>,
-    pass: &mut Pass<Counter>,
-)
-    requires { pass.old.lock ≡ lock.now }
-    ensures { pass.new.lock ≡ lock.now }
-{
-    let Some(one) = part(lock, pass) else {
-        return;
-    };
-    let Some(two) = part(lock, pass) else {
-        return;
-    };
-    let Some(three) = part(lock, pass) else {
-        return;
-    };
-    let Some(four) = part(lock, pass) else {
-        return;
-    };
-    let Some(five) = part(lock, pass) else {
-        return;
-    };
-    let Some(six) = part(lock, pass) else {
-        return;
-    };
-    let Some(seven) = part(lock, pass) else {
-        return;
-    };
-    let Some(eight) = part(lock, pass) else {
-        return;
-    };
-    join(
+    let calls = thread::map_vec(
         rt,
-        ||
-            requires { IsSync R.row × (one.lock ≡ lock.now) × (two.lock ≡ lock.now) × (three.lock ≡ lock.now) × (four.lock ≡ lock.now) }
-        { by_four(rt, lock, one, two, three, four) },
-        ||
-            requires { IsSync R.row × (five.lock ≡ lock.now) × (six.lock ≡ lock.now) × (seven.lock ≡ lock.now) × (eight.lock ≡ lock.now) }
-        { by_four(rt, lock, five, six, seven, eight) },
+        passes,
+        &|pass: Pass<Counter>| -> u64
+            requires { pass.lock ≡ lock.now }
+        { toil(rt, lock, pass) },
     );
-}
-
-fn add_many_by_mutex<R: Wait>(rt: &R, mutex: &Mutex<Counter>, calls: u64) {
-    for _ in 0..calls {
-        mutex.lock(rt).add(1);
+    match calls {
+        Ok(calls) => sum(calls.as_slice()),
+        Err(_) => 0,
     }
 }
 
-fn mutex_by_two<R: Threads + Wait + Sync>(rt: &R, mutex: &Mutex<Counter>) {
-    join(
-        rt,
-        || add_many_by_mutex(rt, mutex, PER_THREAD),
-        || add_many_by_mutex(rt, mutex, PER_THREAD),
-    );
+/// So many calls of one thread at the mutex; the number is theirs.
+fn toil_at_mutex<R: Wait>(rt: &R, mutex: &Mutex<Counter>, calls: u64) -> u64 {
+    for _ in 0..calls {
+        mutex.lock(rt).add(1);
+    }
+    calls
 }
 
-fn mutex_by_four<R: Threads + Wait + Sync>(rt: &R, mutex: &Mutex<Counter>) {
-    join(
+/// So many threads at the mutex; the number is that of all calls.
+fn toil_at_mutex_at_once<R: Threads + Wait + Sync>(
+    rt: &R,
+    alloc: Global,
+    mutex: &Mutex<Counter>,
+    threads: u16,
+) -> u64 {
+    let calls = thread::map_indices(
         rt,
-        ||
-            requires { IsSync R.row }
-        { mutex_by_two(rt, mutex) },
-        ||
-            requires { IsSync R.row }
-        { mutex_by_two(rt, mutex) },
+        alloc,
+        usize::from(threads),
+        &|_thread| { toil_at_mutex(rt, mutex, PER_THREAD) },
     );
-}
-
-fn mutex_by_eight<R: Threads + Wait + Sync>(rt: &R, mutex: &Mutex<Counter>) {
-    join(
-        rt,
-        ||
-            requires { IsSync R.row }
-        { mutex_by_four(rt, mutex) },
-        ||
-            requires { IsSync R.row }
-        { mutex_by_four(rt, mutex) },
-    );
+    match calls {
+        Ok(calls) => sum(calls.as_slice()),
+        Err(_) => 0,
+    }
 }
 
 /// Prints the time of an uncontended take and put, and how many there are in a second by 1, 2, 4 and 8 threads, for the
@@ -270,7 +156,7 @@ fn uncontended<R: Wait + Clock + Print>(rt: &R, alloc: Global) -> io::Result<()>
     let ruled = total(lock, pass);
     let mutex = Mutex::new(Counter::new());
     let start = Instant::now(rt)?;
-    add_many_by_mutex(rt, &mutex, UNCONTENDED);
+    toil_at_mutex(rt, &mutex, UNCONTENDED);
     nanos(rt, "mutex_uncontended", start.elapsed(rt)?, UNCONTENDED)?;
     let plain = mutex.lock(rt).total();
     checksum(rt, "lock_uncontended", ruled.wrapping_add(plain))
@@ -281,52 +167,54 @@ fn contended<R: Threads + Wait + Clock + Print + Sync>(
     alloc: Global,
     threads: u16,
 ) -> io::Result<()> {
-    let calls = u64::from(threads) * PER_THREAD;
     let Ok((lock, mut pass)) = RuledLock::new(alloc, Counter::new(), PASSES) else {
         return Ok(());
     };
-    let start = Instant::now(rt)?;
-    add_by_lock(rt, &lock, &mut pass, threads);
-    throughput(rt, "lock", threads, start.elapsed(rt)?, calls)?;
-    let ruled = total(lock, pass);
+    let passes = passes(alloc, &lock, &mut pass, threads)?;
+    let ruled = time_at_once(rt, &lock, passes, threads)?;
     let mutex = Mutex::new(Counter::new());
-    let start = Instant::now(rt)?;
-    add_by_mutex(rt, &mutex, threads);
-    throughput(rt, "mutex", threads, start.elapsed(rt)?, calls)?;
-    let plain = mutex.lock(rt).total();
+    let plain = time_mutex_at_once(rt, alloc, &mutex, threads)?;
     checksum(rt, "lock_threads", ruled.wrapping_add(plain))
 }
 
-// So many threads at the lock.
-fn add_by_lock<R: Threads + Wait + Sync>(
+/// Prints how many calls of these passes at once there are in a second.
+fn time_at_once<R: Threads + Wait + Clock + Print + Sync>(
     rt: &R,
     lock: &RuledLock<Counter>,
-    pass: &mut Pass<Counter>,
+    passes: Vec<Pass<Counter>>,
     threads: u16,
-)
-    requires { pass.old.lock ≡ lock.now }
-    ensures { pass.new.lock ≡ lock.now }
+) -> io::Result<u64>
+    requires { All (λ pass. pass.lock ≡ lock.now) passes.items }
 {
-    match threads {
-        2 => share_by_two(rt, lock, pass),
-        4 => share_by_four(rt, lock, pass),
-        8 => share_by_eight(rt, lock, pass),
-        _ => {
-            if let Some(one) = part(lock, pass) {
-                by_one(rt, lock, one);
-            }
-        }
-    }
+    let start = Instant::now(rt)?;
+    let calls = toil_at_once(rt, lock, passes);
+    throughput(
+        rt,
+        "lock",
+        threads,
+        start.elapsed(rt)?,
+        u64::from(threads) * PER_THREAD,
+    )?;
+    Ok(calls)
 }
 
-// So many threads at the mutex.
-fn add_by_mutex<R: Threads + Wait + Sync>(rt: &R, mutex: &Mutex<Counter>, threads: u16) {
-    match threads {
-        2 => mutex_by_two(rt, mutex),
-        4 => mutex_by_four(rt, mutex),
-        8 => mutex_by_eight(rt, mutex),
-        _ => add_many_by_mutex(rt, mutex, PER_THREAD),
-    }
+/// The same at the mutex.
+fn time_mutex_at_once<R: Threads + Wait + Clock + Print + Sync>(
+    rt: &R,
+    alloc: Global,
+    mutex: &Mutex<Counter>,
+    threads: u16,
+) -> io::Result<u64> {
+    let start = Instant::now(rt)?;
+    let calls = toil_at_mutex_at_once(rt, alloc, mutex, threads);
+    throughput(
+        rt,
+        "mutex",
+        threads,
+        start.elapsed(rt)?,
+        u64::from(threads) * PER_THREAD,
+    )?;
+    Ok(calls)
 }
 
 // What was added under the lock.

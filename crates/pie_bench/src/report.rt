@@ -32,6 +32,15 @@ pub fn throughput(
     println!(rt; "{name}_threads_{threads} {rate} calls/s")
 }
 
+/// What the numbers add up to.
+pub fn sum(numbers: &[u64]) -> u64 {
+    let mut sum: u64 = 0;
+    for number in numbers {
+        sum = sum.wrapping_add(*number);
+    }
+    sum
+}
+
 /// Prints what the results of the calls add up to, which keeps them from being optimised away.
 pub fn checksum(rt: &impl Print, name: &str, sum: u64) -> io::Result<()> {
     println!(rt; "{name}_checksum {sum} sum")

@@ -1,8 +1,6 @@
 -- The CSV record of an explanation.
 use Rattle.std.specs.Prelude.{ℕ, Bool, true, false, List, [], ◌∷◌, ◌++◌, Option, Some, None, codes}
 use Rattle.std.specs.Fmt.{decimal}
-use Rattle.pie_queue.specs.declared.ecn.Ecn.{Ecn}
-use Rattle.pie_queue.specs.declared.ecn.Ecn.TheVariants.{NotEct, Ect1, Ect0, Ce}
 use Rattle.pie_queue.specs.declared.packet.Packet.{Packet}
 use Rattle.pie_controller.specs.declared.cause.Cause.{Cause}
 use Rattle.pie_controller.specs.declared.cause.Cause.TheVariants.{NoRoomInBytes, NoRoomInPackets, Inactive, BurstAllowed, LowDelay, ShortQueue, NoProbability, LittleAccumulated, PickedBySum, PickedByWord, WordNotBelow}
@@ -12,6 +10,9 @@ use Rattle.pie_book.specs.declared.command.Command.TheVariants.{Arrive, Depart, 
 use Rattle.pie_book.specs.declared.command.Answer.{Answer}
 use Rattle.pie_book.specs.declared.command.Answer.TheVariants.{Enqueued, Marked, DroppedEarly, DroppedBytes, DroppedPackets, Empty, Left, Updated, Done}
 use Rattle.pie_book.specs.Deed.{handed_in}
+use Rattle.pie_record.specs.declared.words.Kind.TheVariants as kind
+use Rattle.pie_record.specs.declared.words.Said.TheVariants as said
+use Rattle.pie_record.specs.Words.{ecn_word, word_of_kind, word_said}
 use Rattle.pie_explain.specs.declared.explanation.Explained.{Explained}
 use Rattle.pie_explain.specs.declared.explanation.Explanation.{Explanation}
 use Rattle.pie_explain.specs.Which.{packet_of}
@@ -20,23 +21,23 @@ use Rattle.pie_explain.specs.Which.{packet_of}
 
 -- the kind of a command, as in a history
 abbrev pub kind_word : Command → List ℕ
-kind_word (Arrive moment packet word) = codes "arrive"
-kind_word (Depart moment) = codes "depart"
-kind_word (Update moment) = codes "update"
-kind_word (Reset moment) = codes "reset"
-kind_word (SetParams moment params) = codes "params"
+kind_word (Arrive moment packet word) = word_of_kind kind.Arrive
+kind_word (Depart moment) = word_of_kind kind.Depart
+kind_word (Update moment) = word_of_kind kind.Update
+kind_word (Reset moment) = word_of_kind kind.Reset
+kind_word (SetParams moment params) = word_of_kind kind.Params
 
--- the word of an answer, as in a history
+-- the word of an answer, as in a history; an update's, which a history has no word for, is this record's own
 abbrev pub verdict_word : Answer → List ℕ
-verdict_word Enqueued = codes "enqueue"
-verdict_word Marked = codes "mark"
-verdict_word DroppedEarly = codes "early"
-verdict_word DroppedBytes = codes "bytes"
-verdict_word DroppedPackets = codes "packets"
-verdict_word Empty = codes "empty"
-verdict_word (Left packet) = codes "left"
+verdict_word Enqueued = word_said said.Enqueue
+verdict_word Marked = word_said said.Mark
+verdict_word DroppedEarly = word_said said.Early
+verdict_word DroppedBytes = word_said said.Bytes
+verdict_word DroppedPackets = word_said said.Packets
+verdict_word Empty = word_said said.Empty
+verdict_word (Left packet) = word_said said.Left
 verdict_word (Updated delay prob burst) = codes "updated"
-verdict_word Done = codes "done"
+verdict_word Done = word_said said.Done
 
 -- the word of what decided an arrival; none for another event
 abbrev pub cause_word : Option Cause → List ℕ
@@ -69,12 +70,6 @@ size_field None = []
 size_field (Some packet) = decimal packet.size
 
 -- the ECN field of that packet, as in a history
-abbrev pub ecn_word : Ecn → List ℕ
-ecn_word NotEct = codes "not"
-ecn_word Ect1 = codes "ect1"
-ecn_word Ect0 = codes "ect0"
-ecn_word Ce = codes "ce"
-
 abbrev pub ecn_field : Option Packet → List ℕ
 ecn_field None = []
 ecn_field (Some packet) = ecn_word packet.ecn

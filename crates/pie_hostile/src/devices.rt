@@ -59,61 +59,71 @@ fn tell(rt: &impl Print, name: &str, for_good: bool, ends: Ends) -> io::Result<(
 /// All calls at all devices.
 pub(crate) fn all(rt: &impl Print, alloc: Global) -> io::Result<()> {
     for for_good in [false, true] {
-        tell(
-            rt,
-            "run_trace: a read",
-            for_good,
-            run_reads(alloc, for_good),
-        )?;
-        tell(
-            rt,
-            "run_trace: a write",
-            for_good,
-            run_writes(alloc, for_good),
-        )?;
-        tell(rt, "audit: a read", for_good, audit_reads(alloc, for_good))?;
-        tell(
-            rt,
-            "HistoryLines: a read",
-            for_good,
-            line_reads(alloc, for_good),
-        )?;
-        tell(
-            rt,
-            "write_history: a write",
-            for_good,
-            history_writes(alloc, for_good),
-        )?;
-        tell(
-            rt,
-            "migrate: a read",
-            for_good,
-            migrate_reads(alloc, for_good),
-        )?;
-        tell(
-            rt,
-            "migrate: a write",
-            for_good,
-            migrate_writes(alloc, for_good),
-        )?;
-        tell(
-            rt,
-            "explain: a read",
-            for_good,
-            explain_reads(alloc, for_good),
-        )?;
-        tell(
-            rt,
-            "explain: a write",
-            for_good,
-            explain_writes(alloc, for_good),
-        )?;
+        runs_and_audits(rt, alloc, for_good)?;
+        migrations_and_explanations(rt, alloc, for_good)?;
     }
     flushes(rt, alloc)?;
     migrated_flushes(rt, alloc)?;
     explained_flushes(rt, alloc)?;
     other_flushes(rt, alloc)?;
     endless(rt, alloc)
+}
+
+/// Runs, audits, readers of lines and writers of a history, at devices that fail once or for good.
+fn runs_and_audits(rt: &impl Print, alloc: Global, for_good: bool) -> io::Result<()> {
+    tell(
+        rt,
+        "run_trace: a read",
+        for_good,
+        run_reads(alloc, for_good),
+    )?;
+    tell(
+        rt,
+        "run_trace: a write",
+        for_good,
+        run_writes(alloc, for_good),
+    )?;
+    tell(rt, "audit: a read", for_good, audit_reads(alloc, for_good))?;
+    tell(
+        rt,
+        "HistoryLines: a read",
+        for_good,
+        line_reads(alloc, for_good),
+    )?;
+    tell(
+        rt,
+        "write_history: a write",
+        for_good,
+        history_writes(alloc, for_good),
+    )
+}
+
+/// Migrations and explanations at such devices.
+fn migrations_and_explanations(rt: &impl Print, alloc: Global, for_good: bool) -> io::Result<()> {
+    tell(
+        rt,
+        "migrate: a read",
+        for_good,
+        migrate_reads(alloc, for_good),
+    )?;
+    tell(
+        rt,
+        "migrate: a write",
+        for_good,
+        migrate_writes(alloc, for_good),
+    )?;
+    tell(
+        rt,
+        "explain: a read",
+        for_good,
+        explain_reads(alloc, for_good),
+    )?;
+    tell(
+        rt,
+        "explain: a write",
+        for_good,
+        explain_writes(alloc, for_good),
+    )
 }
 
 /// A run whose reader fails after each number of bytes, all of them too.

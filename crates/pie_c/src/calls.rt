@@ -1,7 +1,7 @@
 //! The calls on a state. Those for each packet read the state's numbers as they are: their rules are total, so nothing of the state
 //! is checked. The others take a sound state into a controller, and refuse any other. Each refuses what it is handed out of its
 //! range, lets the controller make its step, and writes back what it holds.
-ghost use Rattle.std.specs.Prelude.{◌≡◌, ◌+◌, ◌<◌, ◌∷◌, [], ◌++◌, List, SomeIff, max, min, true};
+ghost use Rattle.std.specs.Prelude.{◌≡◌, ◌∷◌, [], ◌++◌, List, max, true};
 ghost use Rattle.pie_controller.specs.Calls.{Arrive, Change, Depart, Pass, Restart, Update, after_call, shown_by};
 ghost use Rattle.pie_controller.specs.Events.{ControllerEvent, Opened};
 ghost use Rattle.pie_controller.specs.History.{Shows};
@@ -17,16 +17,12 @@ use crate::code::{
 use crate::params::PieParams;
 use crate::state::PieState;
 use crate::updated::PieUpdated;
-use pie_controller::Arrival;
+use pie_controller::{Arrival, counted};
 use pie_fixed::{MAX_NANOS, Nanos};
 use pie_params::Params;
-use pie_rate::RawCycle;
 
 /// The most bytes that a queue holds: the greatest byte limit.
 const MAX_QUEUED: u64 = 1 << 30;
-
-/// The greatest threshold of the departure rate, in bytes: a greater one counts as this.
-const MAX_THRESHOLD: u64 = 65_536;
 
 /// Decides on an arriving packet, which the caller then queues, marks and queues, or drops: `queued`
 /// bytes are in the queue without it, `room` is how many more packets the caller's ring has room for,
@@ -146,7 +142,9 @@ pub extern "C" fn pie_depart(state: &mut PieState, size: u32, left: u64, moment:
         → Shows opened (events ++ shown_by (held_in state.old) (Depart size left moment) ∷ []) (held_in state.new) }
 {
     if moment <= MAX_NANOS && size != 0 && left <= MAX_QUEUED {
-        if let Some(count) = counted(state, size) {
+        let (active, measuring) = (state.active == 1, state.measuring == 1);
+        let threshold = state.params.dq_threshold;
+        if let Some(count) = counted(active, measuring, state.cycle_count, size, threshold) {
             state.moment = state.moment.max(moment);
             state.cycle_count = count;
             return DONE;
@@ -181,22 +179,6 @@ fn depart(state: &mut PieState, size: u32, left: u64, moment: u64) -> u32
     held.depart(size, left, moment);
     state.keep_departed(&held);
     DONE
-}
-
-/// What the open cycle of the departure rate has counted with this packet, where that leaves it open. An inactive controller counts
-/// nothing.
-#[inline(always)]
-fn counted(state: &PieState, size: u32) -> Option<u64>
-    ensures { SomeIff result ((state.now.active ≡ 1) × (state.now.measuring ≡ 1) × (state.now.cycle_count + size < min state.now.params.dq_threshold 65536)) (state.now.cycle_count + size) }
-{
-    if state.active != 1 || state.measuring != 1 {
-        return None;
-    }
-    let cycle = RawCycle {
-        start: state.cycle_start,
-        count: state.cycle_count,
-    };
-    cycle.counted(size, state.params.dq_threshold.min(MAX_THRESHOLD))
 }
 
 /// Takes in a departure that found the queue empty: its moment counts, and nothing else.

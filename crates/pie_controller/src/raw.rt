@@ -1,5 +1,5 @@
 //! The calls for each packet, over plain numbers.
-ghost use Rattle.std.specs.Prelude.{◌≡◌, ◌+◌, ◌^◌, ◌<◌, ◌≤◌, true, false};
+ghost use Rattle.std.specs.Prelude.{◌≡◌, ◌+◌, ◌^◌, ◌<◌, ◌≤◌, SomeIff, min, true, false};
 ghost use Rattle.pie_controller.specs.Held.{held_by};
 ghost use Rattle.pie_controller.specs.Steps.{accu_left, anew, arrived, bytes_with, capped, departed, is_queued, turns_on, verdict};
 
@@ -8,7 +8,7 @@ use crate::{Arrival, Profile, Verdict};
 use pie_control::RawControl;
 use pie_early::decide;
 use pie_params::RawParams;
-use pie_rate::{MAX_THRESHOLD, RawRate};
+use pie_rate::{MAX_THRESHOLD, RawCycle, RawRate};
 
 /// What a [`Controller`](crate::Controller) holds, as plain numbers, each in its range or not.
 ///
@@ -126,4 +126,22 @@ impl RawController {
             self.rate.departed(size, left, self.moment, threshold);
         }
     }
+}
+
+/// What the open cycle of the departure rate has counted with a departed packet, where [`RawController::depart`] changes that and the
+/// moment alone: the controller is active, and the cycle stays open.
+#[inline(always)]
+pub fn counted(
+    is_active: bool,
+    is_measuring: bool,
+    count: u64,
+    size: u32,
+    dq_threshold: u64,
+) -> Option<u64>
+    ensures { SomeIff result ((is_active ≡ true) × (is_measuring ≡ true) × (count + size < min dq_threshold 65536)) (count + size) }
+{
+    if !is_active || !is_measuring {
+        return None;
+    }
+    RawCycle { start: 0, count }.counted(size, dq_threshold.min(MAX_THRESHOLD))
 }

@@ -3,7 +3,6 @@ use Rattle.std.proofs.Common.{◌≡◌, ℕ, List, [], ◌∷◌, ◌++◌, map
 use Rattle.std.specs.Prelude.{All, None}
 use Rattle.std.proofs.lemmas.List.{map-append}
 use Rattle.pie_params.specs.Range.{first_bad}
-use Rattle.pie_queue.specs.declared.packet.Waiting.{Waiting}
 use Rattle.pie_controller.specs.Calls.{Call, after_call}
 use Rattle.pie_controller.specs.Held.{Held}
 use Rattle.pie_controller.specs.Places.{Place, places}

@@ -1,6 +1,6 @@
 -- What a core holds, where it shows a history, is what looking back over the history gives; and it shows the history with one event more
 -- after each command.
-use Rattle.std.proofs.Common.{◌≡◌, ◌≤◌, ◌<◌, ◌+◌, ℕ, List, [], ◌∷◌, ◌++◌, map, length, drop, Bool, true, false, refl, ap, ◌∙◌, sym, subst, arith, length-append}
+use Rattle.std.proofs.Common.{◌≡◌, ◌≤◌, ◌<◌, ◌+◌, ℕ, List, [], ◌∷◌, ◌++◌, map, length, drop, Bool, true, false, refl, ap, ◌∙◌, sym, arith, length-append}
 use Rattle.std.specs.Prelude.{max, None, Some, All, if◌then◌else◌}
 use Rattle.std.specs.Option.{is_some, option_to_list}
 use Rattle.std.proofs.lemmas.List.{append-nil, append_assoc, map-append}
@@ -14,7 +14,7 @@ use Rattle.pie_controller.specs.declared.verdict.Verdict.{Verdict}
 use Rattle.pie_controller.specs.declared.verdict.Verdict.TheVariants as verdict
 use Rattle.pie_controller.specs.Calls.{after_call, shown_by}
 use Rattle.pie_controller.specs.Cause.{cause}
-use Rattle.pie_controller.specs.Events.{ControllerEvent, Arrived}
+use Rattle.pie_controller.specs.Events.{Arrived}
 use Rattle.pie_controller.specs.Held.{Held}
 use Rattle.pie_controller.specs.History as Controller
 use Rattle.pie_controller.specs.Places.{Place, places, after, greatest}
@@ -37,14 +37,14 @@ use Rattle.pie_book.specs.Call.{answer_of, arrival_of, departure_call}
 use Rattle.pie_book.specs.Cause.{cause_after}
 use Rattle.pie_book.specs.Core.{CoreView, Shows, closed, counted, held_in, refusal_of, registers_of, with_queue}
 use Rattle.pie_book.specs.Decision.{IsLegal, IsLegalAt, answer_to_departure, decision, refusal_by_rule, refusal_with}
-use Rattle.pie_book.specs.Deed.{Deed, admission, arrival_deed, deed, deed_of, departure, departure_deed, handed_in, set, updated, was_reset, with_ce}
+use Rattle.pie_book.specs.Deed.{Deed, admission, arrival_deed, deed, departure, departure_deed, handed_in, set, updated, was_reset, with_ce}
 use Rattle.pie_book.specs.Estimates.{active_after, delay_after, delay_answered, due_after, held_after}
 use Rattle.pie_book.specs.History.{admitted, bytes_after, departed_count, effective_moment, waiting_after}
 use Rattle.pie_book.specs.Registers.{registers_after}
 use Rattle.pie_book.specs.Run.{event_of}
 use Rattle.pie_book.specs.Shown.{event_shown, opened_of, shown, shown_at}
 use Rattle.pie_book.specs.Statistics.{age_of_oldest, largest_delay, largest_queue, no_stats, stats_after, waited}
-use Rattle.pie_book.specs.Step.{after_command, answer_in, call_in, with_event}
+use Rattle.pie_book.specs.Step.{HasThreshold, after_command, answer_in, call_in, with_event}
 use Rattle.pie_book.proofs.HistoryFacts.{departed-push, effective_moment-push, waiting_after-push, waiting_next}
 use Rattle.pie_book.proofs.StatisticsFacts.{counted-arrival, counted-departure, stats_after-push}
 
@@ -286,12 +286,8 @@ after-is core (Update moment) =
 after-is core (Reset moment) = ap (λ (w : List Waiting). with_event core (Steps.reset (held_in core) moment) w was_reset 0 0) (sym (append-nil core.waiting))
 after-is core (SetParams moment params) = ap (λ (w : List Waiting). with_event core (Steps.changed (held_in core) params moment) w (set params) 0 0) (sym (append-nil core.waiting))
 
--- at a departure that finds a packet the threshold is in its range
-abbrev pub HasThreshold : CoreView → Command → Type 0
-HasThreshold core command = (packet : Packet) (moment : ℕ) → command ≡ Depart moment → answer_in core command ≡ Left packet → core.params.dq_threshold ≤ 65536
-
 module _ (opening : Opening) (core : CoreView) (history : List Event) (shows : Shows opening core history) where
-  called : (command : Command) → HasThreshold core command
+  called : (command : Command) → HasThreshold core command (answer_in core command)
       → Controller.Shows (opened_of opening) (shown opening history ++ shown_by (held_in core) (call_in core command) ∷ []) (after_call (held_in core) (call_in core command))
   called (Arrive moment packet word) small =
       Shows-arrive (opened_of opening) (shown opening history) (held_in core) shows.controller (arrival_of core.waiting core.packets packet word) moment
@@ -307,7 +303,7 @@ module _ (opening : Opening) (core : CoreView) (history : List Event) (shows : S
   called (Reset moment) small = Shows-reset-call (opened_of opening) (shown opening history) (held_in core) shows.controller moment
   called (SetParams moment params) small = Shows-change (opened_of opening) (shown opening history) (held_in core) shows.controller params moment
 
-  pub event-shows : (caller : ℕ) (command : Command) → HasThreshold core command → refusal_of core command ≡ None
+  pub event-shows : (caller : ℕ) (command : Command) → HasThreshold core command (answer_in core command) → refusal_of core command ≡ None
       → Shows opening (closed (after_event core command)) (history ++ event_of caller command (answer_in core command) ∷ [])
   event-shows caller command small free =
       let event : Event = event_of caller command (answer_in core command) in
@@ -345,6 +341,6 @@ module _ (opening : Opening) (core : CoreView) (history : List Event) (shows : S
             ∙ ap (λ (w : List Waiting). stats_by core.stats (Steps.delay_answered (held_in core) (bytes_of core.waiting)) now core.waiting w) waiting);
       }
 
-  pub next-shows : (caller : ℕ) (command : Command) → HasThreshold core command → refusal_of core command ≡ None
+  pub next-shows : (caller : ℕ) (command : Command) → HasThreshold core command (answer_in core command) → refusal_of core command ≡ None
       → Shows opening (closed (after_command core command)) (history ++ event_of caller command (answer_in core command) ∷ [])
   next-shows caller command small free = rw (after-is core command) (event-shows caller command small free)

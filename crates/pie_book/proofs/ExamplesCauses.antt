@@ -26,7 +26,7 @@ use Rattle.pie_controller.specs.Steps.{verdict}
 use Rattle.pie_book.specs.Estimates.{held_after}
 use Rattle.pie_book.specs.History.{effective_moment, admitted, departed_count, waiting_after}
 use Rattle.pie_book.specs.Shown.{shown}
-use Rattle.pie_controller.specs.Cause.{verdict_of, considered_cause, early_cause, cause}
+use Rattle.pie_controller.specs.Cause.{considered_cause, early_cause, cause}
 use Rattle.pie_book.specs.Cause.{cause_after}
 use Rattle.pie_book.proofs.Examples.{limits, opened_with, packet, event}
 use Rattle.pie_book.proofs.ExamplesMarks.{opening, parts, two_departed, updated_thrice, mark, drop_of_one, lone}

@@ -1,5 +1,5 @@
 -- The definitions on worked histories: each theorem computes. The rate estimate, and the delay by it.
-use Rattle.std.specs.Prelude.{ℕ, ◌≡◌, List, [], ◌∷◌, ◌++◌, Some, None, true, false, map}
+use Rattle.std.specs.Prelude.{ℕ, ◌≡◌, List, [], ◌∷◌, ◌++◌, true, false, map}
 use Rattle.std.proofs.Common.{refl}
 use Rattle.pie_params.specs.declared.raw.RawParams.{RawParams}
 use Rattle.pie_rate.specs.Departures.{departure}

@@ -16,8 +16,14 @@
 
 pub mod beside;
 pub mod book;
+mod book_events;
+mod book_folds;
+mod book_readers;
 pub mod cause;
 pub mod command;
+mod core_commands;
+mod core_readers;
+mod core_steps;
 pub mod law;
 pub mod opening;
 mod queue_core;

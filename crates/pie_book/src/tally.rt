@@ -55,6 +55,16 @@ impl Tally {
         Tally { count: 0, stats }
     }
 
+    /// The same tally.
+    pub(crate) fn copied(&self) -> Tally
+        ensures { result ≡ self.now }
+    {
+        Tally {
+            count: self.count,
+            stats: self.stats,
+        }
+    }
+
     /// One more arrival, with its verdict.
     pub(crate) fn arrived(&mut self, verdict: Answer)
         requires { self.old.count < 2 ^ 40 }

@@ -3,6 +3,7 @@ use Rattle.std.proofs.Common.{ℕ, ◌≡◌, ◌+◌, ◌*◌, ◌^◌, List, [
 use Rattle.std.specs.Prelude.{map}
 use Rattle.pie_queue.specs.declared.ecn.Ecn.{Ecn}
 use Rattle.pie_queue.specs.declared.ecn.Ecn.TheVariants.{NotEct, Ect1, Ect0, Ce}
+use Rattle.pie_queue.specs.declared.packet.TheConstants.{MAX_SIZE}
 use Rattle.pie_queue.specs.declared.packet.Waiting.{Waiting}
 use Rattle.pie_queue.specs.Ecn.{bits_of, is_capable}
 use Rattle.pie_queue.specs.Queue.{Queue, IsQueue, IsSize, bytes_of}
@@ -30,6 +31,9 @@ least_size = (omega arith, omega arith)
 
 greatest_size : IsSize 65_535
 greatest_size = (omega arith, omega arith)
+
+max_size : MAX_SIZE + 1 ≡ 2 ^ 16
+max_size = refl
 
 no_size_of_0 : IsSize 0 → ⊥
 no_size_of_0 taken = let least = taken.0 in omega arith

@@ -1,6 +1,9 @@
 use crate::Ecn;
 use pie_fixed::Nanos;
 
+/// The greatest size of a packet in a queue, in bytes (this project's own).
+pub const MAX_SIZE: u32 = 65_535;
+
 /// A packet, as far as a queue controller looks at one (this project's own).
 #[derive(Clone, Copy, Debug, PartialEq, Eq)]
 pub struct Packet {

@@ -1,5 +1,6 @@
 //! The queue of packets: a ring, and the running sum of the sizes.
-ghost use Rattle.std.specs.Prelude.{◌≡◌, ◌≤◌, ◌*◌, ◌↔◌, [], ◌∷◌, ◌++◌, length, drop, slice_get, IsErr, IsTrue, IfOk, IfErr, IfSome, OnOk};
+ghost use Rattle.std.specs.Prelude.{◌≡◌, ◌≤◌, ◌*◌, ◌↔◌, [], ◌∷◌, ◌++◌, length, drop, nat_le, slice_get, IsErr, IsTrue, IfOk, IfErr, IfSome, OnOk};
+ghost use Rattle.std.specs.Bool.{OnTrue, OnFalse};
 ghost use Rattle.pie_queue.specs.Queue.{IsSize, bytes_of};
 
 use crate::{Packet, Waiting};
@@ -79,6 +80,24 @@ impl ByteQueue {
         let oldest = self.ring.pop_front()?;
         self.bytes -= u64::from(oldest.packet.size);
         Some(oldest)
+    }
+
+    /// Takes the packets of another queue in place of its own, and answers whether its ring has room for them; else nothing has
+    /// changed. It takes no memory.
+    pub fn copy_from(&mut self, other: &ByteQueue) -> bool
+        ensures room { result ≡ nat_le (length other.now.waiting) self.old.packets }
+        ensures copied { OnTrue result (self.new ≡ record self.old { waiting = other.now.waiting }) }
+        ensures kept { OnFalse result (self.new ≡ self.old) }
+    {
+        if self.packets() < other.len() {
+            return false;
+        }
+        let (oldest, newest) = other.ring.as_slices();
+        self.ring.clear();
+        self.ring.extend_from_slice(oldest);
+        self.ring.extend_from_slice(newest);
+        self.bytes = other.bytes;
+        true
     }
 
     /// The sum of the sizes of the packets that wait, in bytes: at most 65535 times 65536.

@@ -1,0 +1,137 @@
+//! What each command makes of a core: its controller makes one call, its queue takes the packet in or lets the oldest go, and its
+//! tally counts what was done.
+ghost use Rattle.std.specs.Prelude.{◌≡◌, ◌==◌, ◌≤◌, ◌<◌, ◌^◌, ◌+◌, ◌++◌, length, true, false};
+ghost use Rattle.std.specs.Option.{option_to_list};
+ghost use Rattle.pie_queue.specs.Queue.{IsSize, bytes_of};
+ghost use Rattle.pie_controller.specs.Steps.{is_queued};
+ghost use Rattle.pie_book.specs.declared.command.Answer.TheVariants.{Left};
+ghost use Rattle.pie_book.specs.declared.command.Command.TheVariants.{Arrive, Depart, Update, Reset, SetParams};
+ghost use Rattle.pie_book.specs.Deed.{admission, arrival_deed};
+
+use crate::Answer;
+use crate::queue_core::Core;
+use pie_controller::{Arrival, Verdict};
+use pie_fixed::Nanos;
+use pie_params::Params;
+use pie_queue::{Ecn, Packet};
+
+impl Core {
+    ghost use Rattle.pie_book.specs.Call.{answer_of, arrival_of};
+    ghost use Rattle.pie_book.specs.Step.{after_command, answer_in};
+
+    /// The verdict on an arriving packet, which is queued where it says so.
+    #[inline(always)]
+    pub(crate) fn arrive(&mut self, moment: Nanos, packet: Packet, word: u64) -> Answer
+        requires size { IsSize packet.size }
+        requires room { self.old.count < self.old.events }
+        ensures answer { result ≡ answer_in self.old (Arrive moment packet word) }
+        ensures after { self.new ≡ after_command self.old (Arrive moment packet word) }
+    {
+        let now = self.controller.moment().max(moment);
+        let arrival = self.arrival(packet, word);
+        let verdict = self.controller.arrive(arrival, moment);
+        let answer = Answer::of(verdict);
+        self.tally.arrived(answer);
+        self.admit(verdict, packet, now);
+        answer
+    }
+
+    /// An arriving packet, and the queue that it meets.
+    #[inline(always)]
+    pub(crate) fn arrival(&self, packet: Packet, word: u64) -> Arrival
+        ensures { result ≡ arrival_of self.now.waiting self.now.packets packet word }
+    {
+        Arrival {
+            queued: self.queue.bytes(),
+            is_full: self.queue.len() == self.queue.packets(),
+            size: packet.size,
+            ecn: packet.ecn,
+            word,
+        }
+    }
+
+    /// Queues a packet where the verdict on it says so.
+    #[inline(always)]
+    fn admit(&mut self, verdict: Verdict, packet: Packet, now: Nanos)
+        requires size { IsSize packet.size }
+        requires room { is_queued verdict ≡ true → (length self.old.waiting == self.old.packets) ≡ false }
+        requires bytes { is_queued verdict ≡ true → bytes_of self.old.waiting + packet.size ≤ 2 ^ 30 }
+        ensures { self.new ≡ record self.old { waiting = self.old.waiting ++ option_to_list (admission now (arrival_deed packet (answer_of verdict))) } }
+    {
+        match verdict {
+            Verdict::Enqueued => {
+                let _ = self.queue.admit(packet, now);
+            }
+            Verdict::Marked => {
+                let marked = Packet {
+                    tag: packet.tag,
+                    size: packet.size,
+                    ecn: Ecn::Ce,
+                };
+                let _ = self.queue.admit(marked, now);
+            }
+            Verdict::DroppedEarly | Verdict::DroppedBytes | Verdict::DroppedPackets => {}
+        }
+    }
+
+    /// The oldest packet departs, if there is one.
+    #[inline(always)]
+    pub(crate) fn depart(&mut self, moment: Nanos) -> Answer
+        requires room { self.old.count < self.old.events }
+        ensures answer { result ≡ answer_in self.old (Depart moment) }
+        ensures after { self.new ≡ after_command self.old (Depart moment) }
+        ensures threshold { (packet : Packet) → result ≡ Left packet → self.old.params.dq_threshold ≤ 65536 }
+    {
+        let now = self.controller.moment().max(moment);
+        let Some(oldest) = self.queue.take() else {
+            self.controller.pass(moment);
+            self.tally.found_none();
+            return Answer::Empty;
+        };
+        let packet = oldest.packet;
+        self.controller
+            .depart(packet.size, self.queue.bytes(), moment);
+        let waited = now.units().saturating_sub(oldest.since.units());
+        self.tally.departed(packet, waited);
+        Answer::Left(packet)
+    }
+
+    /// Makes an update.
+    #[inline(always)]
+    pub(crate) fn update(&mut self, moment: Nanos) -> Answer
+        requires room { self.old.count < self.old.events }
+        ensures answer { result ≡ answer_in self.old (Update moment) }
+        ensures after { self.new ≡ after_command self.old (Update moment) }
+    {
+        let delay = self.controller.update(self.queue.bytes(), moment);
+        self.tally.updated(delay);
+        let control = self.controller.control();
+        Answer::Updated {
+            delay,
+            prob: control.prob().units(),
+            burst: control.burst(),
+        }
+    }
+
+    /// Makes a reset.
+    pub(crate) fn reset(&mut self, moment: Nanos) -> Answer
+        requires room { self.old.count < self.old.events }
+        ensures answer { result ≡ answer_in self.old (Reset moment) }
+        ensures after { self.new ≡ after_command self.old (Reset moment) }
+    {
+        self.controller.reset(moment);
+        self.tally.was_reset();
+        Answer::Done
+    }
+
+    /// Sets the parameters.
+    pub(crate) fn set(&mut self, moment: Nanos, params: Params) -> Answer
+        requires room { self.old.count < self.old.events }
+        ensures answer { result ≡ answer_in self.old (SetParams moment params) }
+        ensures after { self.new ≡ after_command self.old (SetParams moment params) }
+    {
+        self.controller.set_params(params, moment);
+        self.tally.changed();
+        Answer::Done
+    }
+}

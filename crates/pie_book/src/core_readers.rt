@@ -1,0 +1,91 @@
+//! What a core tells of itself.
+ghost use Rattle.std.specs.Prelude.{◌≡◌, List, slice_get, IfSome};
+ghost use Rattle.pie_controller.specs.Cause.{verdict_of};
+ghost use Rattle.pie_book.specs.declared.command.Event.{Event};
+ghost use Rattle.pie_book.specs.declared.opening.Opening.{Opening};
+ghost use Rattle.pie_book.specs.Cause.{cause_after};
+ghost use Rattle.pie_book.specs.Decision.{decision};
+ghost use Rattle.pie_book.specs.Estimates.{delay_after};
+ghost use Rattle.pie_book.specs.Registers.{registers_after};
+ghost use Rattle.pie_book.specs.Statistics.{stats_after};
+
+use crate::queue_core::Core;
+use crate::{Cause, Command, Registers, Stats};
+use pie_queue::Waiting;
+
+impl Core {
+    ghost use Rattle.pie_book.specs.Core.{Shows};
+    ghost use Rattle.pie_book.specs.Call.{answer_of};
+
+    /// What would decide this command here, where it is an arrival: the first case of the rules that holds, with the numbers
+    /// that it compares. Nothing is changed. Whether the command would be refused is not looked at.
+    pub fn cause(&self, command: &Command) -> Option<Cause>
+        ensures cause { (opening : Opening) (history : List Event) → Shows opening self.now history
+            → result ≡ cause_after opening history command.now }
+        ensures decides { (opening : Opening) (history : List Event) → Shows opening self.now history
+            → IfSome result (λ cause. decision opening history command.now ≡ answer_of (verdict_of cause)) }
+    {
+        match *command {
+            Command::Arrive { packet, word, .. } => {
+                let arrival = self.arrival(packet, word);
+                Some(self.controller.cause(arrival, self.queue.len() as u64))
+            }
+            Command::Depart { .. }
+            | Command::Update { .. }
+            | Command::Reset { .. }
+            | Command::SetParams { .. } => None,
+        }
+    }
+
+    /// What the core holds: what looking back over the whole history gives.
+    pub fn registers(&self) -> Registers
+        ensures { (opening : Opening) (history : List Event) → Shows opening self.now history → result ≡ registers_after opening history }
+    {
+        let control = self.controller.control();
+        let rate = self.controller.rate();
+        Registers {
+            count: self.tally.count(),
+            moment: self.controller.moment().units(),
+            packets: self.queue.len() as u64,
+            bytes: self.queue.bytes(),
+            prob: control.prob().units(),
+            old: control.old(),
+            accu: self.controller.early().accu().units(),
+            burst: control.burst(),
+            last: control.last().units(),
+            average: rate.average(),
+            measuring: rate.is_measuring(),
+            params: self.controller.params(),
+            active: self.controller.is_active(),
+        }
+    }
+
+    /// The statistics of the whole history.
+    pub fn stats(&self) -> Stats
+        ensures { (opening : Opening) (history : List Event) → Shows opening self.now history → result ≡ stats_after opening history }
+    {
+        self.tally.stats()
+    }
+
+    /// The queueing delay here, in nanoseconds, as an update would take it: at most `2^40` (RFC 8033, section 5.2).
+    pub fn delay(&self) -> u64
+        ensures { (opening : Opening) (history : List Event) → Shows opening self.now history → result ≡ delay_after opening history }
+    {
+        self.controller.delay(self.queue.bytes())
+    }
+
+    /// How many events there were.
+    pub(crate) fn count(&self) -> u64
+        ensures { result ≡ self.now.count }
+    {
+        self.tally.count()
+    }
+
+    /// The packet at `index` in the queue, the oldest at 0, with the effective moment of its arrival; `None` past the
+    /// newest.
+    pub fn waiting(&self, index: usize) -> Option<Waiting>
+        ensures { result ≡ slice_get self.now.waiting index }
+    {
+        self.queue.get(index)
+    }
+}

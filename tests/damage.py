@@ -4,12 +4,12 @@ its status, its output and its error stream, with what the reader and the refere
 a history `audit`, `migrate` and `explain --all --csv`.
 
 Each text is cut at every byte. Then each of its bytes is made another: with `every` each of the 255 others; else a sample, which
-tests/hostile.py runs in the gate.
+tests/hostile.py runs in the gate. With two numbers K and N behind `every`, only each N-th place from the K-th on: N such runs are all.
 
-usage: tests/damage.py PROGRAM [every]      PROGRAM: crates/pie/out/pie, as `rt run` builds it there"""
+usage: tests/damage.py PROGRAM [every [K N]]      PROGRAM: crates/pie/out/pie, as `rt run` builds it there"""
 import os
 import random
-import subprocess
+import signal
 import sys
 from concurrent.futures import ProcessPoolExecutor
 
@@ -60,23 +60,47 @@ def wanted(name, text):
     return status, output.encode("latin-1"), errors.encode("latin-1")
 
 
+class Streams:
+    """The standard streams of one program after another, as files in memory: a pipe each costs twice the time."""
+
+    def __init__(self):
+        self.files = [os.memfd_create(name) for name in ("input", "output", "errors")]
+
+    def ran(self, words, text):
+        """The status, the output and the error stream that these words end with of this text."""
+        for file in self.files:
+            os.ftruncate(file, 0)
+            os.lseek(file, 0, os.SEEK_SET)
+        os.pwrite(self.files[0], text, 0)
+        places = [(os.POSIX_SPAWN_DUP2, file, number) for number, file in enumerate(self.files)]
+        child = os.posix_spawn(words[0], words, os.environ, file_actions=places)
+        signal.alarm(60)
+        status = os.waitstatus_to_exitcode(os.waitpid(child, 0)[1])
+        signal.alarm(0)
+        return status, *(os.pread(file, os.fstat(file).st_size, 0) for file in self.files[1:])
+
+    def close(self):
+        for file in self.files:
+            os.close(file)
+
+
 def differing(program, names, texts):
     """Of these texts, with their names, those of which a command ends with something else."""
-    found = []
+    found, streams = [], Streams()
     for what, text in texts:
         for name in names:
-            done = subprocess.run([program, *name.split()], input=text, capture_output=True, timeout=60)
-            got, want = (done.returncode, done.stdout, done.stderr), wanted(name, text)
+            got, want = streams.ran([program, *name.split()], text), wanted(name, text)
             if got != want:
                 found.append(f"{name}: {what}: {got} and not {want}")
+    streams.close()
     return found
 
 
-def damaged(text, bytes_at):
-    """Every beginning of a text, and the text with the byte at each place made another of those that `bytes_at` gives."""
-    for place in range(len(text) + 1):
+def damaged(text, bytes_at, first, step):
+    """The beginnings of a text, and the text with the byte at a place made another of those that `bytes_at` gives, for each place of these."""
+    for place in range(first, len(text) + 1, step):
         yield f"cut at {place}", text[:place]
-    for place in range(len(text)):
+    for place in range(first, len(text), step):
         for byte in sorted(bytes_at(place)):
             if text[place] != byte:
                 yield f"byte {place} made {byte}", text[:place] + bytes([byte]) + text[place + 1 :]
@@ -91,15 +115,15 @@ def sample(place):
     return {TELLING[place % len(TELLING)], random.Random(place).randrange(256)}
 
 
-def compare(program, bytes_at):
-    """What differs, of the traces and of their histories; and it says how many were compared."""
+def compare(program, bytes_at, first=0, step=1):
+    """What differs, of the traces and of their histories, at each place of these; and it says how many were compared."""
     found = []
     with ProcessPoolExecutor(os.cpu_count()) as pool:
         for trace in TRACES:
             history = wanted("run", trace)[1]
             for names, text in ((["run"], trace), (OF_A_HISTORY, history)):
-                texts = list(damaged(text, bytes_at))
-                parts = [pool.submit(differing, program, names, texts[first::64]) for first in range(64)]
+                texts = list(damaged(text, bytes_at, first, step))
+                parts = [pool.submit(differing, program, names, texts[part::64]) for part in range(64)]
                 found += [it for part in parts for it in part.result()]
                 opening = text.split(b",")[0].decode()
                 print(f"tests/damage.py: {', '.join(names)}: {len(texts)} cuts and changes of a text that begins with {opening}")
@@ -107,7 +131,9 @@ def compare(program, bytes_at):
 
 
 def main():
-    found = compare(os.path.abspath(sys.argv[1]), every if "every" in sys.argv[2:] else sample)
+    program, *words = sys.argv[1:]
+    first, step = [int(word) for word in words[1:]] or (1, 1)
+    found = compare(os.path.abspath(program), every if words[:1] == ["every"] else sample, first - 1, step)
     print("\n".join(found[:50]))
     print(f"tests/damage.py: {len(found)} differ")
     sys.exit(1 if found else 0)

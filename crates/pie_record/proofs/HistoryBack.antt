@@ -1,6 +1,6 @@
 -- A text of an opening's record and of records that each tell a line is read back as that opening and those lines.
 use Rattle.std.proofs.Common.{◌≡◌, ◌≤◌, ◌<◌, ◌+◌, ◌^◌, ℕ, suc, List, [], ◌∷◌, ◌++◌, map, length, false, refl, sym, ap, subst, ◌∙◌, arith}
-use Rattle.std.specs.Prelude.{All, nat_lt, Option, Some, None, Result, Ok, Err, IfSome, OnOk, ⊤}
+use Rattle.std.specs.Prelude.{All, nat_lt, Option, Some, None, Result, Ok, Err, IfSome, OnOk}
 use Rattle.std.specs.Io.KnownBytes.{Appends}
 use Rattle.std.proofs.lemmas.Bool.Decides.{nat_tests}
 use Rattle.std.proofs.lemmas.List.Elements.{All-cons, All-head, All-nil, All-tail}
@@ -21,27 +21,20 @@ use Rattle.pie_record.specs.declared.history.Line.{Line}
 use Rattle.pie_record.specs.declared.history.Line.TheVariants.{Made}
 use Rattle.pie_record.specs.declared.version.Version.{Version}
 use Rattle.pie_record.specs.Opening.{opening_of}
-use Rattle.pie_record.specs.Text.{rows_text, Row}
+use Rattle.pie_record.specs.Text.{HasField, rows_text, Row}
 use Rattle.pie_record.specs.Line.{line_of}
-use Rattle.pie_record.specs.FirstRecord.{version_of}
+use Rattle.pie_record.specs.FirstRecord.{kind_word, version_of}
 use Rattle.pie_record.specs.Lines.{Coming, after_opening, coming_after, coming_from, fault_from, history_opening, history_version, lines_from, told_by}
 use Rattle.pie_book.specs.Ranges.{ParamsFit}
-use Rattle.pie_record.specs.ReadBack.{EventFits, TellsHistory}
+use Rattle.pie_record.specs.ReadBack.{Begins, EventFits, TellEach, TellsHistory}
 use Rattle.pie_record.specs.Write.{choices_row, command_fields, event_row, opening_row, written_rows}
 use Rattle.pie_record.specs.Words.{mode_word, profile_number}
 use Rattle.pie_record.proofs.EventBack.{line-back}
 use Rattle.pie_record.proofs.LinesFacts.{told_by-line}
 use Rattle.pie_record.proofs.OpeningBack.{opening-back}
-use Rattle.pie_record.proofs.TextBack.{HasField, kind_word, records_of-written}
+use Rattle.pie_record.proofs.TextBack.{records_of-written}
 
 -- ---- rows that tell lines
-
--- in a text of this version each of these rows tells the line at its place
-unfoldable pub TellEach : Version → List Row → List Line → Type 0
-TellEach version [] [] = ⊤
-TellEach version [] (line ∷ lines) = ⊥
-TellEach version (row ∷ rows) [] = ⊥
-TellEach version (row ∷ rows) (line ∷ lines) = (line_of version row ≡ Ok line) × TellEach version rows lines
 
 pub TellEach-none : (version : Version) → TellEach version [] []
 unfolding TellEach
@@ -125,12 +118,6 @@ events-tell version (event ∷ events) fit =
 rows-many : (events : List Event) → length (map event_row events) ≡ length events
 rows-many [] = refl
 rows-many (event ∷ events) = ap suc (rows-many events)
-
--- a row begins with the word of a kind of first record
-pub record Begins (row : Row) : Type 0 where
-  pub kind : FirstKind
-  pub rest : Row
-  pub is : row ≡ kind_word kind ∷ rest
 
 opening_row-begins : (o : Opening) → Begins (opening_row o)
 unfolding opening_row

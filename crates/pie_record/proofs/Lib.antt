@@ -1,14 +1,15 @@
-pub mod NumberFacts
-pub mod RowFacts
-pub mod RecordFacts
-pub mod ReadFacts
-pub mod LineFacts
-pub mod LinesFacts
-pub mod Appended
-pub mod TextBack
-pub mod EventBack
-pub mod OpeningBack
-pub mod HistoryBack
-pub mod NotesBack
-pub mod RequestBack
-pub mod ExamplesLines
+mod NumberFacts
+mod RowFacts
+mod RecordFacts
+mod ReadFacts
+mod LineFacts
+mod LinesFacts
+mod Appended
+mod TextBack
+mod EventBack
+mod OpeningBack
+mod HistoryBack
+mod NotesBack
+mod RequestBack
+mod ExamplesLines
+pub mod Laws

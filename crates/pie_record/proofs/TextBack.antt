@@ -1,6 +1,6 @@
 -- Rows that were written are read back as the same records.
-use Rattle.std.proofs.Common.{◌≡◌, ◌<◌, ℕ, List, [], ◌∷◌, ◌++◌, length, refl, sym, ap, subst, ◌∙◌, arith}
-use Rattle.std.specs.Prelude.{All, Some, codes}
+use Rattle.std.proofs.Common.{◌≡◌, ℕ, List, [], ◌∷◌, ◌++◌, refl, sym, ap, subst, ◌∙◌, arith}
+use Rattle.std.specs.Prelude.{All, Some}
 use Rattle.std.proofs.lemmas.List.Concat.{flat_map-cons}
 use Rattle.std.proofs.lemmas.List.Elements.{All-cons, All-head, All-tail}
 use Rattle.csv.specs.Machine.{next_record}
@@ -10,7 +10,8 @@ use Rattle.csv.specs.declared.parser.State.TheVariants as st
 use Rattle.csv.proofs.RoundTrip.{read-write}
 use Rattle.pie_record.specs.declared.first_record.FirstKind.{FirstKind}
 use Rattle.pie_record.specs.declared.first_record.FirstKind.TheVariants as kinds
-use Rattle.pie_record.specs.Text.{rows_text, Row, records_left, records_of, text_of}
+use Rattle.pie_record.specs.FirstRecord.{kind_word}
+use Rattle.pie_record.specs.Text.{HasField, rows_text, Row, records_left, records_of, text_of}
 use Rattle.pie_record.specs.Rows.{rows_setup}
 use Rattle.pie_record.proofs.RecordFacts.{records_left-next, records_left-none}
 
@@ -41,10 +42,6 @@ text-same (field ∷ rest) = rw (blank-same (field ∷ rest), escaped-same field
 
 -- ---- many rows
 
--- a row has a field
-abbrev pub HasField : Row → Type 0
-HasField row = 0 < length row
-
 read_back-same : (row : Row) → HasField row → read_back row ≡ row
 read_back-same [] some = absurd (omega arith)
 read_back-same (field ∷ rest) some = refl
@@ -73,12 +70,6 @@ records_left-written (row ∷ rows) some =
     ∙ ap (λ (l : List Row). row ∷ l) (records_left-written rows (All-tail HasField row rows some)))
 
 -- ---- a whole text, which begins with no byte order mark
-
--- the word of a kind of first record
-abbrev pub kind_word : FirstKind → List ℕ
-kind_word kinds.Open = codes "open"
-kind_word kinds.Rolling = codes "rolling"
-kind_word kinds.Open2 = codes "open2"
 
 strip_bom-word : (kind : FirstKind) (rest : Row) (tail : List ℕ) → strip_bom (text_of (kind_word kind ∷ rest) ++ tail) ≡ text_of (kind_word kind ∷ rest) ++ tail
 unfolding strip_bom

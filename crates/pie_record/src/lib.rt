@@ -5,7 +5,10 @@
 //! record of a trace asks and what a record of a history tells, and the text of records.
 //!
 //! `Records` reads one record after another from any reader, and `HistoryLines` the opening and the lines of a history. `Rows` writes records to any
-//! writer, many at a time. Both take memory for one record and one page.
+//! writer, many at a time. Both take memory for one record and one page. A reader never answers `Write`, and a writer never `Read` (clauses
+//! `input` and `device`).
+//!
+//! Proofs of crates above cite the laws in `proofs/Laws.antt`, and no other lemma of this crate.
 #![tactic(auto)]
 
 pub mod answer;

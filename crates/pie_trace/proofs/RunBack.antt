@@ -39,21 +39,17 @@ use Rattle.pie_record.specs.declared.version.Version.{Version}
 use Rattle.pie_record.specs.Fault.{fault_at}
 use Rattle.pie_trace.specs.History.{before_fault, history_rows, history_text, record_fault, replies, requests_of, text_left}
 use Rattle.pie_record.specs.Opening.{checked_opening, opening_by, opening_in, opening_of, opening_read, refused_opening}
-use Rattle.pie_record.specs.Text.{rows_text, Row}
+use Rattle.pie_record.specs.Text.{HasField, Row, rows_text}
 use Rattle.pie_record.specs.Line.{line_of}
-use Rattle.pie_record.specs.ReadBack.{TellsHistory}
+use Rattle.pie_record.specs.ReadBack.{Begins, TellEach, TellsHistory}
 use Rattle.pie_trace.specs.RunLines.{line_told, lines_told, run_lines}
-use Rattle.pie_record.specs.FirstRecord.{first_fields, first_kind, version_of}
+use Rattle.pie_record.specs.FirstRecord.{first_fields, first_kind, kind_word, version_of}
 use Rattle.pie_record.specs.Record.{is_kind, request_of}
 use Rattle.pie_trace.specs.Reply.{Reply, after, history_row, reply, reply_to_command, reply_to_fold}
 use Rattle.pie_record.specs.Answer.{code_of}
 use Rattle.pie_trace.proofs.EndFacts.{history_text-read}
-use Rattle.pie_record.proofs.EventBack.{line-back}
-use Rattle.pie_record.proofs.HistoryBack.{Begins, TellEach, TellEach-cons, TellEach-none, history-told, ltb-false, told-field}
+use Rattle.pie_record.proofs.Laws.{TellEach-cons, TellEach-none, folded-note, history-told, kind-word, line-back, ltb-false, refused-note, request-asks, rows_text-cons, shown-note, tallied-note, told-field}
 use Rattle.pie_trace.proofs.HistoryFacts.{before_fault-later, flawed-record, long-record, requests_of-cons}
-use Rattle.pie_record.proofs.NotesBack.{folded-note, refused-note, shown-note, tallied-note}
-use Rattle.pie_record.proofs.RequestBack.{kind-word, request-asks}
-use Rattle.pie_record.proofs.TextBack.{HasField, kind_word, rows_text-cons}
 
 -- what pie_book promises of all histories
 pub record Held : Type 0 where

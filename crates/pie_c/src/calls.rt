@@ -145,20 +145,20 @@ pub extern "C" fn pie_depart(state: &mut PieState, size: u32, left: u64, moment:
     ensures shows { (opened : Opened) (events : List ControllerEvent) → is_sound state.old ≡ true → departure_refusal size left moment ≡ 0 → Shows opened events (held_in state.old)
         → Shows opened (events ++ shown_by (held_in state.old) (Depart size left moment) ∷ []) (held_in state.new) }
 {
-    if moment <= MAX_NANOS && size != 0 && left <= MAX_QUEUED {
+    if moment <= MAX_NANOS && left <= MAX_QUEUED {
         if let Some(count) = counted(state, size) {
-            state.moment = state.moment.max(moment);
-            state.cycle_count = count;
+            state.keep_counted(count, moment);
             return DONE;
         }
     }
-    depart(state, size, left, moment)
+    depart(state, moment, size, left)
 }
 
-/// The same for any packet, as a function of its own: what it takes costs the others nothing then.
+/// The same for any packet, as a function of its own: what it takes costs the others nothing then. What it is handed comes in the
+/// order in which it is looked at.
 #[inline(never)]
 #[tactic(auto, unfolding(crate::specs::Calls::departure_refusal))]
-fn depart(state: &mut PieState, size: u32, left: u64, moment: u64) -> u32
+fn depart(state: &mut PieState, moment: u64, size: u32, left: u64) -> u32
     ensures answer { result ≡ departure_refusal size left moment }
     ensures fields { state.new ≡ if_taken (departure_refusal size left moment) state.old (with_rate state.old (departed (capped (held_in state.old)) size left moment)) }
 
@@ -183,13 +183,13 @@ fn depart(state: &mut PieState, size: u32, left: u64, moment: u64) -> u32
     DONE
 }
 
-/// What the open cycle of the departure rate has counted with this packet, where that leaves it open. An inactive controller counts
-/// nothing.
+/// What the open cycle of the departure rate has counted with a packet of this size, where that leaves it open. An inactive
+/// controller counts nothing, and no packet is empty.
 #[inline(always)]
 fn counted(state: &PieState, size: u32) -> Option<u64>
-    ensures { SomeIff result ((state.now.active ≡ 1) × (state.now.measuring ≡ 1) × (state.now.cycle_count + size < min state.now.params.dq_threshold 65536)) (state.now.cycle_count + size) }
+    ensures { SomeIff result ((state.now.active ≡ 1) × (state.now.measuring ≡ 1) × (0 < size) × (state.now.cycle_count + size < min state.now.params.dq_threshold 65536)) (state.now.cycle_count + size) }
 {
-    if state.active != 1 || state.measuring != 1 {
+    if state.active != 1 || state.measuring != 1 || size == 0 {
         return None;
     }
     let cycle = RawCycle {

@@ -88,6 +88,14 @@ counted-state s size left moment active measuring few =
     let below : nat_lt (s.cycle_count + size) (min s.params.dq_threshold 65536) ≡ true = grind (arith, nat_tests) in
     rw (active, measuring, below) refl
 
+-- .. and one that meets no cycle and opens none the moment
+pub unmeasured-state : (s : PieState) (size left moment : ℕ) → s.active ≡ 1 → (s.measuring == 1) ≡ false → left < min s.params.dq_threshold 65536
+    → record s { moment = max s.moment moment; measuring = 0; cycle_start = 0; cycle_count = 0 } ≡ with_rate s (departed (capped (held_in s)) size left moment)
+unfolding held_in
+unmeasured-state s size left moment active measuring few =
+    let below : nat_lt left (min s.params.dq_threshold 65536) ≡ true = grind (arith, nat_tests) in
+    rw (active, measuring, below) refl
+
 pub passed-state : (s : PieState) (moment : ℕ) → is_sound s ≡ true → record s { moment = max s.moment moment } ≡ state_of (passed (held_in s) moment)
 unfolding held_in
 passed-state s moment sound = kept-moment s (passed (held_in s) moment) sound refl

@@ -1,7 +1,7 @@
 //! The calls on a state. Those for each packet read the state's numbers as they are: their rules are total, so nothing of the state
 //! is checked. The others take a sound state into a controller, and refuse any other. Each refuses what it is handed out of its
 //! range, lets the controller make its step, and writes back what it holds.
-ghost use Rattle.std.specs.Prelude.{◌≡◌, ◌+◌, ◌<◌, ◌∷◌, [], ◌++◌, List, SomeIff, max, min, true};
+ghost use Rattle.std.specs.Prelude.{◌≡◌, ◌+◌, ◌^◌, ◌<◌, ◌∷◌, [], ◌++◌, List, SomeIff, if◌then◌else◌, max, min, true};
 ghost use Rattle.pie_controller.specs.Calls.{Arrive, Change, Depart, Pass, Restart, Update, after_call, shown_by};
 ghost use Rattle.pie_controller.specs.Events.{ControllerEvent, Opened};
 ghost use Rattle.pie_controller.specs.History.{Shows};
@@ -57,7 +57,7 @@ pub extern "C" fn pie_arrive(
     if state.active == 1 {
         arrive(state, queued, size, room, bits, word, moment)
     } else {
-        arrive_apart(state, queued, size, room, bits, word, moment)
+        arrive_apart(state, size, queued, room, bits, word, moment)
     }
 }
 
@@ -111,8 +111,8 @@ fn arrive(
 #[inline(never)]
 fn arrive_apart(
     state: &mut PieState,
-    queued: u64,
     size: u32,
+    queued: u64,
     room: u32,
     bits: u32,
     word: u64,
@@ -132,9 +132,6 @@ fn arrive_apart(
 
 /// Takes in a packet that left the queue, with `left` bytes after it (RFC 8033, section 5.2). An inactive controller takes in the
 /// moment alone.
-///
-/// Most packets leave a cycle of the departure rate open, and change its count and the moment alone: the tests of these stand in the
-/// order that was measured to cost least.
 #[unsafe(no_mangle)]
 pub extern "C" fn pie_depart(state: &mut PieState, size: u32, left: u64, moment: u64) -> u32
     ensures answer { result ≡ departure_refusal size left moment }
@@ -146,6 +143,20 @@ pub extern "C" fn pie_depart(state: &mut PieState, size: u32, left: u64, moment:
     ensures shows { (opened : Opened) (events : List ControllerEvent) → is_sound state.old ≡ true → departure_refusal size left moment ≡ 0 → Shows opened events (held_in state.old)
         → Shows opened (events ++ shown_by (held_in state.old) (Depart size left moment) ∷ []) (held_in state.new) }
 {
+    if depart_counted(state, size, left, moment) {
+        return DONE;
+    }
+    depart_otherwise(state, moment, size, left)
+}
+
+/// Takes in a packet that leaves an open cycle of the departure rate open, and tells whether it was such a one: most are. The tests stand
+/// in the order that was measured to cost least.
+#[inline(always)]
+fn depart_counted(state: &mut PieState, size: u32, left: u64, moment: u64) -> bool
+    ensures taken { result ≡ true → departure_refusal size left moment ≡ 0 }
+    ensures within { result ≡ true → moment < 2 ^ 60 }
+    ensures after { state.new ≡ (if result then with_rate state.old (departed (capped (held_in state.old)) size left moment) else state.old) }
+{
     if left <= MAX_QUEUED
         && state.active == 1
         && state.measuring == 1
@@ -154,17 +165,53 @@ pub extern "C" fn pie_depart(state: &mut PieState, size: u32, left: u64, moment:
     {
         if let Some(count) = counted(state, size) {
             state.keep_counted(count, moment);
-            return DONE;
+            return true;
         }
     }
-    depart(state, moment, size, left)
+    false
 }
 
-/// The same for any packet, as a function of its own: what it takes costs the others nothing then. What it is handed comes in the
-/// order in which it is looked at.
+/// Takes in any other packet. A function of its own, and so is what it calls: what they take costs the others nothing then.
+#[inline(never)]
+fn depart_otherwise(state: &mut PieState, moment: u64, size: u32, left: u64) -> u32
+    ensures answer { result ≡ departure_refusal size left moment }
+    ensures fields { state.new ≡ if_taken (departure_refusal size left moment) state.old (with_rate state.old (departed (capped (held_in state.old)) size left moment)) }
+
+    // a sound state: it is then what the controller holds, in every field
+    ensures after { is_sound state.old ≡ true → state.new ≡ kept_if_refused (departure_refusal size left moment) state.old (after_call (held_in state.old) (Depart size left moment)) }
+    ensures sound { is_sound state.old ≡ true → is_sound state.new ≡ true }
+    ensures shows { (opened : Opened) (events : List ControllerEvent) → is_sound state.old ≡ true → departure_refusal size left moment ≡ 0 → Shows opened events (held_in state.old)
+        → Shows opened (events ++ shown_by (held_in state.old) (Depart size left moment) ∷ []) (held_in state.new) }
+{
+    if depart_unmeasured(state, size, left, moment) {
+        return DONE;
+    }
+    depart(state, size, left, moment)
+}
+
+/// Takes in a packet that meets no cycle and opens none, and tells whether it was such a one.
+#[inline(always)]
+fn depart_unmeasured(state: &mut PieState, size: u32, left: u64, moment: u64) -> bool
+    ensures taken { result ≡ true → departure_refusal size left moment ≡ 0 }
+    ensures within { result ≡ true → moment < 2 ^ 60 }
+    ensures after { state.new ≡ (if result then with_rate state.old (departed (capped (held_in state.old)) size left moment) else state.old) }
+{
+    if moment > MAX_NANOS
+        || is_bad_size(size)
+        || state.active != 1
+        || state.measuring == 1
+        || left >= state.params.dq_threshold.min(MAX_THRESHOLD)
+    {
+        return false;
+    }
+    state.keep_unmeasured(moment);
+    true
+}
+
+/// Takes in any packet.
 #[inline(never)]
 #[tactic(auto, unfolding(crate::specs::Calls::departure_refusal))]
-fn depart(state: &mut PieState, moment: u64, size: u32, left: u64) -> u32
+fn depart(state: &mut PieState, size: u32, left: u64, moment: u64) -> u32
     ensures answer { result ≡ departure_refusal size left moment }
     ensures fields { state.new ≡ if_taken (departure_refusal size left moment) state.old (with_rate state.old (departed (capped (held_in state.old)) size left moment)) }
 

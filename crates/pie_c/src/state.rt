@@ -108,6 +108,15 @@ impl PieState {
         self.cycle_count = count;
     }
 
+    /// What a departure changes that meets no cycle and opens none: the moment.
+    #[inline(always)]
+    pub(crate) fn keep_unmeasured(&mut self, moment: u64)
+        ensures { self.new ≡ record self.old { moment = max self.old.moment moment; measuring = 0; cycle_start = 0; cycle_count = 0 } }
+    {
+        (self.measuring, self.cycle_start, self.cycle_count) = (0, 0, 0);
+        self.moment = self.moment.max(moment);
+    }
+
     /// The same after an update: the moment, the control law's registers, and activity.
     #[inline(always)]
     pub(crate) fn keep_updated(&mut self, controller: &Controller)

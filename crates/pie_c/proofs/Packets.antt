@@ -81,13 +81,19 @@ departed-state s size left moment sound =
     ∙ kept-departed s (departed (held_in s) size left moment) sound refl
 
 -- a packet that leaves the open cycle open changes its count and the moment alone
-pub counted-state : (s : PieState) (size left moment : ℕ) → (s.active == 1) ≡ true → (s.measuring == 1) ≡ true → s.cycle_count + size < min s.params.dq_threshold 65536
+pub counted-state : (s : PieState) (size left moment : ℕ) → s.active ≡ 1 → s.measuring ≡ 1 → s.cycle_count + size < min s.params.dq_threshold 65536
     → record s { moment = max s.moment moment; cycle_count = s.cycle_count + size } ≡ with_rate s (departed (capped (held_in s)) size left moment)
 unfolding held_in
-counted-state s size left moment works begun few =
-    let active : s.active ≡ 1 = grind (works, nat_tests) in
-    let measuring : s.measuring ≡ 1 = grind (begun, nat_tests) in
+counted-state s size left moment active measuring few =
     let below : nat_lt (s.cycle_count + size) (min s.params.dq_threshold 65536) ≡ true = grind (arith, nat_tests) in
+    rw (active, measuring, below) refl
+
+-- .. and one that meets no cycle and opens none the moment
+pub unmeasured-state : (s : PieState) (size left moment : ℕ) → s.active ≡ 1 → (s.measuring == 1) ≡ false → left < min s.params.dq_threshold 65536
+    → record s { moment = max s.moment moment; measuring = 0; cycle_start = 0; cycle_count = 0 } ≡ with_rate s (departed (capped (held_in s)) size left moment)
+unfolding held_in
+unmeasured-state s size left moment active measuring few =
+    let below : nat_lt left (min s.params.dq_threshold 65536) ≡ true = grind (arith, nat_tests) in
     rw (active, measuring, below) refl
 
 pub passed-state : (s : PieState) (moment : ℕ) → is_sound s ≡ true → record s { moment = max s.moment moment } ≡ state_of (passed (held_in s) moment)

@@ -1,7 +1,7 @@
 //! The calls on a state. Those for each packet read the state's numbers as they are: their rules are total, so nothing of the state
 //! is checked. The others take a sound state into a controller, and refuse any other. Each refuses what it is handed out of its
 //! range, lets the controller make its step, and writes back what it holds.
-ghost use Rattle.std.specs.Prelude.{◌≡◌, ◌∷◌, [], ◌++◌, List, max, true};
+ghost use Rattle.std.specs.Prelude.{◌≡◌, ◌^◌, ◌<◌, ◌∷◌, [], ◌++◌, List, if◌then◌else◌, max, true};
 ghost use Rattle.pie_controller.specs.Calls.{Arrive, Change, Depart, Pass, Restart, Update, after_call, shown_by};
 ghost use Rattle.pie_controller.specs.Events.{ControllerEvent, Opened};
 ghost use Rattle.pie_controller.specs.History.{Shows};
@@ -17,7 +17,7 @@ use crate::code::{
 use crate::params::PieParams;
 use crate::state::PieState;
 use crate::updated::PieUpdated;
-use pie_controller::{Arrival, counted};
+use pie_controller::{Arrival, counted, opens_cycle};
 use pie_fixed::{MAX_NANOS, Nanos};
 use pie_params::Params;
 
@@ -53,7 +53,7 @@ pub extern "C" fn pie_arrive(
     if state.active == 1 {
         arrive(state, queued, size, room, bits, word, moment)
     } else {
-        arrive_apart(state, queued, size, room, bits, word, moment)
+        arrive_apart(state, size, queued, room, bits, word, moment)
     }
 }
 
@@ -107,8 +107,8 @@ fn arrive(
 #[inline(never)]
 fn arrive_apart(
     state: &mut PieState,
-    queued: u64,
     size: u32,
+    queued: u64,
     room: u32,
     bits: u32,
     word: u64,
@@ -128,8 +128,6 @@ fn arrive_apart(
 
 /// Takes in a packet that left the queue, with `left` bytes after it (RFC 8033, section 5.2). An inactive controller takes in the
 /// moment alone.
-///
-/// Most packets leave a cycle of the departure rate open, and change its count and the moment alone.
 #[unsafe(no_mangle)]
 pub extern "C" fn pie_depart(state: &mut PieState, size: u32, left: u64, moment: u64) -> u32
     ensures answer { result ≡ departure_refusal size left moment }
@@ -141,19 +139,72 @@ pub extern "C" fn pie_depart(state: &mut PieState, size: u32, left: u64, moment:
     ensures shows { (opened : Opened) (events : List ControllerEvent) → is_sound state.old ≡ true → departure_refusal size left moment ≡ 0 → Shows opened events (held_in state.old)
         → Shows opened (events ++ shown_by (held_in state.old) (Depart size left moment) ∷ []) (held_in state.new) }
 {
-    if moment <= MAX_NANOS && size != 0 && left <= MAX_QUEUED {
-        let (active, measuring) = (state.active == 1, state.measuring == 1);
-        let threshold = state.params.dq_threshold;
-        if let Some(count) = counted(active, measuring, state.cycle_count, size, threshold) {
-            state.moment = state.moment.max(moment);
-            state.cycle_count = count;
-            return DONE;
+    if depart_counted(state, size, left, moment) {
+        return DONE;
+    }
+    depart_otherwise(state, moment, size, left)
+}
+
+/// Takes in a packet that leaves an open cycle of the departure rate open, and tells whether it was such a one: most are. The tests stand
+/// in the order that was measured to cost least.
+#[inline(always)]
+fn depart_counted(state: &mut PieState, size: u32, left: u64, moment: u64) -> bool
+    ensures taken { result ≡ true → departure_refusal size left moment ≡ 0 }
+    ensures within { result ≡ true → moment < 2 ^ 60 }
+    ensures after { state.new ≡ (if result then with_rate state.old (departed (capped (held_in state.old)) size left moment) else state.old) }
+{
+    if left <= MAX_QUEUED
+        && state.active == 1
+        && state.measuring == 1
+        && moment <= MAX_NANOS
+        && size != 0
+    {
+        if let Some(count) = counted(state.cycle_count, size, state.params.dq_threshold) {
+            state.keep_counted(count, moment);
+            return true;
         }
+    }
+    false
+}
+
+/// Takes in any other packet. A function of its own, and so is what it calls: what they take costs the others nothing then.
+#[inline(never)]
+fn depart_otherwise(state: &mut PieState, moment: u64, size: u32, left: u64) -> u32
+    ensures answer { result ≡ departure_refusal size left moment }
+    ensures fields { state.new ≡ if_taken (departure_refusal size left moment) state.old (with_rate state.old (departed (capped (held_in state.old)) size left moment)) }
+
+    // a sound state: it is then what the controller holds, in every field
+    ensures after { is_sound state.old ≡ true → state.new ≡ kept_if_refused (departure_refusal size left moment) state.old (after_call (held_in state.old) (Depart size left moment)) }
+    ensures sound { is_sound state.old ≡ true → is_sound state.new ≡ true }
+    ensures shows { (opened : Opened) (events : List ControllerEvent) → is_sound state.old ≡ true → departure_refusal size left moment ≡ 0 → Shows opened events (held_in state.old)
+        → Shows opened (events ++ shown_by (held_in state.old) (Depart size left moment) ∷ []) (held_in state.new) }
+{
+    if depart_unmeasured(state, size, left, moment) {
+        return DONE;
     }
     depart(state, size, left, moment)
 }
 
-/// The same for any packet, as a function of its own: what it takes costs the others nothing then.
+/// Takes in a packet that meets no cycle and opens none, and tells whether it was such a one.
+#[inline(always)]
+fn depart_unmeasured(state: &mut PieState, size: u32, left: u64, moment: u64) -> bool
+    ensures taken { result ≡ true → departure_refusal size left moment ≡ 0 }
+    ensures within { result ≡ true → moment < 2 ^ 60 }
+    ensures after { state.new ≡ (if result then with_rate state.old (departed (capped (held_in state.old)) size left moment) else state.old) }
+{
+    if moment > MAX_NANOS
+        || is_bad_size(size)
+        || state.active != 1
+        || state.measuring == 1
+        || opens_cycle(left, state.params.dq_threshold)
+    {
+        return false;
+    }
+    state.keep_unmeasured(moment);
+    true
+}
+
+/// Takes in any packet.
 #[inline(never)]
 #[tactic(auto, unfolding(crate::specs::Calls::departure_refusal))]
 fn depart(state: &mut PieState, size: u32, left: u64, moment: u64) -> u32

@@ -1,4 +1,4 @@
-ghost use Rattle.std.specs.Prelude.{◌≡◌, ◌==◌, true};
+ghost use Rattle.std.specs.Prelude.{◌≡◌, ◌==◌, max, true};
 ghost use Rattle.pie_c.specs.Params.{raw_of};
 ghost use Rattle.pie_controller.specs.Held.{held_by};
 ghost use Rattle.pie_c.specs.State.{count_of, flag_of, held_in, is_sound, profile_number, start_of, state_of, with_arrival, with_rate, with_registers};
@@ -97,6 +97,24 @@ impl PieState {
             Some(cycle) => (1, cycle.start, cycle.count),
             None => (0, 0, 0),
         };
+    }
+
+    /// What a departure changes that leaves an open cycle of the departure rate open: its count and the moment.
+    #[inline(always)]
+    pub(crate) fn keep_counted(&mut self, count: u64, moment: u64)
+        ensures { self.new ≡ record self.old { moment = max self.old.moment moment; cycle_count = count } }
+    {
+        self.moment = self.moment.max(moment);
+        self.cycle_count = count;
+    }
+
+    /// What a departure changes that meets no cycle and opens none: the moment.
+    #[inline(always)]
+    pub(crate) fn keep_unmeasured(&mut self, moment: u64)
+        ensures { self.new ≡ record self.old { moment = max self.old.moment moment; measuring = 0; cycle_start = 0; cycle_count = 0 } }
+    {
+        (self.measuring, self.cycle_start, self.cycle_count) = (0, 0, 0);
+        self.moment = self.moment.max(moment);
     }
 
     /// The same after an update: the moment, the control law's registers, and activity.

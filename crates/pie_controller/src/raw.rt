@@ -128,20 +128,21 @@ impl RawController {
     }
 }
 
-/// What the open cycle of the departure rate has counted with a departed packet, where [`RawController::depart`] changes that and the
-/// moment alone: the controller is active, and the cycle stays open.
+/// What an open cycle of the departure rate that has counted so many bytes counts with a departed packet, `None` where the packet
+/// closes it: where it stays open, [`RawController::depart`] changes this count and the moment alone.
 #[inline(always)]
-pub fn counted(
-    is_active: bool,
-    is_measuring: bool,
-    count: u64,
-    size: u32,
-    dq_threshold: u64,
-) -> Option<u64>
-    ensures { SomeIff result ((is_active ≡ true) × (is_measuring ≡ true) × (count + size < min dq_threshold 65536)) (count + size) }
+pub fn counted(count: u64, size: u32, dq_threshold: u64) -> Option<u64>
+    ensures { SomeIff result (count + size < min dq_threshold 65536) (count + size) }
 {
-    if !is_active || !is_measuring {
-        return None;
-    }
     RawCycle { start: 0, count }.counted(size, dq_threshold.min(MAX_THRESHOLD))
+}
+
+/// Whether a departure with so many bytes behind it opens a cycle of the departure rate where none is open: where it doesn't,
+/// [`RawController::depart`] changes the moment alone.
+#[inline(always)]
+pub fn opens_cycle(left: u64, dq_threshold: u64) -> bool
+    ensures opens { result ≡ true → min dq_threshold 65536 ≤ left }
+    ensures passes { result ≡ false → left < min dq_threshold 65536 }
+{
+    left >= dq_threshold.min(MAX_THRESHOLD)
 }

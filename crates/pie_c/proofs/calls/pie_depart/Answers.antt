@@ -1,45 +1,21 @@
-use Rattle.std.proofs.Common.{◌≡◌, ◌≤◌, ◌<◌, ◌^◌, ◌∙◌, sym, arith, false}
-use Rattle.std.proofs.lemmas.Bool.Decides.{nat_tests}
-use Rattle.pie_c.specs.declared.state.PieState.{PieState}
-use Rattle.pie_c.specs.Calls.{departure_refusal, is_bad_size}
-use Rattle.pie_c.proofs.Packets.{counted-state, departed-shows, departed-sound, departed-state, departure-taken}
+use Rattle.std.proofs.Common.{◌≡◌, ◌<◌, ◌^◌, ◌∙◌, true}
+use Rattle.pie_c.proofs.Packets.{departed-shows, departed-sound, departed-state}
 use Rattle.pie_c.proofs.calls.pie_depart.Goals as goal
 
-pub returns-in-Some-clause-answer : goal.returns-in-Some-clause-answer
-returns-in-Some-clause-answer c =
+pub returns-then-depart_counted-clause-after : goal.returns-then-depart_counted-clause-after
+returns-then-depart_counted-clause-after c sound =
     let a = c.args in
-    let below = c.in-Some.ensures.0.2 in
-    let good : is_bad_size a.size ≡ false = grind (below, arith, nat_tests) in
-    sym (departure-taken a.size a.left a.moment (omega arith) good (omega arith))
+    let did = c.if-depart_counted.true in
+    rw (c.depart_counted.ensures.taken did, c.depart_counted.ensures.after, did) (departed-state a.state.now a.size a.left a.moment sound)
 
-pub returns-in-Some-clause-fields : goal.returns-in-Some-clause-fields
-returns-in-Some-clause-fields c =
+pub returns-then-depart_counted-clause-sound : goal.returns-then-depart_counted-clause-sound
+returns-then-depart_counted-clause-sound c sound =
     let a = c.args in
-    let facts = c.in-Some.ensures in
-    let below = facts.0.2 in
-    let good : is_bad_size a.size ≡ false = grind (below, arith, nat_tests) in
-    rw (departure-taken a.size a.left a.moment (omega arith) good (omega arith), c.max-state.ensures, facts.1)
-    (counted-state a.state.now a.size a.left a.moment facts.0.0 facts.0.1 below)
+    let did = c.if-depart_counted.true in
+    rw (c.depart_counted.ensures.after, did) (departed-sound a.state.now a.size a.left a.moment (c.depart_counted.ensures.within did) sound)
 
-pub returns-in-Some-clause-after : goal.returns-in-Some-clause-after
-returns-in-Some-clause-after c sound =
+pub returns-then-depart_counted-clause-shows : goal.returns-then-depart_counted-clause-shows
+returns-then-depart_counted-clause-shows c opened events sound taken shows =
     let a = c.args in
-    let facts = c.in-Some.ensures in
-    let below = facts.0.2 in
-    let good : is_bad_size a.size ≡ false = grind (below, arith, nat_tests) in
-    rw (departure-taken a.size a.left a.moment (omega arith) good (omega arith), c.max-state.ensures, facts.1)
-    (counted-state a.state.now a.size a.left a.moment facts.0.0 facts.0.1 below ∙ departed-state a.state.now a.size a.left a.moment sound)
-
-pub returns-in-Some-clause-sound : goal.returns-in-Some-clause-sound
-returns-in-Some-clause-sound c sound =
-    let a = c.args in
-    let facts = c.in-Some.ensures in
-    rw (c.max-state.ensures, facts.1, counted-state a.state.now a.size a.left a.moment facts.0.0 facts.0.1 facts.0.2)
-    (departed-sound a.state.now a.size a.left a.moment (omega arith) sound)
-
-pub returns-in-Some-clause-shows : goal.returns-in-Some-clause-shows
-returns-in-Some-clause-shows c opened events sound taken shows =
-    let a = c.args in
-    let facts = c.in-Some.ensures in
-    rw (c.max-state.ensures, facts.1, counted-state a.state.now a.size a.left a.moment facts.0.0 facts.0.1 facts.0.2)
-    (departed-shows a.state.now sound opened events shows a.size a.left a.moment)
+    let did = c.if-depart_counted.true in
+    rw (c.depart_counted.ensures.after, did) (departed-shows a.state.now sound opened events shows a.size a.left a.moment)

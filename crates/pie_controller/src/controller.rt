@@ -1,6 +1,5 @@
 //! The controller and its calls.
 ghost use Rattle.std.specs.Prelude.{◌≡◌, ℕ, ◌+◌, ◌^◌, ◌<◌, ◌≤◌, List, [], ◌∷◌, ◌++◌, max, true, false};
-ghost use Rattle.pie_rate.specs.Estimate.{estimate_of};
 ghost use Rattle.pie_controller.specs.Calls.{Arrive, Change, Depart, Pass, Restart, Update, shown_by};
 ghost use Rattle.pie_controller.specs.Events.{ControllerEvent, Opened};
 ghost use Rattle.pie_controller.specs.Held.{held_by};
@@ -10,9 +9,9 @@ ghost use Rattle.pie_controller.specs.Steps.{anew, arrived, changed, control_aft
 use crate::{Arrival, Profile, RawController, Verdict};
 use pie_control::{Control, delay};
 use pie_early::Early;
-use pie_fixed::{Accu, Nanos};
+use pie_fixed::Nanos;
 use pie_params::Params;
-use pie_rate::{Rate, RawCycle, RawRate};
+use pie_rate::Rate;
 use std::marker::Model;
 
 /// A PIE controller beside a queue that its caller owns.
@@ -109,7 +108,7 @@ impl Controller {
             → Shows opened (events ++ shown_by self.old (Arrive arrival moment) ∷ []) self.new }
     {
         let outcome = self.raw().outcome(arrival);
-        self.early = Early::from_parts(Accu::from_units(outcome.accu).unwrap());
+        self.early = Early::from_units(outcome.accu);
         self.reach(moment);
         if outcome.starts {
             self.start_anew();
@@ -130,9 +129,9 @@ impl Controller {
             params: self.params.raw(),
             moment: self.moment.units(),
             active: self.active,
-            rate: raw_rate(&self.rate),
+            rate: self.rate.raw(),
             control: self.control.raw(),
-            accu: self.early.accu().units(),
+            accu: self.early.units(),
         }
     }
 
@@ -304,19 +303,4 @@ fn cleared() -> Rate
     ensures { result ≡ no_estimate }
 {
     Rate::cleared()
-}
-
-/// An estimate of the departure rate, as plain numbers.
-#[inline(always)]
-fn raw_rate(rate: &Rate) -> RawRate
-    ensures { estimate_of result ≡ rate.now }
-{
-    let begun = rate.begun().map(|cycle| RawCycle {
-        start: cycle.start.units(),
-        count: cycle.count,
-    });
-    RawRate {
-        average: rate.average(),
-        begun,
-    }
 }

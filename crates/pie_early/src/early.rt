@@ -70,6 +70,15 @@ impl Early {
         Early { accu: accu.units() }
     }
 
+    /// Early drop with so many units of `10^-12` accumulated, below 8.5.
+    #[inline(always)]
+    pub fn from_units(accu: u64) -> Self
+        requires { accu < ALWAYS_PICKED }
+        ensures { result ≡ accu }
+    {
+        Early { accu }
+    }
+
     /// Decides on an arriving packet that is no tail drop: `bytes` are in the queue without it, `ecn`
     /// is its ECN field, and `word` is a random word, every `u64` as likely as any other (RFC 8033,
     /// sections 4.1, 5.1 and 5.4; the comparison by a random word of 64 bits is this project's own).
@@ -126,6 +135,15 @@ impl Early {
             Shows events self.old → Shows (events ++ cleared ∷ []) self.new }
     {
         self.accu = 0;
+    }
+
+    /// The accumulated probability in units of `10^-12`.
+    #[inline(always)]
+    pub fn units(&self) -> u64
+        ensures value { result ≡ self.now }
+        ensures bound { result < ALWAYS_PICKED }
+    {
+        self.accu
     }
 
     /// The accumulated probability, below 8.5 (RFC 8033, section 5.4).

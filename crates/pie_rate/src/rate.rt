@@ -5,7 +5,7 @@ ghost use Rattle.pie_rate.specs.Cycles.{cycles, begun, first_closing};
 ghost use Rattle.pie_rate.specs.Departures.{Departure, departure};
 ghost use Rattle.std.specs.Prelude.{option_map};
 ghost use Rattle.std.specs.Option.{ForSome};
-ghost use Rattle.pie_rate.specs.Estimate.{Shows};
+ghost use Rattle.pie_rate.specs.Estimate.{Shows, estimate_of};
 ghost use Rattle.pie_rate.specs.Step.{after_departure, begun_of};
 
 use crate::raw::{RawCycle, RawRate};
@@ -127,6 +127,14 @@ impl Rate {
             IfSome (begun threshold departures) (λ i. first_closing threshold departures i ≡ None) }
     {
         self.raw.begun.is_some()
+    }
+
+    /// The estimate as plain numbers.
+    #[inline(always)]
+    pub fn raw(&self) -> RawRate
+        ensures { estimate_of result ≡ self.now }
+    {
+        self.raw
     }
 
     /// The cycle that is begun, if there is one (RFC 8033, section 5.2).

@@ -1,11 +1,11 @@
 -- How explaining a history ends, and what it has written.
-use Rattle.std.proofs.Common.{◌≡◌, ◌==◌, ℕ, List, ◌++◌, length, Bool, true, false, refl, sym, ap, ◌∙◌, subst, append_assoc}
+use Rattle.std.proofs.Common.{◌≡◌, ◌==◌, ℕ, List, ◌++◌, length, Bool, true, false, inl, inr, refl, sym, ap, ◌∙◌, subst, append_assoc}
 use Rattle.std.specs.Prelude.{Option, Some, None, Result, Ok, Err, IfSome, IfErr, OnOk, if◌then◌else◌}
 use Rattle.std.specs.Io.KnownBytes.{Appends, append_known}
 use Rattle.pie_book.specs.declared.opening.Opening.{Opening}
 use Rattle.pie_record.specs.declared.fault.TraceFault.{TraceFault}
 use Rattle.pie_record.specs.declared.history.Line.{Line}
-use Rattle.pie_record.specs.Fault.{is_device, closed}
+use Rattle.pie_record.specs.Fault.{IsWrite, is_device, closed}
 use Rattle.pie_record.specs.Lines.{Coming, coming_after, history_lines, history_opening, later_fault}
 use Rattle.pie_record.specs.Text.{Row, records_of}
 use Rattle.pie_audit.specs.declared.auditor.Finding.{Finding}
@@ -67,13 +67,17 @@ closed-ok (Err first) (Err why) e = absurd (by (is_device first) e)
     by true e = cc
     by false e = cc
 
-closed-told : (outcome written : Result (Unit {0}) TraceFault) (why : TraceFault) → closed outcome written ≡ Err why → is_device why ≡ false → IfErr written (λ why. is_device why ≡ true)
+is-device : (why : TraceFault) → IsWrite why → is_device why ≡ true
+is-device why (inl e) = rw e refl
+is-device why (inr e) = rw e refl
+
+closed-told : (outcome written : Result (Unit {0}) TraceFault) (why : TraceFault) → closed outcome written ≡ Err why → is_device why ≡ false → IfErr written IsWrite
     → (outcome ≡ Err why) × (written ≡ Ok tt)
 closed-told (Ok done) (Ok wrote) why e told device = cc
 closed-told (Err first) (Ok wrote) why e told device = (e, refl)
 closed-told (Ok done) (Err last) why e told device =
     let same : last ≡ why = cc in
-    let is : is_device why ≡ true = subst (λ (f : TraceFault). is_device f ≡ true) same device in cc
+    let is : is_device why ≡ true = subst (λ (f : TraceFault). is_device f ≡ true) same (is-device last device) in cc
 closed-told (Err first) (Err last) why e told device = absurd (by (is_device first) refl e)
   where
     by : (b : Bool) → is_device first ≡ b → ◌≡◌ {A = Result (Unit {0}) TraceFault} (if b then Err first else Err last) (Err why) → ⊥
@@ -82,7 +86,7 @@ closed-told (Err first) (Err last) why e told device = absurd (by (is_device fir
         let wrong : is_device why ≡ true = subst (λ (f : TraceFault). is_device f ≡ true) same is in cc
     by false is e =
         let same : last ≡ why = cc in
-        let wrong : is_device why ≡ true = subst (λ (f : TraceFault). is_device f ≡ true) same device in cc
+        let wrong : is_device why ≡ true = subst (λ (f : TraceFault). is_device f ≡ true) same (is-device last device) in cc
 
 -- ---- the whole text
 
@@ -116,7 +120,7 @@ text-heard opening which form text coming auditor set_by explained outcome writt
 text-fault : (opening : Opening) (which : Which) (form : Form) (text : List ℕ) (coming : Option Coming) (auditor : AuditorView) (set_by : Option ℕ) (explained : ℕ) (outcome written : Result (Unit {0}) TraceFault)
     (why : TraceFault) (old mid now : Option (List ℕ)) (page : List ℕ) → Opens opening coming text
     → IfSome coming (λ all. Heard opening which form all outcome auditor set_by explained (append_known old (header form)) (append_known mid page))
-    → OnOk written (Appends mid now page) → IfErr written (λ why. is_device why ≡ true) → closed outcome written ≡ Err why → is_device why ≡ false
+    → OnOk written (Appends mid now page) → IfErr written IsWrite → closed outcome written ≡ Err why → is_device why ≡ false
     → Told which form text (Err (Trace why)) old now
 text-fault opening which form text coming auditor set_by explained outcome written why old mid now page opens heard wrote device closed-is told =
     let all : Coming = coming_after 4294967296 (records_of text) in
@@ -216,7 +220,7 @@ heard-promises opening which form (Some text) coming auditor set_by explained ou
 pub fault-promises : (opening : Opening) (which : Which) (form : Form) (known : Option (List ℕ)) (coming : Option Coming) (auditor : AuditorView) (set_by : Option ℕ) (explained : ℕ) (outcome written : Result (Unit {0}) TraceFault)
     (why : TraceFault) (old mid now : Option (List ℕ)) (page : List ℕ) → IfSome known (λ text. Opens opening coming text)
     → IfSome coming (λ all. Heard opening which form all outcome auditor set_by explained (append_known old (header form)) (append_known mid page))
-    → OnOk written (Appends mid now page) → IfErr written (λ why. is_device why ≡ true) → closed outcome written ≡ Err why
+    → OnOk written (Appends mid now page) → IfErr written IsWrite → closed outcome written ≡ Err why
     → Promises which form known (Err (Trace why)) old now
 fault-promises opening which form None coming auditor set_by explained outcome written why old mid now page opens heard wrote device closed-is = tt
 fault-promises opening which form (Some text) coming auditor set_by explained outcome written why old mid now page opens heard wrote device closed-is = λ told.

@@ -38,6 +38,8 @@ struct Scenario
 constexpr uint32_t SEGMENT = 1448;   /* with 52 bytes of headers a packet of 1500 */
 constexpr uint32_t MEAN_PKT = 1500;  /* for all that are asked, so that ns-3's scaling by size changes nothing */
 constexpr uint16_t PORT = 5000;
+constexpr int64_t STARTS = 1;        /* the random streams: of the flows' starts, */
+constexpr int64_t WORDS = 2;         /* and of the queue's words */
 
 /* What is counted while the run goes on. */
 struct Counts
@@ -126,6 +128,20 @@ QueueOf(const Scenario& scenario)
     return helper;
 }
 
+/* A seed's random words are of a stream of their own, so that its flows start at the same moments by every queue. */
+void
+SetWords(Ptr<QueueDisc> queue)
+{
+    if (Ptr<RecordedPieQueueDisc> recorded = DynamicCast<RecordedPieQueueDisc>(queue))
+    {
+        recorded->AssignStreams(WORDS);
+    }
+    else if (Ptr<PieQueueDisc> pie = DynamicCast<PieQueueDisc>(queue))
+    {
+        pie->AssignStreams(WORDS);
+    }
+}
+
 PointToPointHelper
 LinkOf(double megabits, double delay)
 {
@@ -176,6 +192,7 @@ Build(const Scenario& scenario)
     PointToPointHelper shared = LinkOf(scenario.megabits, scenario.roundTrip / 2 - 1);
     NetDeviceContainer pair = shared.Install(net.routers);
     net.queue = QueueOf(scenario).Install(pair.Get(0)).Get(0);
+    SetWords(net.queue);
     Ipv4AddressHelper addresses("10.0.0.0", "255.255.255.252");
     addresses.Assign(pair);
     JoinHosts(net, net.senders, net.routers.Get(0), "10.1.0.0", false);
@@ -188,12 +205,14 @@ void
 StartFlows(const Scenario& scenario, const Dumbbell& net)
 {
     Ptr<UniformRandomVariable> start = CreateObject<UniformRandomVariable>();
+    start->SetStream(STARTS);
     for (uint32_t i = 0; i < scenario.flows; i++)
     {
         PacketSinkHelper sink("ns3::TcpSocketFactory", InetSocketAddress(Ipv4Address::GetAny(), PORT));
         ApplicationContainer sinks = sink.Install(net.receivers.Get(i));
         sinks.Get(0)->TraceConnectWithoutContext("Rx", MakeBoundCallback(&SeeReceived, i));
         BulkSendHelper bulk("ns3::TcpSocketFactory", InetSocketAddress(net.targets[i], PORT));
+        bulk.SetAttribute("SendSize", UintegerValue(SEGMENT));
         ApplicationContainer source = bulk.Install(net.senders.Get(i));
         source.Start(Seconds(start->GetValue(0, 1)));
     }

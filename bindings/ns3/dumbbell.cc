@@ -32,6 +32,7 @@ struct Scenario
     uint32_t seed = 1;
     double seconds = 20;
     double warmUp = 5; /* seconds of which steady figures take no account */
+    double buffer = 0; /* send buffer of each flow, in kB; 0: as SendBufferBytes says */
     std::string history;
 };
 
@@ -84,14 +85,29 @@ LimitBytes(const Scenario& scenario)
     return static_cast<uint32_t>(262144 * scenario.megabits / 10);
 }
 
+/* The most that a flow has under way, which its send buffer bounds: twice what the link and its full queue hold for one flow, and for
+ * more of them four times each one's share. Without such a bound a flow goes on by megabytes behind a lost retransmission, and ns-3
+ * walks over all of them at each acknowledgement. (The receive buffer is no bound to take: ns-3.37 ends by a null pointer where a
+ * sender with SACK has filled the receiver's window exactly, TcpTxBuffer::NextSeg.) */
+uint32_t
+SendBufferBytes(const Scenario& scenario)
+{
+    if (scenario.buffer > 0)
+    {
+        return static_cast<uint32_t>(scenario.buffer * 1000);
+    }
+    double holds = scenario.megabits * 1e6 / 8 * scenario.roundTrip / 1000 + LimitBytes(scenario);
+    return static_cast<uint32_t>(holds * std::min(2.0, 4.0 / scenario.flows));
+}
+
 void
 SetTcp(const Scenario& scenario)
 {
     Config::SetDefault("ns3::TcpL4Protocol::SocketType", TypeIdValue(TcpCubic::GetTypeId()));
     Config::SetDefault("ns3::TcpSocket::SegmentSize", UintegerValue(SEGMENT));
     Config::SetDefault("ns3::TcpSocket::InitialCwnd", UintegerValue(10));
-    Config::SetDefault("ns3::TcpSocket::SndBufSize", UintegerValue(1 << 23));
-    Config::SetDefault("ns3::TcpSocket::RcvBufSize", UintegerValue(1 << 23));
+    Config::SetDefault("ns3::TcpSocket::SndBufSize", UintegerValue(SendBufferBytes(scenario)));
+    Config::SetDefault("ns3::TcpSocket::RcvBufSize", UintegerValue(1 << 24));
     Config::SetDefault("ns3::TcpSocketBase::UseEcn", StringValue(scenario.ecn ? "On" : "Off"));
     Config::SetDefault("ns3::DropTailQueue<Packet>::MaxSize", StringValue("1p"));
 }
@@ -290,6 +306,7 @@ Read(int count, char** words)
     line.AddValue("seed", "number of the run", s.seed);
     line.AddValue("seconds", "simulated seconds", s.seconds);
     line.AddValue("warm-up", "seconds of which steady figures take no account", s.warmUp);
+    line.AddValue("buffer", "send buffer of each flow, kB; 0: four times its share of what link and queue hold", s.buffer);
     line.AddValue("history", "file for the history (queue recorded)", s.history);
     line.AddValue("header", "print the names of the fields before the record", isHeader);
     line.Parse(count, words);

@@ -129,13 +129,15 @@ def print_beside(runs, scenarios):
 
 
 def print_plot(runs, scenarios):
-    for place, scenario in enumerate(scenarios):
-        name = name_of(scenario).replace(", ", "\\n").replace(" Mbit/s", "").replace(" flows", "").replace(" flow", "").replace(" ms", "")
-        cells = []
-        for queue in QUEUES:
-            numbers = values(runs.get((scenario, queue), []), "wait_mean_ms") or [math.nan]
-            cells += [mean(numbers), min(numbers), max(numbers)]
-        print(place, f'"{name}"', *cells)
+    """Of each scenario its rate, its place among those of this rate, its name, and of each queue mean, least and greatest."""
+    for rate in dict.fromkeys(scenario[0] for scenario in scenarios):
+        for place, scenario in enumerate(it for it in scenarios if it[0] == rate):
+            name = "\\n".join(name_of(scenario).split(", ")[1:])
+            cells = []
+            for queue in QUEUES:
+                numbers = values(runs.get((scenario, queue), []), "wait_mean_ms") or [math.nan]
+                cells += [mean(numbers), min(numbers), max(numbers)]
+            print(rate, place, f'"{name}"', *cells)
 
 
 def main():

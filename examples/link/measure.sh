@@ -59,12 +59,13 @@ is_listening() {
     ip netns exec "$1" grep -q ':1451 .* 0A ' /proc/net/tcp /proc/net/tcp6
 }
 
-# set_up_end NAME DEVICE ADDRESS PEER: moves a device of the link into a namespace of its own
+# set_up_end NAME DEVICE ADDRESS PEER: moves a device of the link into a namespace of its own, with a route to the other end
 set_up_end() {
     ip -n "${names[1]}" link set "$2" netns "$1"
     ip -n "$1" addr add "$3" peer "$4" dev "$2"
     ip -n "$1" link set lo up
     ip -n "$1" link set "$2" up
+    ip -n "$1" route replace "$4" dev "$2"
     ip netns exec "$1" sysctl -q -w net.ipv4.tcp_ecn=1 net.ipv4.tcp_no_metrics_save=1
 }
 

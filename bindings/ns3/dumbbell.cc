@@ -1,6 +1,7 @@
 /* TCP flows over a dumbbell: each flow has a sender and a receiver of its own, and all share one link, whose queue is managed by
  * this repository's PIE, by ns-3's own with or without de-randomization, or by tail drop. Prints one CSV record of what came out.
  */
+#include "changed-pie-queue-disc.h"
 #include "recorded-pie-queue-disc.h"
 
 #include "ns3/applications-module.h"
@@ -23,7 +24,7 @@ namespace
 /* A scenario, as the command line says it. */
 struct Scenario
 {
-    std::string queue = "recorded"; /* recorded, pie, pie-random or fifo */
+    std::string queue = "recorded"; /* recorded, pie, pie-random, pie-mark, pie-mark-burst or fifo */
     double megabits = 10;           /* the shared link's rate */
     uint32_t flows = 4;
     double roundTrip = 40; /* ms, without queues */
@@ -112,6 +113,15 @@ SetTcp(const Scenario& scenario)
     Config::SetDefault("ns3::DropTailQueue<Packet>::MaxSize", StringValue("1p"));
 }
 
+/* What ChangedPieQueueDisc changes: at a mark, and at the burst allowance. */
+void
+SetChanges(const std::string& queue)
+{
+    NS_ABORT_MSG_UNLESS(queue == "pie" || queue == "pie-random" || queue == "pie-mark" || queue == "pie-mark-burst",
+                        "unknown queue " << queue);
+    Config::SetDefault("ns3::ChangedPieQueueDisc::WholeAllowanceWhenCalm", BooleanValue(queue == "pie-mark-burst"));
+}
+
 /* The queue of the shared link. What is not set here has the default of RFC 8033 in both. */
 TrafficControlHelper
 QueueOf(const Scenario& scenario)
@@ -126,14 +136,15 @@ QueueOf(const Scenario& scenario)
                                 "UseEcn", BooleanValue(scenario.ecn),
                                 "History", StringValue(scenario.history));
     }
-    else if (scenario.queue == "pie" || scenario.queue == "pie-random")
+    else if (scenario.queue.substr(0, 3) == "pie")
     {
-        helper.SetRootQueueDisc("ns3::PieQueueDisc",
+        SetChanges(scenario.queue);
+        helper.SetRootQueueDisc(scenario.queue.substr(0, 8) == "pie-mark" ? "ns3::ChangedPieQueueDisc" : "ns3::PieQueueDisc",
                                 "MeanPktSize", UintegerValue(MEAN_PKT),
                                 "MaxSize", limit,
                                 "UseDequeueRateEstimator", BooleanValue(true),
                                 "UseCapDropAdjustment", BooleanValue(true),
-                                "UseDerandomization", BooleanValue(scenario.queue == "pie"),
+                                "UseDerandomization", BooleanValue(scenario.queue != "pie-random"),
                                 "UseEcn", BooleanValue(scenario.ecn));
     }
     else
@@ -297,7 +308,7 @@ Read(int count, char** words)
     Scenario s;
     bool isHeader = false;
     CommandLine line(__FILE__);
-    line.AddValue("queue", "recorded, pie, pie-random or fifo", s.queue);
+    line.AddValue("queue", "recorded, pie, pie-random, fifo; pie-mark, pie-mark-burst: pie with points changed", s.queue);
     line.AddValue("rate", "Mbit/s of the shared link", s.megabits);
     line.AddValue("flows", "TCP flows", s.flows);
     line.AddValue("rtt", "round trip without queues, ms", s.roundTrip);

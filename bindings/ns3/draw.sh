@@ -13,7 +13,7 @@ rates=$(cut -d' ' -f1 "$work/waits" | uniq)
     echo "set output '$2'"
     echo "set multiplot layout $count,1"
     echo 'set bmargin 4; set lmargin 8; set rmargin 2; set grid ytics; set yrange [0:*]; set bars 0.6'
-    echo 'set key top center horizontal'
+    echo 'set key top center horizontal; set offsets 0, 0, graph 0.25, 0'
     for rate in $rates; do
         grep "^$rate " "$work/waits" > "$work/$rate"
         echo "set xrange [-0.5:$(($(wc -l < "$work/$rate") - 1)).5]"
@@ -22,6 +22,6 @@ rates=$(cut -d' ' -f1 "$work/waits" | uniq)
         echo "  '' using (\$2-0.08):7:8:9 with yerrorbars pt 7 ps 0.9 lc rgb '#1f5fa8' title 'PIE, this repository', \\"
         echo "  '' using (\$2+0.08):10:11:12 with yerrorbars pt 9 ps 0.9 lc rgb '#b0303a' title 'PieQueueDisc, de-randomized', \\"
         echo "  '' using (\$2+0.24):13:14:15 with yerrorbars pt 11 ps 0.9 lc rgb '#3a8a3a' title 'PieQueueDisc, not de-randomized'"
-        echo 'unset key'
+        echo 'unset key; unset offsets'
     done
 } | gnuplot

@@ -10,7 +10,8 @@ plot    the mean waits, for draw.sh
 How the two are compared was fixed before the runs were made. The runs of the two are mixed, and parted again at random, 5,000 times; `chance`
 is the share of those in which the means lie at least as far apart as they do in truth. Below 0.05 they differ beyond the spread of the runs.
 Of a hundred comparisons of the same thing with itself some five come out so. For all scenarios together the means of each scenario are divided
-by one another, and the mean of the logarithms of these ratios is compared, parting the runs of each scenario anew.
+by one another, and the mean of the logarithms of these ratios is compared, parting the runs of each scenario anew. A scenario with fewer than four runs of each has no
+chance of its own, since no parting of six is rarer than one of ten, but counts in what is said of all.
 """
 import csv
 import math
@@ -59,7 +60,7 @@ def mean(numbers):
 
 def shown(records, figure):
     numbers = values(records, figure)
-    digits = 1 if figure == "goodput_mbit" else 0
+    digits = 1 if figure == "goodput_mbit" or mean(numbers) < 1 and max(numbers) > 0 else 0
     text = f"{mean(numbers):.{digits}f}"
     if len(numbers) > 1 and min(numbers) < max(numbers):
         text += f" ({min(numbers):.{digits}f} to {max(numbers):.{digits}f})"
@@ -103,29 +104,43 @@ def print_full(runs, scenarios):
                 print(f"| {name} | {len(records)} | " + " | ".join(shown(records, figure) for figure in FIGURES) + " |")
 
 
+def figures(ours, theirs, fifo, figure, is_judged):
+    """The cells of one figure, and the chance where there are runs enough to have one."""
+    found = chance([(values(ours, figure), values(theirs, figure))]) if is_judged else None
+    text = "" if found is None else f"{found:.2f}" if found >= 0.01 else f"{found:.4f}"
+    tail = f"{mean(values(fifo, figure)):.{1 if figure == 'goodput_mbit' else 0}f}" if fifo else ""
+    return [tail, shown(ours, figure), shown(theirs, figure), f"**{text}**" if found is not None and found < BEYOND else text], found
+
+
+def print_together(runs, compared, name):
+    for figure in COMPARED:
+        pairs = [tuple(values(runs[scenario, queue], figure) for queue in ("recorded", "pie")) for scenario in compared]
+        print(f"{name}, {len(pairs)} scenarios together: {FIGURES[figure]} here is {math.exp(ratio(pairs)):.3f} times that of PieQueueDisc, "
+              f"chance {chance(pairs):.4f}.")
+
+
 def print_beside(runs, scenarios):
-    """Only scenarios with three runs of each and more."""
-    compared = [it for it in scenarios if min(len(runs.get((it, queue), [])) for queue in ("recorded", "pie")) >= 3]
+    """With fewer than four runs of each no parting is rarer than one of ten, so such a scenario has no chance of its own."""
+    counts = {it: [len(runs.get((it, queue), [])) for queue in ("recorded", "pie")] for it in scenarios}
+    compared = [it for it in scenarios if min(counts[it]) > 0]
     print("| scenario | runs | wait, tail drop | wait, here | wait, PieQueueDisc | chance | goodput, tail drop | goodput, here "
           "| goodput, PieQueueDisc | chance |")
     print("|---|" + "---|" * 9)
     chances = []
     for scenario in compared:
-        ours, theirs, fifo = (runs.get((scenario, queue), []) for queue in ("recorded", "pie", "fifo"))
-        cells = [name_of(scenario), f"{len(ours)}" if len(ours) == len(theirs) else f"{len(ours)}, {len(theirs)}"]
+        queues = [runs.get((scenario, queue), []) for queue in ("recorded", "pie", "fifo")]
+        line = [name_of(scenario), ", ".join(str(it) for it in sorted(set(counts[scenario])))]
         for figure in COMPARED:
-            pair = (values(ours, figure), values(theirs, figure))
-            chances.append(chance([pair]))
-            tail = f"{mean(values(fifo, figure)):.{1 if figure == 'goodput_mbit' else 0}f}" if fifo else ""
-            text = f"{chances[-1]:.2f}" if chances[-1] >= 0.01 else f"{chances[-1]:.4f}"
-            cells += [tail, shown(ours, figure), shown(theirs, figure), f"**{text}**" if chances[-1] < BEYOND else text]
-        print("| " + " | ".join(cells) + " |")
+            cells, found = figures(*queues, figure, min(counts[scenario]) >= 4)
+            line += cells
+            chances += [] if found is None else [found]
+        print("| " + " | ".join(line) + " |")
     beyond = sum(it < BEYOND for it in chances)
     print(f"\n{beyond} of {len(chances)} comparisons are beyond the spread; {BEYOND * len(chances):.1f} would be by chance alone.")
-    for figure in COMPARED:
-        pairs = [tuple(values(runs[scenario, queue], figure) for queue in ("recorded", "pie")) for scenario in compared]
-        print(f"All {len(pairs)} scenarios together: {FIGURES[figure]} here is {math.exp(ratio(pairs)):.3f} times that of PieQueueDisc, "
-              f"chance {chance(pairs):.4f}.")
+    for rate in dict.fromkeys(it[0] for it in compared):
+        print_together(runs, [it for it in compared if it[0] == rate], f"{rate} Mbit/s")
+    print_together(runs, [it for it in compared if it[3] == "0"], "Without ECN")
+    print_together(runs, compared, "All")
 
 
 def print_plot(runs, scenarios):

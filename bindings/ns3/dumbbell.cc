@@ -1,6 +1,7 @@
 /* TCP flows over a dumbbell: each flow has a sender and a receiver of its own, and all share one link, whose queue is managed by
  * this repository's PIE, by ns-3's own with or without de-randomization, or by tail drop. Prints one CSV record of what came out.
  */
+#include "changed-pie-queue-disc.h"
 #include "recorded-pie-queue-disc.h"
 
 #include "ns3/applications-module.h"
@@ -23,7 +24,7 @@ namespace
 /* A scenario, as the command line says it. */
 struct Scenario
 {
-    std::string queue = "recorded"; /* recorded, pie, pie-random or fifo */
+    std::string queue = "recorded"; /* recorded, pie, pie-random, pie-mark, pie-mark-burst or fifo */
     double megabits = 10;           /* the shared link's rate */
     uint32_t flows = 4;
     double roundTrip = 40; /* ms, without queues */
@@ -32,12 +33,15 @@ struct Scenario
     uint32_t seed = 1;
     double seconds = 20;
     double warmUp = 5; /* seconds of which steady figures take no account */
+    double buffer = 0; /* send buffer of each flow, in kB; 0: as SendBufferBytes says */
     std::string history;
 };
 
 constexpr uint32_t SEGMENT = 1448;   /* with 52 bytes of headers a packet of 1500 */
 constexpr uint32_t MEAN_PKT = 1500;  /* for all that are asked, so that ns-3's scaling by size changes nothing */
 constexpr uint16_t PORT = 5000;
+constexpr int64_t STARTS = 1;        /* the random streams: of the flows' starts, */
+constexpr int64_t WORDS = 2;         /* and of the queue's words */
 
 /* What is counted while the run goes on. */
 struct Counts
@@ -82,16 +86,40 @@ LimitBytes(const Scenario& scenario)
     return static_cast<uint32_t>(262144 * scenario.megabits / 10);
 }
 
+/* The most that a flow has under way, which its send buffer bounds: twice what the link and its full queue hold for one flow, and for
+ * more of them four times each one's share. Without such a bound a flow goes on by megabytes behind a lost retransmission, and ns-3
+ * walks over all of them at each acknowledgement. (The receive buffer is no bound to take: ns-3.37 ends by a null pointer where a
+ * sender with SACK has filled the receiver's window exactly, TcpTxBuffer::NextSeg.) */
+uint32_t
+SendBufferBytes(const Scenario& scenario)
+{
+    if (scenario.buffer > 0)
+    {
+        return static_cast<uint32_t>(scenario.buffer * 1000);
+    }
+    double holds = scenario.megabits * 1e6 / 8 * scenario.roundTrip / 1000 + LimitBytes(scenario);
+    return static_cast<uint32_t>(holds * std::min(2.0, 4.0 / scenario.flows));
+}
+
 void
 SetTcp(const Scenario& scenario)
 {
     Config::SetDefault("ns3::TcpL4Protocol::SocketType", TypeIdValue(TcpCubic::GetTypeId()));
     Config::SetDefault("ns3::TcpSocket::SegmentSize", UintegerValue(SEGMENT));
     Config::SetDefault("ns3::TcpSocket::InitialCwnd", UintegerValue(10));
-    Config::SetDefault("ns3::TcpSocket::SndBufSize", UintegerValue(1 << 23));
-    Config::SetDefault("ns3::TcpSocket::RcvBufSize", UintegerValue(1 << 23));
+    Config::SetDefault("ns3::TcpSocket::SndBufSize", UintegerValue(SendBufferBytes(scenario)));
+    Config::SetDefault("ns3::TcpSocket::RcvBufSize", UintegerValue(1 << 24));
     Config::SetDefault("ns3::TcpSocketBase::UseEcn", StringValue(scenario.ecn ? "On" : "Off"));
     Config::SetDefault("ns3::DropTailQueue<Packet>::MaxSize", StringValue("1p"));
+}
+
+/* What ChangedPieQueueDisc changes: at a mark, and at the burst allowance. */
+void
+SetChanges(const std::string& queue)
+{
+    NS_ABORT_MSG_UNLESS(queue == "pie" || queue == "pie-random" || queue == "pie-mark" || queue == "pie-mark-burst",
+                        "unknown queue " << queue);
+    Config::SetDefault("ns3::ChangedPieQueueDisc::WholeAllowanceWhenCalm", BooleanValue(queue == "pie-mark-burst"));
 }
 
 /* The queue of the shared link. What is not set here has the default of RFC 8033 in both. */
@@ -108,14 +136,15 @@ QueueOf(const Scenario& scenario)
                                 "UseEcn", BooleanValue(scenario.ecn),
                                 "History", StringValue(scenario.history));
     }
-    else if (scenario.queue == "pie" || scenario.queue == "pie-random")
+    else if (scenario.queue.substr(0, 3) == "pie")
     {
-        helper.SetRootQueueDisc("ns3::PieQueueDisc",
+        SetChanges(scenario.queue);
+        helper.SetRootQueueDisc(scenario.queue.substr(0, 8) == "pie-mark" ? "ns3::ChangedPieQueueDisc" : "ns3::PieQueueDisc",
                                 "MeanPktSize", UintegerValue(MEAN_PKT),
                                 "MaxSize", limit,
                                 "UseDequeueRateEstimator", BooleanValue(true),
                                 "UseCapDropAdjustment", BooleanValue(true),
-                                "UseDerandomization", BooleanValue(scenario.queue == "pie"),
+                                "UseDerandomization", BooleanValue(scenario.queue != "pie-random"),
                                 "UseEcn", BooleanValue(scenario.ecn));
     }
     else
@@ -124,6 +153,20 @@ QueueOf(const Scenario& scenario)
         helper.SetRootQueueDisc("ns3::FifoQueueDisc", "MaxSize", limit);
     }
     return helper;
+}
+
+/* A seed's random words are of a stream of their own, so that its flows start at the same moments by every queue. */
+void
+SetWords(Ptr<QueueDisc> queue)
+{
+    if (Ptr<RecordedPieQueueDisc> recorded = DynamicCast<RecordedPieQueueDisc>(queue))
+    {
+        recorded->AssignStreams(WORDS);
+    }
+    else if (Ptr<PieQueueDisc> pie = DynamicCast<PieQueueDisc>(queue))
+    {
+        pie->AssignStreams(WORDS);
+    }
 }
 
 PointToPointHelper
@@ -176,6 +219,7 @@ Build(const Scenario& scenario)
     PointToPointHelper shared = LinkOf(scenario.megabits, scenario.roundTrip / 2 - 1);
     NetDeviceContainer pair = shared.Install(net.routers);
     net.queue = QueueOf(scenario).Install(pair.Get(0)).Get(0);
+    SetWords(net.queue);
     Ipv4AddressHelper addresses("10.0.0.0", "255.255.255.252");
     addresses.Assign(pair);
     JoinHosts(net, net.senders, net.routers.Get(0), "10.1.0.0", false);
@@ -188,12 +232,14 @@ void
 StartFlows(const Scenario& scenario, const Dumbbell& net)
 {
     Ptr<UniformRandomVariable> start = CreateObject<UniformRandomVariable>();
+    start->SetStream(STARTS);
     for (uint32_t i = 0; i < scenario.flows; i++)
     {
         PacketSinkHelper sink("ns3::TcpSocketFactory", InetSocketAddress(Ipv4Address::GetAny(), PORT));
         ApplicationContainer sinks = sink.Install(net.receivers.Get(i));
         sinks.Get(0)->TraceConnectWithoutContext("Rx", MakeBoundCallback(&SeeReceived, i));
         BulkSendHelper bulk("ns3::TcpSocketFactory", InetSocketAddress(net.targets[i], PORT));
+        bulk.SetAttribute("SendSize", UintegerValue(SEGMENT));
         ApplicationContainer source = bulk.Install(net.senders.Get(i));
         source.Start(Seconds(start->GetValue(0, 1)));
     }
@@ -262,7 +308,7 @@ Read(int count, char** words)
     Scenario s;
     bool isHeader = false;
     CommandLine line(__FILE__);
-    line.AddValue("queue", "recorded, pie, pie-random or fifo", s.queue);
+    line.AddValue("queue", "recorded, pie, pie-random, fifo; pie-mark, pie-mark-burst: pie with points changed", s.queue);
     line.AddValue("rate", "Mbit/s of the shared link", s.megabits);
     line.AddValue("flows", "TCP flows", s.flows);
     line.AddValue("rtt", "round trip without queues, ms", s.roundTrip);
@@ -271,6 +317,7 @@ Read(int count, char** words)
     line.AddValue("seed", "number of the run", s.seed);
     line.AddValue("seconds", "simulated seconds", s.seconds);
     line.AddValue("warm-up", "seconds of which steady figures take no account", s.warmUp);
+    line.AddValue("buffer", "send buffer of each flow, kB; 0: four times its share of what link and queue hold", s.buffer);
     line.AddValue("history", "file for the history (queue recorded)", s.history);
     line.AddValue("header", "print the names of the fields before the record", isHeader);
     line.Parse(count, words);

@@ -1,11 +1,21 @@
 #!/usr/bin/env python3
-"""Makes tables of the records that scenarios.sh left: a table for each scenario, a line for each queue, of goodput and waits the mean
-over the runs and in brackets the least and the greatest, of drops and marks the mean. A last line tells how this repository's PIE
-and ns-3's own, both with de-randomization, lie beside each other in mean wait and goodput, where there are three runs of each.
+"""Makes tables of the records that scenarios.sh left. Goodput in Mbit/s, waits in ms.
 
-usage: bindings/ns3/table.py RESULTS.csv [plot]      plot: the mean waits for draw.sh instead, of scenarios with three runs and more
+usage: bindings/ns3/table.py RESULTS.csv [full | beside | plot]
+
+full    for each scenario a table with a line for each queue: of each figure the mean over the runs, and in brackets the least and the greatest
+beside  a line for each scenario: this repository's PIE beside PieQueueDisc with de-randomization; then all scenarios together
+plot    the mean waits, for draw.sh
+
+How the two are compared was fixed before the runs were made. The runs of the two are mixed, and parted again at random, 5,000 times; `chance`
+is the share of those in which the means lie at least as far apart as they do in truth. Below 0.05 they differ beyond the spread of the runs.
+Of a hundred comparisons of the same thing with itself some five come out so. For all scenarios together the means of each scenario are divided
+by one another, and the mean of the logarithms of these ratios is compared, parting the runs of each scenario anew. A scenario with fewer than four runs of each has no
+chance of its own, since no parting of six is rarer than one of ten, but counts in what is said of all.
 """
 import csv
+import math
+import random
 import sys
 from collections import defaultdict
 
@@ -25,6 +35,9 @@ FIGURES = {
     "tail": "tail drops",
     "marked": "marks",
 }
+COMPARED = ("wait_mean_ms", "goodput_mbit")
+PARTINGS = 5000
+BEYOND = 0.05
 
 
 def read(path):
@@ -37,55 +50,115 @@ def read(path):
     return {key: list(by_seed.values()) for key, by_seed in runs.items()}
 
 
-def spread(records, figure):
-    values = [float(record[figure]) for record in records]
-    return sum(values) / len(values), min(values), max(values)
+def values(records, figure):
+    return [float(record[figure]) for record in records]
+
+
+def mean(numbers):
+    return sum(numbers) / len(numbers)
 
 
 def shown(records, figure):
-    mean, least, greatest = spread(records, figure)
-    if figure in ("early", "tail", "marked"):
-        return f"{mean:.0f}"
-    digits = 1 if figure == "goodput_mbit" else 0
-    return f"{mean:.{digits}f}" + (f" ({least:.{digits}f} to {greatest:.{digits}f})" if len(records) > 1 else "")
+    numbers = values(records, figure)
+    digits = 1 if figure == "goodput_mbit" or mean(numbers) < 1 and max(numbers) > 0 else 0
+    text = f"{mean(numbers):.{digits}f}"
+    if len(numbers) > 1 and min(numbers) < max(numbers):
+        text += f" ({min(numbers):.{digits}f} to {max(numbers):.{digits}f})"
+    return text
 
 
 def name_of(scenario):
     mbit, flows, rtt, ecn, udp = scenario
     text = f"{mbit} Mbit/s, {flows} {'flow' if flows == '1' else 'flows'}, {rtt} ms"
-    return text + (", ECN" if ecn == "1" else "") + (f", a UDP burst at {udp} of the link's rate" if udp != "0" else "")
+    return text + (", ECN" if ecn == "1" else "") + (", a UDP burst" if udp != "0" else "")
 
 
-def beside(ours, theirs):
-    """Where the ranges of two lists of runs meet, they agree within the spread."""
-    parts = []
-    for figure, name in (("wait_mean_ms", "mean wait"), ("goodput_mbit", "goodput")):
-        _, least, greatest = spread(ours, figure)
-        _, other_least, other_greatest = spread(theirs, figure)
-        parts.append(f"{name} {'within' if least <= other_greatest and other_least <= greatest else 'BEYOND'} the spread")
-    return ", ".join(parts)
+def ratio(pairs):
+    """The mean, over pairs of lists, of the logarithm of the ratio of their means."""
+    return mean([math.log(mean(ours) / mean(theirs)) for ours, theirs in pairs])
+
+
+def chance(pairs):
+    """The share of random partings of each pair's runs whose ratio is as far from 1 as that of the pairs themselves, or further."""
+    dice = random.Random(8033)
+    found = abs(ratio(pairs)) - 1e-12
+    further = 0
+    for _ in range(PARTINGS):
+        parted = []
+        for ours, theirs in pairs:
+            mixed = ours + theirs
+            dice.shuffle(mixed)
+            parted.append((mixed[: len(ours)], mixed[len(ours) :]))
+        further += abs(ratio(parted)) >= found
+    return (further + 1) / (PARTINGS + 1)
+
+
+def print_full(runs, scenarios):
+    for scenario in scenarios:
+        print(f"\n{name_of(scenario)}:\n")
+        print("| queue | runs | " + " | ".join(FIGURES.values()) + " |")
+        print("|---|" + "---|" * (len(FIGURES) + 1))
+        for queue, name in QUEUES.items():
+            records = runs.get((scenario, queue))
+            if records:
+                print(f"| {name} | {len(records)} | " + " | ".join(shown(records, figure) for figure in FIGURES) + " |")
+
+
+def figures(ours, theirs, fifo, figure, is_judged):
+    """The cells of one figure, and the chance where there are runs enough to have one."""
+    found = chance([(values(ours, figure), values(theirs, figure))]) if is_judged else None
+    text = "" if found is None else f"{found:.2f}" if found >= 0.01 else f"{found:.4f}"
+    tail = f"{mean(values(fifo, figure)):.{1 if figure == 'goodput_mbit' else 0}f}" if fifo else ""
+    return [tail, shown(ours, figure), shown(theirs, figure), f"**{text}**" if found is not None and found < BEYOND else text], found
+
+
+def print_together(runs, compared, name):
+    for figure in COMPARED:
+        pairs = [tuple(values(runs[scenario, queue], figure) for queue in ("recorded", "pie")) for scenario in compared]
+        print(f"{name}, {len(pairs)} scenarios together: {FIGURES[figure]} here is {math.exp(ratio(pairs)):.3f} times that of PieQueueDisc, "
+              f"chance {chance(pairs):.4f}.")
+
+
+def print_beside(runs, scenarios):
+    """With fewer than four runs of each no parting is rarer than one of ten, so such a scenario has no chance of its own."""
+    counts = {it: [len(runs.get((it, queue), [])) for queue in ("recorded", "pie")] for it in scenarios}
+    compared = [it for it in scenarios if min(counts[it]) > 0]
+    print("| scenario | runs | wait, tail drop | wait, here | wait, PieQueueDisc | chance | goodput, tail drop | goodput, here "
+          "| goodput, PieQueueDisc | chance |")
+    print("|---|" + "---|" * 9)
+    chances = []
+    for scenario in compared:
+        queues = [runs.get((scenario, queue), []) for queue in ("recorded", "pie", "fifo")]
+        line = [name_of(scenario), ", ".join(str(it) for it in sorted(set(counts[scenario])))]
+        for figure in COMPARED:
+            cells, found = figures(*queues, figure, min(counts[scenario]) >= 4)
+            line += cells
+            chances += [] if found is None else [found]
+        print("| " + " | ".join(line) + " |")
+    beyond = sum(it < BEYOND for it in chances)
+    print(f"\n{beyond} of {len(chances)} comparisons are beyond the spread; {BEYOND * len(chances):.1f} would be by chance alone.")
+    for rate in dict.fromkeys(it[0] for it in compared):
+        print_together(runs, [it for it in compared if it[0] == rate], f"{rate} Mbit/s")
+    print_together(runs, [it for it in compared if it[3] == "0"], "Without ECN")
+    print_together(runs, compared, "All")
+
+
+def print_plot(runs, scenarios):
+    """Of each scenario its rate, its place among those of this rate, its name, and of each queue mean, least and greatest."""
+    for rate in dict.fromkeys(scenario[0] for scenario in scenarios):
+        for place, scenario in enumerate(it for it in scenarios if it[0] == rate):
+            name = "\\n".join(name_of(scenario).split(", ")[1:])
+            cells = []
+            for queue in QUEUES:
+                numbers = values(runs.get((scenario, queue), []), "wait_mean_ms") or [math.nan]
+                cells += [mean(numbers), min(numbers), max(numbers)]
+            print(rate, place, f'"{name}"', *cells)
 
 
 def main():
     runs = read(sys.argv[1])
-    is_plot = sys.argv[2:] == ["plot"]
-    scenarios = list(dict.fromkeys(scenario for scenario, _ in runs))
-    if is_plot:
-        scenarios = [scenario for scenario in scenarios if len(runs.get((scenario, "recorded"), [])) >= 3]
-    for place, scenario in enumerate(scenarios):
-        by_queue = {queue: runs[scenario, queue] for queue in QUEUES if (scenario, queue) in runs}
-        if is_plot:
-            spreads = {queue: spread(by_queue[queue], "wait_mean_ms") if queue in by_queue else ("nan",) * 3 for queue in QUEUES}
-            name = name_of(scenario).replace(" of the link's rate", "").replace(", ", "\\n")
-            print(place, f'"{name}"', *(value for it in spreads.values() for value in it))
-            continue
-        print(f"\n{name_of(scenario)}:\n")
-        print("| queue | runs | " + " | ".join(FIGURES.values()) + " |")
-        print("|---|" + "---|" * (len(FIGURES) + 1))
-        for queue, records in by_queue.items():
-            print(f"| {QUEUES[queue]} | {len(records)} | " + " | ".join(shown(records, figure) for figure in FIGURES) + " |")
-        if min(len(by_queue.get(queue, [])) for queue in ("recorded", "pie")) >= 3:
-            print(f"\nThis repository's PIE beside PieQueueDisc, de-randomized: {beside(by_queue['recorded'], by_queue['pie'])}.")
+    scenarios = sorted({scenario for scenario, _ in runs}, key=lambda it: (float(it[0]), it[3], it[4], float(it[2]) != 40, float(it[2]), int(it[1])))
+    {"full": print_full, "beside": print_beside, "plot": print_plot}[sys.argv[2] if len(sys.argv) > 2 else "full"](runs, scenarios)
 
 
 main()

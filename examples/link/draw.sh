@@ -21,7 +21,8 @@ set output "$picture"
 set datafile separator ","
 set multiplot layout 2,1 margins 0.08,0.97,0.09,0.97 spacing 0.06
 set grid
-set key top right
+set key top right horizontal
+set offsets 0, 0, graph 0.2, 0
 set xrange [0:*]
 set yrange [0:*]
 set ylabel "queueing delay, ms"

@@ -54,7 +54,8 @@ static void stop(int number) {
 }
 
 static void die(const char *what) {
-    fprintf(stderr, "link: %s: %s\n", what, strerror(errno));
+    const char *hint = errno == EPERM || errno == EACCES ? " (it has to be root, or to have CAP_NET_ADMIN)" : "";
+    fprintf(stderr, "link: %s: %s%s\n", what, strerror(errno), hint);
     exit(1);
 }
 

@@ -1,9 +1,12 @@
 # For run.sh and tests/link.sh, which source this file: `measure` runs TCP and ping through the link, between network namespaces
 # that it makes. All that it starts and makes is gone when the script ends, also by a signal.
+# Traffic is IPv6 where LINK_FAMILY is 6, and else IPv4.
 
 link_program=$(cd "$(dirname "${BASH_SOURCE[0]}")" && pwd)/out/link
 names=(link-$$-from link-$$-link link-$$-to)
 started=()
+near=10.0.0.1 far=10.0.0.2
+[ "${LINK_FAMILY:-4}" = 6 ] && near=fd00::1 far=fd00::2
 
 # Ends what was started, by its number, and takes the namespaces away.
 clean_up() {
@@ -28,7 +31,7 @@ trap 'exit 143' TERM HUP
 within() {
     local name=$1
     shift
-    exec ip netns exec "$name" timeout "$bound" "$@"
+    exec ip netns exec "$name" timeout --kill-after=5 "$bound" "$@"
 }
 
 # The link goes before all other work of the machine: one that is woken late sends late and updates late.
@@ -56,16 +59,28 @@ is_listening() {
     ip netns exec "$1" grep -q ':1451 .* 0A ' /proc/net/tcp /proc/net/tcp6
 }
 
-# set_up_end NAME DEVICE ADDRESS PEER: moves a device of the link into a namespace of its own
+# set_up_end NAME DEVICE ADDRESS PEER: moves a device of the link into a namespace of its own, with a route to the other end
 set_up_end() {
     ip -n "${names[1]}" link set "$2" netns "$1"
     ip -n "$1" addr add "$3" peer "$4" dev "$2"
     ip -n "$1" link set lo up
     ip -n "$1" link set "$2" up
+    ip -n "$1" route replace "$4" dev "$2"
     ip netns exec "$1" sysctl -q -w net.ipv4.tcp_ecn=1 net.ipv4.tcp_no_metrics_save=1
 }
 
-# measure FOLDER SECONDS FLOWS [OPTIONS OF THE LINK..]: leaves history, tcp, ping and link (what each program said) in FOLDER
+# counters NAME: what the kernel of a namespace counted of the IP packets that came: marked CE, with a wrong IPv4 checksum, with a bad header
+counters() {
+    ip netns exec "$1" cat /proc/net/netstat /proc/net/snmp6 /proc/net/snmp | awk '
+        $1 == "IpExt:" || $1 == "Ip:" { if ($1 in names) { for (i = 2; i <= NF; i++) value[$1 named[$1, i]] = $i }
+            else { names[$1] = 1; for (i = 2; i <= NF; i++) named[$1, i] = $i } }
+        NF == 2 { value[$1] = $2 }
+        END { print value["IpExt:InCEPkts"] + value["Ip6InCEPkts"], value["IpExt:InCsumErrors"] + 0,
+            value["Ip:InHdrErrors"] + value["Ip6InHdrErrors"] }'
+}
+
+# measure FOLDER SECONDS FLOWS [OPTIONS OF THE LINK..]: leaves history, tcp, ping and link (what each program said), and counters (what the
+# receivers' kernel counted) in FOLDER
 measure() {
     local folder=$1 seconds=$2 flows=$3 name link
     shift 3
@@ -80,19 +95,20 @@ measure() {
     link=$!
     started+=("$link")
     wait_for has_device "${names[1]}" senders && wait_for has_device "${names[1]}" receivers || return 1
-    set_up_end "${names[0]}" senders 10.0.0.1 10.0.0.2 && set_up_end "${names[2]}" receivers 10.0.0.2 10.0.0.1 || return 1
+    set_up_end "${names[0]}" senders "$near" "$far" && set_up_end "${names[2]}" receivers "$far" "$near" || return 1
     (within "${names[2]}" iperf3 --server --one-off) > "$folder/server" 2>&1 &
     started+=($!)
     wait_for is_listening "${names[2]}" || return 1
-    (within "${names[0]}" ping -n -i 0.05 -w "$seconds" 10.0.0.2) > "$folder/ping" 2>&1 &
+    (within "${names[0]}" ping -n -i 0.05 -w "$seconds" "$far") > "$folder/ping" 2>&1 &
     started+=($!)
-    (within "${names[0]}" iperf3 --client 10.0.0.2 --parallel "$flows" --time "$seconds" --congestion cubic --format k) \
+    (within "${names[0]}" iperf3 --client "$far" --parallel "$flows" --time "$seconds" --congestion cubic --format k) \
         > "$folder/tcp" 2>&1 &
     started+=($!)
     wait $! || { cat "$folder/tcp" >&2; return 1; }
     # the link writes out its history when it is ended
     kill -TERM "$link"
     wait "$link"
+    counters "${names[2]}" > "$folder/counters"
     clean_up
 }
 

@@ -29,13 +29,19 @@ static const char help[] =
     "  --delay 20ms         delay of the way back: s, ms, us, ns\n"
     "  --limit 256kb        the queue's limit: b, kb (1024 bytes), mb\n"
     "  --packets 65536      how many packets the queue has room for\n"
-    "  --queue pie          pie, or tail: only the limit drops\n"
+    "  --queue pie          pie, or tail: only the limit drops (PIE with gains of 0, so that its history can be audited too)\n"
     "  --ecn                mark packets whose ECN field allows it\n"
     "  --profile 1          1: always active; 2: turns itself on and off\n"
     "  --target 15ms, --update 15ms, --burst 150ms, --alpha 0.125, --beta 1.25, --mean-packet 1024b, --mark-below 10%,\n"
     "  --threshold 16kb     the parameters, with their defaults\n"
     "  --history FILE       write every decision, for pie audit and pie explain\n"
-    "  --for 60s            end after this time\n";
+    "  --for 60s            end after this time\n"
+    "\n"
+    "A number without a unit counts bits a second, seconds or bytes. It has to be root, or to have CAP_NET_ADMIN. Example:\n"
+    "\n"
+    "  link --from senders --to receivers --rate 10mbit --delay 20ms --limit 256kb --ecn --history /tmp/history\n"
+    "\n"
+    "run.sh beside it makes network namespaces, moves the devices into them, and sends TCP through.\n";
 
 /* The number in this text, with its unit; false where it is none. */
 static bool value_of(const char *text, const struct unit *units, uint64_t *value) {

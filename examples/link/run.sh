@@ -1,13 +1,19 @@
 #!/usr/bin/env bash
 # TCP and ping through the link, by tail drop, by PIE, and by PIE with ECN: audits the histories, explains the first lost packets,
 # prints a table, and draws delay and probability over time. Traffic stays in network namespaces of this script.
+#
 # usage: examples/link/run.sh PIE FOLDER [SECONDS] [FLOWS] [OPTIONS OF THE LINK..]
-#   PIE: the built program, as crates/pie/out/ has it after `rt run`. FOLDER gets the histories, what the programs said, and the picture.
+#   PIE      the built program, as crates/pie/out/ has it after `rt run`
+#   FOLDER   gets the histories, what the programs said, and the picture
+#   SECONDS  of each of the three runs, 20 where it isn't given; FLOWS: 4
+# `out/link --help` has the link's options. LINK_FAMILY=6 in the environment makes the traffic IPv6. It has to be root. Status 1 where
+# something is missing, a run failed or a history is not clean.
 set -u
 here=$(cd "$(dirname "$0")" && pwd)
-if [ $# -lt 2 ]; then
-    sed -n '2,5s/^# //p' "$0"
-    exit 1
+if [ $# -lt 2 ] || [ "$1" = --help ]; then
+    sed -n '2,10s/^# \{0,1\}//p' "$0"
+    [ "${1:-}" = --help ]
+    exit
 fi
 if ! "$here/missing.sh"; then
     echo "examples/link/run.sh: the above is missing, so nothing was run; examples/link/install.sh installs what Debian has of it"
@@ -15,7 +21,12 @@ if ! "$here/missing.sh"; then
 fi
 program=$1 folder=$2 seconds=${3:-20} flows=${4:-4}
 shift $(($# < 4 ? $# : 4))
+if [ ! -x "$program" ]; then
+    echo "examples/link/run.sh: there is no program $program; (cd crates/pie && rt run) builds crates/pie/out/pie" >&2
+    exit 1
+fi
 make -s -C "$here" || exit 1
+# shellcheck source=examples/link/measure.sh
 . "$here/measure.sh"
 
 # goodput FILE: what the receiver got, in Mbit/s
@@ -35,11 +46,14 @@ verdicts() {
 }
 
 row() {
-    local name=$1 where=$2
-    printf '| %-13s | %7s | %8s | %8s | %7.1f | %8.1f | %10.1f | %6d | %5d | %6d | %s |\n' "$name" "$(goodput "$where/tcp")" \
-        $(round_trips "$where/ping") $(waits "$where/history" | awk '{ print $2, $4 }') $(waits "$where/history" 5 | awk '{ print $2 }') \
-        "$(verdicts "$where/history" early)" "$(verdicts "$where/history" 'bytes|packets')" "$(verdicts "$where/history" mark)" \
-        "$("$program" audit < "$where/history")"
+    local name=$1 where=$2 mean last wait wait_last later late
+    read -r mean last <<< "$(round_trips "$where/ping")"
+    read -r _ wait _ wait_last <<< "$(waits "$where/history")"
+    read -r _ later _ <<< "$(waits "$where/history" 5)"
+    late=$(sed -n 's/.* updates, \([0-9]*\) of them later.*/\1/p' "$where/link")
+    printf '| %-13s | %7s | %8s | %8s | %7.1f | %8.1f | %10.1f | %6d | %5d | %6d | %5d | %s |\n' "$name" "$(goodput "$where/tcp")" \
+        "$mean" "$last" "$wait" "$wait_last" "$later" "$(verdicts "$where/history" early)" "$(verdicts "$where/history" 'bytes|packets')" \
+        "$(verdicts "$where/history" mark)" "$late" "$("$program" audit < "$where/history")"
 }
 
 measure "$folder/tail" "$seconds" "$flows" "$@" --queue tail || exit 1
@@ -48,11 +62,17 @@ measure "$folder/pie-ecn" "$seconds" "$flows" "$@" --queue pie --ecn || exit 1
 
 echo "$flows TCP CUBIC flows and a ping for $seconds s; options of the link: ${*:-the defaults}. Times in ms, goodput in Mbit/s."
 echo
-echo '| queue         | goodput | RTT mean |  RTT p99 |    wait | wait p99 | after 5 s  |  early |  tail |  marks | audit |'
-echo '|---|---|---|---|---|---|---|---|---|---|---|'
-row 'tail drop' "$folder/tail"
-row 'PIE' "$folder/pie"
-row 'PIE with ECN' "$folder/pie-ecn"
+echo '| queue         | goodput | RTT mean |  RTT p99 |    wait | wait p99 | after 5 s  |  early |  tail |  marks |  late | audit |'
+echo '|---|---|---|---|---|---|---|---|---|---|---|---|'
+{
+    row 'tail drop' "$folder/tail"
+    row 'PIE' "$folder/pie"
+    row 'PIE with ECN' "$folder/pie-ecn"
+} | tee "$folder/table"
+read -r marked wrong bad < "$folder/pie-ecn/counters"
+echo
+echo "late: updates later than by a whole period, where this machine did not let the link run in time. With ECN the receivers' kernel"
+echo "counted $marked packets marked CE, $wrong with a wrong IPv4 checksum and $bad with a bad header."
 for name in pie pie-ecn; do
     "$program" explain --lost < "$folder/$name/history" > "$folder/$name/lost"
     echo
@@ -64,4 +84,8 @@ if command -v gnuplot > /dev/null; then
         echo && echo "picture: $folder/delay.png"
 else
     echo 'missing: gnuplot, so no picture was drawn'
+fi
+if [ "$(grep -c '| clean,[0-9]* |$' "$folder/table")" != 3 ]; then
+    echo 'examples/link/run.sh: a history is not clean' >&2
+    exit 1
 fi

@@ -1,0 +1,14 @@
+#!/usr/bin/env bash
+# Of the arrivals that were considered for early drop (no burst allowed, no exemption of section 4.1, nothing over the limit), by the probability
+# at which they came: how many there were, and what share was picked, to be marked or dropped early. See docs/RESULTS.md.
+# usage: examples/link/shares.sh PIE HISTORY
+set -eu
+"$1" explain --all --csv < "$2" | awk -F, '
+    NR == 1 { for (i = 1; i <= NF; i++) place[$i] = i; next }
+    $place["kind"] == "arrive" && $place["cause"] ~ /^(little_accumulated|word_not_below|picked_by_)/ {
+        tenth = int($place["probability"] / 1e11)
+        considered[tenth]++
+        picked[tenth] += $place["verdict"] == "mark" || $place["verdict"] == "early" }
+    END { for (tenth = 0; tenth < 10; tenth++) if (considered[tenth])
+        printf "%d to %d %%: %d of %d considered, %.1f %%\n", tenth * 10, tenth * 10 + 10, picked[tenth], considered[tenth],
+            100 * picked[tenth] / considered[tenth] }'

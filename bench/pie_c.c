@@ -56,6 +56,13 @@ STEP uint32_t arrived(struct plain *plain, const struct params *p, uint64_t queu
     return consider(&plain->accu, p, &plain->control, queued, (int)ecn, random);
 }
 
+/* A departure of the library's scope in plain C: it keeps the greatest moment, as an arrival does. */
+STEP void left_at(struct plain *plain, const struct params *p, uint32_t size, uint64_t left, uint64_t moment) {
+    if (moment > plain->moment)
+        plain->moment = moment;
+    departed_by(&plain->rate, size, left, plain->moment, p->dq_threshold);
+}
+
 /* An arrival in plain C over the library's state, refused for what the library refuses. */
 STEP uint32_t checked_arrival(struct pie_state *s, uint64_t queued, uint32_t size, uint32_t room, uint32_t ecn, uint64_t random,
                               uint64_t moment) {
@@ -273,6 +280,7 @@ static void arrive(struct pie_state *state, struct plain *plain) {
 
 static void depart(struct pie_state *state, struct plain *plain) {
     struct pie_state copy = *state;
+    struct plain kept = *plain;
     for (int from = 0; from < INPUTS; from += TURN) {
         double begin = nanos();
         for (int i = from; i < from + TURN; i++)
@@ -282,13 +290,16 @@ static void depart(struct pie_state *state, struct plain *plain) {
             departed(&plain->rate, departures[i].size, 100000, departures[i].moment, plain_params.dq_threshold);
         begin = keep_nanos("depart_c", begin, TURN);
         for (int i = from; i < from + TURN; i++)
+            left_at(&kept, &plain_params, departures[i].size, 100000, departures[i].moment);
+        begin = keep_nanos("depart_c_moment", begin, TURN);
+        for (int i = from; i < from + TURN; i++)
             checked_departure(&copy, departures[i].size, 100000, departures[i].moment);
         keep_nanos("depart_c_checked", begin, TURN);
     }
     if (state->average != plain->rate.average || state->measuring != (uint64_t)plain->rate.begun ||
         state->cycle_start != plain->rate.start || state->cycle_count != plain->rate.count)
         exit(3);
-    if (memcmp(state, &copy, sizeof copy) != 0)
+    if (memcmp(state, &copy, sizeof copy) != 0 || memcmp(&plain->rate, &kept.rate, sizeof kept.rate) != 0 || state->moment != kept.moment)
         exit(6);
 }
 

@@ -10,7 +10,8 @@ set -eu
 cd "$(dirname "$0")/.."
 work=$(mktemp -d)
 trap 'rm -rf "$work"' EXIT
-calls="arrive_library/arrive_c arrive_library/arrive_c_checked depart_library/depart_c depart_library/depart_c_checked"
+calls="arrive_library/arrive_c arrive_library/arrive_c_checked depart_library/depart_c"
+calls="$calls depart_library/depart_c_moment depart_library/depart_c_checked"
 pairs="$calls update_library/update_c stream_library/stream_none stream_library/stream_c"
 alone="wait_library dropped_library wait_c dropped_c"
 dpdk=""

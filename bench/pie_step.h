@@ -54,7 +54,7 @@ STEP enum choice consider(uint64_t *accu, const struct params *params, const str
 }
 
 /* A departure, as the estimate of the departure rate is shown it (section 5.2). */
-STEP void departed(struct rate *rate, uint32_t size, uint64_t left, uint64_t moment, uint64_t threshold) {
+static inline void departed_by(struct rate *rate, uint32_t size, uint64_t left, uint64_t moment, uint64_t threshold) {
     if (rate->begun) {
         uint64_t count = rate->count + size;
         if (count < threshold) {
@@ -73,6 +73,10 @@ STEP void departed(struct rate *rate, uint32_t size, uint64_t left, uint64_t mom
     rate->begun = left >= threshold;
     rate->start = moment;
     rate->count = 0;
+}
+
+STEP void departed(struct rate *rate, uint32_t size, uint64_t left, uint64_t moment, uint64_t threshold) {
+    departed_by(rate, size, left, moment, threshold);
 }
 
 /* The delay of so many bytes (section 5.2). */

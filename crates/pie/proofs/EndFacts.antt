@@ -2,6 +2,7 @@
 use Rattle.std.proofs.Common.{◌≡◌, ◌∙◌, ◌^◌, ℕ, List, Option, Some, None, ap, inl, inr, refl}
 use Rattle.std.specs.Prelude.{false, IfErr, IfOk, IfSome, Result, Ok, Err}
 use Rattle.std.specs.Io.KnownBytes.{Appends}
+use Rattle.clap.specs.Words.{Row}
 use Rattle.pie_record.specs.declared.fault.TraceFault.{TraceFault}
 use Rattle.pie_record.specs.declared.fault.TraceFault.TheVariants as trace_fault
 use Rattle.pie_record.specs.Fault.{IsTold, is_device}
@@ -12,14 +13,15 @@ use Rattle.pie_record.specs.Text.{records_of}
 use Rattle.pie_audit.specs.declared.auditor.Finding.{Finding}
 use Rattle.pie_audit.specs.declared.auditor.Finding.TheVariants as finding
 use Rattle.pie_audit.specs.Text.{finding_line, text_finding}
-use Rattle.pie_explain.specs.declared.explainer.Form.{Form}
+use Rattle.pie_explain.specs.declared.explanation.Explained.{Explained}
 use Rattle.pie_explain.specs.declared.fault.ExplainFault.{ExplainFault}
 use Rattle.pie_explain.specs.declared.fault.ExplainFault.TheVariants as fault
-use Rattle.pie_explain.specs.declared.which.Which.{Which}
+use Rattle.pie_explain.specs.declared.choice.Choice.{Choice}
 use Rattle.pie_explain.specs.Answer.{IsTold as is_told, answer}
 use Rattle.pie_explain.specs.Output.{output}
 use Rattle.pie.specs.declared.end.End.TheVariants.{Done, Differs, Fault, Failed}
-use Rattle.pie.specs.Ends.{EndsAudit, EndsExplain, EndsMigrate, EndsRun, WritesOrFails, answer_status, end_of, run_ends}
+use Rattle.pie.specs.Choice.{choice_of, tale_of}
+use Rattle.pie.specs.Ends.{EndsAudit, EndsExplain, EndsMigrate, EndsRun, WritesOrFails, answer_status, end_of, explain_ends, run_ends}
 
 -- ---- before a subcommand begins
 
@@ -115,12 +117,15 @@ EndsAudit-faulted (Some text) why before faults = (faults, inl refl)
 
 -- ---- `pie explain`
 
-pub EndsExplain-failed : (choice : Option Which) (form : Form) (known : Option (List ℕ)) (status : ℕ) (before now : Option (List ℕ))
-    → status ≡ 1 → now ≡ before
-    → IfSome known (λ text. EndsExplain choice form text status before now)
-EndsExplain-failed choice form None status before now one same = tt
-EndsExplain-failed None form (Some text) status before now one same = (one, same)
-EndsExplain-failed (Some which) form (Some text) status before now one same = inl one
+explain_ends-failed : (choice : Option Choice) (tale : List Explained → List ℕ) (text : List ℕ) (status : ℕ) (before now : Option (List ℕ)) → status ≡ 1 → now ≡ before
+    → explain_ends choice tale text status before now
+explain_ends-failed None tale text status before now one same = (one, same)
+explain_ends-failed (Some choice) tale text status before now one same = inl one
+
+pub EndsExplain-failed : (options : List Row) (known : Option (List ℕ)) (status : ℕ) (before now : Option (List ℕ)) → status ≡ 1 → now ≡ before
+    → IfSome known (λ text. EndsExplain options text status before now)
+EndsExplain-failed options None status before now one same = tt
+EndsExplain-failed options (Some text) status before now one same = explain_ends-failed (choice_of options) (tale_of options) text status before now one same
 
 -- what `explain` answered and wrote; where a device or memory failed, it said so, and the status is 1
 explained-so : (text : List ℕ) (status : ℕ) (before now : Option (List ℕ)) (given told : Result ℕ ExplainFault) → status ≡ answer_status given
@@ -130,11 +135,12 @@ explained-so text status before now (Err (fault.Trace why)) told is answers writ
 explained-so text status before now (Err (fault.Differs event)) told is answers writes = inr (is ∙ ap answer_status (answers tt), writes tt)
 explained-so text status before now (Err (fault.NoEvent event events)) told is answers writes = inl is
 explained-so text status before now (Err (fault.NoTag tag)) told is answers writes = inl is
+explained-so text status before now (Err fault.NoneWithin) told is answers writes = inl is
 
-pub EndsExplain-told : (which : Which) (form : Form) (known : Option (List ℕ)) (status : ℕ) (before now : Option (List ℕ)) (given : Result ℕ ExplainFault) → status ≡ answer_status given
-    → IfSome known (λ text. is_told given → given ≡ answer which (records_of text))
-    → IfSome known (λ text. is_told given → Appends before now (output which form (records_of text)))
-    → IfSome known (λ text. EndsExplain (Some which) form text status before now)
-EndsExplain-told which form None status before now given is answers writes = tt
-EndsExplain-told which form (Some text) status before now given is answers writes =
-    explained-so (output which form (records_of text)) status before now given (answer which (records_of text)) is answers writes
+pub EndsExplain-told : (choice : Choice) (tale : List Explained → List ℕ) (known : Option (List ℕ)) (status : ℕ) (before now : Option (List ℕ)) (given : Result ℕ ExplainFault) → status ≡ answer_status given
+    → IfSome known (λ text. is_told given → given ≡ answer choice (records_of text))
+    → IfSome known (λ text. is_told given → Appends before now (output tale choice (records_of text)))
+    → IfSome known (λ text. explain_ends (Some choice) tale text status before now)
+EndsExplain-told choice tale None status before now given is answers writes = tt
+EndsExplain-told choice tale (Some text) status before now given is answers writes =
+    explained-so (output tale choice (records_of text)) status before now given (answer choice (records_of text)) is answers writes

@@ -5,10 +5,14 @@ use Rattle.std.specs.Option.{option_map_or}
 use Rattle.std.specs.Str.{bytes_eq}
 use Rattle.std.specs.Str.Parse.{ParsesBool, ParsesUnsigned, digits_value, without_leading_plus}
 use Rattle.std.proofs.lemmas.Slice.Eq.{bytes_eq-Decides}
-use Rattle.clap.specs.Matches.{ReadsOne}
+use Rattle.clap.specs.Matches.{ReadsOne, TriesOne}
 use Rattle.clap.specs.ValueTests.{accepts}
 use Rattle.clap.specs.declared.builder.value_parser.ValueParser.TheVariants.{Unsigned}
 use Rattle.clap.proofs.ValueTestLemmas.{Accepts-accepts, accepts-Accepts}
+use Rattle.pie_explain.specs.declared.moment.Moment.{Moment}
+use Rattle.pie_explain.specs.declared.moment.MomentFault.{MomentFault}
+use Rattle.pie_explain.specs.Moment.{WritesMoment}
+use Rattle.pie.specs.Choice.{moment_read, units_of, written}
 use Rattle.pie.specs.Words.{number_of}
 
 -- ---- a number
@@ -58,3 +62,15 @@ flag-given gives parses (Some text) result none some = go (bytes_eq text (codes 
         cc
     go false is (Some false) reads = refl
     go false is None reads = refl
+
+-- ---- a moment
+
+pub moment-given : (given : Option (List ℕ)) (result : Result (Option Moment) MomentFault) → (given ≡ None → result ≡ Ok None)
+    → ((text : List ℕ) → given ≡ Some text → TriesOne WritesMoment text result) → units_of result ≡ moment_read given
+moment-given None result none some = ap units_of (none refl)
+moment-given (Some text) result none some = go result (some text refl)
+  where
+    go : (read : Result (Option Moment) MomentFault) → TriesOne WritesMoment text read → units_of read ≡ moment_read (Some text)
+    go (Ok (Some moment)) tries = sym (ap written tries)
+    go (Ok None) tries = absurd tries
+    go (Err why) tries = sym (ap written tries)

@@ -1,11 +1,17 @@
 -- Which events the words of `pie explain` choose, and how they are explained.
-use Rattle.std.specs.Prelude.{ℕ, Bool, true, false, List, Option, Some, None, codes}
-use Rattle.clap.specs.Words.{Row}
+use Rattle.std.specs.Prelude.{ℕ, Bool, true, false, List, Option, Some, None, Result, Ok, Err, codes}
+use Rattle.clap.specs.Words.{Row, Text, one_of}
 use Rattle.pie.specs.Words.{flag_given, number_given}
+use Rattle.pie_explain.specs.declared.choice.Choice.{Choice}
 use Rattle.pie_explain.specs.declared.explainer.Form.{Form}
-use Rattle.pie_explain.specs.declared.explainer.Form.TheVariants.{Text, Csv}
+use Rattle.pie_explain.specs.declared.explainer.Form.TheVariants.{Text as Words, Csv}
+use Rattle.pie_explain.specs.declared.explanation.Explained.{Explained}
+use Rattle.pie_explain.specs.declared.moment.Moment.{Moment}
+use Rattle.pie_explain.specs.declared.moment.MomentFault.{MomentFault}
 use Rattle.pie_explain.specs.declared.which.Which.{Which}
 use Rattle.pie_explain.specs.declared.which.Which.TheVariants.{Number, Tag, Lost, Marked, All}
+use Rattle.pie_explain.specs.Moment.{moment_in}
+use Rattle.pie_explain.specs.Output.{pages}
 
 -- the events that are chosen, where exactly one of the five options chooses some
 abbrev pub chosen : Option ℕ → Option ℕ → Bool → Bool → Bool → Option Which
@@ -17,14 +23,51 @@ chosen None None false false true = Some All
 chosen _ _ _ _ _ = None
 
 -- the events that these options choose
-abbrev pub choice_of : List Row → Option Which
-choice_of options = chosen (number_given (codes "event") options) (number_given (codes "tag") options) (flag_given (codes "lost") options)
+abbrev pub which_of : List Row → Option Which
+which_of options = chosen (number_given (codes "event") options) (number_given (codes "tag") options) (flag_given (codes "lost") options)
     (flag_given (codes "marked") options) (flag_given (codes "all") options)
+
+-- ---- moments
+
+-- the nanoseconds of a moment that was read, if there was one to read
+abbrev pub units_of : Result (Option Moment) MomentFault → Result (Option ℕ) MomentFault
+units_of (Ok None) = Ok None
+units_of (Ok (Some moment)) = Ok (Some moment.0)
+units_of (Err why) = Err why
+
+-- a moment that was written
+abbrev pub written : Result ℕ MomentFault → Result (Option ℕ) MomentFault
+written (Ok moment) = Ok (Some moment)
+written (Err why) = Err why
+
+-- the moment that a text writes, if there is one
+abbrev pub moment_read : Option Text → Result (Option ℕ) MomentFault
+moment_read None = Ok None
+moment_read (Some text) = written (moment_in text)
+
+-- the moment that an option is given
+abbrev pub moment_given : Text → List Row → Result (Option ℕ) MomentFault
+moment_given name options = moment_read (one_of name options)
+
+-- ---- the choice
+
+-- these events, at the moments from one to another, where both can be read
+abbrev pub choice_at : Option Which → Result (Option ℕ) MomentFault → Result (Option ℕ) MomentFault → Option Choice
+choice_at (Some which) (Ok from) (Ok to) = Some (record { which = which; from = from; to = to })
+choice_at _ _ _ = None
+
+-- what these options choose; nothing where they don't say it as they have to
+abbrev pub choice_of : List Row → Option Choice
+choice_of options = choice_at (which_of options) (moment_given (codes "from") options) (moment_given (codes "to") options)
 
 -- in words, and as CSV where this holds
 abbrev pub form_where : Bool → Form
 form_where true = Csv
-form_where false = Text
+form_where false = Words
 
 abbrev pub form_of : List Row → Form
 form_of options = form_where (flag_given (codes "csv") options)
+
+-- what is told of the explained events
+abbrev pub tale_of : List Row → List Explained → List ℕ
+tale_of options = pages (form_of options)

@@ -1,6 +1,7 @@
 -- How the program ends: its exit status, and what it writes to its output.
 use Rattle.std.specs.Prelude.{ℕ, ◌≡◌, ◌⊎◌, ◌^◌, List, false, Option, Some, None, Result, Ok, Err}
 use Rattle.std.specs.Io.KnownBytes.{Appends}
+use Rattle.clap.specs.Words.{Row}
 use Rattle.pie_record.specs.declared.fault.TraceFault.{TraceFault}
 use Rattle.pie_record.specs.declared.fault.TraceFault.TheVariants as trace_fault
 use Rattle.pie_record.specs.Fault.{is_device}
@@ -10,12 +11,13 @@ use Rattle.pie_record.specs.Text.{records_of}
 use Rattle.pie_audit.specs.declared.auditor.Finding.{Finding}
 use Rattle.pie_audit.specs.declared.auditor.Finding.TheVariants as finding
 use Rattle.pie_audit.specs.Text.{finding_line, text_finding}
-use Rattle.pie_explain.specs.declared.explainer.Form.{Form}
+use Rattle.pie_explain.specs.declared.explanation.Explained.{Explained}
 use Rattle.pie_explain.specs.declared.fault.ExplainFault.{ExplainFault}
 use Rattle.pie_explain.specs.declared.fault.ExplainFault.TheVariants as fault
-use Rattle.pie_explain.specs.declared.which.Which.{Which}
+use Rattle.pie_explain.specs.declared.choice.Choice.{Choice}
 use Rattle.pie_explain.specs.Answer.{answer}
 use Rattle.pie_explain.specs.Output.{output}
+use Rattle.pie.specs.Choice.{choice_of, tale_of}
 use Rattle.pie.specs.declared.end.End.{End}
 use Rattle.pie.specs.declared.end.End.TheVariants.{Done, Differs, Fault, Failed}
 
@@ -74,13 +76,18 @@ answer_status (Err (fault.Trace why)) = 1
 answer_status (Err (fault.Differs event)) = 2
 answer_status (Err (fault.NoEvent event events)) = 1
 answer_status (Err (fault.NoTag tag)) = 1
+answer_status (Err fault.NoneWithin) = 1
 
--- a history is explained: what is said of the chosen events is written, up to its first fault and the first event that differs, and the
+-- a history is explained: what a tale tells of the chosen events is written, up to its first fault and the first event that differs, and the
 -- status is that of the answer. Options that choose no events end with 1, and nothing is written
-abbrev pub EndsExplain : Option Which → Form → List ℕ → ℕ → Option (List ℕ) → Option (List ℕ) → Type 0
-EndsExplain None form input status before now = (status ≡ 1) × (now ≡ before)
-EndsExplain (Some which) form input status before now =
-    WritesOrFails (output which form (records_of input)) (answer_status (answer which (records_of input))) status before now
+abbrev pub explain_ends : Option Choice → (List Explained → List ℕ) → List ℕ → ℕ → Option (List ℕ) → Option (List ℕ) → Type 0
+explain_ends None tale input status before now = (status ≡ 1) × (now ≡ before)
+explain_ends (Some choice) tale input status before now =
+    WritesOrFails (output tale choice (records_of input)) (answer_status (answer choice (records_of input))) status before now
+
+-- .. what is chosen, and how it is said, being what these options say
+abbrev pub EndsExplain : List Row → List ℕ → ℕ → Option (List ℕ) → Option (List ℕ) → Type 0
+EndsExplain options = explain_ends (choice_of options) (tale_of options)
 
 -- ---- `pie migrate`
 

@@ -2,7 +2,6 @@
 ghost use Rattle.std.specs.Prelude.{◌≡◌, ◌≤◌, ◌⊎◌, Some, IfSome, codes, map, string_bytes};
 ghost use Rattle.clap.specs.Words.{kind_of};
 ghost use Rattle.clap.specs.declared.error.kind.ErrorKind.{ErrorKind};
-ghost use Rattle.pie.specs.Choice.{choice_of, form_of};
 ghost use Rattle.pie.specs.declared.end.End.{End};
 ghost use Rattle.pie.specs.Ends.{EndsAudit, EndsExplain, EndsMigrate, EndsRun, status_of};
 ghost use Rattle.pie.specs.StormEnds.{EndsStorm};
@@ -45,8 +44,8 @@ pub(crate) const DIFFERS: u8 = 2;
 /// For the words `pie migrate` the history is written in version two up to its first fault, at which it ends; without a fault it is done; or
 /// the end says what failed, as of a run.
 ///
-/// For any words that ask for `pie explain`, exactly one option chooses events, or the status is 1 and nothing is written. What
-/// is said of the chosen events is written, up to the first fault and the first event that differs, and the status is 2 where an
+/// For any words that ask for `pie explain`, exactly one option chooses events, and what `--from` and `--to` are given are moments; or the
+/// status is 1 and nothing is written. What is said of the chosen events at these moments is written, up to the first fault and the first event that differs, and the status is 2 where an
 /// event differs, 1 for a fault and where no event is the chosen one, and else 0; or 1, where the reader, the writer or memory fails.
 ///
 /// For any words that ask for `pie storm`, the threads of the runtime make a storm of the plan that the options ask for. Its
@@ -66,7 +65,7 @@ pub fn command<H: Threads + Wait + Sync, R: Read + Drop, W: Write, E: Write>(
     ensures audits { AskFor (codes "audit") (map string_bytes words.now)
         → IfSome (R.remaining input) (λ text. EndsAudit text result (W.contents output.old) (W.contents output.new)) }
     ensures explains { Asks (codes "explain") (map string_bytes words.now)
-        → IfSome (R.remaining input) (λ text. EndsExplain (choice_of (options_in (map string_bytes words.now))) (form_of (options_in (map string_bytes words.now))) text (status_of result) (W.contents output.old) (W.contents output.new)) }
+        → IfSome (R.remaining input) (λ text. EndsExplain (options_in (map string_bytes words.now)) text (status_of result) (W.contents output.old) (W.contents output.new)) }
     ensures migrates { AskFor (codes "migrate") (map string_bytes words.now)
         → IfSome (R.remaining input) (λ text. EndsMigrate text result (W.contents output.old) (W.contents output.new)) }
     ensures storms { Asks (codes "storm") (map string_bytes words.now)

@@ -1,13 +1,13 @@
 //! `pie explain`: which events the words choose, and how explaining them ends.
 ghost use Rattle.std.specs.Prelude.{◌≡◌, ◌≤◌, Err, IfSome};
 ghost use Rattle.clap.specs.Words.{found_of, rows_of};
-ghost use Rattle.pie.specs.Choice.{choice_of, chosen, form_of};
+ghost use Rattle.pie.specs.Choice.{choice_of, chosen, form_of, moment_given, which_of};
 ghost use Rattle.pie.specs.Ends.{EndsExplain, answer_status};
 
 use crate::command::{DIFFERS, DONE, FAULT, fault};
-use crate::given::{flag, number};
+use crate::given::{flag, moment, number};
 use clap::ArgMatches;
-use pie_explain::{ExplainFault, Form, Which, explain};
+use pie_explain::{Choice, ExplainFault, Form, MomentFault, Which, explain};
 use std::alloc::Global;
 use std::io::{Read, Write};
 
@@ -36,13 +36,47 @@ fn chosen(
 }
 
 /// The events that these options choose.
-fn choice_of(options: &ArgMatches<'_>) -> Option<Which>
-    ensures { result ≡ choice_of (rows_of (found_of options.now)) }
+fn which_of(options: &ArgMatches<'_>) -> Option<Which>
+    ensures { result ≡ which_of (rows_of (found_of options.now)) }
 {
     let event = number(options, "event");
     let tag = number(options, "tag");
     let (lost, marked) = (flag(options, "lost"), flag(options, "marked"));
     chosen(event, tag, lost, marked, flag(options, "all"))
+}
+
+/// The moment that an option is given, with a line on `errors` where its text is none.
+fn moment_of<E: Write>(
+    options: &ArgMatches<'_>,
+    name: &str,
+    errors: &mut E,
+) -> Result<Option<u64>, MomentFault>
+    ensures { result ≡ moment_given name.now (rows_of (found_of options.now)) }
+{
+    match moment(options, name) {
+        Ok(moment) => Ok(moment),
+        Err(why) => {
+            let _ = writeln!(errors, "pie: --{name}: {why}");
+            Err(why)
+        }
+    }
+}
+
+/// What these options choose, with a line on `errors` where they don't say it as they have to.
+fn choice_of<E: Write>(options: &ArgMatches<'_>, errors: &mut E) -> Option<Choice>
+    ensures { result ≡ choice_of (rows_of (found_of options.now)) }
+{
+    let Some(which) = which_of(options) else {
+        let _ = fault(errors, NO_CHOICE);
+        return None;
+    };
+    let Ok(from) = moment_of(options, "from", errors) else {
+        return None;
+    };
+    let Ok(to) = moment_of(options, "to", errors) else {
+        return None;
+    };
+    Some(Choice { which, from, to })
 }
 
 /// In which form these options want the explanations.
@@ -62,7 +96,10 @@ fn status_of(why: ExplainFault) -> u8
 {
     match why {
         ExplainFault::Differs { .. } => DIFFERS,
-        ExplainFault::Trace(_) | ExplainFault::NoEvent { .. } | ExplainFault::NoTag { .. } => FAULT,
+        ExplainFault::Trace(_)
+        | ExplainFault::NoEvent { .. }
+        | ExplainFault::NoTag { .. }
+        | ExplainFault::NoneWithin => FAULT,
     }
 }
 
@@ -90,11 +127,11 @@ pub(crate) fn explain_input<R: Read + Drop, W: Write, E: Write>(
     errors: &mut E,
 ) -> u8
     ensures status { result ≤ 2 }
-    ensures explains { IfSome (R.remaining input) (λ text. EndsExplain (choice_of (rows_of (found_of options.now))) (form_of (rows_of (found_of options.now))) text result (W.contents output.old) (W.contents output.new)) }
+    ensures explains { IfSome (R.remaining input) (λ text. EndsExplain (rows_of (found_of options.now)) text result (W.contents output.old) (W.contents output.new)) }
 {
-    let Some(which) = choice_of(options) else {
-        return fault(errors, NO_CHOICE);
+    let Some(choice) = choice_of(options, errors) else {
+        return FAULT;
     };
-    let given = explain(alloc, input, output, which, form_of(options));
+    let given = explain(alloc, input, output, choice, form_of(options));
     ended(errors, given)
 }

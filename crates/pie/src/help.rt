@@ -108,6 +108,9 @@ pub(crate) const EXPLAIN_HELP: &str =
 again, as pie audit does, and of a chosen one is said which case of the rules decided it, and on which numbers: those before
 the event.
 
+With --from and --to only the chosen events are explained whose effective moments are within, both ends included. A moment is
+written as whole nanoseconds, or as a number with ns, us, ms or s: 1500000, 1500us, 1.5ms and 0.0015s are the same.
+
 In words an event has some lines, with moments in milliseconds and probabilities in per cent, and the exact whole numbers in
 parentheses. With --csv there is a header, and then one record an event:
   number,kind,caller,moment,effective_moment,tag,size,verdict,cause,bytes,packets,delay,probability,

@@ -1,7 +1,7 @@
 //! The command line of `pie`.
 ghost use Rattle.std.specs.Prelude.{◌≡◌, IfOk, false};
 ghost use Rattle.clap.specs.Words.{app_of, new_app, rule_of};
-ghost use Rattle.pie.specs.Words.{explain_app, flag_rule, number_rule, pie_alone, pie_app, storm_app};
+ghost use Rattle.pie.specs.Words.{choosing_app, explain_app, flag_rule, number_rule, pie_alone, pie_app, storm_app, text_rule};
 
 use crate::help::{
     AUDIT_HELP, EXPLAIN_ABOUT, EXPLAIN_HELP, MIGRATE_ABOUT, MIGRATE_HELP, PIE_HELP, RUN_HELP,
@@ -37,6 +37,17 @@ fn flag_option<'a>(alloc: Global, name: &'a str, help: &'a str) -> Arg<'a>
         .help(help)
 }
 
+/// An option whose value is a text.
+fn text_option<'a>(alloc: Global, name: &'a str, value: &'a str, help: &'a str) -> Arg<'a>
+    ensures rule { rule_of result ≡ text_rule name.now }
+    ensures local { result.global ≡ false }
+{
+    Arg::new(alloc, name)
+        .long(name)
+        .value_name(value)
+        .help(help)
+}
+
 /// A subcommand without options.
 fn plain<'a>(alloc: Global, name: &'a str, about: &'a str, help: &'a str) -> Command<'a>
     ensures { app_of result ≡ new_app name.now }
@@ -44,9 +55,9 @@ fn plain<'a>(alloc: Global, name: &'a str, about: &'a str, help: &'a str) -> Com
     Command::new(alloc, name).about(about).after_help(help)
 }
 
-/// The subcommand `explain` and its options.
-fn explain_command<'a>(alloc: Global) -> Result<Command<'a>, AllocError>
-    ensures { IfOk result (λ explain. app_of explain ≡ explain_app) }
+/// The subcommand `explain` with the options that choose events.
+fn choosing_command<'a>(alloc: Global) -> Result<Command<'a>, AllocError>
+    ensures { IfOk result (λ choosing. app_of choosing ≡ choosing_app) }
 {
     let event = number_option(
         alloc,
@@ -73,18 +84,36 @@ fn explain_command<'a>(alloc: Global) -> Result<Command<'a>, AllocError>
         "Explain each arrival whose packet was marked",
     );
     let all = flag_option(alloc, "all", "Explain every event");
-    let csv = flag_option(
-        alloc,
-        "csv",
-        "Write CSV, a header and a record an event, in place of words",
-    );
     plain(alloc, "explain", EXPLAIN_ABOUT, EXPLAIN_HELP)
         .arg(event)?
         .arg(tag)?
         .arg(lost)?
         .arg(marked)?
-        .arg(all)?
-        .arg(csv)
+        .arg(all)
+}
+
+/// The subcommand `explain` and its options.
+fn explain_command<'a>(alloc: Global) -> Result<Command<'a>, AllocError>
+    ensures { IfOk result (λ explain. app_of explain ≡ explain_app) }
+{
+    let from = text_option(
+        alloc,
+        "from",
+        "MOMENT",
+        "Only the chosen events at this moment and later, such as 1.5ms",
+    );
+    let to = text_option(
+        alloc,
+        "to",
+        "MOMENT",
+        "Only the chosen events at this moment and earlier",
+    );
+    let csv = flag_option(
+        alloc,
+        "csv",
+        "Write CSV, a header and a record an event, in place of words",
+    );
+    choosing_command(alloc)?.arg(from)?.arg(to)?.arg(csv)
 }
 
 /// The subcommand `storm` and its options.

@@ -40,13 +40,17 @@ pub active-registers : (opening : Opening) (history : List Event) → (registers
 unfolding registers_after
 active-registers opening history = refl
 
+-- the effective moment, from the registers
+pub moment-is : (opening : Opening) (history : List Event) (event : Event) (before : Registers) (now : ℕ) → before ≡ registers_after opening history
+    → now ≡ max before.moment (handed_in event.command) → now ≡ moment_of opening history event
+moment-is opening history event before now before-is now-is = now-is ∙ rw (before-is, moment-registers opening history) refl
+
 -- the parts of an explanation make it
 pub explanation-is : (opening : Opening) (history : List Event) (number : ℕ) (event : Event) (set_by : Option ℕ) (now : ℕ) (before : Registers) (delay : ℕ) (cause : Option Cause) (waited updates : ℕ)
     → before ≡ registers_after opening history → delay ≡ delay_after opening history → cause ≡ cause_after opening history event.command
-    → now ≡ max before.moment (handed_in event.command) → waited ≡ wait_of (deed_of event) now (waiting_after opening history)
+    → now ≡ moment_of opening history event → waited ≡ wait_of (deed_of event) now (waiting_after opening history)
     → updates ≡ count_of is_update history
     → the_explanation number event now before delay cause waited set_by updates ≡ explanation opening history number event set_by
 unfolding explanation
 explanation-is opening history number event set_by now before delay cause waited updates before-is delay-is cause-is now-is waited-is updates-is =
-    let at : now ≡ moment_of opening history event = now-is ∙ rw (before-is, moment-registers opening history) refl in
-    rw (waited-is, before-is, delay-is, cause-is, at, updates-is) refl
+    rw (waited-is, before-is, delay-is, cause-is, now-is, updates-is) refl

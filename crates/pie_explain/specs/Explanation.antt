@@ -17,8 +17,8 @@ use Rattle.pie_record.specs.Lines.{event_count}
 use Rattle.pie_audit.specs.Finding.{LinePlace, events_of, first_difference, line_places, number_of}
 use Rattle.pie_explain.specs.declared.explanation.Explained.{Explained}
 use Rattle.pie_explain.specs.declared.explanation.Explanation.{Explanation}
-use Rattle.pie_explain.specs.declared.which.Which.{Which}
-use Rattle.pie_explain.specs.Which.{chooses}
+use Rattle.pie_explain.specs.declared.choice.Choice.{Choice}
+use Rattle.pie_explain.specs.Choice.{picks}
 
 -- the effective moment of an event after a history
 abbrev pub moment_of : Opening → List Event → Event → ℕ
@@ -91,11 +91,11 @@ told_if true told = Some told
 told_if false told = None
 
 -- what there is to say of a line after these lines: it tells an event, which has the next number and is chosen
-abbrev pub told_after : Opening → Which → List Line → Option ℕ → Line → Option Explanation
-told_after opening which lines set_by (Made event) =
-    told_if (chooses which (event_count lines + 1) event) (explanation opening (events_of lines) (event_count lines + 1) event set_by)
-told_after opening which lines set_by Unmakeable = None
-told_after opening which lines set_by Note = None
+abbrev pub told_after : Opening → Choice → List Line → Option ℕ → Line → Option Explanation
+told_after opening choice lines set_by (Made event) =
+    told_if (picks choice (event_count lines + 1) (moment_of opening (events_of lines) event) event) (explanation opening (events_of lines) (event_count lines + 1) event set_by)
+told_after opening choice lines set_by Unmakeable = None
+told_after opening choice lines set_by Note = None
 
 -- nothing from an event on that differs
 abbrev pub told_unless : Option ℕ → Option Explanation → Option Explanation
@@ -106,11 +106,11 @@ abbrev pub told_unless_differs : Opening → List Line → Option Explanation �
 told_unless_differs opening lines told = told_unless (first_difference opening lines) told
 
 -- what there is to say at a place, where no event up to it, itself included, differs
-abbrev pub told_at : Opening → Which → LinePlace → Option Explained
-told_at opening which place =
+abbrev pub told_at : Opening → Choice → LinePlace → Option Explained
+told_at opening choice place =
     option_map (with_after opening (events_of (place.before ++ place.line ∷ [])))
-    (told_unless_differs opening (place.before ++ place.line ∷ []) (told_after opening which place.before (setter_after opening place.before) place.line))
+    (told_unless_differs opening (place.before ++ place.line ∷ []) (told_after opening choice place.before (setter_after opening place.before) place.line))
 
 -- what there is to say of the chosen events of these lines, in their order
-unfoldable pub explanations : Opening → Which → List Line → List Explained
-explanations opening which lines = filter_map (told_at opening which) (line_places lines)
+unfoldable pub explanations : Opening → Choice → List Line → List Explained
+explanations opening choice lines = filter_map (told_at opening choice) (line_places lines)

@@ -1,6 +1,9 @@
 pub mod Which
+pub mod Choice
+pub mod Moment
 pub mod Explanation
 pub mod Record
 pub mod Words
+pub mod Report
 pub mod Output
 pub mod Answer

@@ -8,7 +8,7 @@ use Rattle.pie_record.specs.Text.{Row}
 use Rattle.pie_explain.specs.declared.explainer.Form.{Form}
 use Rattle.pie_explain.specs.declared.explainer.Form.TheVariants.{Text, Csv}
 use Rattle.pie_explain.specs.declared.explanation.Explained.{Explained}
-use Rattle.pie_explain.specs.declared.which.Which.{Which}
+use Rattle.pie_explain.specs.declared.choice.Choice.{Choice}
 use Rattle.pie_explain.specs.Explanation.{explanations}
 use Rattle.pie_explain.specs.Record.{line_of, record_of}
 use Rattle.pie_explain.specs.Words.{words}
@@ -36,13 +36,17 @@ said_of Csv told = line_of (record_of told)
 unfoldable pub said : Form → List Explained → List ℕ
 said form all = flat_map (said_of form) all
 
+-- .. with what stands before the first
+abbrev pub pages : Form → List Explained → List ℕ
+pages form all = header form ++ said form all
+
 -- ---- of a whole history
 
-abbrev pub output_after : Which → Form → List Row → Result Opening TraceFault → List ℕ
-output_after which form rows (Err why) = []
-output_after which form rows (Ok opening) = header form ++ said form (explanations opening which (history_lines (2 ^ 32) rows))
+abbrev pub output_after : (List Explained → List ℕ) → Choice → List Row → Result Opening TraceFault → List ℕ
+output_after tale choice rows (Err why) = []
+output_after tale choice rows (Ok opening) = tale (explanations opening choice (history_lines (2 ^ 32) rows))
 
--- what is written of a history of these records: nothing where its opening has a fault, and else the explanations of the chosen
+-- what is written of a history of these records: nothing where its opening has a fault, and else what a tale tells of the chosen
 -- events, in their order, up to the first fault and the first event that differs
-abbrev pub output : Which → Form → List Row → List ℕ
-output which form rows = output_after which form rows (history_opening rows)
+abbrev pub output : (List Explained → List ℕ) → Choice → List Row → List ℕ
+output tale choice rows = output_after tale choice rows (history_opening rows)

@@ -1,5 +1,5 @@
 -- An explanation in words, of some lines: what the event did, what decided it, and the numbers that it met.
-use Rattle.std.specs.Prelude.{ℕ, ◌+◌, ◌-◌, ◌*◌, ◌/◌, ◌%◌, ◌^◌, ◌==◌, Bool, true, false, if◌then◌else◌, min, List, [], ◌∷◌, ◌++◌, length, replicate, Option, Some, None, codes}
+use Rattle.std.specs.Prelude.{ℕ, ◌+◌, ◌-◌, ◌*◌, ◌/◌, ◌%◌, ◌^◌, ◌==◌, Bool, true, false, if◌then◌else◌, min, max, List, [], ◌∷◌, ◌++◌, length, replicate, Option, Some, None, codes}
 use Rattle.std.specs.Fmt.{decimal}
 use Rattle.pie_queue.specs.declared.ecn.Ecn.{Ecn}
 use Rattle.pie_queue.specs.declared.ecn.Ecn.TheVariants.{NotEct, Ect1, Ect0, Ce}
@@ -35,6 +35,11 @@ millis time = joined (decimal (time / 10 ^ 6) ∷ codes "." ∷ with_zeros 6 (ti
 -- a part in units of 10^-12, in per cent
 unfoldable pub per_cent : ℕ → List ℕ
 per_cent part = joined (decimal (part / 10 ^ 10) ∷ codes "." ∷ with_zeros 4 (part % 10 ^ 10 / 10 ^ 6) ∷ codes " % (" ∷ decimal part ∷ codes ")" ∷ [])
+
+-- a count as a part of all, in per cent
+unfoldable pub share : ℕ → ℕ → List ℕ
+share count all =
+    joined (decimal (count * 10 ^ 6 / max all 1 / 10 ^ 4) ∷ codes "." ∷ with_zeros 4 (count * 10 ^ 6 / max all 1 % 10 ^ 4) ∷ codes " %" ∷ [])
 
 -- a random word as a part of 2^64, in per cent
 unfoldable pub word_text : ℕ → List ℕ

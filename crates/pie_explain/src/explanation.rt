@@ -6,6 +6,7 @@ ghost use Rattle.pie_book.specs.Core.{Shows};
 ghost use Rattle.pie_book.specs.Deed.{deed_of, is_update};
 ghost use Rattle.pie_book.specs.History.{waiting_after};
 ghost use Rattle.pie_book.specs.Statistics.{count_of, wait_of};
+ghost use Rattle.pie_explain.specs.Explanation.{moment_of};
 
 use pie_book::{Answer, Cause, Command, Core, Event, Registers};
 
@@ -69,6 +70,15 @@ fn updates(core: &Core) -> u64
     core.stats().updates
 }
 
+/// The effective moment of an event that a core is about to decide.
+pub(crate) fn moment_of(core: &Core, event: &Event) -> u64
+    ensures { (opening : Opening) (history : List Event) → Shows opening core.now history → result ≡ moment_of opening history event.now }
+{
+    let before = core.registers();
+    let handed_in = event.command.moment();
+    before.moment.max(handed_in)
+}
+
 impl Explanation {
     ghost use Rattle.pie_explain.specs.Explanation.{explanation};
 
@@ -79,8 +89,7 @@ impl Explanation {
             → result ≡ explanation opening history number event.now set_by }
     {
         let before = core.registers();
-        let handed_in = event.command.moment();
-        let now = before.moment.max(handed_in);
+        let now = moment_of(core, event);
         Explanation {
             number,
             event: *event,

@@ -29,4 +29,7 @@ pub enum ExplainFault {
         /// The tag that was asked for.
         tag: u64,
     },
+    /// No chosen event is at the moments that are wanted.
+    #[error("no chosen event is at the moments that are wanted")]
+    NoneWithin,
 }

@@ -4,18 +4,26 @@
 //! before them. The definitions that the contracts cite stand in `specs/`. Wherever no reader, writer or memory failed, `explain`
 //! answers exactly what `answer` says of the text, and has written exactly its `output`: the record or the words of each chosen event, in
 //! order. `Explanation::of` answers, over every history that the core shows, exactly the look-back's numbers and the first case of the
-//! decision that holds there; `Explained::of` adds what the controller held after it; `Which::chooses` says which events are chosen.
+//! decision that holds there; `Explained::of` adds what the controller held after it; `Choice::picks` says which events are explained.
+//! `Moment::from_str` reads a moment as a person writes it, such as `1.5ms`.
 #![tactic(auto)]
 
+pub mod choice;
 pub mod explainer;
 pub mod explanation;
 pub mod fault;
+pub mod moment;
 mod record;
+pub mod report;
 mod text;
-mod units;
+pub mod units;
 pub mod which;
 
+pub use choice::Choice;
 pub use explainer::{Form, explain};
 pub use explanation::{Explained, Explanation};
 pub use fault::ExplainFault;
+pub use moment::{Moment, MomentFault};
+pub use report::Report;
+pub use units::{Millis, PerCent, Share};
 pub use which::Which;

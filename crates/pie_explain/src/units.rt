@@ -4,7 +4,7 @@ use std::fmt::Display;
 
 /// A time or a moment in nanoseconds, in milliseconds.
 #[derive(Clone, Copy, Debug)]
-pub(crate) struct Millis(pub(crate) u64);
+pub struct Millis(pub u64);
 
 impl Display for Millis {
     ghost use Rattle.std.specs.Prelude.{Some};
@@ -21,7 +21,7 @@ impl Display for Millis {
 
 /// A probability in units of `10^-12`, in per cent, rounded down.
 #[derive(Clone, Copy, Debug)]
-pub(crate) struct PerCent(pub(crate) u64);
+pub struct PerCent(pub u64);
 
 impl Display for PerCent {
     ghost use Rattle.std.specs.Prelude.{Some};
@@ -52,5 +52,27 @@ impl Display for Word {
         let parts = (u128::from(exact) * 1_000_000) >> 64;
         let (whole, rest) = (parts / 10_000, parts % 10_000);
         write!(f, "{whole}.{rest:04} % ({exact})")
+    }
+}
+
+/// A count as a part of all, in per cent, rounded down; 0 where there are none.
+#[derive(Clone, Copy, Debug)]
+pub struct Share {
+    /// How many of them.
+    pub count: u64,
+    /// How many there are in all.
+    pub all: u64,
+}
+
+impl Display for Share {
+    ghost use Rattle.std.specs.Prelude.{Some};
+    ghost use Rattle.pie_explain.specs.Words.{share};
+
+    ghost output = { λ part. Some (share part.count part.all) };
+
+    fn fmt<W: fmt::Write>(&self, f: &mut fmt::Formatter<W>) -> fmt::Result {
+        let parts = u128::from(self.count) * 1_000_000 / u128::from(self.all.max(1));
+        let (whole, rest) = (parts / 10_000, parts % 10_000);
+        write!(f, "{whole}.{rest:04} %")
     }
 }

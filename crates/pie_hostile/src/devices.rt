@@ -3,7 +3,7 @@
 use crate::failing::{Endless, FailingReader, FailingWriter, Fault};
 use crate::texts::{EXPLAINED, HISTORY, MIGRATED, TRACE, write_to};
 use pie_audit::{Finding, audit, write_finding};
-use pie_explain::{ExplainFault, Form, Which, explain};
+use pie_explain::{Choice, ExplainFault, Form, Which, explain};
 use pie_trace::{HistoryLines, TraceFault, migrate, run_trace, run_trace_within};
 use std::alloc::Global;
 use std::fmt::Debug;
@@ -315,7 +315,13 @@ fn explain_reads(alloc: Global, for_good: bool) -> Ends {
             fault: fault(after, for_good),
         };
         let mut writer = FailingWriter::new(EXPLAINED, Fault::NONE);
-        let result = explain(alloc, reader, &mut writer, Which::All, Form::Csv);
+        let result = explain(
+            alloc,
+            reader,
+            &mut writer,
+            Choice::of(Which::All),
+            Form::Csv,
+        );
         ends.add(is_told(result, TraceFault::Read), !writer.differs);
     }
     ends
@@ -326,7 +332,13 @@ fn explain_writes(alloc: Global, for_good: bool) -> Ends {
     let mut ends = Ends::NONE;
     for after in 0..EXPLAINED.len() {
         let mut writer = FailingWriter::new(EXPLAINED, fault(after, for_good));
-        let result = explain(alloc, HISTORY, &mut writer, Which::All, Form::Csv);
+        let result = explain(
+            alloc,
+            HISTORY,
+            &mut writer,
+            Choice::of(Which::All),
+            Form::Csv,
+        );
         ends.add(is_told(result, TraceFault::Write), !writer.differs);
     }
     ends
@@ -367,7 +379,7 @@ fn flushes(rt: &impl Print, alloc: Global) -> io::Result<()> {
 fn explained(alloc: Global, text: &[u8], flush_fails: bool) -> Left<ExplainFault> {
     let mut writer = FailingWriter::new(EXPLAINED, Fault::NONE);
     writer.flush_fails = flush_fails;
-    let fault = explain(alloc, text, &mut writer, Which::All, Form::Csv).err();
+    let fault = explain(alloc, text, &mut writer, Choice::of(Which::All), Form::Csv).err();
     (fault, writer.left())
 }
 

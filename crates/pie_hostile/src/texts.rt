@@ -7,7 +7,7 @@ use crate::failing::{FailingWriter, Fault};
 use crate::report::begin;
 use pie_audit::{Auditor, audit};
 use pie_book::{Answer, Choices, Command, Event, Limits, Mode, Opening, Profile};
-use pie_explain::{Form, Which, explain};
+use pie_explain::{Choice, Form, Which, explain};
 use pie_params::Params;
 use pie_queue::{Ecn, Packet};
 use pie_trace::{
@@ -301,7 +301,7 @@ fn explain_as(
 ) -> io::Result<()> {
     let mut writer = FailingWriter::new(wanted, Fault::NONE);
     begin(rt, name)?;
-    let result = explain(alloc, HISTORY, &mut writer, which, form);
+    let result = explain(alloc, HISTORY, &mut writer, Choice::of(which), form);
     let (written, differs) = (written(&writer), writer.differs);
     match result {
         Ok(count) => println!(rt; "{name}: {count} events, {written}"),

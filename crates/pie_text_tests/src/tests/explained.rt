@@ -1,14 +1,20 @@
 //! What explanations answer: how many events were explained, or why none were.
 
 use super::ONE_ARRIVAL_HISTORY;
-use pie_explain::{ExplainFault, Form, Which, explain};
+use pie_explain::{Choice, ExplainFault, Form, Which, explain};
 use pie_trace::TraceFault;
 use std::alloc::Global;
 
 /// What is answered where these events of this history are explained.
 fn answered(alloc: Global, history: &str, which: Which) -> Result<u64, ExplainFault> {
     let mut out = Vec::new(alloc);
-    explain(alloc, history.as_bytes(), &mut out, which, Form::Csv)
+    explain(
+        alloc,
+        history.as_bytes(),
+        &mut out,
+        Choice::of(which),
+        Form::Csv,
+    )
 }
 
 #[test]

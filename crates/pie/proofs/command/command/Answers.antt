@@ -3,7 +3,6 @@ use Rattle.std.specs.Prelude.{IfSome}
 use Rattle.clap.specs.Words.{Row, app_of, found_of, rows_of}
 use Rattle.pie.proofs.EndFacts.{EndsAudit-failed, EndsExplain-failed, EndsMigrate-failed, EndsRun-failed}
 use Rattle.pie.proofs.WordFacts.{asked-taken, audit-in, audit-taken, migrate-in, migrate-taken, no-other, options-in, run-in, run-taken, subcommand-found}
-use Rattle.pie.specs.Choice.{choice_of, form_of}
 use Rattle.pie.specs.Ends.{EndsAudit, EndsExplain, EndsMigrate, EndsRun, status_of}
 use Rattle.pie.specs.StormEnds.{EndsStorm}
 use Rattle.pie.specs.Words.{options_in, subcommand_in}
@@ -13,7 +12,7 @@ use Rattle.pie.proofs.command.command.Goals as goal
 
 pub returns-in-Err-clause-explains : goal.returns-in-Err-clause-explains
 returns-in-Err-clause-explains g c asks =
-    EndsExplain-failed (choice_of (options_in (map string_bytes c.args.words.now))) (form_of (options_in (map string_bytes c.args.words.now))) (g.R.Read.remaining c.args.input) (status_of c.failed.result) (g.W.Write.contents c.args.output.now)
+    EndsExplain-failed (options_in (map string_bytes c.args.words.now)) (g.R.Read.remaining c.args.input) (status_of c.failed.result) (g.W.Write.contents c.args.output.now)
     (g.W.Write.contents c.args.output.now) (ap status_of c.failed.ensures) refl
 
 pub returns-in-Err-try_get_matches_from-clause-runs : goal.returns-in-Err-try_get_matches_from-clause-runs
@@ -38,7 +37,7 @@ pub returns-in-Err-try_get_matches_from-clause-explains : goal.returns-in-Err-tr
 returns-in-Err-try_get_matches_from-clause-explains g c asks =
     let failed = c.mistake.ensures.memory (c.in-Err-try_get_matches_from.ensures.passes
     (asked-taken (app_of c.in-Ok.options) (codes "explain") (map string_bytes c.args.words.now) c.in-Ok.ensures asks)) in
-    EndsExplain-failed (choice_of (options_in (map string_bytes c.args.words.now))) (form_of (options_in (map string_bytes c.args.words.now))) (g.R.Read.remaining c.args.input) (status_of c.with_status.result) (g.W.Write.contents c.args.output.now)
+    EndsExplain-failed (options_in (map string_bytes c.args.words.now)) (g.R.Read.remaining c.args.input) (status_of c.with_status.result) (g.W.Write.contents c.args.output.now)
     (g.W.Write.contents c.mistake.new.output) (c.with_status.ensures.status ∙ failed.0) failed.1
 
 pub returns-in-Err-try_get_matches_from-clause-storms : goal.returns-in-Err-try_get_matches_from-clause-storms
@@ -198,7 +197,7 @@ returns-in-audit-clause-differs g c two =
 
 pub returns-in_default-name-clause-explains : goal.returns-in_default-name-clause-explains
 returns-in_default-name-clause-explains g c asks =
-    EndsExplain-failed (choice_of (options_in (map string_bytes c.args.words.now))) (form_of (options_in (map string_bytes c.args.words.now))) (g.R.Read.remaining c.args.input) (status_of c.failed-in_default-name.result) (g.W.Write.contents c.args.output.now)
+    EndsExplain-failed (options_in (map string_bytes c.args.words.now)) (g.R.Read.remaining c.args.input) (status_of c.failed-in_default-name.result) (g.W.Write.contents c.args.output.now)
     (g.W.Write.contents c.args.output.now) (ap status_of c.failed-in_default-name.ensures) refl
 
 -- ---- the subcommand's own promise, at the options that the words give it
@@ -215,7 +214,7 @@ returns-in-explain-clause-explains g c asks =
     let given = options-in (app_of c.in-Ok.options) (map string_bytes c.args.words.now) c.in-Ok-try_get_matches_from.matches (rows_of (found_of c.in-Some.options.now)) c.in-Ok.ensures
     c.in-Ok-try_get_matches_from.ensures.matches c.in-Some.ensures.rows in
     rw c.with_status-in-explain.ensures.status
-    (subst (λ (rows : List Row). IfSome (g.R.Read.remaining c.args.input) (λ text. EndsExplain (choice_of rows) (form_of rows) text c.explain_input.result (g.W.Write.contents c.args.output.now)
+    (subst (λ (rows : List Row). IfSome (g.R.Read.remaining c.args.input) (λ text. EndsExplain rows text c.explain_input.result (g.W.Write.contents c.args.output.now)
     (g.W.Write.contents c.explain_input.new.output))) (sym given) c.explain_input.ensures.explains)
 
 pub returns-in-storm-clause-storms : goal.returns-in-storm-clause-storms

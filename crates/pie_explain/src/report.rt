@@ -1,0 +1,94 @@
+//! What is written of the explained events.
+ghost use Rattle.std.specs.Prelude.{◌≡◌, ◌++◌, ◌∷◌, [], ℕ, List, IfOk, OnOk, string_bytes};
+ghost use Rattle.pie_explain.specs.declared.explanation.Explained.{Explained};
+ghost use Rattle.pie_explain.specs.Output.{header, said_of};
+ghost use Rattle.pie_explain.specs.Report.{Grows};
+
+use crate::explainer::Form;
+use crate::explanation::Explained;
+use crate::record::{HEADER, push_record};
+use crate::text::push_text;
+use std::alloc::AllocError;
+
+/// What is written of the explained events, one after another.
+///
+/// `so_far all` is the text of these events while more may come, and `whole all` the text where none comes any more. `shows state all` says
+/// that what is kept was shown these events.
+pub trait Report: Drop {
+    /// What is kept from event to event.
+    type State: Drop;
+
+    ghost shows: { Self → Self.State → List Explained → Type 0 };
+
+    ghost so_far: { Self → List Explained → List ℕ };
+
+    ghost whole: { Self → List Explained → List ℕ };
+
+    /// Writes onto a page what stands before the first event.
+    fn begin(&self, page: &mut String) -> Result<Self::State, AllocError>
+        ensures shown { IfOk result (λ state. shows self.now state []) }
+        ensures written { OnOk result (string_bytes page.new ≡ string_bytes page.old ++ so_far self.now []) };
+
+    /// Writes onto a page what one more event adds.
+    fn tell(
+        &self,
+        state: &mut Self::State,
+        told: &Explained,
+        page: &mut String,
+    ) -> Result<(), AllocError>
+        ensures { (all : List Explained) → shows self.now state.old all
+            → OnOk result (shows self.now state.new (all ++ told.now ∷ [])
+            × Grows (so_far self.now all) (so_far self.now (all ++ told.now ∷ [])) (string_bytes page.old) (string_bytes page.new)) };
+
+    /// Writes onto a page what stands behind the last event.
+    fn end(&self, state: &Self::State, page: &mut String) -> Result<(), AllocError>
+        ensures { (all : List Explained) → shows self.now state.now all
+            → OnOk result (Grows (so_far self.now all) (whole self.now all) (string_bytes page.old) (string_bytes page.new)) };
+}
+
+/// Writes what stands before the first explanation: for CSV the header row.
+#[tactic(auto, unfolding(crate::specs::Output::header))]
+fn push_header(page: &mut String, form: Form) -> Result<(), AllocError>
+    ensures { OnOk result (string_bytes page.new ≡ string_bytes page.old ++ header form) }
+{
+    match form {
+        Form::Text => Ok(()),
+        Form::Csv => page.push_str(HEADER),
+    }
+}
+
+/// Writes an explanation onto the page.
+#[tactic(auto, unfolding(crate::specs::Output::said_of))]
+fn push_said(page: &mut String, form: Form, told: &Explained) -> Result<(), AllocError>
+    ensures { OnOk result (string_bytes page.new ≡ string_bytes page.old ++ said_of form told.now) }
+{
+    match form {
+        Form::Text => push_text(page, told),
+        Form::Csv => push_record(page, told),
+    }
+}
+
+impl Report for Form {
+    type State = ();
+
+    ghost use Rattle.std.specs.Prelude.{⊤};
+    ghost use Rattle.pie_explain.specs.Output.{pages};
+
+    ghost shows = { λ form state all. ⊤ };
+
+    ghost so_far = { pages };
+
+    ghost whole = { pages };
+
+    fn begin(&self, page: &mut String) -> Result<(), AllocError> {
+        push_header(page, *self)
+    }
+
+    fn tell(&self, state: &mut (), told: &Explained, page: &mut String) -> Result<(), AllocError> {
+        push_said(page, *self, told)
+    }
+
+    fn end(&self, state: &(), page: &mut String) -> Result<(), AllocError> {
+        Ok(())
+    }
+}

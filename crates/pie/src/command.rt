@@ -7,7 +7,7 @@ ghost use Rattle.pie.specs.Ends.{EndsAudit, EndsExplain, EndsMigrate, EndsRun, s
 ghost use Rattle.pie.specs.StormEnds.{EndsStorm};
 ghost use Rattle.pie.specs.Words.{AskFor, Asks, options_in, subcommand_in};
 
-use crate::end::{End, ended, failed, faulted};
+use crate::end::{DONE, End, FAULT, ended, failed, faulted};
 use crate::explaining::explain_input;
 use crate::options::options;
 use crate::storming::make_storm;
@@ -21,13 +21,6 @@ use std::io::{Read, Write};
 use std::marker::Sync;
 use std::sync::Wait;
 use std::thread::Threads;
-
-/// All went well.
-pub(crate) const DONE: u8 = 0;
-/// A fault, whose text is on the error stream.
-pub(crate) const FAULT: u8 = 1;
-/// An event of a history differs.
-pub(crate) const DIFFERS: u8 = 2;
 
 /// Runs `pie` with these words, of which the first is the program's own name, and answers how it ended, which gives the exit status: 0
 /// done, 1 a fault, whose text stands on `errors`, 2 an audit or an explanation that met an event that differs. A mistake in the words

@@ -7,6 +7,13 @@ use pie_trace::TraceFault;
 use std::fmt::Display;
 use std::io::Write;
 
+/// All went well.
+pub(crate) const DONE: u8 = 0;
+/// A fault, whose text is on the error stream.
+pub(crate) const FAULT: u8 = 1;
+/// An event of a history differs.
+pub(crate) const DIFFERS: u8 = 2;
+
 /// How `pie` ended.
 #[derive(Clone, Copy)]
 pub enum End {
@@ -26,10 +33,9 @@ impl End {
         ensures { result ≡ status_of self }
     {
         match self {
-            End::Done => 0,
-            End::Differs => 2,
-            End::Fault(_) => 1,
-            End::Failed => 1,
+            End::Done => DONE,
+            End::Differs => DIFFERS,
+            End::Fault(_) | End::Failed => FAULT,
         }
     }
 
@@ -40,8 +46,8 @@ impl End {
         ensures failed { status ≡ 1 → result ≡ End.Failed }
     {
         match status {
-            0 => End::Done,
-            2 => End::Differs,
+            DONE => End::Done,
+            DIFFERS => End::Differs,
             _ => End::Failed,
         }
     }

@@ -4,7 +4,8 @@ ghost use Rattle.clap.specs.Words.{found_of, rows_of};
 ghost use Rattle.pie.specs.Choice.{choice_of, chosen, form_of, moment_given, which_of};
 ghost use Rattle.pie.specs.Ends.{EndsExplain, answer_status};
 
-use crate::command::{DIFFERS, DONE, FAULT, fault};
+use crate::command::fault;
+use crate::end::{DIFFERS, DONE, FAULT};
 use crate::given::{flag, moment, number};
 use clap::ArgMatches;
 use pie_explain::{Choice, ExplainFault, Form, MomentFault, Which, explain};

@@ -1,6 +1,6 @@
 //! The pace of a storm: its callers start together, and none runs far ahead of another.
 
-use pie_link::Gate;
+use pie_link::{Gate, Plan};
 use std::sync::atomic::{AtomicBool, AtomicU64, Ordering};
 use std::thread::yield_now;
 
@@ -17,10 +17,9 @@ const GONE: u64 = u64::MAX;
 /// other is away or further behind than `AHEAD`. Once one has waited in vain for long, nobody waits any more: so a caller whose thread was
 /// not started, or is never scheduled, stops nobody.
 #[derive(Drop)]
-pub(crate) struct Pace {
-    senders: u64,
-    packets: u64,
-    load: u64,
+pub(crate) struct Pace<'a> {
+    /// The plan of the storm.
+    plan: &'a Plan,
     /// The moment of the next call of each caller: of the senders, of the one that departs and of the one that updates.
     next: [AtomicU64; 10],
     /// One has waited in vain.
@@ -28,18 +27,16 @@ pub(crate) struct Pace {
 }
 
 /// What a caller shows before the storm, where there are so many.
-fn shown_first(caller: u64, callers: u64) -> AtomicU64 {
+fn shown_first(caller: usize, callers: usize) -> AtomicU64 {
     AtomicU64::new(if caller <= callers { AWAY } else { GONE })
 }
 
-impl Pace {
-    /// The pace of a storm of so many senders with so many packets each, at this load.
-    pub(crate) fn new(senders: u64, packets: u64, load: u64) -> Pace {
-        let callers = senders.saturating_add(2);
+impl<'a> Pace<'a> {
+    /// The pace of a storm of this plan.
+    pub(crate) fn new(plan: &'a Plan) -> Pace<'a> {
+        let callers = plan.arrivals.len().saturating_add(2);
         Pace {
-            senders,
-            packets,
-            load,
+            plan,
             next: [
                 shown_first(1, callers),
                 shown_first(2, callers),
@@ -56,18 +53,21 @@ impl Pace {
         }
     }
 
-    /// The moment of a call of a caller, counted from 1, in the plan; `GONE` after its last.
-    fn moment(&self, caller: u64, call: u64) -> u64 {
-        let all = self.senders.saturating_mul(self.packets);
-        let (calls, moment) = if caller <= self.senders {
-            (self.packets, call.saturating_mul(1_000_000))
-        } else if caller == self.senders.saturating_add(1) {
-            let hundredths = call.saturating_mul(self.load).saturating_mul(10_000);
-            (all, hundredths / self.senders.max(1))
-        } else {
-            (self.packets / 15 + 1, call.saturating_mul(15_000_000))
+    /// The moment of a call of a caller in the plan, both counted from 1; `GONE` after its last.
+    fn moment(&self, caller: u16, call: u64) -> u64 {
+        let Ok(place) = usize::try_from(call.wrapping_sub(1)) else {
+            return GONE;
         };
-        if call <= calls { moment.max(1) } else { GONE }
+        let caller = usize::from(caller).wrapping_sub(1);
+        let moment = match self.plan.arrivals.get(caller) {
+            Some(arrivals) => arrivals.get(place).map(|arrival| arrival.moment),
+            None if caller == self.plan.arrivals.len() => self.plan.departs.get(place).copied(),
+            None => self.plan.updates.get(place).copied(),
+        };
+        match moment {
+            Some(moment) => moment.max(1),
+            None => GONE,
+        }
     }
 
     /// Shows the moment of the next call of a caller.
@@ -91,9 +91,9 @@ impl Pace {
     }
 }
 
-impl Gate for Pace {
+impl Gate for Pace<'_> {
     fn before(&self, caller: u16, call: u64) {
-        let moment = self.moment(u64::from(caller), call);
+        let moment = self.moment(caller, call);
         self.show(caller, moment);
         let least = moment.saturating_sub(AHEAD).max(AWAY + 1);
         for _ in 0..LOOKS {
@@ -106,7 +106,7 @@ impl Gate for Pace {
     }
 
     fn after(&self, caller: u16, call: u64) {
-        let moment = self.moment(u64::from(caller), call.saturating_add(1));
+        let moment = self.moment(caller, call.saturating_add(1));
         self.show(caller, moment);
     }
 }

@@ -7,7 +7,8 @@ ghost use Rattle.pie_audit.specs.Auditor.{Audits};
 ghost use Rattle.pie_link.specs.Plans.{opening_of};
 ghost use Rattle.pie.specs.StormEnds.{EndsStorm, WritesHistory, number_or};
 
-use crate::command::{DONE, fault};
+use crate::command::fault;
+use crate::end::DONE;
 use crate::given::{flag, number};
 use crate::pace::Pace;
 use crate::plan::storm_plan;
@@ -63,7 +64,7 @@ pub(crate) fn make_storm<H: Threads + Wait + Sync, W: Write, E: Write>(
         Ok(plan) => plan,
         Err(why) => return fault(errors, why),
     };
-    let pace = Pace::new(u64::from(senders), u64::from(packets), load);
+    let pace = Pace::new(&plan);
     let end = match storm(rt, alloc, &plan, &pace) {
         Ok(end) => end,
         Err(why) => return fault(errors, why),

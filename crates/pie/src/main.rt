@@ -14,6 +14,8 @@ mod plan;
 mod running;
 mod storming;
 mod subcommand;
+mod tuning;
+mod units;
 
 use command::command;
 use std::env;

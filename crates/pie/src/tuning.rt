@@ -1,0 +1,227 @@
+//! `pie params`: the parameters that `tc`'s options ask for, as the record that opens a book.
+ghost use Rattle.std.specs.Prelude.{◌≡◌, ◌⊎◌, ◌≤◌, codes, IfSome, OnOk};
+ghost use Rattle.std.specs.Io.KnownBytes.{Appends};
+ghost use Rattle.clap.specs.Words.{first_of, found_of, rows_of};
+ghost use Rattle.pie.specs.Tuning.{AsksFor, EndsParams, delays_text, gain_of, given_or, limit_for, limits_text, mark_ecnth_for, opening_line, packets_of, params_for, rate_of, sizes_text, time_of};
+
+use crate::command::fault;
+use crate::end::{DONE, FAULT};
+use crate::given::{flag, number};
+use crate::storming::number_or;
+use crate::units::{packets_of, rate_of, time_of};
+use clap::ArgMatches;
+use pie_params::{Params, RawParams};
+use std::io;
+use std::io::Write;
+
+/// What the options ask for: `rate` in bits a second, 0 where none is given; times in nanoseconds; `alpha` and `beta` in thousandths per
+/// second.
+#[derive(Clone, Copy)]
+pub(crate) struct Asked {
+    rate: u64,
+    target: u64,
+    t_update: u64,
+    packets: u64,
+    alpha: u64,
+    beta: u64,
+    ecn: bool,
+}
+
+/// The time that an option is given, and 15 ms without it; none where its text writes no time.
+fn time_in(options: &ArgMatches<'_>, name: &str) -> Option<u64>
+    ensures { result ≡ given_or time_of 15_000_000 (first_of name.now (rows_of (found_of options.now))) }
+{
+    match options.get_str(name) {
+        Some(text) => time_of(text),
+        None => Some(15_000_000),
+    }
+}
+
+/// The rate that the options give, and 0 without one; none where its text writes no rate.
+fn rate_in(options: &ArgMatches<'_>) -> Option<u64>
+    ensures { result ≡ given_or rate_of 0 (first_of (codes "rate") (rows_of (found_of options.now))) }
+{
+    match options.get_str("rate") {
+        Some(text) => rate_of(text),
+        None => Some(0),
+    }
+}
+
+/// How many packets may wait, and 1000 where the options don't say; none where the text writes no such number.
+fn packets_in(options: &ArgMatches<'_>) -> Option<u64>
+    ensures { result ≡ given_or packets_of 1000 (first_of (codes "limit") (rows_of (found_of options.now))) }
+{
+    match options.get_str("limit") {
+        Some(text) => packets_of(text),
+        None => Some(1000),
+    }
+}
+
+/// What a gain of `tc`, which counts sixteenths per second, is in thousandths per second, rounded down.
+fn gain_of(gain: u64) -> u64
+    requires { gain ≤ 32 }
+    ensures { result ≡ gain_of gain }
+{
+    gain * 1000 / 16
+}
+
+/// What the options ask for; none, with a line on `errors`, where a text writes no number of its kind.
+fn asked_in<E: Write>(options: &ArgMatches<'_>, errors: &mut E) -> Option<Asked>
+    ensures { IfSome result (AsksFor (rows_of (found_of options.now))) }
+{
+    let Some(rate) = rate_in(options) else {
+        let _ = fault(errors, "--rate is a number of bit, kbit, mbit or gbit, as 100mbit");
+        return None;
+    };
+    let Some(target) = time_in(options, "target") else {
+        let _ = fault(errors, "--target is a number of ns, us, ms or s, as 20ms");
+        return None;
+    };
+    let Some(t_update) = time_in(options, "tupdate") else {
+        let _ = fault(errors, "--tupdate is a number of ns, us, ms or s, as 15ms");
+        return None;
+    };
+    let Some(packets) = packets_in(options) else {
+        let _ = fault(errors, "--limit is a number of packets, as 1000p");
+        return None;
+    };
+    Some(Asked {
+        rate,
+        target,
+        t_update,
+        packets,
+        alpha: gain_of(number_or(options, "alpha", 0, 32, 2)),
+        beta: gain_of(number_or(options, "beta", 0, 32, 20)),
+        ecn: flag(options, "ecn"),
+    })
+}
+
+/// The limit in bytes for a link of this rate: 200 ms at it, but no less than the default, as `pie_params_for` of include/pie.h has it.
+fn limit_for(rate: u64) -> u64
+    ensures { result ≡ limit_for rate }
+{
+    rate.div_ceil(40).max(262_144).min(1 << 30)
+}
+
+/// The threshold of marks (RFC 8033, section 5.1), 10 per cent, or 0 where packets are dropped and never marked.
+fn mark_ecnth_for(ecn: bool) -> u64
+    ensures { result ≡ mark_ecnth_for ecn }
+{
+    if ecn { 100_000_000_000 } else { 0 }
+}
+
+/// The nine parameters of what is asked for.
+fn params_for(asked: &Asked) -> RawParams
+    ensures { result ≡ params_for asked.now }
+{
+    RawParams {
+        target: asked.target,
+        t_update: asked.t_update,
+        max_burst: 150_000_000,
+        alpha: asked.alpha,
+        beta: asked.beta,
+        mean_pkt: 1024,
+        limit_bytes: limit_for(asked.rate),
+        mark_ecnth: mark_ecnth_for(asked.ecn),
+        dq_threshold: 16384,
+    }
+}
+
+/// Writes the kind, the moment and the limits of the opening record.
+fn write_limits<W: Write>(packets: u64, output: &mut W) -> io::Result<()>
+    ensures { OnOk result (Appends (W.contents output.old) (W.contents output.new) (limits_text packets)) }
+{
+    write!(
+        output,
+        "open2,1,rolling,0,{packets},{packets},1099511627776,"
+    )
+}
+
+/// Writes the parameters that are times and gains.
+fn write_delays<W: Write>(params: &RawParams, output: &mut W) -> io::Result<()>
+    ensures { OnOk result (Appends (W.contents output.old) (W.contents output.new) (delays_text params.now)) }
+{
+    let (target, update, burst) = (params.target, params.t_update, params.max_burst);
+    let (alpha, beta) = (params.alpha, params.beta);
+    write!(output, "{target},{update},{burst},{alpha},{beta},")
+}
+
+/// Writes the other parameters, and ends the record.
+fn write_sizes<W: Write>(params: &RawParams, output: &mut W) -> io::Result<()>
+    ensures { OnOk result (Appends (W.contents output.old) (W.contents output.new) (sizes_text params.now)) }
+{
+    let (mean, limit) = (params.mean_pkt, params.limit_bytes);
+    let (mark, threshold) = (params.mark_ecnth, params.dq_threshold);
+    writeln!(output, "{mean},{limit},{mark},{threshold}")
+}
+
+/// Writes the record that opens a book with these parameters, and flushes the writer.
+fn write_opening<W: Write>(packets: u64, params: &RawParams, output: &mut W) -> io::Result<()>
+    ensures { OnOk result (Appends (W.contents output.old) (W.contents output.new) (opening_line packets params.now)) }
+{
+    write_limits(packets, output)?;
+    write_delays(params, output)?;
+    write_sizes(params, output)?;
+    output.flush()
+}
+
+/// Says what has no counterpart among these parameters.
+fn say_missing<E: Write>(options: &ArgMatches<'_>, errors: &mut E) {
+    if flag(options, "bytemode") {
+        let _ = fault(errors, "bytemode has no counterpart: a packet's size doesn't change its chance");
+    }
+    if !flag(options, "dq_rate_estimator") {
+        let _ = fault(
+            errors,
+            "time stamps have no counterpart: delays are estimated from the departure rate, as by dq_rate_estimator",
+        );
+    }
+    for name in ["alpha", "beta"] {
+        if number(options, name).unwrap_or(0) % 2 == 1 {
+            let _ = writeln!(errors, "pie: {name} is rounded down to whole thousandths per second");
+        }
+    }
+}
+
+/// Whether a queue of the limit in bytes is drained in less than the target.
+fn is_short(rate: u64, params: &RawParams) -> bool {
+    let wanted = u128::from(rate) * u128::from(params.target);
+    u128::from(params.limit_bytes) * 8_000_000_000 < wanted
+}
+
+/// Says that the queue is full before it can wait for the target.
+fn say_short<E: Write>(asked: &Asked, params: &RawParams, errors: &mut E) {
+    if is_short(asked.rate, params) {
+        let limit = params.limit_bytes;
+        let _ = writeln!(
+            errors,
+            "pie: limit_bytes, {limit}, is under rate x target: the queue is full before it waits so long, and all losses are tail drops"
+        );
+    }
+}
+
+/// `pie params`: writes the record that opens a book with what the options ask for.
+pub(crate) fn tune<W: Write, E: Write>(
+    options: &ArgMatches<'_>,
+    output: &mut W,
+    errors: &mut E,
+) -> u8
+    ensures { EndsParams (rows_of (found_of options.now)) result (W.contents output.old) (W.contents output.new) }
+{
+    let Some(asked) = asked_in(options, errors) else {
+        return FAULT;
+    };
+    let params = params_for(&asked);
+    if let Err(why) = Params::check(params) {
+        return fault(errors, why);
+    }
+    if asked.packets == 0 || 65536 < asked.packets {
+        return fault(errors, "--limit is 1 to 65536 packets");
+    }
+    say_missing(options, errors);
+    say_short(&asked, &params, errors);
+    match write_opening(asked.packets, &params, output) {
+        Ok(()) => DONE,
+        Err(_) => fault(errors, "cannot write the output"),
+    }
+}

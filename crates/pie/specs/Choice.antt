@@ -12,19 +12,25 @@ use Rattle.pie_explain.specs.declared.which.Which.{Which}
 use Rattle.pie_explain.specs.declared.which.Which.TheVariants.{Number, Tag, Lost, Marked, All}
 use Rattle.pie_explain.specs.Moment.{moment_in}
 use Rattle.pie_explain.specs.Output.{pages}
+use Rattle.pie_summary.specs.Summary.{summary_of}
 
--- the events that are chosen, where exactly one of the five options chooses some
-abbrev pub chosen : Option ℕ → Option ℕ → Bool → Bool → Bool → Option Which
-chosen (Some event) None false false false = Some (Number event)
-chosen None (Some tag) false false false = Some (Tag tag)
-chosen None None true false false = Some Lost
-chosen None None false true false = Some Marked
-chosen None None false false true = Some All
-chosen _ _ _ _ _ = None
+-- the events that are chosen, where exactly one of the five options chooses some; a summary is of all where none does
+abbrev pub chosen : Bool → Option ℕ → Option ℕ → Bool → Bool → Bool → Option Which
+chosen summary (Some event) None false false false = Some (Number event)
+chosen summary None (Some tag) false false false = Some (Tag tag)
+chosen summary None None true false false = Some Lost
+chosen summary None None false true false = Some Marked
+chosen summary None None false false true = Some All
+chosen true None None false false false = Some All
+chosen _ _ _ _ _ _ = None
+
+-- these options ask for a summary
+abbrev pub is_summary : List Row → Bool
+is_summary options = flag_given (codes "summary") options
 
 -- the events that these options choose
 abbrev pub which_of : List Row → Option Which
-which_of options = chosen (number_given (codes "event") options) (number_given (codes "tag") options) (flag_given (codes "lost") options)
+which_of options = chosen (is_summary options) (number_given (codes "event") options) (number_given (codes "tag") options) (flag_given (codes "lost") options)
     (flag_given (codes "marked") options) (flag_given (codes "all") options)
 
 -- ---- moments
@@ -68,6 +74,10 @@ form_where false = Words
 abbrev pub form_of : List Row → Form
 form_of options = form_where (flag_given (codes "csv") options)
 
--- what is told of the explained events
+-- what is told of the explained events, one by one, or of all of them in a summary
+abbrev pub tale_by : Bool → Form → List Explained → List ℕ
+tale_by true form = summary_of (record { form = form })
+tale_by false form = pages form
+
 abbrev pub tale_of : List Row → List Explained → List ℕ
-tale_of options = pages (form_of options)
+tale_of options = tale_by (is_summary options) (form_of options)

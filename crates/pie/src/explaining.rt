@@ -1,7 +1,11 @@
 //! `pie explain`: which events the words choose, and how explaining them ends.
 ghost use Rattle.std.specs.Prelude.{◌≡◌, ◌≤◌, Err, IfSome};
 ghost use Rattle.clap.specs.Words.{found_of, rows_of};
-ghost use Rattle.pie.specs.Choice.{choice_of, chosen, form_of, moment_given, which_of};
+ghost use Rattle.std.specs.Io.KnownBytes.{Appends};
+ghost use Rattle.pie_record.specs.Text.{records_of};
+ghost use Rattle.pie_explain.specs.Answer.{IsTold, answer};
+ghost use Rattle.pie_explain.specs.Output.{output as output_of};
+ghost use Rattle.pie.specs.Choice.{choice_of, chosen, form_of, moment_given, tale_by, which_of};
 ghost use Rattle.pie.specs.Ends.{EndsExplain, answer_status};
 
 use crate::command::fault;
@@ -9,22 +13,24 @@ use crate::end::{DIFFERS, DONE, FAULT};
 use crate::given::{flag, moment, number};
 use clap::ArgMatches;
 use pie_explain::{Choice, ExplainFault, Form, MomentFault, Which, explain};
+use pie_summary::Summary;
 use std::alloc::Global;
 use std::io::{Read, Write};
 
 /// What is said where the words don't choose events by exactly one option.
 const NO_CHOICE: &str =
-    "explain takes exactly one of --event N, --tag T, --lost, --marked and --all; see pie explain --help";
+    "explain takes exactly one of --event N, --tag T, --lost, --marked and --all, or --summary; see pie explain --help";
 
-/// The events that are chosen, where exactly one of the five options chooses some.
+/// The events that are chosen, where exactly one of the five options chooses some; a summary is of all where none does.
 fn chosen(
+    summary: bool,
     event: Option<u64>,
     tag: Option<u64>,
     lost: bool,
     marked: bool,
     all: bool,
 ) -> Option<Which>
-    ensures { result ≡ chosen event tag lost marked all }
+    ensures { result ≡ chosen summary event tag lost marked all }
 {
     match (event, tag, lost, marked, all) {
         (Some(event), None, false, false, false) => Some(Which::Number(event)),
@@ -32,6 +38,7 @@ fn chosen(
         (None, None, true, false, false) => Some(Which::Lost),
         (None, None, false, true, false) => Some(Which::Marked),
         (None, None, false, false, true) => Some(Which::All),
+        (None, None, false, false, false) => { if summary { Some(Which::All) } else { None } }
         _ => None,
     }
 }
@@ -43,7 +50,8 @@ fn which_of(options: &ArgMatches<'_>) -> Option<Which>
     let event = number(options, "event");
     let tag = number(options, "tag");
     let (lost, marked) = (flag(options, "lost"), flag(options, "marked"));
-    chosen(event, tag, lost, marked, flag(options, "all"))
+    let (all, summary) = (flag(options, "all"), flag(options, "summary"));
+    chosen(summary, event, tag, lost, marked, all)
 }
 
 /// The moment that an option is given, with a line on `errors` where its text is none.
@@ -91,6 +99,26 @@ fn form_of(options: &ArgMatches<'_>) -> Form
     }
 }
 
+/// Writes what there is to say of the chosen events, one by one or in a summary.
+fn tell<R: Read + Drop, W: Write>(
+    alloc: Global,
+    input: R,
+    output: &mut W,
+    choice: Choice,
+    summary: bool,
+    form: Form,
+) -> Result<u64, ExplainFault>
+    ensures answers { IfSome (R.remaining input) (λ text. IsTold result → result ≡ answer choice (records_of text)) }
+    ensures writes { IfSome (R.remaining input) (λ text. IsTold result
+        → Appends (W.contents output.old) (W.contents output.new) (output_of (tale_by summary form) choice (records_of text))) }
+{
+    if summary {
+        explain(alloc, input, output, choice, Summary { form })
+    } else {
+        explain(alloc, input, output, choice, form)
+    }
+}
+
 /// The status where a history was not explained to its end.
 fn status_of(why: ExplainFault) -> u8
     ensures { result ≡ answer_status (Err why) }
@@ -133,6 +161,7 @@ pub(crate) fn explain_input<R: Read + Drop, W: Write, E: Write>(
     let Some(choice) = choice_of(options, errors) else {
         return FAULT;
     };
-    let given = explain(alloc, input, output, choice, form_of(options));
+    let (summary, form) = (flag(options, "summary"), form_of(options));
+    let given = tell(alloc, input, output, choice, summary, form);
     ended(errors, given)
 }

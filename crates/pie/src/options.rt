@@ -108,12 +108,21 @@ fn explain_command<'a>(alloc: Global) -> Result<Command<'a>, AllocError>
         "MOMENT",
         "Only the chosen events at this moment and earlier",
     );
+    let summary = flag_option(
+        alloc,
+        "summary",
+        "Sum up the chosen events, in place of each; all of them where none are chosen",
+    );
     let csv = flag_option(
         alloc,
         "csv",
-        "Write CSV, a header and a record an event, in place of words",
+        "Write CSV, a header and a record an event or a number, in place of words",
     );
-    choosing_command(alloc)?.arg(from)?.arg(to)?.arg(csv)
+    choosing_command(alloc)?
+        .arg(from)?
+        .arg(to)?
+        .arg(summary)?
+        .arg(csv)
 }
 
 /// The subcommand `storm` and its options.

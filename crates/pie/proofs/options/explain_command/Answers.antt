@@ -9,7 +9,9 @@ pub returns : goal.returns
 returns c =
     let with_from = with_rule choosing_app (text_rule (codes "from")) in
     let with_to = with_rule with_from (text_rule (codes "to")) in
+    let with_summary = with_rule with_to (flag_rule (codes "summary")) in
     let one = adds_arg choosing_app (text_rule (codes "from")) c.in_ok-choosing_command.ensures c.text_option-from.ensures.local c.text_option-from.ensures.rule c.in_ok-arg.ensures in
     let two = adds_arg with_from (text_rule (codes "to")) one c.text_option-to.ensures.local c.text_option-to.ensures.rule c.in_ok-arg-2.ensures in
-    IfOk-weaker c.arg-3.result (λ whole. AddsArg c.in_ok-arg-2.field-0 c.flag_option-csv.result whole) (λ explain. app_of explain ≡ explain_app)
-    (λ whole added. adds_arg with_to (flag_rule (codes "csv")) two c.flag_option-csv.ensures.local c.flag_option-csv.ensures.rule added) c.arg-3.ensures
+    let three = adds_arg with_to (flag_rule (codes "summary")) two c.flag_option-summary.ensures.local c.flag_option-summary.ensures.rule c.in_ok-arg-3.ensures in
+    IfOk-weaker c.arg-4.result (λ whole. AddsArg c.in_ok-arg-3.field-0 c.flag_option-csv.result whole) (λ explain. app_of explain ≡ explain_app)
+    (λ whole added. adds_arg with_summary (flag_rule (codes "csv")) three c.flag_option-csv.ensures.local c.flag_option-csv.ensures.rule added) c.arg-4.ensures

@@ -1,0 +1,3 @@
+pub mod SeriesFacts
+pub mod SumsFacts
+pub mod TextFacts

@@ -1,0 +1,5 @@
+pub mod Series
+pub mod Sums
+pub mod Words
+pub mod Record
+pub mod Summary

@@ -38,8 +38,9 @@ use std::thread::Threads;
 /// the end says what failed, as of a run.
 ///
 /// For any words that ask for `pie explain`, exactly one option chooses events, and what `--from` and `--to` are given are moments; or the
-/// status is 1 and nothing is written. What is said of the chosen events at these moments is written, up to the first fault and the first event that differs, and the status is 2 where an
-/// event differs, 1 for a fault and where no event is the chosen one, and else 0; or 1, where the reader, the writer or memory fails.
+/// status is 1 and nothing is written. What is said of the chosen events at these moments is written, up to the first fault and the first
+/// event that differs, and the status is 2 where an event differs, 1 for a fault and where no event is the chosen one, and else 0; or 1,
+/// where the reader, the writer or memory fails.
 ///
 /// For any words that ask for `pie storm`, the threads of the runtime make a storm of the plan that the options ask for. Its
 /// history is written, which is legal and clean, and the status is 0; or it is 1, where memory, a thread or the writer fails.

@@ -2,20 +2,16 @@
 use Rattle.std.proofs.Common.{◌≡◌, ◌+◌, ◌*◌, ◌^◌, ℕ, Bool, true, false, not, refl, sym, arith}
 use Rattle.std.specs.Prelude.{◌==◌, ◌&&◌, ◌||◌, nat_lt, nat_le, if◌then◌else◌}
 use Rattle.std.proofs.lemmas.Bool.Decides.{nat_tests}
-use Rattle.pie_params.specs.declared.raw.RawParams.{RawParams}
-use Rattle.pie_control.specs.Parts.{Parts}
-use Rattle.pie_early.specs.declared.early.Choice.TheVariants.{Enqueue, Mark, Drop}
+use Rattle.pie_controller.specs.Types.{RawParams, Parts, Enqueue, Mark, Drop, Arrival, Verdict}
+use Rattle.pie_controller.specs.Held.{Held}
 use Rattle.pie_early.specs.Decision.{is_considered, is_picked}
 use Rattle.pie_queue.specs.Ecn.{is_capable}
 use Rattle.pie_controller.specs.declared.cause.Cause.{Cause}
 use Rattle.pie_controller.specs.declared.cause.Cause.TheVariants.{NoRoomInBytes, NoRoomInPackets, Inactive, BurstAllowed, LowDelay, ShortQueue, NoProbability, LittleAccumulated, PickedBySum, PickedByWord, WordNotBelow}
 use Rattle.pie_controller.specs.declared.cause.Fate.{Fate}
 use Rattle.pie_controller.specs.declared.cause.Fate.TheVariants.{Marked, NotCapable, NotBelow}
-use Rattle.pie_controller.specs.declared.verdict.Arrival.{Arrival}
-use Rattle.pie_controller.specs.declared.verdict.Verdict.{Verdict}
 use Rattle.pie_controller.specs.declared.verdict.Verdict.TheVariants.{DroppedBytes, DroppedPackets}
 use Rattle.pie_controller.specs.Cause.{verdict_of, considered_cause, early_cause, cause}
-use Rattle.pie_controller.specs.Held.{Held}
 use Rattle.pie_controller.specs.Steps.{chosen, verdict}
 
 -- each test of the cause against that of the verdict

@@ -1,21 +1,18 @@
 -- The definitions on worked rows. Each line computes: what is held after each call, and that looking back over the events gives the same.
 use Rattle.std.proofs.Common.{◌≡◌, ℕ, ◌^◌, List, [], ◌∷◌, ◌++◌, Bool, true, false, Option, Some, None, refl}
-use Rattle.pie_params.specs.declared.raw.RawParams.{RawParams}
+use Rattle.pie_controller.specs.Types.{RawParams, Begun, Two, Arrival}
+use Rattle.pie_controller.specs.Held.{Held}
+use Rattle.pie_controller.specs.Events.{ControllerEvent, Opened}
 use Rattle.pie_queue.specs.declared.ecn.Ecn.TheVariants.{NotEct}
 use Rattle.pie_rate.specs.Average.{average, samples}
 use Rattle.pie_rate.specs.Cycles.{begun, cycles, cycles_from, first_closing, first_cycle, first_opening, first_position}
-use Rattle.pie_rate.specs.Estimate.{Begun}
 use Rattle.pie_control.specs.Delay.{delay_of}
 use Rattle.pie_control.specs.History.{burst_allowance, granted_burst, last_delay, last_moment, probability}
 use Rattle.pie_control.specs.Next.{raw_step, tuning_divisor, tuned_step, decayed, next}
 use Rattle.pie_early.specs.Decision.{is_considered, is_picked}
 use Rattle.pie_early.specs.History.{accumulated}
-use Rattle.pie_controller.specs.declared.profile.Profile.TheVariants.{Two}
-use Rattle.pie_controller.specs.declared.verdict.Arrival.{Arrival}
 use Rattle.pie_controller.specs.declared.verdict.Verdict.TheVariants.{DroppedBytes, DroppedPackets}
 use Rattle.pie_controller.specs.Calls.{Arrive, Call, Depart, Restart, Update, after_call, shown_by}
-use Rattle.pie_controller.specs.Events.{ControllerEvent, Opened}
-use Rattle.pie_controller.specs.Held.{Held}
 use Rattle.pie_controller.specs.History.{active_of, arrivals_shown, control_of, delay_noted, departures_of, departures_shown, early_of, held_of, is_active, noted, noted_after, now_of, params_of, updates_shown}
 use Rattle.pie_controller.specs.Places.{greatest, last_or, places}
 use Rattle.pie_controller.specs.Steps.{accu_left, delay_answered, due, opened, verdict}

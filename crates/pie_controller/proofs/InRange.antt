@@ -1,6 +1,8 @@
 -- Parameters that are in their ranges.
 use Rattle.std.proofs.Common.{◌≡◌, ◌≤◌, ◌^◌, ◌&&◌, nat_le, ℕ, List, [], ◌∷◌, Bool, true, false, not, refl, arith, if◌then◌else◌}
-use Rattle.std.specs.Prelude.{Some, None, find}
+use Rattle.std.specs.Prelude.{Some, None, find, nat_lt}
+use Rattle.std.specs.List.{AllByRecursion}
+use Rattle.std.proofs.lemmas.List.Elements.{All-from_recursion}
 use Rattle.std.proofs.lemmas.Bool.Decides.{nat_tests}
 use Rattle.pie_params.specs.declared.raw.RawParams.{RawParams}
 use Rattle.pie_params.specs.declared.raw.Field.{Field}
@@ -9,6 +11,9 @@ use Rattle.pie_params.specs.Range.{first_bad, is_dq_threshold, is_in_range}
 
 pub leb : (a b : ℕ) → nat_le a b ≡ true → a ≤ b
 leb a b e = grind (arith, nat_tests)
+
+pub ltb : (a b : ℕ) → nat_lt a b ≡ false → b ≤ a
+ltb a b e = grind (arith, nat_tests)
 
 -- the bounds of what the parts are handed
 pub record ParamsHold (params : RawParams) : Type 0 where
@@ -22,12 +27,14 @@ dq-most n e = grind (arith, nat_tests)
 dq-least : (n : ℕ) → is_dq_threshold n ≡ true → 1024 ≤ n
 dq-least n e = grind (arith, nat_tests)
 
-find-none : {X : Type 0} (test : X → Bool) (x : X) (xs : List X) → find test (x ∷ xs) ≡ None → (test x ≡ false) × (find test xs ≡ None)
-find-none test x xs = by (test x) refl
+find-none : {X : Type 0} (test : X → Bool) (xs : List X) → find test xs ≡ None → AllByRecursion (λ x. test x ≡ false) xs
+find-none test [] e = tt
+find-none test (x ∷ xs) e = by (test x) refl (find-none test xs) e
   where
-    by : (b : Bool) → test x ≡ b → (if b then Some x else find test xs) ≡ None → (test x ≡ false) × (find test xs ≡ None)
-    by true t e = cc
-    by false t e = (t, e)
+    by : (b : Bool) → test x ≡ b → (find test xs ≡ None → AllByRecursion (λ y. test y ≡ false) xs) → (if b then Some x else find test xs) ≡ None
+        → (test x ≡ false) × AllByRecursion (λ y. test y ≡ false) xs
+    by true t rest none = cc
+    by false t rest none = (t, rest none)
 
 not-false : (b : Bool) → not b ≡ false → b ≡ true
 not-false true e = refl
@@ -47,26 +54,18 @@ pub record InRange (params : RawParams) : Type 0 where
 
 pub in-range : (params : RawParams) → first_bad params ≡ None → InRange params
 in-range params e =
-    let test : Field → Bool = λ field. not (is_in_range params field) in
-    let a = find-none test Target (TUpdate ∷ MaxBurst ∷ Alpha ∷ Beta ∷ MeanPkt ∷ LimitBytes ∷ MarkEcnth ∷ DqThreshold ∷ []) e in
-    let b = find-none test TUpdate (MaxBurst ∷ Alpha ∷ Beta ∷ MeanPkt ∷ LimitBytes ∷ MarkEcnth ∷ DqThreshold ∷ []) a.1 in
-    let c = find-none test MaxBurst (Alpha ∷ Beta ∷ MeanPkt ∷ LimitBytes ∷ MarkEcnth ∷ DqThreshold ∷ []) b.1 in
-    let d = find-none test Alpha (Beta ∷ MeanPkt ∷ LimitBytes ∷ MarkEcnth ∷ DqThreshold ∷ []) c.1 in
-    let f = find-none test Beta (MeanPkt ∷ LimitBytes ∷ MarkEcnth ∷ DqThreshold ∷ []) d.1 in
-    let g = find-none test MeanPkt (LimitBytes ∷ MarkEcnth ∷ DqThreshold ∷ []) f.1 in
-    let h = find-none test LimitBytes (MarkEcnth ∷ DqThreshold ∷ []) g.1 in
-    let i = find-none test MarkEcnth (DqThreshold ∷ []) h.1 in
-    let j = find-none test DqThreshold ([]) i.1 in
+    let fields : List Field = Target ∷ TUpdate ∷ MaxBurst ∷ Alpha ∷ Beta ∷ MeanPkt ∷ LimitBytes ∷ MarkEcnth ∷ DqThreshold ∷ [] in
+    let passes = All-from_recursion (λ field. not (is_in_range params field) ≡ false) fields (find-none (λ field. not (is_in_range params field)) fields e) in
     record {
-      target = not-false _ a.0;
-      t_update = not-false _ b.0;
-      max_burst = not-false _ c.0;
-      alpha = not-false _ d.0;
-      beta = not-false _ f.0;
-      mean_pkt = not-false _ g.0;
-      limit_bytes = not-false _ h.0;
-      mark_ecnth = not-false _ i.0;
-      dq_threshold = not-false _ j.0;
+      target = not-false _ (passes 0 Target (omega arith));
+      t_update = not-false _ (passes 1 Target (omega arith));
+      max_burst = not-false _ (passes 2 Target (omega arith));
+      alpha = not-false _ (passes 3 Target (omega arith));
+      beta = not-false _ (passes 4 Target (omega arith));
+      mean_pkt = not-false _ (passes 5 Target (omega arith));
+      limit_bytes = not-false _ (passes 6 Target (omega arith));
+      mark_ecnth = not-false _ (passes 7 Target (omega arith));
+      dq_threshold = not-false _ (passes 8 Target (omega arith));
     }
 
 pub params-hold : (params : RawParams) → first_bad params ≡ None → ParamsHold params

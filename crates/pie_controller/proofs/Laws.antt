@@ -3,23 +3,17 @@ use Rattle.std.proofs.Common.{◌≡◌, ◌≤◌, ℕ, List, [], ◌∷◌, �
 use Rattle.std.specs.Prelude.{max, ◌&&◌, Some, None}
 use Rattle.std.specs.Option.{option_to_list}
 use Rattle.std.proofs.lemmas.List.{append-nil}
-use Rattle.pie_params.specs.declared.raw.RawParams.{RawParams}
-use Rattle.pie_rate.specs.Departures.{Departure, departure}
-use Rattle.pie_rate.specs.Estimate.{Estimate}
+use Rattle.pie_controller.specs.Types.{RawParams, Departure, departure, Estimate, Parts, Profile, One, Two, Arrival}
+use Rattle.pie_controller.specs.Held.{Held}
 use Rattle.pie_rate.specs.Estimate as Rate
 use Rattle.pie_rate.specs.Step.{after_departure}
 use Rattle.pie_control.specs.Events.{ControlEvent, idled, update_at}
 use Rattle.pie_control.specs.History as Control
-use Rattle.pie_control.specs.Parts.{Parts}
 use Rattle.pie_control.proofs.Laws.{Shows-idled, Shows-reset, Shows-updated}
 use Rattle.pie_early.specs.History as Early
 use Rattle.pie_early.proofs.Laws.{shows-clear}
-use Rattle.pie_controller.specs.declared.profile.Profile.{Profile}
-use Rattle.pie_controller.specs.declared.profile.Profile.TheVariants.{One, Two}
-use Rattle.pie_controller.specs.declared.verdict.Arrival.{Arrival}
 use Rattle.pie_controller.specs.Calls.{Arrive, Call, Change, Depart, Pass, Restart, Update, after_call, shown_by}
 use Rattle.pie_controller.specs.Events.{ControllerEvent, Opened, Arrived, Departed, Passed, Updated, Reset, Changed, moment_of, params_set}
-use Rattle.pie_controller.specs.Held.{Held}
 use Rattle.pie_controller.specs.History.{Shows, active_of, change_by, considered_where, updates_shown, control_of, control_shown, delay_noted, departures_shown, departures_of, arrivals_shown, early_of, early_shown, estimate_of, held_of, is_calm_noted, now_of, noted, noted_after, params_of, parts_of, verdict_shown}
 use Rattle.pie_controller.specs.Places.{greatest, last_or, places}
 use Rattle.pie_controller.specs.Steps.{accu_left, anew, bytes_with, control_updated, delay_in, is_calm, judged, now_at, opened, renewed, stays_active, turns_on, verdict}

@@ -4,17 +4,13 @@ use Rattle.std.specs.Prelude.{max, Option, Some, None, if◌then◌else◌}
 use Rattle.std.specs.Option.{option_to_list}
 use Rattle.std.specs.List.{filter_map, after_last}
 use Rattle.std.proofs.lemmas.List.{append-nil, append_assoc, map-append}
-use Rattle.pie_params.specs.declared.raw.RawParams.{RawParams}
-use Rattle.pie_rate.specs.Departures.{Departure}
-use Rattle.pie_control.specs.Events.{ControlEvent}
-use Rattle.pie_early.specs.Events.{EarlyEvent}
-use Rattle.pie_controller.specs.declared.profile.Profile.{Profile}
-use Rattle.pie_controller.specs.declared.profile.Profile.TheVariants.{One, Two}
+use Rattle.pie_controller.specs.Types.{RawParams, Departure, ControlEvent, EarlyEvent, Profile, One, Two}
 use Rattle.pie_controller.specs.Events.{ControllerEvent, Opened, moment_of, params_set}
 use Rattle.pie_controller.specs.History.{Noted, active_of, change_at, change_by, clears_rate, clears_rate_at, control_at, updates_shown, control_of, control_shown, delay_noted, departure_at, departure_shown, departures_shown, departures_of, early_at, arrivals_shown, early_of, early_shown, events_of, is_active, is_active_in, is_calm_noted, now_of, note, noted, noted_after, params_of, parts_of, turns_on_at, turns_on_by}
 use Rattle.pie_controller.specs.Places.{Place, last_or, places}
 use Rattle.pie_controller.specs.Steps.{opens_active}
-use Rattle.pie_controller.proofs.Places.{after_last-push_no, after_last-push_yes, filter_map-push, from_places-push, greatest-push, last_or-push, place_of, places-push}
+use Rattle.pie_early.proofs.Laws.{after_last-push_no, after_last-push_yes}
+use Rattle.pie_controller.proofs.Places.{filter_map-push, from_places-push, greatest-push, last_or-push, place_of, places-push}
 
 -- ---- the moment and the parameters
 

@@ -5,23 +5,20 @@ use Rattle.std.proofs.lemmas.Bool.{le-leb, lt-leb, ltb-true}
 use Rattle.std.proofs.lemmas.Bool.Decides.{nat_tests}
 use Rattle.pie_rate.specs.Average.{average, samples}
 use Rattle.pie_rate.specs.Cycles.{begun, cycles, cycles_from, first_opening, first_position}
-use Rattle.pie_rate.specs.Departures.{Departure}
-use Rattle.pie_rate.specs.Estimate.{Begun, Estimate}
+use Rattle.pie_controller.specs.Types.{Departure, Begun, Estimate, Choice, Enqueue, Mark, Drop, Arrival}
+use Rattle.pie_controller.specs.Held.{Held}
 use Rattle.pie_rate.specs.Estimate as Rate
 use Rattle.pie_rate.specs.Step.{after_departure, opened_by, step_from}
 use Rattle.pie_rate.proofs.Steps.{closes, counts, idle, opened}
-use Rattle.pie_early.specs.declared.early.Choice.{Choice}
 use Rattle.pie_early.specs.Decision.{accu_after, choice_of, is_considered}
-use Rattle.pie_early.specs.declared.early.Choice.TheVariants.{Enqueue, Mark, Drop}
 use Rattle.pie_early.specs.Events.{EarlyEvent, arrival}
 use Rattle.pie_early.specs.History as Early
 use Rattle.pie_early.proofs.Arrivals.{shows_arrival}
 use Rattle.pie_early.proofs.Laws.{shows-clear, shows-unconsidered}
-use Rattle.pie_controller.specs.declared.verdict.Arrival.{Arrival}
 use Rattle.pie_controller.specs.declared.verdict.Verdict.TheVariants.{DroppedBytes, DroppedPackets}
-use Rattle.pie_controller.specs.Held.{Held}
 use Rattle.pie_controller.specs.History.{considered_where, verdict_shown}
 use Rattle.pie_controller.specs.Steps.{accu_left, chosen, no_estimate, verdict}
+use Rattle.pie_controller.proofs.InRange.{ltb}
 
 -- ---- early drop
 
@@ -48,9 +45,6 @@ early-step h a events shown = by (nat_lt h.params.limit_bytes (a.queued + a.size
         (shows_arrival h.params h.control a.queued a.word h.accu events a.ecn shown)
 
 -- ---- the departure rate
-
-ltb : (a b : ℕ) → nat_lt a b ≡ false → b ≤ a
-ltb a b e = grind (arith, nat_tests)
 
 opened-same : (t : ℕ) (ds : List Departure) (d : Departure) → opened_by t d ≡ opened t ds d
 opened-same t ds d = by (nat_lt d.bytes_left t) refl

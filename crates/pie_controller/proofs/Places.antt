@@ -1,11 +1,10 @@
 -- What one more event at the end of a history does to its places, and to what is filtered from them.
-use Rattle.std.proofs.Common.{◌≡◌, ◌+◌, ◌-◌, ℕ, List, [], ◌∷◌, ◌++◌, length, drop, Bool, true, false, cond, not, refl, ap, ◌∙◌, arith}
+use Rattle.std.proofs.Common.{◌≡◌, ℕ, List, [], ◌∷◌, ◌++◌, Bool, true, false, refl, ap, ◌∙◌, arith}
 use Rattle.std.specs.Prelude.{max, Option, Some, None, if◌then◌else◌}
 use Rattle.std.specs.Option.{option_to_list}
-use Rattle.std.specs.List.{cons_option, filter_map, after_last, suffix_len}
-use Rattle.std.proofs.lemmas.List.{map-append, reverse-append, drop_all, drop-append-le, length_push}
+use Rattle.std.specs.List.{cons_option, filter_map}
+use Rattle.std.proofs.lemmas.List.{append-nil, map-append}
 use Rattle.std.proofs.lemmas.List.Elements.{filter_map-append}
-use Rattle.std.proofs.lemmas.List.Sums.{suffix_len-le-length}
 use Rattle.pie_controller.specs.Places.{Place, places, after, greatest, last_or}
 
 -- the place of an event that comes after these
@@ -33,23 +32,6 @@ pub from_places-push : {E Y : Type 0} (h : Place E → Option Y) (history : List
     → filter_map h (places (history ++ event ∷ [])) ≡ filter_map h (places history) ++ option_to_list (h (place_of history event))
 from_places-push h history event = ap (λ xs. filter_map h xs) (places-push history event) ∙ filter_map-push h (places history) (place_of history event)
 
-suffix_len-push : {X : Type 0} (p : X → Bool) (xs : List X) (x : X) → suffix_len p (xs ++ x ∷ []) ≡ cond (p x) (1 + suffix_len p xs) 0
-suffix_len-push p xs x = rw reverse-append refl
-
--- nothing stands after the last, where it passes
-pub after_last-push_yes : {X : Type 0} (p : X → Bool) (xs : List X) (x : X) → p x ≡ true → after_last p (xs ++ x ∷ []) ≡ []
-after_last-push_yes p xs x e =
-    let none : suffix_len (λ y. not (p y)) (xs ++ x ∷ []) ≡ 0 = suffix_len-push (λ y. not (p y)) xs x ∙ ap (λ b. cond (not b) (1 + suffix_len (λ y. not (p y)) xs) 0) e in
-    drop_all _ (xs ++ x ∷ []) (omega arith)
-
--- .. and else it joins those that stand after the last that does
-pub after_last-push_no : {X : Type 0} (p : X → Bool) (xs : List X) (x : X) → p x ≡ false → after_last p (xs ++ x ∷ []) ≡ after_last p xs ++ x ∷ []
-after_last-push_no p xs x e =
-    let one : suffix_len (λ y. not (p y)) (xs ++ x ∷ []) ≡ 1 + suffix_len (λ y. not (p y)) xs = suffix_len-push (λ y. not (p y)) xs x ∙ ap (λ b. cond (not b) (1 + suffix_len (λ y. not (p y)) xs) 0) e in
-    let bound = suffix_len-le-length (λ y. not (p y)) xs in
-    let at : length (xs ++ x ∷ []) - suffix_len (λ y. not (p y)) (xs ++ x ∷ []) ≡ length xs - suffix_len (λ y. not (p y)) xs = omega (arith, length_push xs x) in
-    ap (λ n. drop n (xs ++ x ∷ [])) at ∙ drop-append-le _ xs (x ∷ []) (omega arith)
-
 pub greatest-push : (xs : List ℕ) (y : ℕ) → greatest (xs ++ y ∷ []) ≡ max (greatest xs) y
 unfolding greatest
 greatest-push [] y = omega arith
@@ -58,10 +40,6 @@ greatest-push (x ∷ xs) y = let more = greatest-push xs y in omega arith
 pub greatest-push_option : (xs : List ℕ) (b : Bool) (y : ℕ) → greatest (xs ++ option_to_list (if b then Some y else None)) ≡ (if b then max (greatest xs) y else greatest xs)
 greatest-push_option xs true y = greatest-push xs y
 greatest-push_option xs false y = ap greatest (append-nil xs)
-  where
-    append-nil : (l : List ℕ) → l ++ [] ≡ l
-    append-nil [] = refl
-    append-nil (z ∷ zs) = ap (λ l. z ∷ l) (append-nil zs)
 
 -- the last of a list with one more, or with none
 pub last_or-push : {X : Type 0} (d : X) (xs : List X) (x : X) → last_or d (xs ++ x ∷ []) ≡ x

@@ -3,21 +3,15 @@ use Rattle.std.proofs.Common.{◌≡◌, ◌≤◌, ◌<◌, ◌+◌, ◌-◌, �
 use Rattle.std.specs.Prelude.{max, nat_lt, Option, Some, None}
 use Rattle.std.proofs.lemmas.Bool.Decides.{nat_tests}
 use Rattle.pie_fixed.specs.Fixed.{bounded_of}
-use Rattle.pie_params.specs.declared.raw.RawParams.{RawParams}
+use Rattle.pie_controller.specs.Types.{RawParams, departure, Begun, Estimate, Parts, Profile, One, Two, Arrival}
 use Rattle.pie_params.specs.Range.{first_bad}
 use Rattle.pie_rate.specs.Average.{averaged, with_sample}
-use Rattle.pie_rate.specs.Departures.{departure}
-use Rattle.pie_rate.specs.Estimate.{Begun, Estimate}
 use Rattle.pie_rate.specs.Step.{after_departure, step_from}
 use Rattle.pie_control.specs.Delay.{delay_of}
 use Rattle.pie_control.specs.History.{ends_calm}
 use Rattle.pie_control.specs.Next.{decayed, next, raw_step, tuned_step}
-use Rattle.pie_control.specs.Parts.{Parts}
 use Rattle.pie_early.specs.Decision.{accu_after}
 use Rattle.pie_early.proofs.Arrivals.{accu_below}
-use Rattle.pie_controller.specs.declared.profile.Profile.{Profile}
-use Rattle.pie_controller.specs.declared.profile.Profile.TheVariants.{One, Two}
-use Rattle.pie_controller.specs.declared.verdict.Arrival.{Arrival}
 use Rattle.pie_controller.specs.Calls.{Arrive, Call, Change, Depart, IsTaken, Pass, Restart, Update, after_call}
 use Rattle.pie_controller.specs.Held.{Held, IsSound, IsWithin}
 use Rattle.pie_controller.specs.Steps.{accu_left, anew, bytes_with, control_after, control_updated, delay_in, is_calm, judged, no_estimate, now_at, opened, opens_active, renewed, stays_active, turns_on, verdict}

@@ -1,10 +1,9 @@
 -- The calls on a controller: what each leaves, and what it adds to what the controller was shown.
 use Rattle.std.specs.Prelude.{◌≡◌, ℕ, ◌^◌, ◌<◌, None}
-use Rattle.pie_params.specs.declared.raw.RawParams.{RawParams}
-use Rattle.pie_params.specs.Range.{first_bad}
-use Rattle.pie_controller.specs.declared.verdict.Arrival.{Arrival}
-use Rattle.pie_controller.specs.Events.{ControllerEvent, Arrived, Departed, Passed, Updated, Reset, Changed}
+use Rattle.pie_controller.specs.Types.{RawParams, Arrival}
 use Rattle.pie_controller.specs.Held.{Held}
+use Rattle.pie_params.specs.Range.{first_bad}
+use Rattle.pie_controller.specs.Events.{ControllerEvent, Arrived, Departed, Passed, Updated, Reset, Changed}
 use Rattle.pie_controller.specs.Steps.{arrived, bytes_with, changed, departed, passed, reset, updated, verdict}
 
 -- an arrival; a departure, with the packet's size and the bytes that it left; a departure that found no packet; an update, with the

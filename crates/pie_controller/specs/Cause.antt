@@ -1,8 +1,8 @@
 -- What decides an arrival: the first case of the rules that holds, with the numbers that it compares (RFC 8033, sections 4.1, 4.4, 5.1,
 -- 5.4 and Appendix A; the limit in packets and the comparison by a random word of 64 bits are this project's own).
 use Rattle.std.specs.Prelude.{ℕ, ◌+◌, ◌*◌, ◌^◌, ◌==◌, not, ◌&&◌, nat_lt, nat_le, if◌then◌else◌}
-use Rattle.pie_params.specs.declared.raw.RawParams.{RawParams}
-use Rattle.pie_control.specs.Parts.{Parts}
+use Rattle.pie_controller.specs.Types.{RawParams, Parts, Arrival, Verdict}
+use Rattle.pie_controller.specs.Held.{Held}
 use Rattle.pie_early.specs.Decision.{a_fifth, always_picked, never_picked}
 use Rattle.pie_queue.specs.declared.ecn.Ecn.{Ecn}
 use Rattle.pie_queue.specs.Ecn.{is_capable}
@@ -10,10 +10,7 @@ use Rattle.pie_controller.specs.declared.cause.Cause.{Cause}
 use Rattle.pie_controller.specs.declared.cause.Cause.TheVariants.{NoRoomInBytes, NoRoomInPackets, Inactive, BurstAllowed, LowDelay, ShortQueue, NoProbability, LittleAccumulated, PickedBySum, PickedByWord, WordNotBelow}
 use Rattle.pie_controller.specs.declared.cause.Fate.{Fate}
 use Rattle.pie_controller.specs.declared.cause.Fate.TheVariants.{Marked, NotCapable, NotBelow}
-use Rattle.pie_controller.specs.declared.verdict.Arrival.{Arrival}
-use Rattle.pie_controller.specs.declared.verdict.Verdict.{Verdict}
 use Rattle.pie_controller.specs.declared.verdict.Verdict.TheVariants as verdict
-use Rattle.pie_controller.specs.Held.{Held}
 use Rattle.pie_controller.specs.Steps.{by_room}
 
 -- ---- what follows from a cause

@@ -1,8 +1,6 @@
 -- What a controller was opened with, and what it was shown after that, in the order in which it came.
 use Rattle.std.specs.Prelude.{ℕ, Option, Some, None}
-use Rattle.pie_params.specs.declared.raw.RawParams.{RawParams}
-use Rattle.pie_controller.specs.declared.profile.Profile.{Profile}
-use Rattle.pie_controller.specs.declared.verdict.Verdict.{Verdict}
+use Rattle.pie_controller.specs.Types.{RawParams, Profile, Verdict}
 
 pub record Opened : Type 0 where
   pub profile : Profile

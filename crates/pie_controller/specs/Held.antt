@@ -1,11 +1,9 @@
 -- What a controller holds, and what is sound to hold.
 use Rattle.std.specs.Prelude.{◌≡◌, ℕ, ◌^◌, ◌<◌, ◌≤◌, Bool, true, Option, Some, None, ⊤}
-use Rattle.pie_params.specs.declared.raw.RawParams.{RawParams}
+use Rattle.pie_controller.specs.Types.{RawParams, Profile, One}
 use Rattle.pie_params.specs.Range.{first_bad}
 use Rattle.pie_rate.specs.Estimate.{Begun, Estimate, estimate_of}
 use Rattle.pie_control.specs.Parts.{Parts, parts_of}
-use Rattle.pie_controller.specs.declared.profile.Profile.{Profile}
-use Rattle.pie_controller.specs.declared.profile.Profile.TheVariants.{One}
 use Rattle.pie_controller.specs.declared.raw.RawController.{RawController}
 
 -- its profile; the parameters in force and the effective moment; whether it is active; the estimate of the departure rate, the

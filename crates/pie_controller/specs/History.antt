@@ -4,28 +4,22 @@
 -- looks back over all notes before it.
 use Rattle.std.specs.Prelude.{◌≡◌, ℕ, Bool, true, false, ◌&&◌, List, [], ◌∷◌, ◌++◌, map, Option, option_map, Some, None, if◌then◌else◌}
 use Rattle.std.specs.List.{filter_map, after_last}
-use Rattle.pie_params.specs.declared.raw.RawParams.{RawParams}
+use Rattle.pie_controller.specs.Types.{RawParams, Departure, departure, Parts, Enqueue, Mark, Drop, Profile, One, Two, Verdict}
+use Rattle.pie_controller.specs.Held.{Held}
 use Rattle.pie_rate.specs.Average.{average}
 use Rattle.pie_rate.specs.Cycles.{begun}
-use Rattle.pie_rate.specs.Departures.{Departure, departure}
 use Rattle.pie_rate.specs.Estimate.{Estimate, begun_at}
 use Rattle.pie_rate.specs.Estimate as Rate
 use Rattle.pie_control.specs.Delay.{delay_of}
 use Rattle.pie_control.specs.Events.{ControlEvent, update_at, idled, reset}
 use Rattle.pie_control.specs.History.{probability, last_delay, last_moment, burst_allowance, is_calm_after}
 use Rattle.pie_control.specs.History as Control
-use Rattle.pie_control.specs.Parts.{Parts}
-use Rattle.pie_early.specs.declared.early.Choice.TheVariants.{Enqueue, Mark, Drop}
 use Rattle.pie_early.specs.Decision.{is_considered}
 use Rattle.pie_early.specs.Events.{EarlyEvent, arrival, cleared}
 use Rattle.pie_early.specs.History.{accumulated}
 use Rattle.pie_early.specs.History as Early
-use Rattle.pie_controller.specs.declared.profile.Profile.{Profile}
-use Rattle.pie_controller.specs.declared.profile.Profile.TheVariants.{One, Two}
-use Rattle.pie_controller.specs.declared.verdict.Verdict.{Verdict}
 use Rattle.pie_controller.specs.declared.verdict.Verdict.TheVariants.{Enqueued, Marked, DroppedEarly, DroppedBytes, DroppedPackets}
 use Rattle.pie_controller.specs.Events.{ControllerEvent, Opened, Arrived, Departed, Updated, Reset, Changed, moment_of, params_set}
-use Rattle.pie_controller.specs.Held.{Held}
 use Rattle.pie_controller.specs.Places.{Place, places, greatest, last_or}
 use Rattle.pie_controller.specs.Steps.{wakes}
 

@@ -1,23 +1,14 @@
 -- The rules: what each call makes of what a controller holds, told by the steps of its parts (RFC 8033, sections 4.1, 4.2, 4.4, 5.1
 -- to 5.5, and Appendix A for tail drop; when profile two turns on and off is this project's own).
 use Rattle.std.specs.Prelude.{ℕ, ◌+◌, ◌*◌, max, ◌&&◌, not, nat_lt, nat_le, Bool, true, false, None, min, if◌then◌else◌}
-use Rattle.pie_params.specs.declared.raw.RawParams.{RawParams}
-use Rattle.pie_rate.specs.Departures.{departure}
-use Rattle.pie_rate.specs.Estimate.{Estimate}
+use Rattle.pie_controller.specs.Types.{RawParams, departure, Estimate, Parts, Choice, Enqueue, Mark, Drop, Profile, One, Two, Arrival, Verdict}
+use Rattle.pie_controller.specs.Held.{Held}
 use Rattle.pie_rate.specs.Step.{after_departure}
 use Rattle.pie_control.specs.Delay.{delay_of}
 use Rattle.pie_control.specs.History.{burst_after, ends_calm}
 use Rattle.pie_control.specs.Next.{next}
-use Rattle.pie_control.specs.Parts.{Parts}
-use Rattle.pie_early.specs.declared.early.Choice.{Choice}
-use Rattle.pie_early.specs.declared.early.Choice.TheVariants.{Enqueue, Mark, Drop}
 use Rattle.pie_early.specs.Decision.{accu_after, choice_of}
-use Rattle.pie_controller.specs.declared.profile.Profile.{Profile}
-use Rattle.pie_controller.specs.declared.profile.Profile.TheVariants.{One, Two}
-use Rattle.pie_controller.specs.declared.verdict.Arrival.{Arrival}
-use Rattle.pie_controller.specs.declared.verdict.Verdict.{Verdict}
 use Rattle.pie_controller.specs.declared.verdict.Verdict.TheVariants.{Enqueued, Marked, DroppedEarly, DroppedBytes, DroppedPackets}
-use Rattle.pie_controller.specs.Held.{Held}
 
 -- the effective moment: the greatest so far
 abbrev pub now_at : Held → ℕ → ℕ

@@ -4,7 +4,7 @@ ghost use Rattle.pie_controller.specs.Calls.{Arrive, Change, Depart, Pass, Resta
 ghost use Rattle.pie_controller.specs.Events.{ControllerEvent, Opened};
 ghost use Rattle.pie_controller.specs.Held.{held_by};
 ghost use Rattle.pie_controller.specs.History.{Shows};
-ghost use Rattle.pie_controller.specs.Steps.{anew, arrived, changed, control_after, delay_answered, delay_in, departed, due, is_calm, is_queued, no_estimate, opened, passed, reset, stays_active, updated, verdict, woken};
+ghost use Rattle.pie_controller.specs.Steps.{anew, arrived, changed, control_after, delay_answered, delay_in, departed, due, is_calm, is_queued, opened, passed, reset, stays_active, updated, verdict, woken};
 
 use crate::{Arrival, Profile, RawController, Verdict};
 use pie_control::{Control, delay};
@@ -56,7 +56,7 @@ impl Controller {
             params,
             moment,
             active: profile.opens_active(),
-            rate: cleared(),
+            rate: Rate::cleared(),
             control: Control::opened(&params, moment),
             early: Early::opened(),
         }
@@ -147,7 +147,7 @@ impl Controller {
     fn start_anew(&mut self)
         ensures { self.new ≡ anew self.old }
     {
-        self.rate = cleared();
+        self.rate = Rate::cleared();
         self.control.reset(&self.params);
         self.early.clear();
     }
@@ -222,7 +222,7 @@ impl Controller {
     {
         self.reach(moment);
         self.params = params;
-        self.rate = cleared();
+        self.rate = Rate::cleared();
     }
 
     /// The queueing delay of so many bytes, in nanoseconds: at most `2^40` (RFC 8033, section 5.2).
@@ -295,12 +295,4 @@ impl Controller {
     {
         self.early
     }
-}
-
-/// No sample of the departure rate, and no cycle begun.
-#[tactic(auto, unfolding(pie_rate::specs::Average::average, pie_rate::specs::Average::samples, pie_rate::specs::Cycles::cycles, pie_rate::specs::Cycles::cycles_from, pie_rate::specs::Cycles::begun, pie_rate::specs::Cycles::first_opening, pie_rate::specs::Cycles::first_position))]
-fn cleared() -> Rate
-    ensures { result ≡ no_estimate }
-{
-    Rate::cleared()
 }

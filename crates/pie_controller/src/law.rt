@@ -1,10 +1,9 @@
 //! Laws: what a controller holds stays in its ranges, and is what looking back gives.
 ghost use Rattle.std.specs.Prelude.{◌≡◌, ◌≤◌, ◌<◌, ◌^◌, ◌++◌, ◌∷◌, [], ℕ, List, None};
-ghost use Rattle.pie_params.specs.declared.raw.RawParams.{RawParams};
-ghost use Rattle.pie_params.specs.Range.{first_bad};
-ghost use Rattle.pie_controller.specs.declared.profile.Profile.{Profile};
-ghost use Rattle.pie_controller.specs.Calls.{Call, IsTaken, after_call, shown_by};
+ghost use Rattle.pie_controller.specs.Types.{RawParams, Profile};
 ghost use Rattle.pie_controller.specs.Events.{ControllerEvent, Opened};
+ghost use Rattle.pie_params.specs.Range.{first_bad};
+ghost use Rattle.pie_controller.specs.Calls.{Call, IsTaken, after_call, shown_by};
 ghost use Rattle.pie_controller.specs.Held.{Held, IsSound};
 ghost use Rattle.pie_controller.specs.History.{Shows, held_of};
 ghost use Rattle.pie_controller.specs.Steps.{opened};

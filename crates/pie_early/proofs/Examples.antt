@@ -1,5 +1,5 @@
 -- The definitions on worked arrivals: each theorem computes.
-use Rattle.std.specs.Prelude.{◌≡◌, ℕ, ◌^◌, ◌*◌, ◌-◌, true, false, List, [], ◌∷◌, ◌++◌, replicate, refl}
+use Rattle.std.specs.Prelude.{◌≡◌, ℕ, ◌^◌, ◌*◌, ◌-◌, true, false, List, [], ◌∷◌, ◌++◌, map, replicate, refl}
 use Rattle.pie_fixed.specs.declared.TheConstants.{ALWAYS_PICKED, ONE}
 use Rattle.pie_params.specs.Profile.{default_profile}
 use Rattle.pie_control.specs.Parts.{Parts}
@@ -36,93 +36,30 @@ queued n = replicate n (arrival true (10 ^ 11) Enqueue)
 abbrev after : ℕ → ℕ → Choice
 after n word = choice_of default_profile (control (10 ^ 11) 15000000) 3000 NotEct word (accumulated (queued n))
 
-eight-accumulated : accumulated (queued 8) ≡ 800_000_000_000
+-- the greatest word picks none before the 85th, where the accumulated probability is exactly 8.5, and the least word none while it is below 0.85
+choices : (map (λ n. after n (2 ^ 64 - 1)) (1 ∷ 83 ∷ 84 ∷ []) ≡ Enqueue ∷ Enqueue ∷ Drop ∷ []) × (map (λ n. after n 0) (7 ∷ 8 ∷ []) ≡ Enqueue ∷ Drop ∷ [])
+unfolding accumulated is_considered is_picked
+choices = (refl, refl)
+
+-- a packet whose endpoints understand a mark is dropped at the marking threshold, and marked below it
+marks : map (λ prob. choice_of default_profile (control prob 15000000) 3000 Ect0 0 (accumulated (queued 8))) ((10 ^ 11) ∷ (10 ^ 11 - 1) ∷ []) ≡ Drop ∷ Mark ∷ []
+unfolding accumulated is_considered is_picked
+marks = refl
+
+-- a pick, a clear and an arrival considered at probability 0 each leave nothing accumulated; one that isn't considered changes nothing
+accumulations : map (λ events. accumulated (queued 8 ++ events)) ([] ∷ (arrival true (10 ^ 11) Mark ∷ []) ∷ (arrival true (10 ^ 11) Drop ∷ queued 2) ∷ (cleared ∷ queued 1)
+    ∷ (arrival true 0 Enqueue ∷ []) ∷ (arrival false (10 ^ 11) Enqueue ∷ []) ∷ [])
+    ≡ 800_000_000_000 ∷ 0 ∷ 200_000_000_000 ∷ 100_000_000_000 ∷ 0 ∷ 800_000_000_000 ∷ []
 unfolding accumulated
-eight-accumulated = refl
+accumulations = refl
 
--- the greatest word picks none before the 85th, where the accumulated probability is exactly 8.5
-second-choice : after 1 (2 ^ 64 - 1) ≡ Enqueue
-unfolding accumulated is_considered is_picked
-second-choice = refl
-
-eighty_fourth-choice : after 83 (2 ^ 64 - 1) ≡ Enqueue
-unfolding accumulated is_considered is_picked
-eighty_fourth-choice = refl
-
-eighty_fifth-choice : after 84 (2 ^ 64 - 1) ≡ Drop
-unfolding accumulated is_considered is_picked
-eighty_fifth-choice = refl
-
--- the least word picks none while the accumulated probability is below 0.85
-eighth-choice : after 7 0 ≡ Enqueue
-unfolding accumulated is_considered is_picked
-eighth-choice = refl
-
-ninth-choice : after 8 0 ≡ Drop
-unfolding accumulated is_considered is_picked
-ninth-choice = refl
-
--- a packet whose endpoints understand a mark is dropped at the marking threshold, and marked below
--- it
-capable_at-choice : choice_of default_profile (control (10 ^ 11) 15000000) 3000 Ect0 0 (accumulated (queued 8)) ≡ Drop
-unfolding accumulated is_considered is_picked
-capable_at-choice = refl
-
-capable_below-choice : choice_of default_profile (control (10 ^ 11 - 1) 15000000) 3000 Ect0 0 (accumulated (queued 8)) ≡ Mark
-unfolding accumulated is_considered is_picked
-capable_below-choice = refl
-
--- a pick, a clear and an arrival considered at probability 0 each leave nothing accumulated; one
--- that isn't considered changes nothing
-marked-accumulated : accumulated (queued 8 ++ arrival true (10 ^ 11) Mark ∷ []) ≡ 0
-unfolding accumulated
-marked-accumulated = refl
-
-after_drop-accumulated : accumulated (queued 8 ++ arrival true (10 ^ 11) Drop ∷ queued 2) ≡ 200_000_000_000
-unfolding accumulated
-after_drop-accumulated = refl
-
-cleared-accumulated : accumulated (queued 8 ++ cleared ∷ queued 1) ≡ 100_000_000_000
-unfolding accumulated
-cleared-accumulated = refl
-
-zero-accumulated : accumulated (queued 8 ++ arrival true 0 Enqueue ∷ []) ≡ 0
-unfolding accumulated
-zero-accumulated = refl
-
-unconsidered-accumulated : accumulated (queued 8 ++ arrival false (10 ^ 11) Enqueue ∷ []) ≡ 800_000_000_000
-unfolding accumulated
-unconsidered-accumulated = refl
-
--- the bounds of what is considered: two packets of the mean size, half the target, a fifth, and no
--- burst allowance
-two_packets-considered : is_considered default_profile (control (10 ^ 11) 15000000) 2048 ≡ false
+-- the bounds of what is considered: two packets of the mean size, half the target, a fifth, and no burst allowance
+considerations : (map (is_considered default_profile (control (10 ^ 11) 15000000)) (2048 ∷ 2049 ∷ []) ≡ false ∷ true ∷ [])
+    × (map (λ old. is_considered default_profile (control (10 ^ 11) old) 3000) (7499999 ∷ 7500000 ∷ []) ≡ false ∷ true ∷ [])
+    × (map (λ prob. is_considered default_profile (control prob 0) 3000) (199_999_999_999 ∷ 200_000_000_000 ∷ []) ≡ false ∷ true ∷ [])
+    × (is_considered default_profile (record { prob = 10 ^ 11; old_delay = 15000000; burst = 1; last = 0 }) 3000 ≡ false)
 unfolding is_considered
-two_packets-considered = refl
-
-more_than_two-considered : is_considered default_profile (control (10 ^ 11) 15000000) 2049 ≡ true
-unfolding is_considered
-more_than_two-considered = refl
-
-below_half-considered : is_considered default_profile (control (10 ^ 11) 7499999) 3000 ≡ false
-unfolding is_considered
-below_half-considered = refl
-
-half-considered : is_considered default_profile (control (10 ^ 11) 7500000) 3000 ≡ true
-unfolding is_considered
-half-considered = refl
-
-below_fifth-considered : is_considered default_profile (control 199_999_999_999 0) 3000 ≡ false
-unfolding is_considered
-below_fifth-considered = refl
-
-fifth-considered : is_considered default_profile (control 200_000_000_000 0) 3000 ≡ true
-unfolding is_considered
-fifth-considered = refl
-
-burst-considered : is_considered default_profile (record { prob = 10 ^ 11; old_delay = 15000000; burst = 1; last = 0 }) 3000 ≡ false
-unfolding is_considered
-burst-considered = refl
+considerations = (refl, refl, refl, refl)
 
 -- the accumulated probability after an arrival that isn't considered, one that is queued, one that is
 -- picked, and one that is considered at probability 0

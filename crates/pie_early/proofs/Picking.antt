@@ -69,10 +69,6 @@ picked params control bytes ecn word accu choice e =
     )
 
 -- the choice on each way through the code
-pub choice-unconsidered : (params : RawParams) (control : Parts) (bytes : ℕ) (ecn : Ecn) (word accu : ℕ)
-    → is_considered params control bytes ≡ false → Enqueue ≡ choice_of params control bytes ecn word accu
-choice-unconsidered params control bytes ecn word accu e = rw e refl
-
 pub choice-unpicked : (params : RawParams) (control : Parts) (bytes : ℕ) (ecn : Ecn) (word accu : ℕ)
     → is_considered params control bytes ≡ true → is_picked control.prob (accu + control.prob) word ≡ false
     → Enqueue ≡ choice_of params control bytes ecn word accu
@@ -85,6 +81,3 @@ choice-picked params control bytes ecn word accu e p = rw (e, p) refl
 
 pub picked_zero_at : (prob sum word : ℕ) → prob ≡ 0 → is_picked prob sum word ≡ false
 picked_zero_at prob sum word z = rw z (picked-zero sum word)
-
-pub picked_at : (r b : Bool) (prob prob' sum sum' word : ℕ) → prob ≡ prob' → sum ≡ sum' → r ≡ is_picked prob sum word → r ≡ b → is_picked prob' sum' word ≡ b
-picked_at r b prob prob' sum sum' word e f g h = rw (← e, ← f, ← g) h

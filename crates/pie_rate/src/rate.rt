@@ -49,7 +49,8 @@ impl Model for Rate {
 impl Rate {
     /// The estimate before any departure: no sample, and no cycle begun.
     pub fn cleared() -> Rate
-        ensures { (threshold : ℕ) → Shows threshold [] result }
+        ensures value { result ≡ record { average = 0; begun = None } }
+        ensures shows { (threshold : ℕ) → Shows threshold [] result }
     {
         Rate {
             raw: RawRate::cleared(),

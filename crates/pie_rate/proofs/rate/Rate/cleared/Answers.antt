@@ -4,6 +4,6 @@ use Rattle.pie_rate.specs.Cycles.{cycles, cycles_from, begun, first_opening, fir
 use Rattle.pie_rate.specs.Estimate.{Estimate}
 use Rattle.pie_rate.proofs.rate.Rate.cleared.Goals as goal
 
-pub returns : goal.returns
+pub returns-clause-shows : goal.returns-clause-shows
 unfolding average samples cycles cycles_from begun first_opening first_position
-returns c = λ threshold. record { average = ap (λ (e : Estimate). e.average) c.cleared.ensures; begun = ap (λ (e : Estimate). e.begun) c.cleared.ensures }
+returns-clause-shows c = λ threshold. record { average = ap (λ (e : Estimate). e.average) c.cleared.ensures; begun = ap (λ (e : Estimate). e.begun) c.cleared.ensures }

@@ -4,13 +4,10 @@ use Rattle.std.specs.Prelude.{All, None}
 use Rattle.std.proofs.lemmas.List.{map-append}
 use Rattle.pie_params.specs.Range.{first_bad}
 use Rattle.pie_controller.specs.Calls.{Call, after_call}
-use Rattle.pie_controller.specs.Held.{Held}
+use Rattle.pie_book.specs.Types.{Held, Command, Event, Opening}
 use Rattle.pie_controller.specs.Places.{Place, places}
 use Rattle.pie_controller.proofs.InRange.{params-hold}
 use Rattle.pie_controller.proofs.Places.{place_of, places-push}
-use Rattle.pie_book.specs.declared.command.Command.{Command}
-use Rattle.pie_book.specs.declared.command.Event.{Event}
-use Rattle.pie_book.specs.declared.opening.Opening.{Opening}
 use Rattle.pie_book.specs.Beside.{IsOpening, IsStep, after_calls, call_at, calls_of, held_after_calls, opened_by}
 use Rattle.pie_book.specs.Call.{call_of}
 use Rattle.pie_book.specs.Core.{CoreView, Shows, closed, held_in, refusal_of}

@@ -6,16 +6,12 @@ use Rattle.std.specs.Option.{is_some, option_to_list}
 use Rattle.std.proofs.lemmas.List.{append-nil, append_assoc, map-append}
 use Rattle.std.proofs.lemmas.List.Elements.{All-append, All-cons, All-head, All-nil, All-tail}
 use Rattle.std.proofs.lemmas.List.Sums.{sum_by-append}
-use Rattle.pie_queue.specs.declared.packet.Packet.{Packet}
-use Rattle.pie_queue.specs.declared.packet.Waiting.{Waiting}
+use Rattle.pie_book.specs.Types.{Packet, Waiting, One, Arrival, Verdict, Held, Command, Arrive, Depart, Update, Reset, SetParams, Answer, Enqueued, Marked, DroppedEarly, DroppedBytes, DroppedPackets, Empty, Left, Updated, Done, Event, Opening, Stats, Registers}
 use Rattle.pie_queue.specs.Queue.{bytes_of}
-use Rattle.pie_controller.specs.declared.verdict.Arrival.{Arrival}
-use Rattle.pie_controller.specs.declared.verdict.Verdict.{Verdict}
 use Rattle.pie_controller.specs.declared.verdict.Verdict.TheVariants as verdict
 use Rattle.pie_controller.specs.Calls.{after_call, shown_by}
 use Rattle.pie_controller.specs.Cause.{cause}
 use Rattle.pie_controller.specs.Events.{Arrived}
-use Rattle.pie_controller.specs.Held.{Held}
 use Rattle.pie_controller.specs.History as Controller
 use Rattle.pie_controller.specs.Places.{Place, places, after, greatest}
 use Rattle.pie_controller.specs.Steps as Steps
@@ -23,21 +19,12 @@ use Rattle.pie_controller.specs.Steps.{anew, bytes_with, judged, now_at}
 use Rattle.pie_controller.proofs.Laws.{Shows-arrive, Shows-change, Shows-depart, Shows-pass, Shows-reset-call, Shows-update, Shows_opened, held_is}
 use Rattle.pie_controller.proofs.Looks.{one_is_active}
 use Rattle.pie_controller.proofs.Places.{place_of, places-push}
-use Rattle.pie_book.specs.declared.command.Answer.{Answer}
-use Rattle.pie_book.specs.declared.command.Answer.TheVariants.{Enqueued, Marked, DroppedEarly, DroppedBytes, DroppedPackets, Empty, Left, Updated, Done}
-use Rattle.pie_book.specs.declared.command.Command.{Command}
-use Rattle.pie_book.specs.declared.command.Command.TheVariants.{Arrive, Depart, Update, Reset, SetParams}
-use Rattle.pie_book.specs.declared.command.Event.{Event}
-use Rattle.pie_book.specs.declared.opening.Opening.{Opening}
-use Rattle.pie_book.specs.declared.registers.Registers.{Registers}
-use Rattle.pie_book.specs.declared.stats.Stats.{Stats}
-use Rattle.pie_controller.specs.declared.profile.Profile.TheVariants.{One}
 use Rattle.pie_book.specs.Beside.{opened_by}
 use Rattle.pie_book.specs.Call.{answer_of, arrival_of, departure_call}
 use Rattle.pie_book.specs.Cause.{cause_after}
 use Rattle.pie_book.specs.Core.{CoreView, Shows, closed, counted, held_in, refusal_of, registers_of, with_queue}
-use Rattle.pie_book.specs.Decision.{IsLegal, IsLegalAt, answer_to_departure, decision, refusal_by_rule, refusal_with}
-use Rattle.pie_book.specs.Deed.{Deed, admission, arrival_deed, deed, departure, departure_deed, handed_in, set, updated, was_reset, with_ce}
+use Rattle.pie_book.specs.Decision.{IsLegal, IsLegalAt, answer_by, answer_to_departure, decision, refusal_by_rule, refusal_with}
+use Rattle.pie_book.specs.Deed.{Deed, admission, arrival_deed, deed, departure, departure_deed, fits, handed_in, set, updated, was_reset, with_ce}
 use Rattle.pie_book.specs.Estimates.{active_after, delay_after, delay_answered, due_after, held_after}
 use Rattle.pie_book.specs.History.{admitted, bytes_after, departed_count, effective_moment, waiting_after}
 use Rattle.pie_book.specs.Registers.{registers_after}
@@ -62,17 +49,19 @@ departs-some opening history (Arrive moment packet word) = by_answer (decision o
   where
     by_answer : (answer : Answer) → is_some (departure (arrival_deed packet answer)) ≡ true → 0 < length (waiting_after opening history)
     by_answer Enqueued some = cc
-    by_answer Marked some = cc
-    by_answer DroppedEarly some = cc
-    by_answer DroppedBytes some = cc
-    by_answer DroppedPackets some = cc
-    by_answer Empty some = cc
-    by_answer (Left oldest) some = cc
-    by_answer (Updated delay prob burst) some = cc
-    by_answer Done some = cc
-departs-some opening history (Update moment) = λ some. cc
-departs-some opening history (Reset moment) = λ some. cc
-departs-some opening history (SetParams moment params) = λ some. cc
+    by_answer _ some = cc
+departs-some opening history _ = λ some. cc
+
+-- each command is answered as it can be
+pub answer-fits : (h : Held) (waiting : List Waiting) (packets : ℕ) (command : Command) → fits command (answer_by h waiting packets command) ≡ true
+answer-fits h waiting packets (Arrive moment packet word) = by (Steps.verdict h (arrival_of waiting packets packet word))
+  where
+    by : (v : Verdict) → fits (Arrive moment packet word) (answer_of v) ≡ true
+    by verdict.Enqueued = refl
+    by _ = refl
+answer-fits h [] packets (Depart moment) = refl
+answer-fits h (oldest ∷ others) packets (Depart moment) = refl
+answer-fits h waiting packets _ = refl
 
 -- what holds of each place of a history holds of the place between these events
 pub at_place : (P : Place Event → Type 0) (before : List Event) (event : Event) (rest : List Event) → All P (places (before ++ event ∷ rest)) → P (place_of before event)
@@ -145,9 +134,9 @@ module _ (opening : Opening) (core : CoreView) (history : List Event) (shows : S
       ap (λ (h : Held). Steps.delay_answered h (bytes_of core.waiting)) held-is
       ∙ ap (λ (w : List Waiting). Steps.delay_answered (held_after opening history) (bytes_of w)) shows.waiting
 
-  pub registers-is : registers_of core ≡ registers_after opening history
+  pub registers_is : registers_of core ≡ registers_after opening history
   unfolding registers_after
-  registers-is =
+  registers_is =
       ap (λ (h : Held). registers_by core.count core.moment core.waiting h) held-is
       ∙ ap (λ (n : ℕ). registers_by n core.moment core.waiting (held_after opening history)) shows.count
       ∙ ap (λ (m : ℕ). registers_by (length history) m core.waiting (held_after opening history)) shows.moment
@@ -197,9 +186,7 @@ arrival-shown : (packet : Packet) (now : ℕ) (waiting : List Waiting) (moment :
     ≡ Arrived v (bytes_of waiting) (bytes_with v (bytes_of waiting) packet.size) moment
 arrival-shown packet now waiting moment verdict.Enqueued = ap (λ (n : ℕ). Arrived verdict.Enqueued (bytes_of waiting) n moment) (bytes-more waiting (record { packet = packet; since = now }))
 arrival-shown packet now waiting moment verdict.Marked = ap (λ (n : ℕ). Arrived verdict.Marked (bytes_of waiting) n moment) (bytes-more waiting (record { packet = with_ce packet; since = now }))
-arrival-shown packet now waiting moment verdict.DroppedEarly = ap (λ (w : List Waiting). Arrived verdict.DroppedEarly (bytes_of waiting) (bytes_of w) moment) (append-nil waiting)
-arrival-shown packet now waiting moment verdict.DroppedBytes = ap (λ (w : List Waiting). Arrived verdict.DroppedBytes (bytes_of waiting) (bytes_of w) moment) (append-nil waiting)
-arrival-shown packet now waiting moment verdict.DroppedPackets = ap (λ (w : List Waiting). Arrived verdict.DroppedPackets (bytes_of waiting) (bytes_of w) moment) (append-nil waiting)
+arrival-shown packet now waiting moment v = ap (λ (w : List Waiting). Arrived v (bytes_of waiting) (bytes_of w) moment) (append-nil waiting)
 
 departure-shown : (now : ℕ) (h : Held) (waiting : List Waiting) (moment : ℕ)
     → event_shown (departure_deed (answer_to_departure waiting)) (bytes_of waiting) (bytes_of (waiting_next waiting now (departure_deed (answer_to_departure waiting)))) moment
@@ -214,9 +201,7 @@ command-shown : (core : CoreView) (now : ℕ) (command : Command)
 command-shown core now (Arrive moment packet word) =
     arrival-shown packet now core.waiting moment (Steps.verdict (held_in core) (arrival_of core.waiting core.packets packet word))
 command-shown core now (Depart moment) = departure-shown now (held_in core) core.waiting moment
-command-shown core now (Update moment) = refl
-command-shown core now (Reset moment) = refl
-command-shown core now (SetParams moment params) = refl
+command-shown core now _ = refl
 
 -- the effective moment after a call
 moment-next : (core : CoreView) (command : Command) → (after_call (held_in core) (call_in core command)).moment ≡ now_at (held_in core) (handed_in command)
@@ -236,9 +221,7 @@ moment-next core (Depart moment) = by core.waiting
     by : (waiting : List Waiting) → (after_call (held_in core) (departure_call waiting moment)).moment ≡ max core.moment moment
     by [] = refl
     by (oldest ∷ others) = refl
-moment-next core (Update moment) = refl
-moment-next core (Reset moment) = refl
-moment-next core (SetParams moment params) = refl
+moment-next core _ = refl
 
 shown-push : (opening : Opening) (history : List Event) (event : Event) → shown opening (history ++ event ∷ []) ≡ shown opening history ++ shown_at opening (place_of history event) ∷ []
 unfolding shown
@@ -255,10 +238,7 @@ after_event core command =
 joined-is : (waiting : List Waiting) (now : ℕ) (packet : Packet) (v : Verdict)
     → waiting ++ option_to_list (admission now (arrival_deed packet (answer_of v))) ≡ waiting_next waiting now (arrival_deed packet (answer_of v))
 joined-is waiting now packet verdict.Enqueued = refl
-joined-is waiting now packet verdict.Marked = refl
-joined-is waiting now packet verdict.DroppedEarly = refl
-joined-is waiting now packet verdict.DroppedBytes = refl
-joined-is waiting now packet verdict.DroppedPackets = refl
+joined-is waiting now packet _ = refl
 
 left-is : (waiting : List Waiting) (now : ℕ) → drop 1 waiting ≡ waiting_next waiting now (departure_deed (answer_to_departure waiting))
 left-is [] now = refl

@@ -1,33 +1,43 @@
 -- The definitions on worked histories: each theorem computes. What an event did, and what looking back finds of moments,
 -- parameters and packets.
-use Rattle.std.specs.Prelude.{ℕ, ◌≡◌, List, [], ◌∷◌, Some, None, true, false, map}
+use Rattle.std.specs.Prelude.{ℕ, ◌≡◌, List, [], ◌∷◌, Some, None, true, false, map, ⊤}
 use Rattle.std.proofs.Common.{refl}
 use Rattle.pie_params.specs.Profile.{default_profile}
-use Rattle.pie_params.specs.declared.raw.RawParams.{RawParams}
+use Rattle.pie_book.specs.Types.{RawParams, Packet, Waiting, One, Command, Arrive, Depart, Update, Reset, SetParams, Answer, Enqueued, Marked, DroppedEarly, DroppedBytes, DroppedPackets, Empty, Left, Updated, Done, Event, Mode, Bounded, Opening}
 use Rattle.pie_queue.specs.declared.ecn.Ecn.TheVariants.{NotEct, Ect0, Ce}
-use Rattle.pie_queue.specs.declared.packet.Packet.{Packet}
-use Rattle.pie_queue.specs.declared.packet.Waiting.{Waiting}
 use Rattle.pie_rate.specs.Departures.{Departure}
 use Rattle.pie_control.specs.Events.{ControlEvent}
 use Rattle.pie_early.specs.Events.{EarlyEvent}
-use Rattle.pie_book.specs.declared.command.Command.{Command}
-use Rattle.pie_book.specs.declared.command.Command.TheVariants.{Arrive, Depart, Update, Reset, SetParams}
-use Rattle.pie_book.specs.declared.command.Answer.{Answer}
-use Rattle.pie_book.specs.declared.command.Answer.TheVariants.{Enqueued, Marked, DroppedEarly, DroppedBytes, DroppedPackets, Empty, Left, Updated, Done}
-use Rattle.pie_book.specs.declared.command.Event.{Event}
 use Rattle.pie_book.specs.declared.opening.Limits.{Limits}
-use Rattle.pie_book.specs.declared.opening.Mode.{Mode}
-use Rattle.pie_book.specs.declared.opening.Mode.TheVariants.{Bounded}
-use Rattle.pie_book.specs.declared.opening.Opening.{Opening}
-use Rattle.pie_controller.specs.declared.profile.Profile.TheVariants.{One}
 use Rattle.pie_book.specs.declared.refusal.OpenRefusal.TheVariants as open_refusal
 use Rattle.pie_book.specs.Opening.{are_in_range, opening_refusal}
 use Rattle.pie_book.specs.Deed.{Deed, deed, fits, handed_in, admission, departure, is_update, queued, marked, dropped_early, dropped_bytes, dropped_packets, departed, found_none, updated, was_reset, set, nothing}
 use Rattle.pie_controller.specs.History.{active_of, arrivals_shown, control_of, delay_noted, departures_of, departures_shown, early_of, held_of, is_active, noted, noted_after, now_of, params_of, updates_shown}
 use Rattle.pie_controller.specs.Places.{Place, places, up_to, greatest, last_or}
+use Rattle.pie_rate.specs.Average.{average, samples}
+use Rattle.pie_rate.specs.Cycles.{cycles, begun, first_position, first_opening, first_closing, first_cycle, cycles_from}
+use Rattle.pie_control.specs.Delay.{delay_of}
+use Rattle.pie_control.specs.History.{probability, last_delay, last_moment, granted_burst, burst_allowance}
+use Rattle.pie_control.specs.Next.{raw_step, tuning_divisor, tuned_step, decayed, next}
+use Rattle.pie_early.specs.Decision.{is_considered, is_picked}
+use Rattle.pie_early.specs.History.{accumulated}
+use Rattle.pie_controller.specs.Cause.{cause, considered_cause, early_cause}
+use Rattle.pie_controller.specs.Steps.{verdict}
+use Rattle.pie_book.specs.Registers.{registers_after}
+use Rattle.pie_book.specs.Run.{answers, outcomes, progress_after}
+use Rattle.pie_book.specs.Statistics.{largest_queue, largest_delay, stats_after, waited}
 use Rattle.pie_book.specs.Estimates.{held_after, params_after}
 use Rattle.pie_book.specs.History.{effective_moment, admitted, departed_count, waiting_after, bytes_after}
 use Rattle.pie_book.specs.Shown.{opened_of, shown}
+
+-- all that a theorem on a worked history computes with
+unfoldable pub worked : Type 0
+unfolding admitted places effective_moment greatest waiting_after departed_count held_after shown held_of now_of params_of active_of departures_shown
+    updates_shown arrivals_shown departures_of delay_noted control_of early_of is_active noted noted_after last_or average samples begun cycles
+    first_position first_opening first_closing first_cycle cycles_from delay_of probability last_delay last_moment granted_burst burst_allowance
+    raw_step tuning_divisor tuned_step decayed next verdict accumulated is_considered is_picked registers_after stats_after largest_queue
+    largest_delay waited cause early_cause considered_cause outcomes progress_after answers
+worked = ⊤
 
 abbrev pub limits : ℕ → ℕ → ℕ → Limits
 limits packets tail events = record { packets = packets; tail = tail; events = events }
@@ -150,7 +160,7 @@ three-places-up_to = refl
 
 -- the packet stays among those that were queued, and waits only until it departs
 three-admitted : admitted (opened 4 16 100) three ≡ waits (packet 7 1500) 10 ∷ []
-unfolding admitted places effective_moment greatest
+unfolding worked
 three-admitted = refl
 
 three-departed : (departed_count (arrival ∷ []) ≡ 0) × (departed_count three ≡ 1)
@@ -158,7 +168,7 @@ unfolding departed_count
 three-departed = (refl, refl)
 
 three-waiting : (waiting_after (opened 4 16 100) (arrival ∷ []) ≡ waits (packet 7 1500) 10 ∷ []) × (waiting_after (opened 4 16 100) three ≡ [])
-unfolding waiting_after departed_count admitted places effective_moment greatest
+unfolding worked
 three-waiting = (refl, refl)
 
 -- a moment that falls back counts as the greatest before it, from the opening moment on
@@ -169,12 +179,12 @@ falling = event 1 (Depart 9) Empty ∷ event 1 (Arrive 5 (packet 1 100) 0) Enque
 falling-moments : (map (λ place. effective_moment (opened 4 16 100) (up_to place)) (places falling) ≡ 9 ∷ 9 ∷ [])
     × (effective_moment (record (opened 4 16 100) { moment = 20 }) falling ≡ 20)
     × (effective_moment (record (opened 4 16 100) { moment = 20 }) [] ≡ 20)
-unfolding places effective_moment greatest
+unfolding worked
 falling-moments = (refl, refl, refl)
 
 -- the packet waits since the effective moment of its arrival
 falling-waiting : waiting_after (opened 4 16 100) falling ≡ waits (packet 1 100) 9 ∷ []
-unfolding waiting_after departed_count admitted places effective_moment greatest
+unfolding worked
 falling-waiting = refl
 
 -- the first packet in is the first out; what was dropped never waits, and what was marked waits with CE
@@ -184,11 +194,11 @@ mixed = event 1 (Arrive 1 (packet 1 100) 0) Enqueued ∷ event 1 (Arrive 2 (capa
     ∷ event 1 (Arrive 3 (packet 4 300) 0) DroppedEarly ∷ event 2 (Depart 4) (Left (packet 1 100)) ∷ event 1 (Arrive 5 (packet 5 400) 0) Enqueued ∷ []
 
 mixed-waiting : waiting_after (opened 2 16 100) mixed ≡ waits (record { tag = 2; size = 200; ecn = Ce }) 2 ∷ waits (packet 5 400) 5 ∷ []
-unfolding waiting_after departed_count admitted places effective_moment greatest
+unfolding worked
 mixed-waiting = refl
 
 mixed-bytes : bytes_after (opened 2 16 100) mixed ≡ 600
-unfolding waiting_after departed_count admitted places effective_moment greatest
+unfolding worked
 mixed-bytes = refl
 
 -- the parameters that were set last are in force, and the opening's before
@@ -200,13 +210,11 @@ abbrev changing : List Event
 changing = event 1 (SetParams 1 other_params) Done ∷ event 1 (Depart 2) Empty ∷ event 1 (SetParams 3 default_profile) Done ∷ []
 
 changing-params : map (λ place. params_after (opened 4 16 100) place.before) (places changing) ≡ default_profile ∷ other_params ∷ other_params ∷ []
-unfolding held_after shown held_of now_of params_of active_of departures_shown updates_shown arrivals_shown departures_of delay_noted control_of
-    early_of is_active noted noted_after places last_or
+unfolding worked
 changing-params = refl
 
 changed-params : params_after (opened_with Bounded (limits 4 16 100) other_params) changing ≡ default_profile
-unfolding held_after shown held_of now_of params_of active_of departures_shown updates_shown arrivals_shown departures_of delay_noted control_of
-    early_of is_active noted noted_after places last_or
+unfolding worked
 changed-params = refl
 
 -- each limit at both ends of its range

@@ -1,30 +1,13 @@
 -- A controller that turns itself off and on, on two worked histories: each theorem computes.
 use Rattle.std.specs.Prelude.{ℕ, ◌≡◌, List, [], ◌∷◌, take, Some, None, true, false, map}
 use Rattle.std.proofs.Common.{refl}
-use Rattle.pie_rate.specs.Cycles.{begun, cycles, cycles_from, first_closing, first_cycle, first_opening, first_position}
-use Rattle.pie_rate.specs.Average.{average, samples}
-use Rattle.pie_control.specs.Delay.{delay_of}
-use Rattle.pie_control.specs.History.{probability, last_delay, last_moment, granted_burst, burst_allowance}
-use Rattle.pie_control.specs.Next.{raw_step, tuning_divisor, tuned_step, decayed, next}
-use Rattle.pie_early.specs.Decision.{is_considered, is_picked}
-use Rattle.pie_early.specs.History.{accumulated}
-use Rattle.pie_book.specs.declared.command.Answer.{Answer}
-use Rattle.pie_book.specs.declared.command.Answer.TheVariants.{Enqueued, DroppedBytes, Left, Updated, Done}
-use Rattle.pie_book.specs.declared.command.Command.TheVariants.{Arrive, Depart, Update, Reset}
-use Rattle.pie_book.specs.declared.command.Event.{Event}
-use Rattle.pie_book.specs.declared.opening.Mode.TheVariants.{Bounded}
-use Rattle.pie_book.specs.declared.opening.Opening.{Opening}
-use Rattle.pie_controller.specs.declared.profile.Profile.{Profile}
-use Rattle.pie_controller.specs.declared.profile.Profile.TheVariants.{One, Two}
+use Rattle.pie_book.specs.Types.{Profile, One, Two, Arrive, Depart, Update, Reset, Answer, Enqueued, DroppedBytes, Left, Updated, Done, Event, Bounded, Opening}
 use Rattle.pie_book.specs.declared.refusal.Refusal.TheVariants.{TooSoon}
 use Rattle.pie_book.specs.Decision.{decision, refusal_by_rule}
-use Rattle.pie_controller.specs.History.{active_of, arrivals_shown, control_of, delay_noted, departures_of, departures_shown, early_of, held_of, is_active, noted, noted_after, now_of, params_of, updates_shown}
-use Rattle.pie_controller.specs.Places.{Place, places, greatest, last_or}
-use Rattle.pie_controller.specs.Steps.{verdict}
-use Rattle.pie_book.specs.Estimates.{held_after, active_after, average_after, measuring_after}
-use Rattle.pie_book.specs.History.{effective_moment, admitted, departed_count, waiting_after}
-use Rattle.pie_book.specs.Shown.{shown}
-use Rattle.pie_book.proofs.Examples.{limits, nine, packet, event}
+use Rattle.pie_controller.specs.Places.{Place, places}
+use Rattle.pie_book.specs.Estimates.{active_after, average_after, measuring_after}
+use Rattle.pie_book.specs.History.{waiting_after}
+use Rattle.pie_book.proofs.Examples.{limits, nine, packet, event, worked}
 
 abbrev in_profile : Profile → Opening
 in_profile profile = record {
@@ -53,42 +36,27 @@ answers_of profile history = map (λ (place : Place Event). decision (in_profile
 
 row_active : map (λ n. active_after (in_profile Two) (take n row)) (0 ∷ 1 ∷ 2 ∷ 3 ∷ 4 ∷ 5 ∷ 6 ∷ 7 ∷ 8 ∷ 9 ∷ 10 ∷ 11 ∷ [])
     ≡ false ∷ false ∷ false ∷ false ∷ false ∷ true ∷ true ∷ true ∷ true ∷ true ∷ false ∷ false ∷ []
-unfolding held_after shown held_of now_of params_of active_of departures_shown updates_shown arrivals_shown verdict early_of accumulated
-    is_considered is_picked control_of delay_noted delay_of departures_of is_active noted noted_after last_or places effective_moment greatest
-    waiting_after departed_count admitted average samples begun cycles first_position first_opening first_closing first_cycle cycles_from
-    probability last_delay last_moment granted_burst burst_allowance raw_step tuning_divisor tuned_step decayed next
+unfolding worked
 row_active = refl
 
 -- the departure while the controller is off opens no cycle
 row_measures : (map (λ n. measuring_after (in_profile Two) (take n row)) (3 ∷ 5 ∷ 6 ∷ 7 ∷ 9 ∷ []) ≡ false ∷ false ∷ true ∷ true ∷ false ∷ [])
     × (map (λ n. average_after (in_profile Two) (take n row)) (6 ∷ 7 ∷ 9 ∷ []) ≡ 0 ∷ 1000 ∷ 0 ∷ [])
-unfolding held_after shown held_of now_of params_of active_of departures_shown updates_shown arrivals_shown verdict early_of accumulated
-    is_considered is_picked control_of delay_noted delay_of departures_of is_active noted noted_after last_or places effective_moment greatest
-    waiting_after departed_count admitted average samples begun cycles first_position first_opening first_closing first_cycle cycles_from
-    probability last_delay last_moment granted_burst burst_allowance raw_step tuning_divisor tuned_step decayed next
+unfolding worked
 row_measures = (refl, refl)
 
 row_answers : answers_of Two row ≡ map (λ (e : Event). e.answer) row
-unfolding held_after shown held_of now_of params_of active_of departures_shown updates_shown arrivals_shown verdict early_of accumulated
-    is_considered is_picked control_of delay_noted delay_of departures_of is_active noted noted_after last_or places effective_moment greatest
-    waiting_after departed_count admitted average samples begun cycles first_position first_opening first_closing first_cycle cycles_from
-    probability last_delay last_moment granted_burst burst_allowance raw_step tuning_divisor tuned_step decayed next
+unfolding worked
 row_answers = refl
 
 -- an update while the controller is off moves the due moment too
 row_due : (refusal_by_rule (in_profile Two) row (Update 1005) ≡ Some (TooSoon 1006)) × (refusal_by_rule (in_profile Two) row (Update 1006) ≡ None)
-unfolding held_after shown held_of now_of params_of active_of departures_shown updates_shown arrivals_shown verdict early_of accumulated
-    is_considered is_picked control_of delay_noted delay_of departures_of is_active noted noted_after last_or places effective_moment greatest
-    waiting_after departed_count admitted average samples begun cycles first_position first_opening first_closing first_cycle cycles_from
-    probability last_delay last_moment granted_burst burst_allowance raw_step tuning_divisor tuned_step decayed next
+unfolding worked
 row_due = (refl, refl)
 
 -- in profile one the first departure opens a cycle, and the update answers by two samples
 row_in_profile_one : (decision (in_profile One) (take 7 row) (Update 1002) ≡ Updated 16 5810 4) × (active_after (in_profile One) [] ≡ true)
-unfolding held_after shown held_of now_of params_of active_of departures_shown updates_shown arrivals_shown verdict early_of accumulated
-    is_considered is_picked control_of delay_noted delay_of departures_of is_active noted noted_after last_or places effective_moment greatest
-    waiting_after departed_count admitted average samples begun cycles first_position first_opening first_closing first_cycle cycles_from
-    probability last_delay last_moment granted_burst burst_allowance raw_step tuning_divisor tuned_step decayed next
+unfolding worked
 row_in_profile_one = (refl, refl)
 
 -- the third arrival turns the controller on, a calm update off, and an arrival that is dropped on again
@@ -98,8 +66,5 @@ dropped_row =
 
 dropped_row_answers : (answers_of Two dropped_row ≡ map (λ (e : Event). e.answer) dropped_row)
     × (map (λ n. active_after (in_profile Two) (take n dropped_row)) (2 ∷ 3 ∷ 4 ∷ 5 ∷ []) ≡ false ∷ true ∷ false ∷ true ∷ [])
-unfolding held_after shown held_of now_of params_of active_of departures_shown updates_shown arrivals_shown verdict early_of accumulated
-    is_considered is_picked control_of delay_noted delay_of departures_of is_active noted noted_after last_or places effective_moment greatest
-    waiting_after departed_count admitted average samples begun cycles first_position first_opening first_closing first_cycle cycles_from
-    probability last_delay last_moment granted_burst burst_allowance raw_step tuning_divisor tuned_step decayed next
+unfolding worked
 dropped_row_answers = (refl, refl)

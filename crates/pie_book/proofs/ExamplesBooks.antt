@@ -1,155 +1,36 @@
 -- The definitions on worked histories: each theorem computes. Which histories are legal, which core shows a history, and which book
 -- tells it.
-use Rattle.std.specs.Prelude.{ℕ, ◌≡◌, List, [], ◌∷◌, ◌++◌, take, drop, Some, None, true, map}
-use Rattle.std.proofs.Common.{refl}
+use Rattle.std.specs.Prelude.{ℕ, ◌≡◌, List, [], ◌∷◌, ◌++◌, take, Some, None, true, map, drop, All}
+use Rattle.std.proofs.Common.{ap, refl}
 use Rattle.std.proofs.lemmas.List.Elements.{All-cons, All-head, All-nil, All-take}
 use Rattle.pie_queue.specs.declared.ecn.Ecn.TheVariants.{Ce}
-use Rattle.pie_rate.specs.Cycles.{cycles, begun, first_position, first_opening, first_closing, first_cycle, cycles_from}
-use Rattle.pie_rate.specs.Average.{average, samples}
+use Rattle.pie_rate.specs.Cycles.{begun}
+use Rattle.pie_rate.specs.Average.{average}
 use Rattle.pie_control.specs.Delay.{delay_of}
-use Rattle.pie_control.specs.History.{probability, last_delay, last_moment, granted_burst, burst_allowance}
-use Rattle.pie_control.specs.Next.{raw_step, tuning_divisor, tuned_step, decayed, next}
-use Rattle.pie_early.specs.Decision.{is_considered, is_picked}
-use Rattle.pie_early.specs.History.{accumulated}
-use Rattle.pie_book.specs.declared.command.Command.TheVariants.{Arrive, Depart, Update}
-use Rattle.pie_book.specs.declared.command.Answer.TheVariants.{Enqueued, Marked, Empty, Left, Updated}
-use Rattle.pie_book.specs.declared.opening.Mode.TheVariants.{Bounded, Rolling}
-use Rattle.pie_controller.specs.declared.profile.Profile.TheVariants.{One}
+use Rattle.pie_book.specs.Types.{One, Arrive, Depart, Update, Enqueued, Marked, Empty, Left, Updated, Event, Bounded, Rolling, Opening, Stats}
 use Rattle.pie_book.specs.declared.refusal.Refusal.TheVariants.{Size, TooSoon}
-use Rattle.pie_book.specs.declared.stats.Stats.{Stats}
 use Rattle.pie_book.specs.Deed.{Deed, deed_of, queued, marked, dropped_early, dropped_bytes, dropped_packets, departed, found_none, updated, was_reset, set, nothing}
-use Rattle.pie_controller.specs.History.{active_of, arrivals_shown, control_of, delay_noted, departures_of, departures_shown, early_of, held_of, is_active, noted, noted_after, now_of, params_of, updates_shown}
 use Rattle.pie_queue.specs.Queue.{bytes_of}
-use Rattle.pie_controller.specs.Places.{places, greatest, last_or}
-use Rattle.pie_controller.specs.Steps.{delay_in, verdict}
-use Rattle.pie_book.specs.Estimates.{held_after}
-use Rattle.pie_book.specs.History.{effective_moment, admitted, departed_count, waiting_after}
-use Rattle.pie_book.specs.Shown.{shown}
+use Rattle.pie_controller.specs.Places.{Place, places}
+use Rattle.pie_controller.specs.Steps.{delay_in}
+use Rattle.pie_book.specs.History.{waiting_after}
 use Rattle.pie_book.specs.Registers.{registers_after}
-use Rattle.pie_book.specs.Statistics.{largest_queue, largest_delay, waited, stats_after, no_stats}
-use Rattle.pie_book.specs.Decision.{IsLegal, IsLegalAt}
+use Rattle.pie_book.specs.Statistics.{largest_delay, waited, stats_after, no_stats}
+use Rattle.pie_book.specs.Decision.{IsLegal, IsLegalAt, decision, refusal_by_rule}
 use Rattle.pie_book.specs.Core.{CoreView, Shows, held_in, registers_of, refusal_of, counted, with_queue}
 use Rattle.pie_book.specs.Book.{BookView, Tells, last_events, without_last, tail_with}
-use Rattle.pie_book.proofs.Examples.{limits, opened, opened_with, packet, waits, event, place, three, arrival, departure_of_it, late_departure}
+use Rattle.pie_book.proofs.Examples.{limits, opened, opened_with, packet, waits, event, place, three, arrival, departure_of_it, late_departure, worked}
 use Rattle.pie_book.proofs.ExamplesMarks.{no_burst, some_burst, opening, two_departed, first_update, second_update, third_update, updated_thrice, mark, drop_of_one, lone, change, restart, twelve, fourteen, parts, tallied}
 
 -- at each place the command is taken and has its answer
-
-legal_at_1 : IsLegalAt opening (place (take 0 fourteen) (event 1 (Arrive 0 (packet 1 1024) 0) Enqueued))
-unfolding held_after shown held_of now_of params_of active_of departures_shown updates_shown arrivals_shown verdict accumulated is_considered
-    is_picked delay_of last_or places effective_moment greatest waiting_after departed_count admitted average samples begun cycles first_position
-    first_opening first_closing first_cycle cycles_from probability last_delay last_moment granted_burst burst_allowance raw_step tuning_divisor
-    tuned_step decayed next departures_of delay_noted control_of early_of noted noted_after is_active
-legal_at_1 = record { taken = refl; answered = refl }
-
-legal_at_2 : IsLegalAt opening (place (take 1 fourteen) (event 1 (Arrive 0 (packet 2 1024) 0) Enqueued))
-unfolding held_after shown held_of now_of params_of active_of departures_shown updates_shown arrivals_shown verdict accumulated is_considered
-    is_picked delay_of last_or places effective_moment greatest waiting_after departed_count admitted average samples begun cycles first_position
-    first_opening first_closing first_cycle cycles_from probability last_delay last_moment granted_burst burst_allowance raw_step tuning_divisor
-    tuned_step decayed next departures_of delay_noted control_of early_of noted noted_after is_active
-legal_at_2 = record { taken = refl; answered = refl }
-
-legal_at_3 : IsLegalAt opening (place (take 2 fourteen) (event 1 (Arrive 0 (packet 3 1024) 0) Enqueued))
-unfolding held_after shown held_of now_of params_of active_of departures_shown updates_shown arrivals_shown verdict accumulated is_considered
-    is_picked delay_of last_or places effective_moment greatest waiting_after departed_count admitted average samples begun cycles first_position
-    first_opening first_closing first_cycle cycles_from probability last_delay last_moment granted_burst burst_allowance raw_step tuning_divisor
-    tuned_step decayed next departures_of delay_noted control_of early_of noted noted_after is_active
-legal_at_3 = record { taken = refl; answered = refl }
-
-legal_at_4 : IsLegalAt opening (place (take 3 fourteen) (event 1 (Arrive 0 (packet 4 1024) 0) Enqueued))
-unfolding held_after shown held_of now_of params_of active_of departures_shown updates_shown arrivals_shown verdict accumulated is_considered
-    is_picked delay_of last_or places effective_moment greatest waiting_after departed_count admitted average samples begun cycles first_position
-    first_opening first_closing first_cycle cycles_from probability last_delay last_moment granted_burst burst_allowance raw_step tuning_divisor
-    tuned_step decayed next departures_of delay_noted control_of early_of noted noted_after is_active
-legal_at_4 = record { taken = refl; answered = refl }
-
-legal_at_5 : IsLegalAt opening (place (take 4 fourteen) (event 3 (Depart 1000) (Left (packet 1 1024))))
-unfolding held_after shown held_of now_of params_of active_of departures_shown updates_shown arrivals_shown verdict accumulated is_considered
-    is_picked delay_of last_or places effective_moment greatest waiting_after departed_count admitted average samples begun cycles first_position
-    first_opening first_closing first_cycle cycles_from probability last_delay last_moment granted_burst burst_allowance raw_step tuning_divisor
-    tuned_step decayed next departures_of delay_noted control_of early_of noted noted_after is_active
-legal_at_5 = record { taken = refl; answered = refl }
-
-legal_at_6 : IsLegalAt opening (place (take 5 fourteen) (event 3 (Depart 1001000) (Left (packet 2 1024))))
-unfolding held_after shown held_of now_of params_of active_of departures_shown updates_shown arrivals_shown verdict accumulated is_considered
-    is_picked delay_of last_or places effective_moment greatest waiting_after departed_count admitted average samples begun cycles first_position
-    first_opening first_closing first_cycle cycles_from probability last_delay last_moment granted_burst burst_allowance raw_step tuning_divisor
-    tuned_step decayed next departures_of delay_noted control_of early_of noted noted_after is_active
-legal_at_6 = record { taken = refl; answered = refl }
-
-legal_at_7 : IsLegalAt opening (place (take 6 fourteen) (first_update))
-unfolding held_after shown held_of now_of params_of active_of departures_shown updates_shown arrivals_shown verdict accumulated is_considered
-    is_picked delay_of last_or places effective_moment greatest waiting_after departed_count admitted average samples begun cycles first_position
-    first_opening first_closing first_cycle cycles_from probability last_delay last_moment granted_burst burst_allowance raw_step tuning_divisor
-    tuned_step decayed next departures_of delay_noted control_of early_of noted noted_after is_active
-legal_at_7 = record { taken = refl; answered = refl }
-
-legal_at_8 : IsLegalAt opening (place (take 7 fourteen) (second_update))
-unfolding held_after shown held_of now_of params_of active_of departures_shown updates_shown arrivals_shown verdict accumulated is_considered
-    is_picked delay_of last_or places effective_moment greatest waiting_after departed_count admitted average samples begun cycles first_position
-    first_opening first_closing first_cycle cycles_from probability last_delay last_moment granted_burst burst_allowance raw_step tuning_divisor
-    tuned_step decayed next departures_of delay_noted control_of early_of noted noted_after is_active
-legal_at_8 = record { taken = refl; answered = refl }
-
-legal_at_9 : IsLegalAt opening (place (take 8 fourteen) (third_update))
-unfolding held_after shown held_of now_of params_of active_of departures_shown updates_shown arrivals_shown verdict accumulated is_considered
-    is_picked delay_of last_or places effective_moment greatest waiting_after departed_count admitted average samples begun cycles first_position
-    first_opening first_closing first_cycle cycles_from probability last_delay last_moment granted_burst burst_allowance raw_step tuning_divisor
-    tuned_step decayed next departures_of delay_noted control_of early_of noted noted_after is_active
-legal_at_9 = record { taken = refl; answered = refl }
-
-legal_at_10 : IsLegalAt opening (place (take 9 fourteen) (mark))
-unfolding held_after shown held_of now_of params_of active_of departures_shown updates_shown arrivals_shown verdict accumulated is_considered
-    is_picked delay_of last_or places effective_moment greatest waiting_after departed_count admitted average samples begun cycles first_position
-    first_opening first_closing first_cycle cycles_from probability last_delay last_moment granted_burst burst_allowance raw_step tuning_divisor
-    tuned_step decayed next departures_of delay_noted control_of early_of noted noted_after is_active
-legal_at_10 = record { taken = refl; answered = refl }
-
-legal_at_11 : IsLegalAt opening (place (take 10 fourteen) (drop_of_one))
-unfolding held_after shown held_of now_of params_of active_of departures_shown updates_shown arrivals_shown verdict accumulated is_considered
-    is_picked delay_of last_or places effective_moment greatest waiting_after departed_count admitted average samples begun cycles first_position
-    first_opening first_closing first_cycle cycles_from probability last_delay last_moment granted_burst burst_allowance raw_step tuning_divisor
-    tuned_step decayed next departures_of delay_noted control_of early_of noted noted_after is_active
-legal_at_11 = record { taken = refl; answered = refl }
-
-legal_at_12 : IsLegalAt opening (place (take 11 fourteen) (lone))
-unfolding held_after shown held_of now_of params_of active_of departures_shown updates_shown arrivals_shown verdict accumulated is_considered
-    is_picked delay_of last_or places effective_moment greatest waiting_after departed_count admitted average samples begun cycles first_position
-    first_opening first_closing first_cycle cycles_from probability last_delay last_moment granted_burst burst_allowance raw_step tuning_divisor
-    tuned_step decayed next departures_of delay_noted control_of early_of noted noted_after is_active
-legal_at_12 = record { taken = refl; answered = refl }
-
-legal_at_13 : IsLegalAt opening (place (take 12 fourteen) (change))
-unfolding held_after shown held_of now_of params_of active_of departures_shown updates_shown arrivals_shown verdict accumulated is_considered
-    is_picked delay_of last_or places effective_moment greatest waiting_after departed_count admitted average samples begun cycles first_position
-    first_opening first_closing first_cycle cycles_from probability last_delay last_moment granted_burst burst_allowance raw_step tuning_divisor
-    tuned_step decayed next departures_of delay_noted control_of early_of noted noted_after is_active
-legal_at_13 = record { taken = refl; answered = refl }
-
-legal_at_14 : IsLegalAt opening (place (take 13 fourteen) (restart))
-unfolding held_after shown held_of now_of params_of active_of departures_shown updates_shown arrivals_shown verdict accumulated is_considered
-    is_picked delay_of last_or places effective_moment greatest waiting_after departed_count admitted average samples begun cycles first_position
-    first_opening first_closing first_cycle cycles_from probability last_delay last_moment granted_burst burst_allowance raw_step tuning_divisor
-    tuned_step decayed next departures_of delay_noted control_of early_of noted noted_after is_active
-legal_at_14 = record { taken = refl; answered = refl }
+all-legal : (o : Opening) (ps : List (Place Event)) → map (λ (p : Place Event). refusal_by_rule o p.before p.event.command) ps ≡ map (λ (p : Place Event). None) ps
+    → map (λ (p : Place Event). p.event.answer) ps ≡ map (λ (p : Place Event). decision o p.before p.event.command) ps → All (IsLegalAt o) ps
+all-legal o [] taken answered = All-nil (IsLegalAt o)
+all-legal o (p ∷ ps) taken answered = All-cons (IsLegalAt o) p ps (record { taken = cc; answered = cc }) (all-legal o ps (ap (drop 1) taken) (ap (drop 1) answered))
 
 fourteen-legal : IsLegal opening fourteen
-unfolding places
-fourteen-legal =
-    let from_14 = All-cons (IsLegalAt opening) (place (take 13 fourteen) (restart)) (drop 14 (places fourteen)) legal_at_14 (All-nil (IsLegalAt opening)) in
-    let from_13 = All-cons (IsLegalAt opening) (place (take 12 fourteen) (change)) (drop 13 (places fourteen)) legal_at_13 from_14 in
-    let from_12 = All-cons (IsLegalAt opening) (place (take 11 fourteen) (lone)) (drop 12 (places fourteen)) legal_at_12 from_13 in
-    let from_11 = All-cons (IsLegalAt opening) (place (take 10 fourteen) (drop_of_one)) (drop 11 (places fourteen)) legal_at_11 from_12 in
-    let from_10 = All-cons (IsLegalAt opening) (place (take 9 fourteen) (mark)) (drop 10 (places fourteen)) legal_at_10 from_11 in
-    let from_9 = All-cons (IsLegalAt opening) (place (take 8 fourteen) (third_update)) (drop 9 (places fourteen)) legal_at_9 from_10 in
-    let from_8 = All-cons (IsLegalAt opening) (place (take 7 fourteen) (second_update)) (drop 8 (places fourteen)) legal_at_8 from_9 in
-    let from_7 = All-cons (IsLegalAt opening) (place (take 6 fourteen) (first_update)) (drop 7 (places fourteen)) legal_at_7 from_8 in
-    let from_6 = All-cons (IsLegalAt opening) (place (take 5 fourteen) (event 3 (Depart 1001000) (Left (packet 2 1024)))) (drop 6 (places fourteen)) legal_at_6 from_7 in
-    let from_5 = All-cons (IsLegalAt opening) (place (take 4 fourteen) (event 3 (Depart 1000) (Left (packet 1 1024)))) (drop 5 (places fourteen)) legal_at_5 from_6 in
-    let from_4 = All-cons (IsLegalAt opening) (place (take 3 fourteen) (event 1 (Arrive 0 (packet 4 1024) 0) Enqueued)) (drop 4 (places fourteen)) legal_at_4 from_5 in
-    let from_3 = All-cons (IsLegalAt opening) (place (take 2 fourteen) (event 1 (Arrive 0 (packet 3 1024) 0) Enqueued)) (drop 3 (places fourteen)) legal_at_3 from_4 in
-    let from_2 = All-cons (IsLegalAt opening) (place (take 1 fourteen) (event 1 (Arrive 0 (packet 2 1024) 0) Enqueued)) (drop 2 (places fourteen)) legal_at_2 from_3 in
-    All-cons (IsLegalAt opening) (place (take 0 fourteen) (event 1 (Arrive 0 (packet 1 1024) 0) Enqueued)) (drop 1 (places fourteen)) legal_at_1 from_2
+unfolding worked
+fourteen-legal = all-legal opening (places fourteen) refl refl
 
 twelve-legal : IsLegal opening twelve
 unfolding places
@@ -158,38 +39,26 @@ twelve-legal = All-take (IsLegalAt opening) 12 (places fourteen) fourteen-legal
 -- a departure of a packet that never came is not legal, nor is an event whose command would be refused, nor another answer
 
 invented-illegal : IsLegal (opened 4 16 100) (event 2 (Depart 1) (Left (packet 7 1500)) ∷ []) → ⊥
-unfolding held_after shown held_of now_of params_of active_of departures_shown updates_shown arrivals_shown verdict accumulated is_considered
-    is_picked delay_of last_or places effective_moment greatest waiting_after departed_count admitted average samples begun cycles first_position
-    first_opening first_closing first_cycle cycles_from probability last_delay last_moment granted_burst burst_allowance raw_step tuning_divisor
-    tuned_step decayed next departures_of delay_noted control_of early_of noted noted_after is_active
+unfolding worked
 invented-illegal legal =
     let first = All-head (IsLegalAt (opened 4 16 100)) (place [] (event 2 (Depart 1) (Left (packet 7 1500)))) [] legal in
     let answered : Left (packet 7 1500) ≡ Empty = first.answered in cc
 
 too_large-illegal : IsLegal (opened 4 16 100) (event 1 (Arrive 1 (packet 1 65536) 0) Enqueued ∷ []) → ⊥
-unfolding held_after shown held_of now_of params_of active_of departures_shown updates_shown arrivals_shown verdict accumulated is_considered
-    is_picked delay_of last_or places effective_moment greatest waiting_after departed_count admitted average samples begun cycles first_position
-    first_opening first_closing first_cycle cycles_from probability last_delay last_moment granted_burst burst_allowance raw_step tuning_divisor
-    tuned_step decayed next departures_of delay_noted control_of early_of noted noted_after is_active
+unfolding worked
 too_large-illegal legal =
     let first = All-head (IsLegalAt (opened 4 16 100)) (place [] (event 1 (Arrive 1 (packet 1 65536) 0) Enqueued)) [] legal in
     let taken : Some Size ≡ None = first.taken in cc
 
 early_update-illegal : IsLegal (opened 4 16 100) (event 1 (Update 14999999) (Updated 0 0 150000000) ∷ []) → ⊥
-unfolding held_after shown held_of now_of params_of active_of departures_shown updates_shown arrivals_shown verdict accumulated is_considered
-    is_picked delay_of last_or places effective_moment greatest waiting_after departed_count admitted average samples begun cycles first_position
-    first_opening first_closing first_cycle cycles_from probability last_delay last_moment granted_burst burst_allowance raw_step tuning_divisor
-    tuned_step decayed next departures_of delay_noted control_of early_of noted noted_after is_active
+unfolding worked
 early_update-illegal legal =
     let first = All-head (IsLegalAt (opened 4 16 100)) (place [] (event 1 (Update 14999999) (Updated 0 0 150000000))) [] legal in
     let taken : Some (TooSoon 15000000) ≡ None = first.taken in cc
 
 -- the fourth arrival cannot have been marked: the tenth event has the answer of a mark, the fourth not
 wrong_mark-illegal : IsLegalAt opening (place (take 3 fourteen) (event 1 (Arrive 0 (packet 4 1024) 0) Marked)) → ⊥
-unfolding held_after shown held_of now_of params_of active_of departures_shown updates_shown arrivals_shown verdict accumulated is_considered
-    is_picked delay_of last_or places effective_moment greatest waiting_after departed_count admitted average samples begun cycles first_position
-    first_opening first_closing first_cycle cycles_from probability last_delay last_moment granted_burst burst_allowance raw_step tuning_divisor
-    tuned_step decayed next departures_of delay_noted control_of early_of noted noted_after is_active
+unfolding worked
 wrong_mark-illegal legal = let answered : Marked ≡ Enqueued = legal.answered in cc
 
 -- the core after twelve events: a cycle is begun since the second departure, and has counted nothing yet
@@ -222,11 +91,7 @@ core_at_fourteen = record core_at_twelve {
 }
 
 twelve-shown : Shows opening core_at_twelve twelve
-unfolding held_after shown held_of now_of params_of active_of departures_shown updates_shown arrivals_shown verdict stats_after largest_queue
-    largest_delay waited accumulated is_considered is_picked delay_of last_or places effective_moment greatest waiting_after departed_count
-    admitted average samples begun cycles first_position first_opening first_closing first_cycle cycles_from probability last_delay last_moment
-    granted_burst burst_allowance raw_step tuning_divisor tuned_step decayed next departures_of delay_noted control_of early_of noted noted_after
-    is_active
+unfolding worked
 twelve-shown = record {
   legal = twelve-legal;
   packets = refl;
@@ -247,11 +112,7 @@ twelve-shown = record {
 }
 
 fourteen-shown : Shows opening core_at_fourteen fourteen
-unfolding held_after shown held_of now_of params_of active_of departures_shown updates_shown arrivals_shown verdict stats_after largest_queue
-    largest_delay waited accumulated is_considered is_picked delay_of last_or places effective_moment greatest waiting_after departed_count
-    admitted average samples begun cycles first_position first_opening first_closing first_cycle cycles_from probability last_delay last_moment
-    granted_burst burst_allowance raw_step tuning_divisor tuned_step decayed next departures_of delay_noted control_of early_of noted noted_after
-    is_active
+unfolding worked
 fourteen-shown = record {
   legal = fourteen-legal;
   packets = refl;
@@ -273,10 +134,7 @@ fourteen-shown = record {
 
 -- what the cores show of themselves is what looking back gives
 cores-registers : (registers_of core_at_twelve ≡ registers_after opening twelve) × (registers_of core_at_fourteen ≡ registers_after opening fourteen)
-unfolding held_after shown held_of now_of params_of active_of departures_shown updates_shown arrivals_shown verdict registers_after accumulated
-    is_considered is_picked delay_of last_or places effective_moment greatest waiting_after departed_count admitted average samples begun cycles
-    first_position first_opening first_closing first_cycle cycles_from probability last_delay last_moment granted_burst burst_allowance raw_step
-    tuning_divisor tuned_step decayed next departures_of delay_noted control_of early_of noted noted_after is_active
+unfolding worked
 cores-registers = (refl, refl)
 
 cores-delay : (delay_in (held_in core_at_twelve) (bytes_of core_at_twelve.waiting) ≡ 2976562) × (delay_in (held_in core_at_fourteen) (bytes_of core_at_fourteen.waiting) ≡ 0)
@@ -315,27 +173,15 @@ tails_with_one = (refl, refl, refl, refl)
 -- the statistics with one event more are those of the longer history
 
 counted-mark : with_queue (counted (stats_after opening updated_thrice) (deed_of mark) 0 0) 2548 ≡ stats_after opening (updated_thrice ++ mark ∷ [])
-unfolding held_after shown held_of now_of params_of active_of departures_shown updates_shown arrivals_shown verdict stats_after largest_queue
-    largest_delay waited accumulated is_considered is_picked delay_of last_or places effective_moment greatest waiting_after departed_count
-    admitted average samples begun cycles first_position first_opening first_closing first_cycle cycles_from probability last_delay last_moment
-    granted_burst burst_allowance raw_step tuning_divisor tuned_step decayed next departures_of delay_noted control_of early_of noted noted_after
-    is_active
+unfolding worked
 counted-mark = refl
 
 counted-update : with_queue (counted (stats_after opening two_departed) (deed_of first_update) 2000000 0) 2048 ≡ stats_after opening (two_departed ++ first_update ∷ [])
-unfolding held_after shown held_of now_of params_of active_of departures_shown updates_shown arrivals_shown verdict stats_after largest_queue
-    largest_delay waited accumulated is_considered is_picked delay_of last_or places effective_moment greatest waiting_after departed_count
-    admitted average samples begun cycles first_position first_opening first_closing first_cycle cycles_from probability last_delay last_moment
-    granted_burst burst_allowance raw_step tuning_divisor tuned_step decayed next departures_of delay_noted control_of early_of noted noted_after
-    is_active
+unfolding worked
 counted-update = refl
 
 counted-departure : with_queue (counted (stats_after opening (take 5 fourteen)) (departed (packet 2 1024)) 0 1001000) 2048 ≡ stats_after opening two_departed
-unfolding held_after shown held_of now_of params_of active_of departures_shown updates_shown arrivals_shown verdict stats_after largest_queue
-    largest_delay waited accumulated is_considered is_picked delay_of last_or places effective_moment greatest waiting_after departed_count
-    admitted average samples begun cycles first_position first_opening first_closing first_cycle cycles_from probability last_delay last_moment
-    granted_burst burst_allowance raw_step tuning_divisor tuned_step decayed next departures_of delay_noted control_of early_of noted noted_after
-    is_active
+unfolding worked
 counted-departure = refl
 
 counted-last : with_queue (counted (with_queue (counted (tallied 0 0) (deed_of change) 0 0) 3048) (deed_of restart) 0 0) 3048 ≡ tallied 1 1

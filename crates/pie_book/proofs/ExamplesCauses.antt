@@ -2,33 +2,18 @@
 use Rattle.std.specs.Prelude.{ℕ, ◌≡◌, List, [], ◌∷◌, ◌++◌, map, Some, None}
 use Rattle.std.proofs.Common.{refl}
 use Rattle.pie_params.specs.Profile.{default_profile}
-use Rattle.pie_rate.specs.Cycles.{cycles, begun, first_position, first_opening, first_closing, first_cycle, cycles_from}
-use Rattle.pie_rate.specs.Average.{average, samples}
-use Rattle.pie_control.specs.Delay.{delay_of}
-use Rattle.pie_control.specs.History.{probability, last_delay, last_moment, granted_burst, burst_allowance}
-use Rattle.pie_control.specs.Next.{raw_step, tuning_divisor, tuned_step, decayed, next}
-use Rattle.pie_early.specs.Decision.{is_considered, is_picked}
-use Rattle.pie_early.specs.History.{accumulated}
 use Rattle.pie_queue.specs.declared.ecn.Ecn.{Ecn}
 use Rattle.pie_queue.specs.declared.ecn.Ecn.TheVariants.{NotEct, Ect0, Ce}
 use Rattle.pie_controller.specs.declared.cause.Cause.{Cause}
 use Rattle.pie_controller.specs.declared.cause.Cause.TheVariants.{NoRoomInBytes, NoRoomInPackets, Inactive, BurstAllowed, LowDelay, ShortQueue, NoProbability, LittleAccumulated, PickedBySum, PickedByWord, WordNotBelow}
 use Rattle.pie_controller.specs.declared.cause.Fate.TheVariants.{Marked, NotCapable, NotBelow}
-use Rattle.pie_book.specs.declared.command.Command.TheVariants.{Arrive, Depart, Update, Reset, SetParams}
+use Rattle.pie_book.specs.Types.{Two, Arrive, Depart, Update, Reset, SetParams, Event, Bounded, Opening}
 use Rattle.pie_book.specs.declared.command.Answer.TheVariants as answer
-use Rattle.pie_book.specs.declared.command.Event.{Event}
-use Rattle.pie_book.specs.declared.opening.Mode.TheVariants.{Bounded}
-use Rattle.pie_book.specs.declared.opening.Opening.{Opening}
-use Rattle.pie_controller.specs.declared.profile.Profile.TheVariants.{Two}
-use Rattle.pie_controller.specs.History.{active_of, arrivals_shown, control_of, delay_noted, departures_of, departures_shown, early_of, held_of, is_active, noted, noted_after, now_of, params_of, updates_shown}
-use Rattle.pie_controller.specs.Places.{places, greatest, last_or}
-use Rattle.pie_controller.specs.Steps.{verdict}
-use Rattle.pie_book.specs.Estimates.{held_after}
-use Rattle.pie_book.specs.History.{effective_moment, admitted, departed_count, waiting_after}
-use Rattle.pie_book.specs.Shown.{shown}
+use Rattle.pie_controller.specs.Places.{places}
+use Rattle.pie_book.specs.History.{waiting_after}
 use Rattle.pie_controller.specs.Cause.{considered_cause, early_cause, cause}
 use Rattle.pie_book.specs.Cause.{cause_after}
-use Rattle.pie_book.proofs.Examples.{limits, opened_with, packet, event}
+use Rattle.pie_book.proofs.Examples.{limits, opened_with, packet, event, worked}
 use Rattle.pie_book.proofs.ExamplesMarks.{opening, parts, two_departed, updated_thrice, mark, drop_of_one, lone}
 
 -- ---- at single numbers: the default parameters, 3000 bytes that wait, an old delay of 15 ms, no burst allowance
@@ -108,11 +93,7 @@ full_queues : (cause_after (room_for 4) four (Arrive 0 (packet 5 5) 0) ≡ Some 
     × (cause_after (room_for 4) four (Arrive 0 (packet 5 4) 0) ≡ Some (NoRoomInPackets 4))
     × (cause_after (room_for 5) four (Arrive 0 (packet 5 5) 0) ≡ Some (NoRoomInBytes 262140 5 262144))
     × (cause_after (room_for 5) four (Arrive 0 (packet 5 4) 0) ≡ Some (BurstAllowed 150000000))
-unfolding held_after shown held_of now_of params_of active_of departures_shown updates_shown arrivals_shown verdict cause early_cause
-    considered_cause accumulated is_considered is_picked delay_of last_or places effective_moment greatest waiting_after departed_count admitted
-    average samples begun cycles first_position first_opening first_closing first_cycle cycles_from probability last_delay last_moment
-    granted_burst burst_allowance raw_step tuning_divisor tuned_step decayed next departures_of delay_noted control_of early_of noted noted_after
-    is_active
+unfolding worked
 full_queues = (refl, refl, refl, refl)
 
 -- a mark, an early drop and a lone packet that is let through, each by its word: the numbers are those of before the event
@@ -120,11 +101,7 @@ marks_and_drops : (cause_after opening updated_thrice mark.command ≡ Some (Pic
     × (cause_after opening (updated_thrice ++ mark ∷ []) drop_of_one.command ≡ Some (PickedByWord 0 903954174169 0 NotCapable))
     × (cause_after opening (updated_thrice ++ mark ∷ drop_of_one ∷ []) lone.command ≡ Some (WordNotBelow 0 903954174169 greatest_word))
     × (cause_after opening two_departed (Arrive 1001000 (packet 5 1) 0) ≡ Some (LowDelay 0 2 0))
-unfolding held_after shown held_of now_of params_of active_of departures_shown updates_shown arrivals_shown verdict cause early_cause
-    considered_cause accumulated is_considered is_picked delay_of last_or places effective_moment greatest waiting_after departed_count admitted
-    average samples begun cycles first_position first_opening first_closing first_cycle cycles_from probability last_delay last_moment
-    granted_burst burst_allowance raw_step tuning_divisor tuned_step decayed next departures_of delay_noted control_of early_of noted noted_after
-    is_active
+unfolding worked
 marks_and_drops = (refl, refl, refl, refl)
 
 -- what is no arrival has no such cause
@@ -133,9 +110,5 @@ no_arrivals = refl
 
 -- in profile two a controller that no arrival turned on
 while_inactive : cause_after (record (room_for 5) { choices = record { mode = Bounded; profile = Two } }) [] (Arrive 0 (packet 1 5) 0) ≡ Some Inactive
-unfolding held_after shown held_of now_of params_of active_of departures_shown updates_shown arrivals_shown verdict cause early_cause
-    considered_cause accumulated is_considered is_picked delay_of last_or places effective_moment greatest waiting_after departed_count admitted
-    average samples begun cycles first_position first_opening first_closing first_cycle cycles_from probability last_delay last_moment
-    granted_burst burst_allowance raw_step tuning_divisor tuned_step decayed next departures_of delay_noted control_of early_of noted noted_after
-    is_active
+unfolding worked
 while_inactive = refl

@@ -1,22 +1,12 @@
 -- The definitions on worked histories: each theorem computes. The rate estimate, and the delay by it.
 use Rattle.std.specs.Prelude.{ℕ, ◌≡◌, List, [], ◌∷◌, ◌++◌, true, false, map}
 use Rattle.std.proofs.Common.{refl}
-use Rattle.pie_params.specs.declared.raw.RawParams.{RawParams}
+use Rattle.pie_book.specs.Types.{RawParams, Arrive, Depart, Reset, SetParams, Enqueued, Empty, Left, Done, Event, Bounded, Opening}
 use Rattle.pie_rate.specs.Departures.{departure}
-use Rattle.pie_rate.specs.Cycles.{cycles, begun, first_position, first_opening, first_closing, first_cycle, cycles_from}
-use Rattle.pie_rate.specs.Average.{average, samples}
-use Rattle.pie_control.specs.Delay.{delay_of}
-use Rattle.pie_book.specs.declared.command.Command.TheVariants.{Arrive, Depart, Reset, SetParams}
-use Rattle.pie_book.specs.declared.command.Answer.TheVariants.{Enqueued, Empty, Left, Done}
-use Rattle.pie_book.specs.declared.command.Event.{Event}
-use Rattle.pie_book.specs.declared.opening.Mode.TheVariants.{Bounded}
-use Rattle.pie_book.specs.declared.opening.Opening.{Opening}
-use Rattle.pie_controller.specs.History.{active_of, arrivals_shown, control_of, delay_noted, departures_of, departures_shown, early_of, held_of, is_active, noted, noted_after, now_of, params_of, updates_shown}
-use Rattle.pie_controller.specs.Places.{places, greatest, last_or}
-use Rattle.pie_book.specs.Estimates.{held_after, average_after, measuring_after, delay_after}
-use Rattle.pie_book.specs.History.{effective_moment, admitted, departed_count, waiting_after}
-use Rattle.pie_book.specs.Shown.{shown}
-use Rattle.pie_book.proofs.Examples.{departures_after, limits, opened_with, nine, packet, event}
+use Rattle.pie_controller.specs.Places.{places}
+use Rattle.pie_book.specs.Estimates.{average_after, measuring_after, delay_after}
+use Rattle.pie_book.specs.History.{waiting_after}
+use Rattle.pie_book.proofs.Examples.{departures_after, limits, opened_with, nine, packet, event, worked}
 
 -- the default parameters, at a threshold of 1024 bytes
 abbrev pub small_threshold : RawParams
@@ -49,39 +39,30 @@ abbrev set_again : List Event
 set_again = three_departed ++ event 1 (SetParams 600 small_threshold) Done ∷ []
 
 three-departures : departures_after small three_departed ≡ departure 1024 3072 100 ∷ departure 1024 2048 400 ∷ departure 1024 1024 500 ∷ []
-unfolding held_after shown held_of now_of params_of active_of departures_shown updates_shown arrivals_shown places effective_moment greatest
-    waiting_after departed_count admitted departures_of delay_noted control_of early_of noted noted_after is_active
+unfolding worked
 three-departures = refl
 
 -- the estimate after each: a first sample of 300, and a second of 100 with the weight 1024 in 65536
 estimates : (map (average_after small) (four ∷ one_departed ∷ two_departed ∷ three_departed ∷ []) ≡ 0 ∷ 0 ∷ 300 ∷ 296 ∷ [])
     × (map (measuring_after small) (four ∷ one_departed ∷ two_departed ∷ three_departed ∷ []) ≡ false ∷ true ∷ true ∷ true ∷ [])
-unfolding held_after shown held_of now_of params_of active_of departures_shown updates_shown arrivals_shown last_or places effective_moment
-    greatest waiting_after departed_count admitted average samples begun cycles first_position first_opening first_closing first_cycle
-    cycles_from departures_of delay_noted control_of early_of noted noted_after is_active
+unfolding worked
 estimates = (refl, refl)
 
 -- 2048 bytes at 300 for each 1024, and 1024 at 296
 delays : map (delay_after small) (one_departed ∷ two_departed ∷ three_departed ∷ set_again ∷ []) ≡ 0 ∷ 600 ∷ 296 ∷ 0 ∷ []
-unfolding held_after shown held_of now_of params_of active_of departures_shown updates_shown arrivals_shown delay_of last_or places
-    effective_moment greatest waiting_after departed_count admitted average samples begun cycles first_position first_opening first_closing
-    first_cycle cycles_from departures_of delay_noted control_of early_of noted noted_after is_active
+unfolding worked
 delays = refl
 
 -- new parameters clear the estimate, the same ones too, and so does a reset; a begun cycle is gone
 cleared : (departures_after small set_again ≡ []) × (average_after small set_again ≡ 0) × (measuring_after small set_again ≡ false)
     × (departures_after small (three_departed ++ event 1 (Reset 600) Done ∷ []) ≡ [])
-unfolding held_after shown held_of now_of params_of active_of departures_shown updates_shown arrivals_shown last_or places effective_moment
-    greatest waiting_after departed_count admitted average samples begun cycles first_position first_opening first_closing first_cycle
-    cycles_from departures_of delay_noted control_of early_of noted noted_after is_active
+unfolding worked
 cleared = (refl, refl, refl, refl)
 
 -- the next departure is the first, and opens no cycle, since it leaves too little
 after_clearing : (departures_after small (set_again ++ leaves 4 700 ∷ []) ≡ departure 1024 0 700 ∷ [])
     × (measuring_after small (set_again ++ leaves 4 700 ∷ []) ≡ false)
-unfolding held_after shown held_of now_of params_of active_of departures_shown updates_shown arrivals_shown last_or places effective_moment
-    greatest waiting_after departed_count admitted average samples begun cycles first_position first_opening first_closing first_cycle
-    cycles_from departures_of delay_noted control_of early_of noted noted_after is_active
+unfolding worked
 after_clearing = (refl, refl)
 
 -- a departure that found no packet is none, and a departure's moment is the effective one
@@ -89,18 +70,14 @@ abbrev behind : List Event
 behind = four ++ leaves 1 100 ∷ leaves 2 40 ∷ []
 
 behind-departures : departures_after small behind ≡ departure 1024 3072 100 ∷ departure 1024 2048 100 ∷ []
-unfolding held_after shown held_of now_of params_of active_of departures_shown updates_shown arrivals_shown places effective_moment greatest
-    waiting_after departed_count admitted departures_of delay_noted control_of early_of noted noted_after is_active
+unfolding worked
 behind-departures = refl
 
 -- a cycle within one nanosecond has the sample 1
 behind-average : average_after small behind ≡ 1
-unfolding held_after shown held_of now_of params_of active_of departures_shown updates_shown arrivals_shown last_or places effective_moment
-    greatest waiting_after departed_count admitted average samples begun cycles first_position first_opening first_closing first_cycle
-    cycles_from departures_of delay_noted control_of early_of noted noted_after is_active
+unfolding worked
 behind-average = refl
 
 none-departures : departures_after small (event 1 (Depart 5) Empty ∷ []) ≡ []
-unfolding held_after shown held_of now_of params_of active_of departures_shown updates_shown arrivals_shown places effective_moment greatest
-    waiting_after departed_count admitted departures_of delay_noted control_of early_of noted noted_after is_active
+unfolding worked
 none-departures = refl

@@ -2,37 +2,17 @@
 use Rattle.std.specs.Prelude.{ℕ, ◌≡◌, List, [], ◌∷◌, ◌++◌, Some, None, Ok, Err, true, false, map}
 use Rattle.std.proofs.Common.{Bool, refl}
 use Rattle.pie_params.specs.Profile.{default_profile}
-use Rattle.pie_params.specs.declared.raw.RawParams.{RawParams}
-use Rattle.pie_rate.specs.Cycles.{cycles, begun, first_position, first_opening, first_closing, first_cycle, cycles_from}
-use Rattle.pie_rate.specs.Average.{average, samples}
-use Rattle.pie_control.specs.Delay.{delay_of}
-use Rattle.pie_control.specs.History.{probability, last_delay, last_moment, granted_burst, burst_allowance}
-use Rattle.pie_control.specs.Next.{raw_step, tuning_divisor, tuned_step, decayed, next}
-use Rattle.pie_early.specs.Decision.{is_considered, is_picked}
+use Rattle.pie_book.specs.Types.{RawParams, One, Held, Command, Arrive, Depart, Update, Reset, SetParams, Answer, Enqueued, DroppedBytes, DroppedPackets, Empty, Left, Updated, Done, Event, Rolling, Opening, Refusal}
 use Rattle.pie_early.specs.Events.{cleared}
-use Rattle.pie_early.specs.History.{accumulated}
-use Rattle.pie_book.specs.declared.command.Command.{Command}
-use Rattle.pie_book.specs.declared.command.Command.TheVariants.{Arrive, Depart, Update, Reset, SetParams}
-use Rattle.pie_book.specs.declared.command.Answer.{Answer}
-use Rattle.pie_book.specs.declared.command.Answer.TheVariants.{Enqueued, DroppedBytes, DroppedPackets, Empty, Left, Updated, Done}
-use Rattle.pie_book.specs.declared.command.Event.{Event}
-use Rattle.pie_book.specs.declared.opening.Mode.TheVariants.{Rolling}
-use Rattle.pie_book.specs.declared.opening.Opening.{Opening}
-use Rattle.pie_book.specs.declared.refusal.Refusal.{Refusal}
 use Rattle.pie_book.specs.declared.refusal.Refusal.TheVariants.{Moment, Size, TooSoon, Exhausted, HistoryFull}
 use Rattle.pie_book.specs.declared.refusal.FoldRefusal.TheVariants.{TooMany}
-use Rattle.pie_controller.specs.History.{active_of, arrivals_shown, control_of, delay_noted, departures_of, departures_shown, early_of, held_of, is_active, noted, noted_after, now_of, params_of, updates_shown}
-use Rattle.pie_controller.specs.Places.{places, greatest, last_or}
-use Rattle.pie_controller.specs.declared.profile.Profile.TheVariants.{One}
-use Rattle.pie_controller.specs.Held.{Held}
-use Rattle.pie_controller.specs.Steps.{verdict}
+use Rattle.pie_controller.specs.Places.{places}
 use Rattle.pie_controller.specs.Steps as Steps
-use Rattle.pie_book.specs.Estimates.{held_after, parts_after}
-use Rattle.pie_book.specs.History.{effective_moment, admitted, departed_count, waiting_after}
-use Rattle.pie_book.specs.Shown.{shown}
+use Rattle.pie_book.specs.Estimates.{parts_after}
+use Rattle.pie_book.specs.History.{waiting_after}
 use Rattle.pie_book.specs.Decision.{answer_by, refusal_by_rule, refusal_after}
 use Rattle.pie_book.specs.Run.{Step, asked, folded, Outcome, was_asked, was_folded, outcomes, progress_after, start, without_folds, answers, before_full}
-use Rattle.pie_book.proofs.Examples.{early_events, limits, opened, opened_with, nine, packet, waits, event, three}
+use Rattle.pie_book.proofs.Examples.{early_events, limits, opened, opened_with, nine, packet, waits, event, three, worked}
 
 abbrev pub rolling : ℕ → ℕ → ℕ → Opening
 rolling packets tail events = opened_with Rolling (limits packets tail events) default_profile
@@ -45,29 +25,20 @@ moments : (refusal_by_rule (opened 4 16 100) three (Depart 1152921504606846975) 
     (Arrive 1152921504606846976 (packet 1 1) 0 ∷ Depart 1152921504606846976 ∷ Update 1152921504606846976 ∷ Reset 1152921504606846976
     ∷ SetParams 1152921504606846976 default_profile ∷ [])
     ≡ Some Moment ∷ Some Moment ∷ Some Moment ∷ Some Moment ∷ Some Moment ∷ [])
-unfolding held_after shown held_of now_of params_of active_of departures_shown updates_shown arrivals_shown verdict accumulated is_considered
-    is_picked delay_of last_or places effective_moment greatest waiting_after departed_count admitted average samples begun cycles first_position
-    first_opening first_closing first_cycle cycles_from probability last_delay last_moment granted_burst burst_allowance raw_step tuning_divisor
-    tuned_step decayed next departures_of delay_noted control_of early_of noted noted_after is_active
+unfolding worked
 moments = (refl, refl)
 
 abbrev sized : ℕ → Command
 sized size = Arrive 0 (packet 1 size) 0
 
 sizes : map (λ size. refusal_by_rule (opened 4 16 100) [] (sized size)) (0 ∷ 1 ∷ 65535 ∷ 65536 ∷ []) ≡ Some Size ∷ None ∷ None ∷ Some Size ∷ []
-unfolding held_after shown held_of now_of params_of active_of departures_shown updates_shown arrivals_shown verdict accumulated is_considered
-    is_picked delay_of last_or places effective_moment greatest waiting_after departed_count admitted average samples begun cycles first_position
-    first_opening first_closing first_cycle cycles_from probability last_delay last_moment granted_burst burst_allowance raw_step tuning_divisor
-    tuned_step decayed next departures_of delay_noted control_of early_of noted noted_after is_active
+unfolding worked
 sizes = refl
 
 -- an update is due 15 milliseconds after the opening, by the effective moment and its own
 dues : (map (λ moment. refusal_by_rule (opened 4 16 100) three (Update moment)) (0 ∷ 14999999 ∷ 15000000 ∷ []) ≡ Some (TooSoon 15000000) ∷ Some (TooSoon 15000000) ∷ None ∷ [])
     × (refusal_by_rule (opened 4 16 100) (event 1 (Depart 15000000) Empty ∷ []) (Update 1) ≡ None)
-unfolding held_after shown held_of now_of params_of active_of departures_shown updates_shown arrivals_shown verdict accumulated is_considered
-    is_picked delay_of last_or places effective_moment greatest waiting_after departed_count admitted average samples begun cycles first_position
-    first_opening first_closing first_cycle cycles_from probability last_delay last_moment granted_burst burst_allowance raw_step tuning_divisor
-    tuned_step decayed next departures_of delay_noted control_of early_of noted noted_after is_active
+unfolding worked
 dues = (refl, refl)
 
 -- after three events of at most three, with a tail of three: each refusal stands before the next
@@ -79,10 +50,7 @@ order : (refusal_after (opened 4 3 3) three 3 (Arrive 1152921504606846976 (packe
     × (refusal_after (opened 4 4 4) three 3 (sized 1) ≡ None)
     × (refusal_after (rolling 4 3 3) three 3 (sized 1) ≡ Some Exhausted)
     × (refusal_after (rolling 4 3 4) three 3 (sized 1) ≡ None)
-unfolding held_after shown held_of now_of params_of active_of departures_shown updates_shown arrivals_shown verdict accumulated is_considered
-    is_picked delay_of last_or places effective_moment greatest waiting_after departed_count admitted average samples begun cycles first_position
-    first_opening first_closing first_cycle cycles_from probability last_delay last_moment granted_burst burst_allowance raw_step tuning_divisor
-    tuned_step decayed next departures_of delay_noted control_of early_of noted noted_after is_active
+unfolding worked
 order = (refl, refl, refl, refl, refl, refl, refl, refl)
 
 -- verdicts by the queue alone: beside a packet of 65535 bytes, 196609 more meet the limit exactly; in a ring of one packet there is no place
@@ -96,7 +64,7 @@ beside_one h packets size = answer_by h (waits (packet 1 65535) 0 ∷ []) packet
 verdicts : (map (beside_one (holding true 0 150000000) 2) (196609 ∷ 196610 ∷ []) ≡ Enqueued ∷ DroppedBytes ∷ [])
     × (map (beside_one (holding true 0 150000000) 1) (196609 ∷ 196610 ∷ []) ≡ DroppedPackets ∷ DroppedBytes ∷ [])
     × (beside_one (holding false 1000000000000 0) 2 1 ≡ Enqueued)
-unfolding verdict is_considered is_picked
+unfolding worked
 verdicts = (refl, refl, refl)
 
 -- runs of steps
@@ -116,10 +84,7 @@ no why = was_asked (Err why)
 
 -- one arrival and two departures, the second of an empty queue
 three-answers : outcomes (opened 4 16 100) start (arrives 10 7 1500 ∷ departs 25 ∷ departs 30 ∷ []) ≡ ok Enqueued ∷ ok (Left (packet 7 1500)) ∷ ok Empty ∷ []
-unfolding held_after shown held_of now_of params_of active_of departures_shown updates_shown arrivals_shown verdict outcomes accumulated
-    is_considered is_picked delay_of last_or places effective_moment greatest waiting_after departed_count admitted average samples begun cycles
-    first_position first_opening first_closing first_cycle cycles_from probability last_delay last_moment granted_burst burst_allowance raw_step
-    tuning_divisor tuned_step decayed next departures_of delay_noted control_of early_of noted noted_after is_active
+unfolding worked
 three-answers = refl
 
 -- a queue that is near its byte limit of 262144: four packets of 65535 bytes are 262140. Where the ring is full as well, too many bytes are told
@@ -131,28 +96,19 @@ abbrev four_enqueued : List Outcome
 four_enqueued = ok Enqueued ∷ ok Enqueued ∷ ok Enqueued ∷ ok Enqueued ∷ []
 
 full_ring : outcomes (opened 4 16 100) start (four_large ++ arrives 0 5 5 ∷ arrives 0 6 4 ∷ []) ≡ four_enqueued ++ ok DroppedBytes ∷ ok DroppedPackets ∷ []
-unfolding held_after shown held_of now_of params_of active_of departures_shown updates_shown arrivals_shown verdict outcomes accumulated
-    is_considered is_picked delay_of last_or places effective_moment greatest waiting_after departed_count admitted average samples begun cycles
-    first_position first_opening first_closing first_cycle cycles_from probability last_delay last_moment granted_burst burst_allowance raw_step
-    tuning_divisor tuned_step decayed next departures_of delay_noted control_of early_of noted noted_after is_active
+unfolding worked
 full_ring = refl
 
 -- with one more place in the ring the limit is met exactly, and then passed by one byte
 exact_limit : outcomes (opened 5 16 100) start (four_large ++ arrives 0 5 5 ∷ arrives 0 6 4 ∷ arrives 0 7 1 ∷ [])
     ≡ four_enqueued ++ ok DroppedBytes ∷ ok Enqueued ∷ ok DroppedBytes ∷ []
-unfolding held_after shown held_of now_of params_of active_of departures_shown updates_shown arrivals_shown verdict outcomes accumulated
-    is_considered is_picked delay_of last_or places effective_moment greatest waiting_after departed_count admitted average samples begun cycles
-    first_position first_opening first_closing first_cycle cycles_from probability last_delay last_moment granted_burst burst_allowance raw_step
-    tuning_divisor tuned_step decayed next departures_of delay_noted control_of early_of noted noted_after is_active
+unfolding worked
 exact_limit = refl
 
 -- a refused update leaves no trace, and an accepted one with an empty queue has no delay
 an_update : outcomes (opened 4 16 100) start (departs 9 ∷ departs 5 ∷ asked 2 (Update 14999999) ∷ asked 2 (Update 15000000) ∷ departs 1152921504606846976 ∷ [])
     ≡ ok Empty ∷ ok Empty ∷ no (TooSoon 15000000) ∷ ok (Updated 0 0 150000000) ∷ no Moment ∷ []
-unfolding held_after shown held_of now_of params_of active_of departures_shown updates_shown arrivals_shown verdict outcomes accumulated
-    is_considered is_picked delay_of last_or places effective_moment greatest waiting_after departed_count admitted average samples begun cycles
-    first_position first_opening first_closing first_cycle cycles_from probability last_delay last_moment granted_burst burst_allowance raw_step
-    tuning_divisor tuned_step decayed next departures_of delay_noted control_of early_of noted noted_after is_active
+unfolding worked
 an_update = refl
 
 -- a lower limit of 1000 bytes, and a burst allowance of 20 that holds from the reset on
@@ -167,26 +123,17 @@ from_five = record (opened 4 16 100) { moment = 5 }
 
 changed-answers : progress_after from_five start (asked 1 (SetParams 7 lower_limit) ∷ arrives 6 1 1001 ∷ asked 1 (Reset 8) ∷ [])
     ≡ record { history = changed; held = 3 }
-unfolding held_after shown held_of now_of params_of active_of departures_shown updates_shown arrivals_shown verdict progress_after accumulated
-    is_considered is_picked delay_of last_or places effective_moment greatest waiting_after departed_count admitted average samples begun cycles
-    first_position first_opening first_closing first_cycle cycles_from probability last_delay last_moment granted_burst burst_allowance raw_step
-    tuning_divisor tuned_step decayed next departures_of delay_noted control_of early_of noted noted_after is_active
+unfolding worked
 changed-answers = refl
 
 changed-parts : (parts_after from_five (event 1 (SetParams 7 lower_limit) Done ∷ []) ≡ record { prob = 0; old_delay = 0; burst = 150000000; last = 5 })
     × (parts_after from_five changed ≡ record { prob = 0; old_delay = 0; burst = 20; last = 5 })
-unfolding held_after shown held_of now_of params_of active_of departures_shown updates_shown arrivals_shown verdict accumulated is_considered
-    is_picked delay_of last_or places effective_moment greatest waiting_after departed_count admitted average samples begun cycles first_position
-    first_opening first_closing first_cycle cycles_from probability last_delay last_moment granted_burst burst_allowance raw_step tuning_divisor
-    tuned_step decayed next departures_of delay_noted control_of early_of noted noted_after is_active
+unfolding worked
 changed-parts = (refl, refl)
 
 -- a tail drop clears what was accumulated, and so does a reset
 changed-early : early_events from_five changed ≡ cleared ∷ cleared ∷ []
-unfolding held_after shown held_of now_of params_of active_of departures_shown updates_shown arrivals_shown verdict accumulated is_considered
-    is_picked delay_of last_or places effective_moment greatest waiting_after departed_count admitted average samples begun cycles first_position
-    first_opening first_closing first_cycle cycles_from probability last_delay last_moment granted_burst burst_allowance raw_step tuning_divisor
-    tuned_step decayed next departures_of delay_noted control_of early_of noted noted_after is_active
+unfolding worked
 changed-early = refl
 
 -- a tail of two events: the third arrival waits for a fold, and a fold of three is one too many
@@ -205,17 +152,11 @@ with_folds = arrives 1 1 100 ∷ arrives 2 2 100 ∷ arrives 3 3 100 ∷ folded 
 folds : outcomes (opened 4 2 100) start with_folds
     ≡ ok Enqueued ∷ ok Enqueued ∷ no HistoryFull ∷ was_folded (Err (TooMany 2)) ∷ was_folded (Ok (first_event ∷ [])) ∷ ok Enqueued
     ∷ was_folded (Ok (second_event ∷ third_event ∷ [])) ∷ was_folded (Ok []) ∷ []
-unfolding held_after shown held_of now_of params_of active_of departures_shown updates_shown arrivals_shown verdict outcomes accumulated
-    is_considered is_picked delay_of last_or places effective_moment greatest waiting_after departed_count admitted average samples begun cycles
-    first_position first_opening first_closing first_cycle cycles_from probability last_delay last_moment granted_burst burst_allowance raw_step
-    tuning_divisor tuned_step decayed next departures_of delay_noted control_of early_of noted noted_after is_active
+unfolding worked
 folds = refl
 
 folds-progress : (progress_after (opened 4 2 100) start with_folds ≡ record { history = first_event ∷ second_event ∷ third_event ∷ []; held = 0 })
-unfolding held_after shown held_of now_of params_of active_of departures_shown updates_shown arrivals_shown verdict progress_after accumulated
-    is_considered is_picked delay_of last_or places effective_moment greatest waiting_after departed_count admitted average samples begun cycles
-    first_position first_opening first_closing first_cycle cycles_from probability last_delay last_moment granted_burst burst_allowance raw_step
-    tuning_divisor tuned_step decayed next departures_of delay_noted control_of early_of noted noted_after is_active
+unfolding worked
 folds-progress = refl
 
 -- a rolling book takes the third, and its fold has the last two
@@ -224,36 +165,24 @@ rolls = arrives 1 1 100 ∷ arrives 2 2 100 ∷ arrives 3 3 100 ∷ folded 3 ∷
 
 rolls-answers : outcomes (rolling 4 2 100) start rolls
     ≡ ok Enqueued ∷ ok Enqueued ∷ ok Enqueued ∷ was_folded (Err (TooMany 2)) ∷ was_folded (Ok (second_event ∷ third_event ∷ [])) ∷ []
-unfolding held_after shown held_of now_of params_of active_of departures_shown updates_shown arrivals_shown verdict outcomes accumulated
-    is_considered is_picked delay_of last_or places effective_moment greatest waiting_after departed_count admitted average samples begun cycles
-    first_position first_opening first_closing first_cycle cycles_from probability last_delay last_moment granted_burst burst_allowance raw_step
-    tuning_divisor tuned_step decayed next departures_of delay_noted control_of early_of noted noted_after is_active
+unfolding worked
 rolls-answers = refl
 
 rolls-held : progress_after (rolling 4 2 100) start (arrives 1 1 100 ∷ arrives 2 2 100 ∷ arrives 3 3 100 ∷ [])
     ≡ record { history = first_event ∷ second_event ∷ third_event ∷ []; held = 2 }
-unfolding held_after shown held_of now_of params_of active_of departures_shown updates_shown arrivals_shown verdict progress_after accumulated
-    is_considered is_picked delay_of last_or places effective_moment greatest waiting_after departed_count admitted average samples begun cycles
-    first_position first_opening first_closing first_cycle cycles_from probability last_delay last_moment granted_burst burst_allowance raw_step
-    tuning_divisor tuned_step decayed next departures_of delay_noted control_of early_of noted noted_after is_active
+unfolding worked
 rolls-held = refl
 
 -- a book for two events refuses the third, rolling or not
 few_events : (outcomes (opened 4 4 2) start (departs 1 ∷ departs 1 ∷ departs 1 ∷ []) ≡ ok Empty ∷ ok Empty ∷ no Exhausted ∷ [])
     × (outcomes (rolling 4 2 2) start (departs 1 ∷ departs 1 ∷ departs 1 ∷ []) ≡ ok Empty ∷ ok Empty ∷ no Exhausted ∷ [])
-unfolding held_after shown held_of now_of params_of active_of departures_shown updates_shown arrivals_shown verdict outcomes accumulated
-    is_considered is_picked delay_of last_or places effective_moment greatest waiting_after departed_count admitted average samples begun cycles
-    first_position first_opening first_closing first_cycle cycles_from probability last_delay last_moment granted_burst burst_allowance raw_step
-    tuning_divisor tuned_step decayed next departures_of delay_noted control_of early_of noted noted_after is_active
+unfolding worked
 few_events = (refl, refl)
 
 -- a refused command leaves no trace: neither its event nor its moment
 refused_moment : progress_after (opened 4 16 100) start (departs 9 ∷ departs 1152921504606846976 ∷ arrives 99 1 0 ∷ asked 2 (Depart 5) ∷ [])
     ≡ record { history = event 1 (Depart 9) Empty ∷ event 2 (Depart 5) Empty ∷ []; held = 2 }
-unfolding held_after shown held_of now_of params_of active_of departures_shown updates_shown arrivals_shown verdict progress_after accumulated
-    is_considered is_picked delay_of last_or places effective_moment greatest waiting_after departed_count admitted average samples begun cycles
-    first_position first_opening first_closing first_cycle cycles_from probability last_delay last_moment granted_burst burst_allowance raw_step
-    tuning_divisor tuned_step decayed next departures_of delay_noted control_of early_of noted noted_after is_active
+unfolding worked
 refused_moment = refl
 
 -- the steps without their folds, and the answers to them: up to the first that says that the tail is full, they are those of a run with no fold
@@ -271,10 +200,7 @@ three_arrivals_folded = arrives 1 1 100 ∷ folded 1 ∷ arrives 2 2 100 ∷ arr
 fold_in_time : (answers (opened 4 2 100) three_arrivals ≡ Ok Enqueued ∷ Ok Enqueued ∷ Err HistoryFull ∷ [])
     × (answers (opened 4 2 100) three_arrivals_folded ≡ Ok Enqueued ∷ Ok Enqueued ∷ Ok Enqueued ∷ [])
     × (answers (rolling 4 2 100) three_arrivals ≡ answers (rolling 4 2 100) three_arrivals_folded)
-unfolding held_after shown held_of now_of params_of active_of departures_shown updates_shown arrivals_shown verdict answers outcomes accumulated
-    is_considered is_picked delay_of last_or places effective_moment greatest waiting_after departed_count admitted average samples begun cycles
-    first_position first_opening first_closing first_cycle cycles_from probability last_delay last_moment granted_burst burst_allowance raw_step
-    tuning_divisor tuned_step decayed next departures_of delay_noted control_of early_of noted noted_after is_active
+unfolding worked
 fold_in_time = (refl, refl, refl)
 
 -- two answers stand before the first that says so; with none that does, all of them do

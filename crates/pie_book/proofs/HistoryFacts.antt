@@ -5,9 +5,7 @@ use Rattle.std.specs.Option.{option_to_list, is_some}
 use Rattle.std.specs.List.{filter_map}
 use Rattle.std.proofs.lemmas.List.{map-append, append-nil, drop-append-le, drop-drop, length-drop}
 use Rattle.std.proofs.lemmas.List.Sums.{sum_by_push}
-use Rattle.pie_queue.specs.declared.packet.Waiting.{Waiting}
-use Rattle.pie_book.specs.declared.command.Event.{Event}
-use Rattle.pie_book.specs.declared.opening.Opening.{Opening}
+use Rattle.pie_book.specs.Types.{Waiting, Event, Opening}
 use Rattle.pie_book.specs.Deed.{Deed, handed_in, deed_of, admission, departure, queued, marked, dropped_early, dropped_bytes, dropped_packets, departed, found_none, updated, was_reset, set, nothing}
 use Rattle.pie_book.specs.History.{effective_moment, admitted_at, admitted, departed_count, waiting_after}
 use Rattle.pie_controller.proofs.Places.{from_places-push, greatest-push}
@@ -55,16 +53,7 @@ waiting_after-push opening history event fewer =
     by_deed : (d : Deed) (n : ℕ) (entries : List Waiting) (now : ℕ) → n ≤ length entries
         → drop (n + cond (is_some (departure d)) 1 0) (entries ++ option_to_list (admission now d)) ≡ waiting_next (drop n entries) now d
     by_deed (departed packet) n entries now within = rw (append-nil entries, drop-drop 1 n entries) refl
-    by_deed (queued packet) n entries now within = more n entries _ within
-    by_deed (marked packet) n entries now within = more n entries _ within
-    by_deed dropped_early n entries now within = more n entries _ within
-    by_deed dropped_bytes n entries now within = more n entries _ within
-    by_deed dropped_packets n entries now within = more n entries _ within
-    by_deed found_none n entries now within = more n entries _ within
-    by_deed updated n entries now within = more n entries _ within
-    by_deed was_reset n entries now within = more n entries _ within
-    by_deed (set params) n entries now within = more n entries _ within
-    by_deed nothing n entries now within = more n entries _ within
+    by_deed _ n entries now within = more n entries _ within
 
 -- no more packets have departed than were queued, after an event that lets one depart only where one waits
 pub departed-push : (opening : Opening) (history : List Event) (event : Event) → departed_count history ≤ length (admitted opening history)

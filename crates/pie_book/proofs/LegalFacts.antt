@@ -4,19 +4,12 @@ use Rattle.std.specs.Prelude.{All, None}
 use Rattle.std.proofs.lemmas.List.{append-nil, append_assoc}
 use Rattle.std.proofs.lemmas.List.Elements.{All-head, All-tail}
 use Rattle.pie_params.specs.Range.{first_bad}
-use Rattle.pie_queue.specs.declared.packet.Waiting.{Waiting}
-use Rattle.pie_controller.specs.declared.verdict.Arrival.{Arrival}
+use Rattle.pie_book.specs.Types.{Waiting, Arrival, Held, Command, Arrive, Depart, Update, Reset, SetParams, Answer, Event, Opening}
 use Rattle.pie_controller.specs.Calls.{after_call}
-use Rattle.pie_controller.specs.Held.{Held}
 use Rattle.pie_controller.specs.Steps as Steps
 use Rattle.pie_controller.specs.Steps.{anew, bytes_with, judged, no_estimate}
 use Rattle.pie_controller.proofs.InRange.{params-hold}
 use Rattle.pie_controller.proofs.Places.{place_of}
-use Rattle.pie_book.specs.declared.command.Answer.{Answer}
-use Rattle.pie_book.specs.declared.command.Command.{Command}
-use Rattle.pie_book.specs.declared.command.Command.TheVariants.{Arrive, Depart, Update, Reset, SetParams}
-use Rattle.pie_book.specs.declared.command.Event.{Event}
-use Rattle.pie_book.specs.declared.opening.Opening.{Opening}
 use Rattle.pie_book.specs.Call.{arrival_of, departure_call}
 use Rattle.pie_book.specs.Core.{CoreView, Shows, closed, held_in, refusal_of}
 use Rattle.pie_book.specs.Decision.{IsLegal, IsLegalAt}

@@ -5,12 +5,7 @@ use Rattle.std.specs.Option.{is_some, option_map_or}
 use Rattle.std.specs.List.{filter_map}
 use Rattle.std.proofs.lemmas.List.{map-append}
 use Rattle.std.proofs.lemmas.List.Sums.{sum_by_push}
-use Rattle.pie_queue.specs.declared.packet.Packet.{Packet}
-use Rattle.pie_book.specs.declared.command.Answer.{Answer}
-use Rattle.pie_book.specs.declared.command.Answer.TheVariants.{Enqueued, Marked, DroppedEarly, DroppedBytes, DroppedPackets, Empty, Left, Updated, Done}
-use Rattle.pie_book.specs.declared.command.Event.{Event}
-use Rattle.pie_book.specs.declared.opening.Opening.{Opening}
-use Rattle.pie_book.specs.declared.stats.Stats.{Stats}
+use Rattle.pie_book.specs.Types.{Packet, Answer, Enqueued, Marked, DroppedEarly, DroppedBytes, DroppedPackets, Empty, Left, Updated, Done, Event, Opening, Stats}
 use Rattle.pie_book.specs.Deed.{Deed, deed_of, departure, is_arrival, is_update, sets_params, arrival_deed, departure_deed}
 use Rattle.pie_book.specs.History.{effective_moment, waiting_after, bytes_after}
 use Rattle.pie_book.specs.Estimates.{delay_answered}
@@ -100,24 +95,10 @@ stats_after-push opening history event =
 pub counted-arrival : (s : Stats) (packet : Packet) (answer : Answer) (delay wait : ℕ)
     → counted s (arrival_deed packet answer) 0 0 ≡ counted s (arrival_deed packet answer) delay wait
 counted-arrival s packet Enqueued delay wait = refl
-counted-arrival s packet Marked delay wait = refl
-counted-arrival s packet DroppedEarly delay wait = refl
-counted-arrival s packet DroppedBytes delay wait = refl
-counted-arrival s packet DroppedPackets delay wait = refl
-counted-arrival s packet Empty delay wait = refl
-counted-arrival s packet (Left oldest) delay wait = refl
-counted-arrival s packet (Updated d p b) delay wait = refl
-counted-arrival s packet Done delay wait = refl
+counted-arrival s packet _ delay wait = refl
 
 -- .. and the delay of a departure
 pub counted-departure : (s : Stats) (answer : Answer) (delay wait : ℕ)
     → counted s (departure_deed answer) 0 wait ≡ counted s (departure_deed answer) delay wait
-counted-departure s Enqueued delay wait = refl
-counted-departure s Marked delay wait = refl
-counted-departure s DroppedEarly delay wait = refl
-counted-departure s DroppedBytes delay wait = refl
-counted-departure s DroppedPackets delay wait = refl
-counted-departure s Empty delay wait = refl
 counted-departure s (Left oldest) delay wait = refl
-counted-departure s (Updated d p b) delay wait = refl
-counted-departure s Done delay wait = refl
+counted-departure s _ delay wait = refl

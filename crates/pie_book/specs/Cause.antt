@@ -3,10 +3,7 @@
 use Rattle.std.specs.Prelude.{List, length, Option, Some, None}
 use Rattle.pie_controller.specs.declared.cause.Cause.{Cause}
 use Rattle.pie_controller.specs.Cause.{cause}
-use Rattle.pie_book.specs.declared.command.Command.{Command}
-use Rattle.pie_book.specs.declared.command.Command.TheVariants.{Arrive}
-use Rattle.pie_book.specs.declared.command.Event.{Event}
-use Rattle.pie_book.specs.declared.opening.Opening.{Opening}
+use Rattle.pie_book.specs.Types.{Command, Arrive, Event, Opening}
 use Rattle.pie_book.specs.Call.{arrival_of}
 use Rattle.pie_book.specs.History.{waiting_after}
 use Rattle.pie_book.specs.Estimates.{held_after}

@@ -2,13 +2,10 @@
 -- 5.1 to 5.5).
 use Rattle.std.specs.Prelude.{ℕ, Bool, List}
 use Rattle.std.specs.Option.{is_some}
-use Rattle.pie_params.specs.declared.raw.RawParams.{RawParams}
+use Rattle.pie_book.specs.Types.{RawParams, Held, Event, Opening}
 use Rattle.pie_control.specs.Parts.{Parts}
-use Rattle.pie_controller.specs.Held.{Held}
 use Rattle.pie_controller.specs.History.{held_of}
 use Rattle.pie_controller.specs.Steps as Steps
-use Rattle.pie_book.specs.declared.command.Event.{Event}
-use Rattle.pie_book.specs.declared.opening.Opening.{Opening}
 use Rattle.pie_book.specs.History.{bytes_after}
 use Rattle.pie_book.specs.Shown.{opened_of, shown}
 

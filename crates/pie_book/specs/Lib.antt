@@ -1,3 +1,4 @@
+pub mod Types
 pub mod Opening
 pub mod Deed
 pub mod History

@@ -4,8 +4,7 @@ use Rattle.std.specs.Prelude.{ℕ, List, map}
 use Rattle.pie_controller.specs.declared.verdict.Verdict.TheVariants as verdict
 use Rattle.pie_controller.specs.Events.{ControllerEvent, Opened, Arrived, Departed, Passed, Updated, Reset, Changed}
 use Rattle.pie_controller.specs.Places.{Place, places, up_to}
-use Rattle.pie_book.specs.declared.command.Event.{Event}
-use Rattle.pie_book.specs.declared.opening.Opening.{Opening}
+use Rattle.pie_book.specs.Types.{Event, Opening}
 use Rattle.pie_book.specs.Deed.{Deed, deed_of, handed_in, queued, marked, dropped_early, dropped_bytes, dropped_packets, departed, found_none, updated, was_reset, set, nothing}
 use Rattle.pie_book.specs.History.{bytes_after}
 

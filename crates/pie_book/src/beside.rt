@@ -4,10 +4,7 @@ ghost use Rattle.pie_params.specs.Range.{first_bad};
 ghost use Rattle.pie_controller.specs.Calls.{after_call};
 ghost use Rattle.pie_controller.specs.Steps.{due, due_of, now_at};
 ghost use Rattle.std.specs.Prelude.{nat_lt};
-ghost use Rattle.pie_book.specs.declared.command.Command.{Command};
-ghost use Rattle.pie_book.specs.declared.command.Command.TheVariants.{Update};
-ghost use Rattle.pie_book.specs.declared.command.Event.{Event};
-ghost use Rattle.pie_book.specs.declared.opening.Opening.{Opening};
+ghost use Rattle.pie_book.specs.Types.{Command, Update, Event, Opening};
 ghost use Rattle.pie_book.specs.Beside.{IsOpening, IsStep, held_after_calls, opened_by};
 ghost use Rattle.pie_book.specs.Call.{call_of};
 ghost use Rattle.pie_book.specs.Core.{CoreView, Shows, held_in, refusal_of};
@@ -34,6 +31,7 @@ pub fn parts_decide_as_a_core()
 /// another, answers the next command that is not refused with the decision after that history (this project's own).
 ///
 /// It does nothing: its contract is the law.
+#[tactic(auto, using(crate::proofs::BesideFacts::run_beside))]
 pub fn runs_decide_as_a_core()
     ensures { (opening : Opening) (history : List Event) (command : Command) → first_bad opening.params ≡ None → IsLegal opening history → All (λ event. CommandFits event.command) history
         → refusal_by_rule opening history command ≡ None

@@ -4,8 +4,7 @@ ghost use Rattle.std.specs.Prelude.{◌≡◌, ◌==◌, ◌≤◌, ◌<◌, ◌
 ghost use Rattle.std.specs.Option.{option_to_list};
 ghost use Rattle.pie_queue.specs.Queue.{IsSize, bytes_of};
 ghost use Rattle.pie_controller.specs.Steps.{is_queued};
-ghost use Rattle.pie_book.specs.declared.command.Answer.TheVariants.{Left};
-ghost use Rattle.pie_book.specs.declared.command.Command.TheVariants.{Arrive, Depart, Update, Reset, SetParams};
+ghost use Rattle.pie_book.specs.Types.{Arrive, Depart, Update, Reset, SetParams, Left};
 ghost use Rattle.pie_book.specs.Deed.{admission, arrival_deed};
 
 use crate::Answer;
@@ -30,10 +29,9 @@ impl Core {
         let now = self.controller.moment().max(moment);
         let arrival = self.arrival(packet, word);
         let verdict = self.controller.arrive(arrival, moment);
-        let answer = Answer::of(verdict);
-        self.tally.arrived(answer);
+        self.tally.arrived(verdict);
         self.admit(verdict, packet, now);
-        answer
+        Answer::of(verdict)
     }
 
     /// An arriving packet, and the queue that it meets.

@@ -1,8 +1,7 @@
 //! What a core tells of itself.
 ghost use Rattle.std.specs.Prelude.{◌≡◌, List, slice_get, IfSome};
 ghost use Rattle.pie_controller.specs.Cause.{verdict_of};
-ghost use Rattle.pie_book.specs.declared.command.Event.{Event};
-ghost use Rattle.pie_book.specs.declared.opening.Opening.{Opening};
+ghost use Rattle.pie_book.specs.Types.{Event, Opening};
 ghost use Rattle.pie_book.specs.Cause.{cause_after};
 ghost use Rattle.pie_book.specs.Decision.{decision};
 ghost use Rattle.pie_book.specs.Estimates.{delay_after};

@@ -1,9 +1,6 @@
 //! Laws: folds change no answer, profile one is always active, and the registers are what looking back gives.
 ghost use Rattle.std.specs.Prelude.{◌≡◌, List, true};
-ghost use Rattle.pie_book.specs.declared.command.Event.{Event};
-ghost use Rattle.pie_book.specs.declared.opening.Mode.TheVariants.{Rolling};
-ghost use Rattle.pie_book.specs.declared.opening.Opening.{Opening};
-ghost use Rattle.pie_controller.specs.declared.profile.Profile.TheVariants.{One};
+ghost use Rattle.pie_book.specs.Types.{One, Event, Rolling, Opening};
 ghost use Rattle.pie_book.specs.Core.{CoreView, Shows, registers_of};
 ghost use Rattle.pie_book.specs.Registers.{registers_after};
 ghost use Rattle.pie_book.specs.Estimates.{active_after};
@@ -34,6 +31,7 @@ pub fn profile_one_is_always_active()
 /// The registers of a core that shows a history are what looking back over the history gives, whoever has the core.
 ///
 /// It does nothing: its contract is the law, for a caller that speaks of a book which is not in hand.
+#[tactic(auto, using(crate::proofs::CoreFacts::registers_is))]
 pub fn registers_look_back()
     ensures { (opening : Opening) (core : CoreView) (history : List Event) → Shows opening core history → registers_of core ≡ registers_after opening history }
 {}

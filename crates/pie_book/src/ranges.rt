@@ -1,10 +1,7 @@
 //! What looking back gives is held by the fields that show it.
 ghost use Rattle.std.specs.Prelude.{◌≡◌, ◌++◌, ◌∷◌, [], ℕ, List, All, None, true};
-ghost use Rattle.pie_params.specs.declared.raw.RawParams.{RawParams};
+ghost use Rattle.pie_book.specs.Types.{RawParams, Command, Event, Opening};
 ghost use Rattle.pie_params.specs.Range.{first_bad};
-ghost use Rattle.pie_book.specs.declared.command.Command.{Command};
-ghost use Rattle.pie_book.specs.declared.command.Event.{Event};
-ghost use Rattle.pie_book.specs.declared.opening.Opening.{Opening};
 ghost use Rattle.pie_book.specs.Decision.{IsLegal, decision, refusal_by_rule};
 ghost use Rattle.pie_book.specs.Deed.{fits};
 ghost use Rattle.pie_book.specs.Opening.{opening_refusal};

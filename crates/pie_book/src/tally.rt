@@ -1,11 +1,12 @@
 //! How many events there were, and their statistics, added up.
 ghost use Rattle.std.specs.Prelude.{◌≡◌, ◌+◌, ◌<◌, ◌≤◌, ◌^◌, ℕ};
-ghost use Rattle.pie_queue.specs.declared.packet.Packet.{Packet};
+ghost use Rattle.pie_book.specs.Types.{RawParams, Packet};
 ghost use Rattle.pie_book.specs.Deed.{arrival_deed, found_none, updated, was_reset, departed, set};
+ghost use Rattle.pie_book.specs.Call.{answer_of};
 ghost use Rattle.pie_book.specs.Core.{counted, with_queue};
-ghost use Rattle.pie_params.specs.declared.raw.RawParams.{RawParams};
 
-use crate::{Answer, Stats};
+use crate::Stats;
+use pie_controller::Verdict;
 use pie_queue::Packet;
 use std::marker::Model;
 
@@ -66,34 +67,19 @@ impl Tally {
     }
 
     /// One more arrival, with its verdict.
-    pub(crate) fn arrived(&mut self, verdict: Answer)
+    pub(crate) fn arrived(&mut self, verdict: Verdict)
         requires { self.old.count < 2 ^ 40 }
         ensures count { self.new.count ≡ self.old.count + 1 }
-        ensures stats { (packet : Packet) → self.new.stats ≡ counted self.old.stats (arrival_deed packet verdict) 0 0 }
+        ensures stats { (packet : Packet) → self.new.stats ≡ counted self.old.stats (arrival_deed packet (answer_of verdict)) 0 0 }
     {
         self.count += 1;
+        self.stats.arrivals += 1;
         match verdict {
-            Answer::Enqueued => {
-                self.stats.arrivals += 1;
-                self.stats.enqueued += 1;
-            }
-            Answer::Marked => {
-                self.stats.arrivals += 1;
-                self.stats.marked += 1;
-            }
-            Answer::DroppedEarly => {
-                self.stats.arrivals += 1;
-                self.stats.early += 1;
-            }
-            Answer::DroppedBytes => {
-                self.stats.arrivals += 1;
-                self.stats.over_bytes += 1;
-            }
-            Answer::DroppedPackets => {
-                self.stats.arrivals += 1;
-                self.stats.over_packets += 1;
-            }
-            Answer::Empty | Answer::Left(_) | Answer::Updated { .. } | Answer::Done => {}
+            Verdict::Enqueued => self.stats.enqueued += 1,
+            Verdict::Marked => self.stats.marked += 1,
+            Verdict::DroppedEarly => self.stats.early += 1,
+            Verdict::DroppedBytes => self.stats.over_bytes += 1,
+            Verdict::DroppedPackets => self.stats.over_packets += 1,
         }
     }
 

@@ -12,7 +12,6 @@ returns-clause-after c =
       c.arrive-verdict.ensures.after,
       c.arrived.ensures.count,
       c.arrived.ensures.stats c.args.packet,
-      c.of-answer.ensures,
       c.arrive-verdict.ensures.verdict,
       c.arrival-arrival.ensures,
       ← c.self.view_is,

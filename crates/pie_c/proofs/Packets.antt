@@ -1,18 +1,19 @@
 -- What the calls for each packet leave of a sound state is what the controller then holds.
 use Rattle.std.proofs.Common.{◌≡◌, ℕ, ◌+◌, ◌≤◌, ◌<◌, ◌^◌, ◌==◌, ◌&&◌, not, max, min, if◌then◌else◌, nat_lt, Bool, true, false, List, [], ◌∷◌, ◌++◌, arith, refl, sym, ap, ◌∙◌}
+use Rattle.std.proofs.lemmas.Bool.{eqb-true}
 use Rattle.std.proofs.lemmas.Bool.Decides.{nat_tests}
 use Rattle.pie_controller.specs.declared.verdict.Arrival.{Arrival}
-use Rattle.pie_controller.specs.Calls.{Arrive, Depart, Pass, shown_by}
+use Rattle.pie_controller.specs.Calls.{Arrive, Call, Depart, IsTaken, Pass, after_call, shown_by}
 use Rattle.pie_controller.specs.Events.{ControllerEvent, Opened}
 use Rattle.pie_controller.specs.Held.{Held}
 use Rattle.pie_controller.specs.History.{Shows}
 use Rattle.pie_controller.specs.Steps.{anew, arrived, bytes_with, capped, departed, judged, passed, turns_on, verdict}
 use Rattle.pie_controller.proofs.InRange.{params-hold}
-use Rattle.pie_controller.proofs.Laws.{Shows-arrive, Shows-depart, Shows-pass, moved}
+use Rattle.pie_controller.proofs.Laws.{Shows_call, moved}
 use Rattle.pie_controller.proofs.Sounds.{Sound_call}
 use Rattle.pie_c.specs.declared.params.PieParams.{PieParams}
 use Rattle.pie_c.specs.declared.state.PieState.{PieState}
-use Rattle.pie_c.specs.Calls.{arrival_refusal, departure_refusal, is_bad_size, moment_refusal}
+use Rattle.pie_c.specs.Calls.{arrival_refusal, departure_refusal, if_taken, is_bad_size, kept_if_refused, moment_refusal}
 use Rattle.pie_c.specs.Params.{params_of, raw_of}
 use Rattle.pie_c.specs.State.{held_in, is_sound, last_moment, profile_number, profile_of, state_of, with_arrival, with_rate, with_registers}
 use Rattle.pie_c.proofs.Sound.{held-sound, held-state, kept-arrived, kept-departed, kept-moment, params-from, parts-of, profile-back, state-sound}
@@ -37,6 +38,35 @@ departure-taken size left moment m s q =
 pub moment-taken : (moment : ℕ) → moment ≤ last_moment → moment_refusal moment ≡ 0
 unfolding moment_refusal
 moment-taken moment m = let early : nat_lt last_moment moment ≡ false = grind (arith, nat_tests) in rw early refl
+
+threshold-of : (s : PieState) → is_sound s ≡ true → s.params.dq_threshold ≤ 65536
+threshold-of s sound = let parts = parts-of s sound in (params-hold (raw_of s.params) (params-from s.params parts.params)).dq_threshold
+
+pub threshold-held : (s : PieState) → is_sound s ≡ true → (held_in s).params.dq_threshold ≤ 65536
+unfolding held_in
+threshold-held s sound = threshold-of s sound
+
+-- ---- what follows for a call that leaves this of a sound state: it stays sound, and shows the call
+
+-- a call that is taken handed in a moment in its range
+pub handed : (moment rest : ℕ) → (if nat_lt last_moment moment then 101 else rest) ≡ 0 → moment < 2 ^ 60
+handed moment rest = by (nat_lt last_moment moment) refl
+  where
+    by : (late : Bool) → nat_lt last_moment moment ≡ late → (if late then 101 else rest) ≡ 0 → moment < 2 ^ 60
+    by true is free = cc
+    by false is free = grind (arith, nat_tests)
+
+module _ (s t : PieState) (call : Call) (refusal : ℕ) (sound : is_sound s ≡ true) (left : t ≡ kept_if_refused refusal s (after_call (held_in s) call)) where
+  pub stays-sound : (refusal ≡ 0 → IsTaken call) → is_sound t ≡ true
+  stays-sound taken = rw left (by (refusal == 0) (λ is. taken (eqb-true refusal 0 is)))
+    where
+      by : (free : Bool) → (free ≡ true → IsTaken call) → is_sound (if free then state_of (after_call (held_in s) call) else s) ≡ true
+      by true taken = state-sound _ (Sound_call (held_in s) (held-sound s sound) call (taken refl))
+      by false taken = sound
+
+  pub shows-call : (o : Opened) (events : List ControllerEvent) → refusal ≡ 0 → Shows o events (held_in s) → Shows o (events ++ shown_by (held_in s) call ∷ []) (held_in t)
+  shows-call o events free shows =
+      rw (left, free) (moved _ _ _ _ (held-state _) (Shows_call o events (held_in s) shows (threshold-held s sound) call))
 
 -- ---- the state after it
 
@@ -70,15 +100,18 @@ arrived-state s a moment sound = by (turns_on (held_in s) (bytes_with (verdict (
 capped-is : (h : Held) → h.params.dq_threshold ≤ 65536 → capped h ≡ h
 capped-is h t = ap (λ (n : ℕ). record h { params = record h.params { dq_threshold = n } }) (grind arith)
 
-threshold-of : (s : PieState) → is_sound s ≡ true → s.params.dq_threshold ≤ 65536
-threshold-of s sound = let parts = parts-of s sound in (params-hold (raw_of s.params) (params-from s.params parts.params)).dq_threshold
-
 pub departed-state : (s : PieState) (size left moment : ℕ) → is_sound s ≡ true
     → with_rate s (departed (capped (held_in s)) size left moment) ≡ state_of (departed (held_in s) size left moment)
 unfolding held_in
 departed-state s size left moment sound =
     ap (λ (h : Held). with_rate s (departed h size left moment)) (capped-is (held_in s) (threshold-of s sound))
     ∙ kept-departed s (departed (held_in s) size left moment) sound refl
+
+-- what a departure leaves of each field
+pub departed-after : (s t : PieState) (size left moment : ℕ) → t ≡ if_taken (departure_refusal size left moment) s (with_rate s (departed (capped (held_in s)) size left moment)) → is_sound s ≡ true
+    → t ≡ kept_if_refused (departure_refusal size left moment) s (after_call (held_in s) (Depart size left moment))
+departed-after s t size left moment is sound =
+    is ∙ ap (λ (u : PieState). if_taken (departure_refusal size left moment) s u) (departed-state s size left moment sound)
 
 -- a packet that leaves the open cycle open changes its count and the moment alone
 pub counted-state : (s : PieState) (size left moment : ℕ) → s.active ≡ 1 → s.measuring ≡ 1 → s.cycle_count + size < min s.params.dq_threshold 65536
@@ -99,37 +132,3 @@ unmeasured-state s size left moment active measuring few =
 pub passed-state : (s : PieState) (moment : ℕ) → is_sound s ≡ true → record s { moment = max s.moment moment } ≡ state_of (passed (held_in s) moment)
 unfolding held_in
 passed-state s moment sound = kept-moment s (passed (held_in s) moment) sound refl
-
-pub threshold-held : (s : PieState) → is_sound s ≡ true → (held_in s).params.dq_threshold ≤ 65536
-unfolding held_in
-threshold-held s sound = threshold-of s sound
-
--- ---- it stays sound
-
-pub arrived-sound : (s : PieState) (a : Arrival) (moment : ℕ) → moment < 2 ^ 60 → is_sound s ≡ true → is_sound (with_arrival s (arrived (held_in s) a moment)) ≡ true
-arrived-sound s a moment within sound =
-    rw (arrived-state s a moment sound) (state-sound _ (Sound_call (held_in s) (held-sound s sound) (Arrive a moment) within))
-
-pub departed-sound : (s : PieState) (size left moment : ℕ) → moment < 2 ^ 60 → is_sound s ≡ true
-    → is_sound (with_rate s (departed (capped (held_in s)) size left moment)) ≡ true
-departed-sound s size left moment within sound =
-    rw (departed-state s size left moment sound) (state-sound _ (Sound_call (held_in s) (held-sound s sound) (Depart size left moment) within))
-
-pub passed-sound : (s : PieState) (moment : ℕ) → moment < 2 ^ 60 → is_sound s ≡ true → is_sound (record s { moment = max s.moment moment }) ≡ true
-passed-sound s moment within sound = rw (passed-state s moment sound) (state-sound _ (Sound_call (held_in s) (held-sound s sound) (Pass moment) within))
-
--- ---- .. and shows the call
-
-module _ (s : PieState) (sound : is_sound s ≡ true) (o : Opened) (events : List ControllerEvent) (shows : Shows o events (held_in s)) where
-  pub arrived-shows : (a : Arrival) (moment : ℕ)
-      → Shows o (events ++ shown_by (held_in s) (Arrive a moment) ∷ []) (held_in (with_arrival s (arrived (held_in s) a moment)))
-  arrived-shows a moment = moved _ _ _ _ (ap held_in (arrived-state s a moment sound) ∙ held-state _) (Shows-arrive o events (held_in s) shows a moment)
-
-  pub departed-shows : (size left moment : ℕ)
-      → Shows o (events ++ shown_by (held_in s) (Depart size left moment) ∷ []) (held_in (with_rate s (departed (capped (held_in s)) size left moment)))
-  departed-shows size left moment =
-      moved _ _ _ _ (ap held_in (departed-state s size left moment sound) ∙ held-state _)
-      (Shows-depart o events (held_in s) shows size left moment (threshold-held s sound))
-
-  pub passed-shows : (moment : ℕ) → Shows o (events ++ shown_by (held_in s) (Pass moment) ∷ []) (held_in (record s { moment = max s.moment moment }))
-  passed-shows moment = moved _ _ _ _ (ap held_in (passed-state s moment sound) ∙ held-state _) (Shows-pass o events (held_in s) shows moment)

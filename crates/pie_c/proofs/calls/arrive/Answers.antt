@@ -1,10 +1,11 @@
 use Rattle.std.proofs.Common.{◌≡◌, ◌≤◌, ◌<◌, ◌^◌, ◌∙◌, sym, arith, rules, true, false}
 use Rattle.std.proofs.lemmas.Bool.Decides.{nat_tests}
+use Rattle.pie_controller.specs.Calls.{Arrive}
 use Rattle.pie_controller.specs.Steps.{arrived}
 use Rattle.pie_c.specs.declared.state.PieState.{PieState}
-use Rattle.pie_c.specs.Calls.{arrival_of}
+use Rattle.pie_c.specs.Calls.{arrival_of, arrival_refusal}
 use Rattle.pie_c.specs.State.{held_in, with_arrival}
-use Rattle.pie_c.proofs.Packets.{arrival-taken, arrived-shows, arrived-sound, arrived-state}
+use Rattle.pie_c.proofs.Packets.{arrival-taken, arrived-state, handed, shows-call, stays-sound}
 use Rattle.pie_c.proofs.calls.arrive.Goals as goal
 
 pub returns-clause-after : goal.returns-clause-after
@@ -17,15 +18,8 @@ returns-clause-after c sound =
     (left ∙ arrived-state state (arrival_of a.queued a.size a.room a.bits a.word) a.moment sound)
 
 pub returns-clause-sound : goal.returns-clause-sound
-returns-clause-sound c sound =
-    let a = c.args in
-    let state : PieState = a.state.now in
-    let left : c.keep_arrived.new.self ≡ with_arrival state (arrived (held_in state) (arrival_of a.queued a.size a.room a.bits a.word) a.moment) = search rules in
-    rw left (arrived-sound state (arrival_of a.queued a.size a.room a.bits a.word) a.moment (omega arith) sound)
+unfolding arrival_refusal
+returns-clause-sound c sound = let a = c.args in stays-sound a.state.now _ (Arrive (arrival_of a.queued a.size a.room a.bits a.word) a.moment) _ sound (returns-clause-after c sound) (handed a.moment _)
 
 pub returns-clause-shows : goal.returns-clause-shows
-returns-clause-shows c opened events sound taken shows =
-    let a = c.args in
-    let state : PieState = a.state.now in
-    let left : c.keep_arrived.new.self ≡ with_arrival state (arrived (held_in state) (arrival_of a.queued a.size a.room a.bits a.word) a.moment) = search rules in
-    rw left (arrived-shows state sound opened events shows (arrival_of a.queued a.size a.room a.bits a.word) a.moment)
+returns-clause-shows c opened events sound = let a = c.args in shows-call a.state.now _ (Arrive (arrival_of a.queued a.size a.room a.bits a.word) a.moment) _ sound (returns-clause-after c sound) opened events

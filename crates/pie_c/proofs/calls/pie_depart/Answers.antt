@@ -1,21 +1,25 @@
-use Rattle.std.proofs.Common.{◌≡◌, ◌<◌, ◌^◌, ◌∙◌, true}
-use Rattle.pie_c.proofs.Packets.{departed-shows, departed-sound, departed-state}
+use Rattle.std.proofs.Common.{rules}
+use Rattle.pie_controller.specs.Calls.{Depart}
+use Rattle.pie_c.specs.Calls.{departure_refusal}
+use Rattle.pie_c.proofs.Packets.{departed-after, handed, shows-call, stays-sound}
 use Rattle.pie_c.proofs.calls.pie_depart.Goals as goal
 
 pub returns-then-depart_counted-clause-after : goal.returns-then-depart_counted-clause-after
-returns-then-depart_counted-clause-after c sound =
-    let a = c.args in
-    let did = c.if-depart_counted.true in
-    rw (c.depart_counted.ensures.taken did, c.depart_counted.ensures.after, did) (departed-state a.state.now a.size a.left a.moment sound)
+returns-then-depart_counted-clause-after c = let a = c.args in departed-after a.state.now _ a.size a.left a.moment (search rules)
 
 pub returns-then-depart_counted-clause-sound : goal.returns-then-depart_counted-clause-sound
-returns-then-depart_counted-clause-sound c sound =
-    let a = c.args in
-    let did = c.if-depart_counted.true in
-    rw (c.depart_counted.ensures.after, did) (departed-sound a.state.now a.size a.left a.moment (c.depart_counted.ensures.within did) sound)
+unfolding departure_refusal
+returns-then-depart_counted-clause-sound c sound = let a = c.args in stays-sound a.state.now _ (Depart a.size a.left a.moment) _ sound (returns-then-depart_counted-clause-after c sound) (handed a.moment _)
 
 pub returns-then-depart_counted-clause-shows : goal.returns-then-depart_counted-clause-shows
-returns-then-depart_counted-clause-shows c opened events sound taken shows =
-    let a = c.args in
-    let did = c.if-depart_counted.true in
-    rw (c.depart_counted.ensures.after, did) (departed-shows a.state.now sound opened events shows a.size a.left a.moment)
+returns-then-depart_counted-clause-shows c opened events sound = let a = c.args in shows-call a.state.now _ (Depart a.size a.left a.moment) _ sound (returns-then-depart_counted-clause-after c sound) opened events
+
+pub returns-clause-after : goal.returns-clause-after
+returns-clause-after c = let a = c.args in departed-after a.state.now _ a.size a.left a.moment (search rules)
+
+pub returns-clause-sound : goal.returns-clause-sound
+unfolding departure_refusal
+returns-clause-sound c sound = let a = c.args in stays-sound a.state.now _ (Depart a.size a.left a.moment) _ sound (returns-clause-after c sound) (handed a.moment _)
+
+pub returns-clause-shows : goal.returns-clause-shows
+returns-clause-shows c opened events sound = let a = c.args in shows-call a.state.now _ (Depart a.size a.left a.moment) _ sound (returns-clause-after c sound) opened events

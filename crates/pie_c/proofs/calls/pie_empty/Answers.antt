@@ -1,6 +1,8 @@
 use Rattle.std.proofs.Common.{◌≡◌, ◌≤◌, ◌<◌, ◌^◌, ◌∙◌, sym, arith, rules, true, false}
 use Rattle.std.proofs.lemmas.Bool.Decides.{nat_tests}
-use Rattle.pie_c.proofs.Packets.{moment-taken, passed-shows, passed-sound, passed-state}
+use Rattle.pie_controller.specs.Calls.{Pass}
+use Rattle.pie_c.specs.Calls.{moment_refusal}
+use Rattle.pie_c.proofs.Packets.{handed, moment-taken, passed-state, shows-call, stays-sound}
 use Rattle.pie_c.proofs.calls.pie_empty.Goals as goal
 
 pub returns-clause-after : goal.returns-clause-after
@@ -9,9 +11,8 @@ returns-clause-after c sound =
     rw (moment-taken a.moment (omega arith), c.max-state.ensures) (passed-state a.state.now a.moment sound)
 
 pub returns-clause-sound : goal.returns-clause-sound
-returns-clause-sound c sound = let a = c.args in rw c.max-state.ensures (passed-sound a.state.now a.moment (omega arith) sound)
+unfolding moment_refusal
+returns-clause-sound c sound = let a = c.args in stays-sound a.state.now _ (Pass a.moment) _ sound (returns-clause-after c sound) (handed a.moment _)
 
 pub returns-clause-shows : goal.returns-clause-shows
-returns-clause-shows c opened events sound taken shows =
-    let a = c.args in
-    rw c.max-state.ensures (passed-shows a.state.now sound opened events shows a.moment)
+returns-clause-shows c opened events sound = let a = c.args in shows-call a.state.now _ (Pass a.moment) _ sound (returns-clause-after c sound) opened events

@@ -6,7 +6,6 @@ use Rattle.pie_book.specs.declared.refusal.Refusal.TheVariants.{TooSoon}
 use Rattle.pie_book.specs.Decision.{decision, refusal_by_rule}
 use Rattle.pie_controller.specs.Places.{Place, places}
 use Rattle.pie_book.specs.Estimates.{active_after, average_after, measuring_after}
-use Rattle.pie_book.specs.History.{waiting_after}
 use Rattle.pie_book.proofs.Examples.{limits, nine, packet, event, worked}
 
 abbrev in_profile : Profile → Opening

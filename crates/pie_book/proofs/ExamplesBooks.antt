@@ -4,8 +4,6 @@ use Rattle.std.specs.Prelude.{ℕ, ◌≡◌, List, [], ◌∷◌, ◌++◌, tak
 use Rattle.std.proofs.Common.{ap, refl}
 use Rattle.std.proofs.lemmas.List.Elements.{All-cons, All-head, All-nil, All-take}
 use Rattle.pie_queue.specs.declared.ecn.Ecn.TheVariants.{Ce}
-use Rattle.pie_rate.specs.Cycles.{begun}
-use Rattle.pie_rate.specs.Average.{average}
 use Rattle.pie_control.specs.Delay.{delay_of}
 use Rattle.pie_book.specs.Types.{One, Arrive, Depart, Update, Enqueued, Marked, Empty, Left, Updated, Event, Bounded, Rolling, Opening, Stats}
 use Rattle.pie_book.specs.declared.refusal.Refusal.TheVariants.{Size, TooSoon}
@@ -13,14 +11,13 @@ use Rattle.pie_book.specs.Deed.{Deed, deed_of, queued, marked, dropped_early, dr
 use Rattle.pie_queue.specs.Queue.{bytes_of}
 use Rattle.pie_controller.specs.Places.{Place, places}
 use Rattle.pie_controller.specs.Steps.{delay_in}
-use Rattle.pie_book.specs.History.{waiting_after}
 use Rattle.pie_book.specs.Registers.{registers_after}
-use Rattle.pie_book.specs.Statistics.{largest_delay, waited, stats_after, no_stats}
+use Rattle.pie_book.specs.Statistics.{stats_after, no_stats}
 use Rattle.pie_book.specs.Decision.{IsLegal, IsLegalAt, decision, refusal_by_rule}
 use Rattle.pie_book.specs.Core.{CoreView, Shows, held_in, registers_of, refusal_of, counted, with_queue}
 use Rattle.pie_book.specs.Book.{BookView, Tells, last_events, without_last, tail_with}
 use Rattle.pie_book.proofs.Examples.{limits, opened, opened_with, packet, waits, event, place, three, arrival, departure_of_it, late_departure, worked}
-use Rattle.pie_book.proofs.ExamplesMarks.{no_burst, some_burst, opening, two_departed, first_update, second_update, third_update, updated_thrice, mark, drop_of_one, lone, change, restart, twelve, fourteen, parts, tallied}
+use Rattle.pie_book.proofs.ExamplesMarks.{no_burst, some_burst, opening, two_departed, first_update, updated_thrice, mark, change, restart, twelve, fourteen, parts, tallied}
 
 -- at each place the command is taken and has its answer
 all-legal : (o : Opening) (ps : List (Place Event)) → map (λ (p : Place Event). refusal_by_rule o p.before p.event.command) ps ≡ map (λ (p : Place Event). None) ps

@@ -9,9 +9,7 @@ use Rattle.pie_controller.specs.declared.cause.Cause.TheVariants.{NoRoomInBytes,
 use Rattle.pie_controller.specs.declared.cause.Fate.TheVariants.{Marked, NotCapable, NotBelow}
 use Rattle.pie_book.specs.Types.{Two, Arrive, Depart, Update, Reset, SetParams, Event, Bounded, Opening}
 use Rattle.pie_book.specs.declared.command.Answer.TheVariants as answer
-use Rattle.pie_controller.specs.Places.{places}
-use Rattle.pie_book.specs.History.{waiting_after}
-use Rattle.pie_controller.specs.Cause.{considered_cause, early_cause, cause}
+use Rattle.pie_controller.specs.Cause.{considered_cause, early_cause}
 use Rattle.pie_book.specs.Cause.{cause_after}
 use Rattle.pie_book.proofs.Examples.{limits, opened_with, packet, event, worked}
 use Rattle.pie_book.proofs.ExamplesMarks.{opening, parts, two_departed, updated_thrice, mark, drop_of_one, lone}

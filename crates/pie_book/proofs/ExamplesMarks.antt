@@ -11,11 +11,10 @@ use Rattle.pie_control.specs.Parts.{Parts}
 use Rattle.pie_early.specs.declared.early.Choice.TheVariants.{Enqueue, Mark, Drop}
 use Rattle.pie_early.specs.Events.{arrival, cleared}
 use Rattle.pie_book.specs.declared.refusal.Refusal.TheVariants.{TooSoon}
-use Rattle.pie_controller.specs.Places.{places}
 use Rattle.pie_book.specs.Estimates.{delay_after, due_after, parts_after, accu_after}
 use Rattle.pie_book.specs.History.{waiting_after}
 use Rattle.pie_book.specs.Registers.{registers_after}
-use Rattle.pie_book.specs.Statistics.{largest_queue, largest_delay, waited, stats_after}
+use Rattle.pie_book.specs.Statistics.{stats_after}
 use Rattle.pie_book.specs.Decision.{decision, refusal_by_rule}
 use Rattle.pie_book.proofs.Examples.{departures_after, control_events, early_events, limits, opened_with, nine, packet, capable, waits, event, worked}
 

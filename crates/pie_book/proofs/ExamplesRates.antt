@@ -3,9 +3,7 @@ use Rattle.std.specs.Prelude.{ℕ, ◌≡◌, List, [], ◌∷◌, ◌++◌, tru
 use Rattle.std.proofs.Common.{refl}
 use Rattle.pie_book.specs.Types.{RawParams, Arrive, Depart, Reset, SetParams, Enqueued, Empty, Left, Done, Event, Bounded, Opening}
 use Rattle.pie_rate.specs.Departures.{departure}
-use Rattle.pie_controller.specs.Places.{places}
 use Rattle.pie_book.specs.Estimates.{average_after, measuring_after, delay_after}
-use Rattle.pie_book.specs.History.{waiting_after}
 use Rattle.pie_book.proofs.Examples.{departures_after, limits, opened_with, nine, packet, event, worked}
 
 -- the default parameters, at a threshold of 1024 bytes

@@ -6,10 +6,8 @@ use Rattle.pie_book.specs.Types.{RawParams, One, Held, Command, Arrive, Depart, 
 use Rattle.pie_early.specs.Events.{cleared}
 use Rattle.pie_book.specs.declared.refusal.Refusal.TheVariants.{Moment, Size, TooSoon, Exhausted, HistoryFull}
 use Rattle.pie_book.specs.declared.refusal.FoldRefusal.TheVariants.{TooMany}
-use Rattle.pie_controller.specs.Places.{places}
 use Rattle.pie_controller.specs.Steps as Steps
 use Rattle.pie_book.specs.Estimates.{parts_after}
-use Rattle.pie_book.specs.History.{waiting_after}
 use Rattle.pie_book.specs.Decision.{answer_by, refusal_by_rule, refusal_after}
 use Rattle.pie_book.specs.Run.{Step, asked, folded, Outcome, was_asked, was_folded, outcomes, progress_after, start, without_folds, answers, before_full}
 use Rattle.pie_book.proofs.Examples.{early_events, limits, opened, opened_with, nine, packet, waits, event, three, worked}

@@ -6,7 +6,7 @@ use Rattle.std.specs.List.{filter_map}
 use Rattle.std.proofs.lemmas.List.{map-append, append-nil, drop-append-le, drop-drop, length-drop}
 use Rattle.std.proofs.lemmas.List.Sums.{sum_by_push}
 use Rattle.pie_book.specs.Types.{Waiting, Event, Opening}
-use Rattle.pie_book.specs.Deed.{Deed, handed_in, deed_of, admission, departure, queued, marked, dropped_early, dropped_bytes, dropped_packets, departed, found_none, updated, was_reset, set, nothing}
+use Rattle.pie_book.specs.Deed.{Deed, handed_in, deed_of, admission, departure, departed}
 use Rattle.pie_book.specs.History.{effective_moment, admitted_at, admitted, departed_count, waiting_after}
 use Rattle.pie_controller.proofs.Places.{from_places-push, greatest-push}
 use Rattle.pie_controller.specs.Places.{places}

@@ -6,7 +6,6 @@ use Rattle.pie_early.specs.Decision.{is_considered, is_picked}
 use Rattle.pie_c.specs.declared.params.PieParams.{PieParams}
 use Rattle.pie_c.specs.declared.state.PieState.{PieState}
 use Rattle.pie_controller.specs.declared.profile.Profile.TheVariants.{One}
-use Rattle.pie_controller.specs.declared.verdict.Arrival.{Arrival}
 use Rattle.pie_controller.specs.Held.{Held}
 use Rattle.pie_controller.specs.Steps.{accu_left, arrived, capped, departed, opened, updated, verdict}
 use Rattle.pie_c.specs.Calls.{arrival_of, arrival_refusal, departure_refusal, moment_refusal, opening_refusal, reset_refusal, state_refusal, update_refusal, verdict_number}

@@ -3,7 +3,7 @@ use Rattle.std.proofs.Common.{◌≡◌, ℕ, ◌+◌, ◌≤◌, ◌<◌, ◌^�
 use Rattle.std.proofs.lemmas.Bool.{eqb-true}
 use Rattle.std.proofs.lemmas.Bool.Decides.{nat_tests}
 use Rattle.pie_controller.specs.declared.verdict.Arrival.{Arrival}
-use Rattle.pie_controller.specs.Calls.{Arrive, Call, Depart, IsTaken, Pass, after_call, shown_by}
+use Rattle.pie_controller.specs.Calls.{Call, Depart, IsTaken, after_call, shown_by}
 use Rattle.pie_controller.specs.Events.{ControllerEvent, Opened}
 use Rattle.pie_controller.specs.Held.{Held}
 use Rattle.pie_controller.specs.History.{Shows}

@@ -1,9 +1,9 @@
 -- A state says what a controller holds, and is sound where that is.
-use Rattle.std.proofs.Common.{◌≡◌, ℕ, ◌+◌, ◌<◌, ◌≤◌, ◌^◌, ◌==◌, ◌&&◌, if◌then◌else◌, Bool, true, false, nat_le, Option, Some, None, is_none, arith, refl, sym, ap, ◌∙◌}
+use Rattle.std.proofs.Common.{◌≡◌, ℕ, ◌<◌, ◌≤◌, ◌^◌, ◌==◌, if◌then◌else◌, Bool, true, false, Option, Some, None, is_none, arith, refl, sym, ap, ◌∙◌}
 use Rattle.std.proofs.lemmas.Bool.Decides.{nat_tests}
 use Rattle.pie_params.specs.declared.raw.RawParams.{RawParams}
 use Rattle.pie_params.specs.Range.{first_bad}
-use Rattle.pie_rate.specs.Estimate.{Begun, Estimate}
+use Rattle.pie_rate.specs.Estimate.{Begun}
 use Rattle.pie_controller.specs.declared.profile.Profile.{Profile}
 use Rattle.pie_controller.specs.declared.profile.Profile.TheVariants.{One, Two}
 use Rattle.pie_controller.specs.Held.{Held, IsSound, IsWithin}

@@ -1,8 +1,7 @@
 -- What one more call does to what each part holds, whichever list it shows.
-use Rattle.std.proofs.Common.{◌≡◌, ◌≤◌, ◌+◌, ◌&&◌, ℕ, List, [], ◌∷◌, ◌++◌, Bool, true, false, refl, arith, if◌then◌else◌}
+use Rattle.std.proofs.Common.{◌≡◌, ◌≤◌, ◌+◌, ◌&&◌, ℕ, List, [], ◌∷◌, ◌++◌, Bool, true, false, refl, if◌then◌else◌}
 use Rattle.std.specs.Prelude.{nat_lt, Option, Some, None}
 use Rattle.std.proofs.lemmas.Bool.{le-leb, lt-leb, ltb-true}
-use Rattle.std.proofs.lemmas.Bool.Decides.{nat_tests}
 use Rattle.pie_rate.specs.Average.{average, samples}
 use Rattle.pie_rate.specs.Cycles.{begun, cycles, cycles_from, first_opening, first_position}
 use Rattle.pie_controller.specs.Types.{Departure, Begun, Estimate, Choice, Enqueue, Mark, Drop, Arrival}

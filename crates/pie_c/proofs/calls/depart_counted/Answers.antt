@@ -1,4 +1,4 @@
-use Rattle.std.proofs.Common.{◌≡◌, ◌≤◌, ◌<◌, min, arith, true, false}
+use Rattle.std.proofs.Common.{◌≡◌, arith, false}
 use Rattle.std.proofs.lemmas.Bool.Decides.{nat_tests}
 use Rattle.pie_c.specs.Calls.{is_bad_size}
 use Rattle.pie_c.proofs.Packets.{counted-state, departure-taken}

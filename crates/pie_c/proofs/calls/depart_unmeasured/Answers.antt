@@ -1,4 +1,4 @@
-use Rattle.std.proofs.Common.{◌≡◌, ◌≤◌, ◌<◌, ◌==◌, ◌∙◌, min, sym, arith, true, false}
+use Rattle.std.proofs.Common.{◌≡◌, ◌<◌, ◌==◌, ◌∙◌, min, sym, arith, false}
 use Rattle.std.proofs.lemmas.Bool.Decides.{nat_tests}
 use Rattle.pie_c.proofs.Packets.{departure-taken, unmeasured-state}
 use Rattle.pie_c.proofs.calls.depart_unmeasured.Goals as goal

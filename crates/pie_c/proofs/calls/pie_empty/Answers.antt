@@ -1,5 +1,4 @@
-use Rattle.std.proofs.Common.{◌≡◌, ◌≤◌, ◌<◌, ◌^◌, ◌∙◌, sym, arith, rules, true, false}
-use Rattle.std.proofs.lemmas.Bool.Decides.{nat_tests}
+use Rattle.std.proofs.Common.{arith}
 use Rattle.pie_controller.specs.Calls.{Pass}
 use Rattle.pie_c.specs.Calls.{moment_refusal}
 use Rattle.pie_c.proofs.Packets.{handed, moment-taken, passed-state, shows-call, stays-sound}

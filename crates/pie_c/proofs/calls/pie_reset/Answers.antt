@@ -1,4 +1,4 @@
-use Rattle.std.proofs.Common.{◌≡◌, ◌∙◌, ◌<◌, ◌^◌, ap, arith}
+use Rattle.std.proofs.Common.{◌∙◌, ◌<◌, ◌^◌, ap, arith}
 use Rattle.pie_controller.proofs.Sounds.{Sound_call}
 use Rattle.pie_controller.specs.Calls.{Restart}
 use Rattle.pie_controller.specs.Held.{Held}

@@ -1,7 +1,6 @@
-use Rattle.std.proofs.Common.{◌≡◌, ◌∙◌, ◌<◌, ◌^◌, ap, arith, refl, rules, true}
+use Rattle.std.proofs.Common.{◌≡◌, ◌<◌, ◌^◌, arith, refl, rules, true}
 use Rattle.pie_controller.proofs.Sounds.{Sound_call}
 use Rattle.pie_controller.specs.Calls.{Update}
-use Rattle.pie_controller.specs.Held.{Held}
 use Rattle.pie_c.specs.Calls.{update_refusal}
 use Rattle.pie_c.specs.State.{held_in, is_sound}
 use Rattle.pie_c.proofs.Sound.{held-sound, held-state, state-sound}

@@ -1,13 +1,16 @@
-//! The calls for each packet, over plain numbers.
+//! The calls for each packet, over plain numbers; and beside the rule of an arrival what names its cause, whose verdict is the same.
 ghost use Rattle.std.specs.Prelude.{◌≡◌, ◌+◌, ◌^◌, ◌<◌, ◌≤◌, SomeIff, min, true, false};
+ghost use Rattle.pie_controller.specs.Cause.{cause, considered_cause, early_cause, fate_of, verdict_of};
 ghost use Rattle.pie_controller.specs.Held.{held_by};
 ghost use Rattle.pie_controller.specs.Steps.{accu_left, anew, arrived, bytes_with, capped, departed, is_queued, turns_on, verdict};
 
 use crate::verdict::{Outcome, wakes};
-use crate::{Arrival, Profile, Verdict};
-use pie_control::RawControl;
-use pie_early::decide;
-use pie_params::RawParams;
+use crate::{Arrival, Cause, Controller, Fate, Profile, Verdict};
+use pie_control::{Control, RawControl};
+use pie_early::{LOW_PROB, NEVER_PICKED, decide};
+use pie_fixed::{ALWAYS_PICKED, Accu, Prob, chosen};
+use pie_params::{Params, RawParams};
+use pie_queue::Ecn;
 use pie_rate::{MAX_THRESHOLD, RawCycle, RawRate};
 
 /// What a [`Controller`](crate::Controller) holds, as plain numbers, each in its range or not.
@@ -145,4 +148,120 @@ pub fn opens_cycle(left: u64, dq_threshold: u64) -> bool
     ensures passes { result ≡ false → left < min dq_threshold 65536 }
 {
     left >= dq_threshold.min(MAX_THRESHOLD)
+}
+
+/// Why a picked packet is marked or dropped.
+#[tactic(auto, using(std::proofs::lemmas::Bool::Decides::nat_tests))]
+fn fate_of(params: &Params, prob: Prob, ecn: Ecn) -> Fate
+    ensures { result ≡ fate_of params.now prob ecn }
+{
+    let threshold = params.mark_ecnth().units();
+    if !ecn.capable() {
+        Fate::NotCapable
+    } else if prob.units() < threshold {
+        Fate::Marked { threshold }
+    } else {
+        Fate::NotBelow { threshold }
+    }
+}
+
+/// What decides an arrival that is considered.
+#[tactic(auto, using(std::proofs::lemmas::Bool::Decides::nat_tests), unfolding(crate::specs::Cause::considered_cause))]
+fn considered_cause(params: &Params, prob: Prob, accu: Accu, ecn: Ecn, word: u64) -> Cause
+    ensures { result ≡ considered_cause params.now prob accu ecn word }
+{
+    let fate = fate_of(params, prob, ecn);
+    let is_below = chosen(prob, word);
+    let (accu, prob) = (accu.units(), prob.units());
+    if prob == 0 {
+        Cause::NoProbability
+    } else if accu + prob < NEVER_PICKED {
+        Cause::LittleAccumulated { accu, prob }
+    } else if accu + prob >= ALWAYS_PICKED {
+        Cause::PickedBySum { accu, prob, fate }
+    } else if is_below {
+        Cause::PickedByWord {
+            accu,
+            prob,
+            word,
+            fate,
+        }
+    } else {
+        Cause::WordNotBelow { accu, prob, word }
+    }
+}
+
+/// What decides an arrival that the queue has room for.
+#[tactic(auto, using(std::proofs::lemmas::Bool::Decides::nat_tests), unfolding(crate::specs::Cause::early_cause))]
+fn early_cause(
+    params: &Params,
+    control: &Control,
+    bytes: u64,
+    accu: Accu,
+    ecn: Ecn,
+    word: u64,
+) -> Cause
+    ensures { result ≡ early_cause params.now control.now bytes accu ecn word }
+{
+    let burst = control.burst();
+    if burst > 0 {
+        return Cause::BurstAllowed { burst };
+    }
+    let (old_delay, target, prob) = (control.old(), params.target().units(), control.prob());
+    if 2 * old_delay < target && prob.units() < LOW_PROB {
+        return Cause::LowDelay {
+            old_delay,
+            target,
+            prob: prob.units(),
+        };
+    }
+    let two_packets = 2 * params.mean_pkt();
+    if bytes <= two_packets {
+        return Cause::ShortQueue { bytes, two_packets };
+    }
+    considered_cause(params, prob, accu, ecn, word)
+}
+
+impl Controller {
+    /// What would decide an arriving packet here: the first case of the rules that holds, with the numbers that it compares. Its
+    /// verdict is that of `arrive`. Nothing is changed. `packets` is how many packets are in the queue, which the cause says where
+    /// the ring is full.
+    pub fn cause(&self, arrival: Arrival, packets: u64) -> Cause
+        requires { arrival.queued ≤ 2 ^ 30 }
+        ensures cause { result ≡ cause self.now arrival packets }
+        ensures verdict { verdict_of result ≡ verdict self.now arrival }
+    {
+        self.first_case(arrival, packets)
+    }
+
+    /// The same.
+    #[tactic(auto, using(std::proofs::lemmas::Bool::Decides::nat_tests), unfolding(crate::specs::Cause::cause))]
+    fn first_case(&self, arrival: Arrival, packets: u64) -> Cause
+        requires { arrival.queued ≤ 2 ^ 30 }
+        ensures { result ≡ cause self.now arrival packets }
+    {
+        let Arrival {
+            queued,
+            is_full,
+            size,
+            ecn,
+            word,
+        } = arrival;
+        let limit = self.params().limit_bytes();
+        if limit < queued + u64::from(size) {
+            return Cause::NoRoomInBytes {
+                bytes: queued,
+                size,
+                limit,
+            };
+        }
+        if is_full {
+            return Cause::NoRoomInPackets { packets };
+        }
+        if !self.is_active() {
+            return Cause::Inactive;
+        }
+        let accu = self.early().accu();
+        early_cause(&self.params(), &self.control(), queued, accu, ecn, word)
+    }
 }

@@ -10,7 +10,7 @@ use Rattle.pie_controller.proofs.InRange.{params-hold}
 use Rattle.pie_controller.proofs.Places.{place_of, places-push}
 use Rattle.pie_book.specs.Beside.{IsOpening, IsStep, after_calls, call_at, calls_of, held_after_calls, opened_by}
 use Rattle.pie_book.specs.Call.{call_of}
-use Rattle.pie_book.specs.Core.{CoreView, Shows, closed, held_in, refusal_of}
+use Rattle.pie_book.specs.Core.{CoreView, Shows, closed, refusal_of}
 use Rattle.pie_book.specs.Decision.{IsLegal, answer_by, decision, refusal_by_rule}
 use Rattle.pie_book.specs.History.{waiting_after}
 use Rattle.pie_book.specs.Ranges.{CommandFits}
@@ -21,13 +21,13 @@ use Rattle.pie_book.proofs.LegalFacts.{Stays, first-shows, first_core, run_of}
 pub opening_beside : (opening : Opening) → IsOpening opening (opened_by opening)
 opening_beside opening = record { core = first_core opening; shows = first-shows opening; holds = refl }
 
-pub step_beside : (opening : Opening) (core : CoreView) (history : List Event) → Shows opening core history → (caller : ℕ) (command : Command) → first_bad core.params ≡ None
+pub step_beside : (opening : Opening) (core : CoreView) (history : List Event) → Shows opening core history → (caller : ℕ) (command : Command) → first_bad core.held.params ≡ None
     → refusal_of core command ≡ None
-    → IsStep opening history caller command (answer_by (held_in core) core.waiting core.packets command) (after_call (held_in core) (call_of core.waiting core.packets command))
+    → IsStep opening history caller command (answer_by core.held core.waiting core.packets command) (after_call core.held (call_of core.waiting core.packets command))
 step_beside opening core history shows caller command good free = record {
   decided = next-decided opening core history shows command;
   core_after = closed (after_event core command);
-  shows = event-shows opening core history shows caller command (λ packet moment is left. (params-hold core.params good).dq_threshold) free;
+  shows = event-shows opening core history shows caller command (λ packet moment is left. (params-hold core.held.params good).dq_threshold) free;
   holds = refl;
 }
 
@@ -42,18 +42,18 @@ unfolding after_calls
 after-push h [] call = refl
 after-push h (first ∷ calls) call = after-push (after_call h first) calls call
 
-none-called : (opening : Opening) → held_in (first_core opening) ≡ held_after_calls opening []
+none-called : (opening : Opening) → (first_core opening).held ≡ held_after_calls opening []
 unfolding calls_of places after_calls
 none-called opening = refl
 
 -- a core holds what the controller does after the calls of the history
 abbrev HoldsCalls : Opening → List Event → CoreView → Type 0
-HoldsCalls opening history core = held_in core ≡ held_after_calls opening history
+HoldsCalls opening history core = core.held ≡ held_after_calls opening history
 
 call-next : (opening : Opening) → Stays (HoldsCalls opening) opening
 call-next opening core history event shows holds fit free =
     let made : call_in core event.command ≡ call_at opening (place_of history event) = rw (shows.waiting, shows.packets) refl in
-    ap (after_call (held_in core)) made ∙ ap (λ (h : Held). after_call h (call_at opening (place_of history event))) holds
+    ap (after_call core.held) made ∙ ap (λ (h : Held). after_call h (call_at opening (place_of history event))) holds
     ∙ sym (ap (after_calls (opened_by opening)) (calls-push opening history event) ∙ after-push (opened_by opening) (calls_of opening history) (call_at opening (place_of history event)))
 
 pub run_beside : (opening : Opening) (history : List Event) (command : Command) → first_bad opening.params ≡ None → IsLegal opening history → All (λ event. CommandFits event.command) history

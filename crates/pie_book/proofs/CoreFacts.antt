@@ -22,7 +22,7 @@ use Rattle.pie_controller.proofs.Places.{place_of, places-push}
 use Rattle.pie_book.specs.Beside.{opened_by}
 use Rattle.pie_book.specs.Call.{answer_of, arrival_of, departure_call}
 use Rattle.pie_book.specs.Cause.{cause_after}
-use Rattle.pie_book.specs.Core.{CoreView, Shows, closed, counted, held_in, refusal_of, registers_of, with_queue}
+use Rattle.pie_book.specs.Core.{CoreView, Shows, closed, counted, refusal_of, registers_of, with_queue}
 use Rattle.pie_book.specs.Decision.{IsLegal, IsLegalAt, answer_by, answer_to_departure, decision, refusal_by_rule, refusal_with}
 use Rattle.pie_book.specs.Deed.{Deed, admission, arrival_deed, deed, departure, departure_deed, fits, handed_in, set, updated, was_reset, with_ce}
 use Rattle.pie_book.specs.Estimates.{active_after, delay_after, delay_answered, due_after, held_after}
@@ -120,16 +120,16 @@ registers_by count moment waiting h = record {
 }
 
 module _ (opening : Opening) (core : CoreView) (history : List Event) (shows : Shows opening core history) where
-  pub held-is : held_in core ≡ held_after opening history
+  pub held-is : core.held ≡ held_after opening history
   unfolding held_after
-  held-is = held_is (opened_of opening) (shown opening history) (held_in core) shows.controller
+  held-is = held_is (opened_of opening) (shown opening history) core.held shows.controller
 
-  pub delay-is : Steps.delay_in (held_in core) (bytes_of core.waiting) ≡ delay_after opening history
+  pub delay-is : Steps.delay_in core.held (bytes_of core.waiting) ≡ delay_after opening history
   delay-is =
       ap (λ (h : Held). Steps.delay_in h (bytes_of core.waiting)) held-is
       ∙ ap (λ (w : List Waiting). Steps.delay_in (held_after opening history) (bytes_of w)) shows.waiting
 
-  answered-is : Steps.delay_answered (held_in core) (bytes_of core.waiting) ≡ delay_answered opening history
+  answered-is : Steps.delay_answered core.held (bytes_of core.waiting) ≡ delay_answered opening history
   answered-is =
       ap (λ (h : Held). Steps.delay_answered h (bytes_of core.waiting)) held-is
       ∙ ap (λ (w : List Waiting). Steps.delay_answered (held_after opening history) (bytes_of w)) shows.waiting
@@ -137,14 +137,14 @@ module _ (opening : Opening) (core : CoreView) (history : List Event) (shows : S
   pub registers_is : registers_of core ≡ registers_after opening history
   unfolding registers_after
   registers_is =
-      ap (λ (h : Held). registers_by core.count core.moment core.waiting h) held-is
-      ∙ ap (λ (n : ℕ). registers_by n core.moment core.waiting (held_after opening history)) shows.count
+      ap (λ (h : Held). registers_by core.count core.held.moment core.waiting h) held-is
+      ∙ ap (λ (n : ℕ). registers_by n core.held.moment core.waiting (held_after opening history)) shows.count
       ∙ ap (λ (m : ℕ). registers_by (length history) m core.waiting (held_after opening history)) shows.moment
       ∙ ap (λ (w : List Waiting). registers_by (length history) (effective_moment opening history) w (held_after opening history)) shows.waiting
 
   pub refusal-is : (command : Command) → refusal_of core command ≡ refusal_by_rule opening history command
   refusal-is command =
-      ap (λ (h : Held). refusal_with core.moment (Steps.due h) core.count core.events command) held-is
+      ap (λ (h : Held). refusal_with core.held.moment (Steps.due h) core.count core.events command) held-is
       ∙ ap (λ (m : ℕ). refusal_with m (due_after opening history) core.count core.events command) shows.moment
       ∙ ap (λ (n : ℕ). refusal_with (effective_moment opening history) (due_after opening history) n core.events command) shows.count
       ∙ ap (λ (n : ℕ). refusal_with (effective_moment opening history) (due_after opening history) (length history) n command) shows.events
@@ -154,13 +154,13 @@ module _ (opening : Opening) (core : CoreView) (history : List Event) (shows : S
   next-decided command = rw (held-is, shows.waiting, shows.packets) refl
 
   pub cause-is : (moment : ℕ) (packet : Packet) (word : ℕ)
-      → Some (cause (held_in core) (arrival_of core.waiting core.packets packet word) (length core.waiting)) ≡ cause_after opening history (Arrive moment packet word)
+      → Some (cause core.held (arrival_of core.waiting core.packets packet word) (length core.waiting)) ≡ cause_after opening history (Arrive moment packet word)
   cause-is moment packet word = rw (held-is, shows.waiting, shows.packets) refl
 
 -- ---- with no event
 
 -- a core with no event and no packet whose controller holds what it opens with
-pub Shows-opened : (opening : Opening) (core : CoreView) → core.packets ≡ opening.limits.packets → core.events ≡ opening.limits.events → held_in core ≡ opened_by opening
+pub Shows-opened : (opening : Opening) (core : CoreView) → core.packets ≡ opening.limits.packets → core.events ≡ opening.limits.events → core.held ≡ opened_by opening
     → core.count ≡ 0 → core.waiting ≡ [] → core.stats ≡ no_stats → Shows opening core []
 unfolding places admitted departed_count effective_moment greatest waiting_after shown stats_after largest_queue largest_delay waited
 Shows-opened opening core packets events held count waiting stats = record {
@@ -197,28 +197,28 @@ departure-shown now h (oldest ∷ others) moment = refl
 -- each command's event is what its call shows the controller
 command-shown : (core : CoreView) (now : ℕ) (command : Command)
     → event_shown (deed command (answer_in core command)) (bytes_of core.waiting) (bytes_of (waiting_next core.waiting now (deed command (answer_in core command)))) (handed_in command)
-    ≡ shown_by (held_in core) (call_in core command)
+    ≡ shown_by core.held (call_in core command)
 command-shown core now (Arrive moment packet word) =
-    arrival-shown packet now core.waiting moment (Steps.verdict (held_in core) (arrival_of core.waiting core.packets packet word))
-command-shown core now (Depart moment) = departure-shown now (held_in core) core.waiting moment
+    arrival-shown packet now core.waiting moment (Steps.verdict core.held (arrival_of core.waiting core.packets packet word))
+command-shown core now (Depart moment) = departure-shown now core.held core.waiting moment
 command-shown core now _ = refl
 
 -- the effective moment after a call
-moment-next : (core : CoreView) (command : Command) → (after_call (held_in core) (call_in core command)).moment ≡ now_at (held_in core) (handed_in command)
+moment-next : (core : CoreView) (command : Command) → (after_call core.held (call_in core command)).moment ≡ now_at core.held (handed_in command)
 moment-next core (Arrive moment packet word) = by (Steps.turns_on h (bytes_with (Steps.verdict h a) a.queued a.size))
   where
     h : Held
-    h = held_in core
+    h = core.held
 
     a : Arrival
     a = arrival_of core.waiting core.packets packet word
 
-    by : (on : Bool) → (if on then record (anew (judged h a moment)) { active = true } else judged h a moment).moment ≡ max core.moment moment
+    by : (on : Bool) → (if on then record (anew (judged h a moment)) { active = true } else judged h a moment).moment ≡ max core.held.moment moment
     by true = refl
     by false = refl
 moment-next core (Depart moment) = by core.waiting
   where
-    by : (waiting : List Waiting) → (after_call (held_in core) (departure_call waiting moment)).moment ≡ max core.moment moment
+    by : (waiting : List Waiting) → (after_call core.held (departure_call waiting moment)).moment ≡ max core.held.moment moment
     by [] = refl
     by (oldest ∷ others) = refl
 moment-next core _ = refl
@@ -232,8 +232,8 @@ shown-push opening history event =
 abbrev pub after_event : CoreView → Command → CoreView
 after_event core command =
     let d = deed command (answer_in core command) in
-    let now = now_at (held_in core) (handed_in command) in
-    with_event core (after_call (held_in core) (call_in core command)) (waiting_next core.waiting now d) d (Steps.delay_answered (held_in core) (bytes_of core.waiting)) (age_of_oldest now core.waiting)
+    let now = now_at core.held (handed_in command) in
+    with_event core (after_call core.held (call_in core command)) (waiting_next core.waiting now d) d (Steps.delay_answered core.held (bytes_of core.waiting)) (age_of_oldest now core.waiting)
 
 joined-is : (waiting : List Waiting) (now : ℕ) (packet : Packet) (v : Verdict)
     → waiting ++ option_to_list (admission now (arrival_deed packet (answer_of v))) ≡ waiting_next waiting now (arrival_deed packet (answer_of v))
@@ -247,48 +247,48 @@ left-is (oldest ∷ others) now = refl
 after-is : (core : CoreView) (command : Command) → after_command core command ≡ after_event core command
 after-is core (Arrive moment packet word) =
     let a : Arrival = arrival_of core.waiting core.packets packet word in
-    let h : Held = Steps.arrived (held_in core) a moment in
-    let d : Deed = arrival_deed packet (answer_of (Steps.verdict (held_in core) a)) in
-    let now : ℕ = max core.moment moment in
-    ap (λ (w : List Waiting). with_event core h w d 0 0) (joined-is core.waiting now packet (Steps.verdict (held_in core) a))
+    let h : Held = Steps.arrived core.held a moment in
+    let d : Deed = arrival_deed packet (answer_of (Steps.verdict core.held a)) in
+    let now : ℕ = max core.held.moment moment in
+    ap (λ (w : List Waiting). with_event core h w d 0 0) (joined-is core.waiting now packet (Steps.verdict core.held a))
     ∙ ap (λ (s : Stats). record (with_event core h (waiting_next core.waiting now d) d 0 0) { stats = s })
-    (counted-arrival core.stats packet (answer_of (Steps.verdict (held_in core) a)) (Steps.delay_answered (held_in core) (bytes_of core.waiting)) (age_of_oldest now core.waiting))
+    (counted-arrival core.stats packet (answer_of (Steps.verdict core.held a)) (Steps.delay_answered core.held (bytes_of core.waiting)) (age_of_oldest now core.waiting))
 after-is core (Depart moment) =
-    let h : Held = after_call (held_in core) (departure_call core.waiting moment) in
+    let h : Held = after_call core.held (departure_call core.waiting moment) in
     let d : Deed = departure_deed (answer_to_departure core.waiting) in
-    let now : ℕ = max core.moment moment in
+    let now : ℕ = max core.held.moment moment in
     ap (λ (w : List Waiting). with_event core h w d 0 (age_of_oldest now core.waiting)) (left-is core.waiting now)
     ∙ ap (λ (s : Stats). record (with_event core h (waiting_next core.waiting now d) d 0 (age_of_oldest now core.waiting)) { stats = s })
-    (counted-departure core.stats (answer_to_departure core.waiting) (Steps.delay_answered (held_in core) (bytes_of core.waiting)) (age_of_oldest now core.waiting))
+    (counted-departure core.stats (answer_to_departure core.waiting) (Steps.delay_answered core.held (bytes_of core.waiting)) (age_of_oldest now core.waiting))
 after-is core (Update moment) =
-    ap (λ (w : List Waiting). with_event core (Steps.updated (held_in core) (bytes_of core.waiting) moment) w updated (Steps.delay_answered (held_in core) (bytes_of core.waiting)) 0)
+    ap (λ (w : List Waiting). with_event core (Steps.updated core.held (bytes_of core.waiting) moment) w updated (Steps.delay_answered core.held (bytes_of core.waiting)) 0)
     (sym (append-nil core.waiting))
-after-is core (Reset moment) = ap (λ (w : List Waiting). with_event core (Steps.reset (held_in core) moment) w was_reset 0 0) (sym (append-nil core.waiting))
-after-is core (SetParams moment params) = ap (λ (w : List Waiting). with_event core (Steps.changed (held_in core) params moment) w (set params) 0 0) (sym (append-nil core.waiting))
+after-is core (Reset moment) = ap (λ (w : List Waiting). with_event core (Steps.reset core.held moment) w was_reset 0 0) (sym (append-nil core.waiting))
+after-is core (SetParams moment params) = ap (λ (w : List Waiting). with_event core (Steps.changed core.held params moment) w (set params) 0 0) (sym (append-nil core.waiting))
 
 module _ (opening : Opening) (core : CoreView) (history : List Event) (shows : Shows opening core history) where
   called : (command : Command) → HasThreshold core command (answer_in core command)
-      → Controller.Shows (opened_of opening) (shown opening history ++ shown_by (held_in core) (call_in core command) ∷ []) (after_call (held_in core) (call_in core command))
+      → Controller.Shows (opened_of opening) (shown opening history ++ shown_by core.held (call_in core command) ∷ []) (after_call core.held (call_in core command))
   called (Arrive moment packet word) small =
-      Shows-arrive (opened_of opening) (shown opening history) (held_in core) shows.controller (arrival_of core.waiting core.packets packet word) moment
+      Shows-arrive (opened_of opening) (shown opening history) core.held shows.controller (arrival_of core.waiting core.packets packet word) moment
   called (Depart moment) small = by core.waiting refl
     where
       by : (waiting : List Waiting) → core.waiting ≡ waiting
-          → Controller.Shows (opened_of opening) (shown opening history ++ shown_by (held_in core) (departure_call waiting moment) ∷ []) (after_call (held_in core) (departure_call waiting moment))
-      by [] none = Shows-pass (opened_of opening) (shown opening history) (held_in core) shows.controller moment
+          → Controller.Shows (opened_of opening) (shown opening history ++ shown_by core.held (departure_call waiting moment) ∷ []) (after_call core.held (departure_call waiting moment))
+      by [] none = Shows-pass (opened_of opening) (shown opening history) core.held shows.controller moment
       by (oldest ∷ others) waits =
-          Shows-depart (opened_of opening) (shown opening history) (held_in core) shows.controller oldest.packet.size (bytes_of others) moment
+          Shows-depart (opened_of opening) (shown opening history) core.held shows.controller oldest.packet.size (bytes_of others) moment
           (small oldest.packet moment refl (ap answer_to_departure waits))
-  called (Update moment) small = Shows-update (opened_of opening) (shown opening history) (held_in core) shows.controller (bytes_of core.waiting) moment
-  called (Reset moment) small = Shows-reset-call (opened_of opening) (shown opening history) (held_in core) shows.controller moment
-  called (SetParams moment params) small = Shows-change (opened_of opening) (shown opening history) (held_in core) shows.controller params moment
+  called (Update moment) small = Shows-update (opened_of opening) (shown opening history) core.held shows.controller (bytes_of core.waiting) moment
+  called (Reset moment) small = Shows-reset-call (opened_of opening) (shown opening history) core.held shows.controller moment
+  called (SetParams moment params) small = Shows-change (opened_of opening) (shown opening history) core.held shows.controller params moment
 
   pub event-shows : (caller : ℕ) (command : Command) → HasThreshold core command (answer_in core command) → refusal_of core command ≡ None
       → Shows opening (closed (after_event core command)) (history ++ event_of caller command (answer_in core command) ∷ [])
   event-shows caller command small free =
       let event : Event = event_of caller command (answer_in core command) in
       let d : Deed = deed command (answer_in core command) in
-      let now : ℕ = now_at (held_in core) (handed_in command) in
+      let now : ℕ = now_at core.held (handed_in command) in
       let stats_by : Stats → ℕ → ℕ → List Waiting → List Waiting → Stats = λ s delay moment before left. with_queue (counted s d delay (age_of_oldest moment before)) (bytes_of left) in
       let after : effective_moment opening (history ++ event ∷ []) ≡ now =
       effective_moment-push opening history event ∙ ap (λ (m : ℕ). max m (handed_in command)) (sym shows.moment) in
@@ -296,7 +296,7 @@ module _ (opening : Opening) (core : CoreView) (history : List Event) (shows : S
       waiting_after-push opening history event (departed-of-legal opening history shows.legal)
       ∙ ap (λ (w : List Waiting). waiting_next w (max (effective_moment opening history) (handed_in command)) d) (sym shows.waiting)
       ∙ ap (λ (m : ℕ). waiting_next core.waiting (max m (handed_in command)) d) (sym shows.moment) in
-      let told : shown_at opening (place_of history event) ≡ shown_by (held_in core) (call_in core command) =
+      let told : shown_at opening (place_of history event) ≡ shown_by core.held (call_in core command) =
       ap (λ (w : List Waiting). event_shown d (bytes_of w) (bytes_after opening (history ++ event ∷ [])) (handed_in command)) (sym shows.waiting)
       ∙ ap (λ (w : List Waiting). event_shown d (bytes_of core.waiting) (bytes_of w) (handed_in command)) waiting
       ∙ command-shown core now command in
@@ -316,9 +316,9 @@ module _ (opening : Opening) (core : CoreView) (history : List Event) (shows : S
             (sym shows.stats)
             ∙ ap (λ (n : ℕ). stats_by core.stats n (effective_moment opening (history ++ event ∷ [])) (waiting_after opening history) (waiting_after opening (history ++ event ∷ [])))
             (sym (answered-is opening core history shows))
-            ∙ ap (λ (m : ℕ). stats_by core.stats (Steps.delay_answered (held_in core) (bytes_of core.waiting)) m (waiting_after opening history) (waiting_after opening (history ++ event ∷ []))) after
-            ∙ ap (λ (w : List Waiting). stats_by core.stats (Steps.delay_answered (held_in core) (bytes_of core.waiting)) now w (waiting_after opening (history ++ event ∷ []))) (sym shows.waiting)
-            ∙ ap (λ (w : List Waiting). stats_by core.stats (Steps.delay_answered (held_in core) (bytes_of core.waiting)) now core.waiting w) waiting);
+            ∙ ap (λ (m : ℕ). stats_by core.stats (Steps.delay_answered core.held (bytes_of core.waiting)) m (waiting_after opening history) (waiting_after opening (history ++ event ∷ []))) after
+            ∙ ap (λ (w : List Waiting). stats_by core.stats (Steps.delay_answered core.held (bytes_of core.waiting)) now w (waiting_after opening (history ++ event ∷ []))) (sym shows.waiting)
+            ∙ ap (λ (w : List Waiting). stats_by core.stats (Steps.delay_answered core.held (bytes_of core.waiting)) now core.waiting w) waiting);
       }
 
   pub next-shows : (caller : ℕ) (command : Command) → HasThreshold core command (answer_in core command) → refusal_of core command ≡ None

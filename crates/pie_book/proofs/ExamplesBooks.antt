@@ -10,11 +10,11 @@ use Rattle.pie_book.specs.declared.refusal.Refusal.TheVariants.{Size, TooSoon}
 use Rattle.pie_book.specs.Deed.{Deed, deed_of, queued, marked, dropped_early, dropped_bytes, dropped_packets, departed, found_none, updated, was_reset, set, nothing}
 use Rattle.pie_queue.specs.Queue.{bytes_of}
 use Rattle.pie_controller.specs.Places.{Place, places}
-use Rattle.pie_controller.specs.Steps.{delay_in}
+use Rattle.pie_controller.specs.Steps.{delay_in, no_estimate}
 use Rattle.pie_book.specs.Registers.{registers_after}
 use Rattle.pie_book.specs.Statistics.{stats_after, no_stats}
 use Rattle.pie_book.specs.Decision.{IsLegal, IsLegalAt, decision, refusal_by_rule}
-use Rattle.pie_book.specs.Core.{CoreView, Shows, held_in, registers_of, refusal_of, counted, with_queue}
+use Rattle.pie_book.specs.Core.{CoreView, Shows, registers_of, refusal_of, counted, with_queue}
 use Rattle.pie_book.specs.Book.{BookView, Tells, last_events, without_last, tail_with}
 use Rattle.pie_book.proofs.Examples.{limits, opened, opened_with, packet, waits, event, place, three, arrival, departure_of_it, late_departure, worked}
 use Rattle.pie_book.proofs.ExamplesMarks.{no_burst, some_burst, opening, two_departed, first_update, updated_thrice, mark, change, restart, twelve, fourteen, parts, tallied}
@@ -63,27 +63,25 @@ abbrev core_at_twelve : CoreView
 core_at_twelve = record {
   packets = 8;
   events = 100;
-  profile = One;
-  params = no_burst;
   count = 12;
-  moment = 1001003;
+  held = record {
+    profile = One;
+    params = no_burst;
+    moment = 1001003;
+    active = true;
+    rate = record { average = 1000000; begun = Some (record { start = 1001000; count = 0 }) };
+    control = parts 903954174169 2000000 0 1001002;
+    accu = 903954174169;
+  };
   waiting = waits (packet 3 1024) 0 ∷ waits (packet 4 1024) 0 ∷ waits (record { tag = 5; size = 500; ecn = Ce }) 1001003 ∷ waits (packet 7 500) 1001003 ∷ [];
-  active = true;
-  rate = record { average = 1000000; begun = Some (record { start = 1001000; count = 0 }) };
-  control = parts 903954174169 2000000 0 1001002;
-  accu = 903954174169;
   stats = tallied 0 0;
 }
 
 -- after all fourteen the estimate, the probability and what was accumulated are gone
 abbrev core_at_fourteen : CoreView
 core_at_fourteen = record core_at_twelve {
-  params = some_burst;
   count = 14;
-  moment = 1001005;
-  rate = record { average = 0; begun = None };
-  control = parts 0 0 50 1001002;
-  accu = 0;
+  held = record { profile = One; params = some_burst; moment = 1001005; active = true; rate = no_estimate; control = parts 0 0 50 1001002; accu = 0 };
   stats = tallied 1 1;
 }
 
@@ -134,12 +132,12 @@ cores-registers : (registers_of core_at_twelve ≡ registers_after opening twelv
 unfolding worked
 cores-registers = (refl, refl)
 
-cores-delay : (delay_in (held_in core_at_twelve) (bytes_of core_at_twelve.waiting) ≡ 2976562) × (delay_in (held_in core_at_fourteen) (bytes_of core_at_fourteen.waiting) ≡ 0)
+cores-delay : (delay_in core_at_twelve.held (bytes_of core_at_twelve.waiting) ≡ 2976562) × (delay_in core_at_fourteen.held (bytes_of core_at_fourteen.waiting) ≡ 0)
 unfolding delay_of
 cores-delay = (refl, refl)
 
 -- the next update is due at 1001003
-cores-refusal : map (λ moment. refusal_of (record core_at_twelve { moment = moment }) (Update 0)) (1001002 ∷ 1001003 ∷ []) ≡ Some (TooSoon 1001003) ∷ None ∷ []
+cores-refusal : map (λ moment. refusal_of (record core_at_twelve { held = record core_at_twelve.held { moment = moment } }) (Update 0)) (1001002 ∷ 1001003 ∷ []) ≡ Some (TooSoon 1001003) ∷ None ∷ []
 cores-refusal = refl
 
 -- after a fold of twelve a book tells the same fourteen events, with the last two in its tail

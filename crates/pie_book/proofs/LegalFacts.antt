@@ -11,7 +11,7 @@ use Rattle.pie_controller.specs.Steps.{anew, bytes_with, judged, no_estimate}
 use Rattle.pie_controller.proofs.InRange.{params-hold}
 use Rattle.pie_controller.proofs.Places.{place_of}
 use Rattle.pie_book.specs.Call.{arrival_of, departure_call}
-use Rattle.pie_book.specs.Core.{CoreView, Shows, closed, held_in, refusal_of}
+use Rattle.pie_book.specs.Core.{CoreView, Shows, closed, refusal_of}
 use Rattle.pie_book.specs.Decision.{IsLegal, IsLegalAt}
 use Rattle.pie_book.specs.Ranges.{CommandFits}
 use Rattle.pie_book.specs.Run.{event_of}
@@ -24,15 +24,9 @@ abbrev pub first_core : Opening → CoreView
 first_core opening = record {
   packets = opening.limits.packets;
   events = opening.limits.events;
-  profile = opening.choices.profile;
-  params = opening.params;
   count = 0;
-  moment = opening.moment;
+  held = Steps.opened opening.choices.profile opening.params opening.moment;
   waiting = [];
-  active = Steps.opens_active opening.choices.profile;
-  rate = no_estimate;
-  control = record { prob = 0; old_delay = 0; burst = opening.params.max_burst; last = opening.moment };
-  accu = 0;
   stats = no_stats;
 }
 
@@ -48,11 +42,11 @@ params-arrived h a moment = by (Steps.turns_on h (bytes_with (Steps.verdict h a)
     by true = refl
     by false = refl
 
-good-next : (core : CoreView) (command : Command) → first_bad core.params ≡ None → CommandFits command → first_bad (after_call (held_in core) (call_in core command)).params ≡ None
-good-next core (Arrive moment packet word) good fit = rw (params-arrived (held_in core) (arrival_of core.waiting core.packets packet word) moment) good
+good-next : (core : CoreView) (command : Command) → first_bad core.held.params ≡ None → CommandFits command → first_bad (after_call core.held (call_in core command)).params ≡ None
+good-next core (Arrive moment packet word) good fit = rw (params-arrived core.held (arrival_of core.waiting core.packets packet word) moment) good
 good-next core (Depart moment) good fit = by core.waiting
   where
-    by : (waiting : List Waiting) → first_bad (after_call (held_in core) (departure_call waiting moment)).params ≡ None
+    by : (waiting : List Waiting) → first_bad (after_call core.held (departure_call waiting moment)).params ≡ None
     by [] = good
     by (oldest ∷ others) = good
 good-next core (Update moment) good fit = good
@@ -65,7 +59,7 @@ good-next core (SetParams moment params) good fit = fit.1.in_range
 pub record IsRun (P : List Event → CoreView → Type 0) (opening : Opening) (history : List Event) : Type 0 where
   pub core : CoreView
   pub shows : Shows opening core history
-  pub good : first_bad core.params ≡ None
+  pub good : first_bad core.held.params ≡ None
   pub holds : P history core
 
 -- what is so stays so at each command that is taken
@@ -83,7 +77,7 @@ module _ (P : List Event → CoreView → Type 0) (opening : Opening) (stays : S
       record {
         core = closed (after_event core event.command);
         shows = subst (λ (e : Event). Shows opening (closed (after_event core event.command)) (history ++ e ∷ [])) same
-            (event-shows opening core history run.shows event.caller event.command (λ packet moment is left. (params-hold core.params run.good).dq_threshold) free);
+            (event-shows opening core history run.shows event.caller event.command (λ packet moment is left. (params-hold core.held.params run.good).dq_threshold) free);
         good = good-next core event.command run.good fit;
         holds = stays core history event run.shows run.holds fit free;
       }

@@ -7,7 +7,7 @@ ghost use Rattle.std.specs.Prelude.{nat_lt};
 ghost use Rattle.pie_book.specs.Types.{Command, Update, Event, Opening};
 ghost use Rattle.pie_book.specs.Beside.{IsOpening, IsStep, held_after_calls, opened_by};
 ghost use Rattle.pie_book.specs.Call.{call_of};
-ghost use Rattle.pie_book.specs.Core.{CoreView, Shows, held_in, refusal_of};
+ghost use Rattle.pie_book.specs.Core.{CoreView, Shows, refusal_of};
 ghost use Rattle.pie_book.specs.Decision.{IsLegal, answer_by, decision, is_too_soon, refusal_by_rule};
 ghost use Rattle.pie_book.specs.History.{waiting_after};
 ghost use Rattle.pie_book.specs.Ranges.{CommandFits};
@@ -22,9 +22,9 @@ ghost use Rattle.pie_book.specs.Ranges.{CommandFits};
 pub fn parts_decide_as_a_core()
     ensures opens { (opening : Opening) → IsOpening opening (opened_by opening) }
     ensures steps { (opening : Opening) (core : CoreView) (history : List Event) → Shows opening core history
-        → (caller : ℕ) (command : Command) → first_bad core.params ≡ None → refusal_of core command ≡ None
-        → IsStep opening history caller command (answer_by (held_in core) core.waiting core.packets command) (after_call (held_in core) (call_of core.waiting core.packets command)) }
-    ensures too_soon { (core : CoreView) (moment : ℕ) → is_too_soon core.moment (due_of core.params core.control) (Update moment) ≡ nat_lt (now_at (held_in core) moment) (due (held_in core)) }
+        → (caller : ℕ) (command : Command) → first_bad core.held.params ≡ None → refusal_of core command ≡ None
+        → IsStep opening history caller command (answer_by core.held core.waiting core.packets command) (after_call core.held (call_of core.waiting core.packets command)) }
+    ensures too_soon { (core : CoreView) (moment : ℕ) → is_too_soon core.held.moment (due_of core.held.params core.held.control) (Update moment) ≡ nat_lt (now_at core.held moment) (due core.held) }
 {}
 
 /// A whole run: a controller beside a queue that was opened as a legal history was, and made the calls of that history one after

@@ -78,7 +78,7 @@ impl Core {
         requires room { self.old.count < self.old.events }
         ensures answer { result ≡ answer_in self.old (Depart moment) }
         ensures after { self.new ≡ after_command self.old (Depart moment) }
-        ensures threshold { (packet : Packet) → result ≡ Left packet → self.old.params.dq_threshold ≤ 65536 }
+        ensures threshold { (packet : Packet) → result ≡ Left packet → self.old.held.params.dq_threshold ≤ 65536 }
     {
         let now = self.controller.moment().max(moment);
         let Some(oldest) = self.queue.take() else {

@@ -1,10 +1,9 @@
 use Rattle.std.proofs.Common.{◌∙◌}
-use Rattle.pie_book.specs.Core.{held_in}
 use Rattle.pie_book.proofs.CoreFacts.{answer-fits, next-decided, next-shows}
 use Rattle.pie_book.proofs.queue_core.Core.advance.Goals as goal
 
 pub returns-clause-fits : goal.returns-clause-fits
-returns-clause-fits c = rw c.decide-answer.ensures.answer (answer-fits (held_in c.args.self.now) c.args.self.now.waiting c.args.self.now.packets c.args.command)
+returns-clause-fits c = rw c.decide-answer.ensures.answer (answer-fits c.args.self.now.held c.args.self.now.waiting c.args.self.now.packets c.args.command)
 
 pub returns-clause-decides : goal.returns-clause-decides
 returns-clause-decides c opening history shows = c.decide-answer.ensures.answer ∙ next-decided opening c.args.self.now history shows c.args.command

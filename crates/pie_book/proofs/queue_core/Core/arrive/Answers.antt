@@ -1,11 +1,10 @@
 use Rattle.std.proofs.Common.{◌≡◌, refl, rules}
 use Rattle.pie_controller.specs.Steps.{now_at}
-use Rattle.pie_book.specs.Core.{held_in}
 use Rattle.pie_book.proofs.queue_core.Core.arrive.Goals as goal
 
 pub returns-clause-after : goal.returns-clause-after
 returns-clause-after c =
-    let now : c.max-now.result ≡ now_at (held_in c.args.self.now) c.args.moment = search rules in
+    let now : c.max-now.result ≡ now_at c.args.self.now.held c.args.moment = search rules in
     rw (
       c.admit.ensures,
       now,

@@ -1,6 +1,5 @@
 -- A controller beside a queue decides and holds what a core does.
-use Rattle.std.proofs.Common.{◌≡◌, ℕ, List, [], ◌∷◌, ◌++◌, map, refl, sym, ap, ◌∙◌}
-use Rattle.std.specs.Prelude.{All, None}
+use Rattle.std.proofs.Common.{◌≡◌, ℕ, List, [], ◌∷◌, ◌++◌, map, refl, sym, ap, ◌∙◌, All, None}
 use Rattle.std.proofs.lemmas.List.{map-append}
 use Rattle.pie_params.specs.Range.{first_bad}
 use Rattle.pie_controller.specs.Calls.{Call, after_call}

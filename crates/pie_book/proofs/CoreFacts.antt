@@ -1,7 +1,6 @@
 -- What a core holds, where it shows a history, is what looking back over the history gives; and it shows the history with one event more
 -- after each command.
-use Rattle.std.proofs.Common.{◌≡◌, ◌≤◌, ◌<◌, ◌+◌, ℕ, List, [], ◌∷◌, ◌++◌, map, length, drop, Bool, true, false, refl, ap, ◌∙◌, sym, arith, length-append}
-use Rattle.std.specs.Prelude.{max, None, Some, All, if◌then◌else◌}
+use Rattle.std.proofs.Common.{◌≡◌, ◌≤◌, ◌<◌, ◌+◌, ℕ, List, [], ◌∷◌, ◌++◌, map, length, drop, Bool, true, false, refl, ap, ◌∙◌, sym, arith, length-append, max, None, Some, All, if◌then◌else◌}
 use Rattle.std.specs.Option.{is_some, option_to_list}
 use Rattle.std.proofs.lemmas.List.{append-nil, append_assoc, map-append}
 use Rattle.std.proofs.lemmas.List.Elements.{All-append, All-cons, All-head, All-nil, All-tail}

@@ -1,6 +1,5 @@
 -- A controller that turns itself off and on, on two worked histories: each theorem computes.
-use Rattle.std.specs.Prelude.{ℕ, ◌≡◌, List, [], ◌∷◌, take, Some, None, true, false, map}
-use Rattle.std.proofs.Common.{refl}
+use Rattle.std.proofs.Common.{refl, ℕ, ◌≡◌, List, [], ◌∷◌, take, Some, None, true, false, map}
 use Rattle.pie_book.specs.Types.{Profile, One, Two, Arrive, Depart, Update, Reset, Answer, Enqueued, DroppedBytes, Left, Updated, Done, Event, Bounded, Opening}
 use Rattle.pie_book.specs.declared.refusal.Refusal.TheVariants.{TooSoon}
 use Rattle.pie_book.specs.Decision.{decision, refusal_by_rule}

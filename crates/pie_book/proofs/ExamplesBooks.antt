@@ -1,7 +1,6 @@
 -- The definitions on worked histories: each theorem computes. Which histories are legal, which core shows a history, and which book
 -- tells it.
-use Rattle.std.specs.Prelude.{ℕ, ◌≡◌, List, [], ◌∷◌, ◌++◌, take, Some, None, true, map, drop, All}
-use Rattle.std.proofs.Common.{ap, refl}
+use Rattle.std.proofs.Common.{ap, refl, ℕ, ◌≡◌, List, [], ◌∷◌, ◌++◌, take, Some, None, true, map, drop, All}
 use Rattle.std.proofs.lemmas.List.Elements.{All-cons, All-head, All-nil, All-take}
 use Rattle.pie_queue.specs.declared.ecn.Ecn.TheVariants.{Ce}
 use Rattle.pie_control.specs.Delay.{delay_of}

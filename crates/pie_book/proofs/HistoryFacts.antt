@@ -1,6 +1,5 @@
 -- What one more event at the end of a history does to the moment and the packets that wait.
-use Rattle.std.proofs.Common.{◌≡◌, ◌≤◌, ◌<◌, ◌+◌, ℕ, List, [], ◌∷◌, ◌++◌, map, length, drop, Bool, true, false, cond, refl, ap, ◌∙◌, arith, length-append}
-use Rattle.std.specs.Prelude.{max}
+use Rattle.std.proofs.Common.{◌≡◌, ◌≤◌, ◌<◌, ◌+◌, ℕ, List, [], ◌∷◌, ◌++◌, map, length, drop, Bool, true, false, cond, refl, ap, ◌∙◌, arith, length-append, max}
 use Rattle.std.specs.Option.{option_to_list, is_some}
 use Rattle.std.specs.List.{filter_map}
 use Rattle.std.proofs.lemmas.List.{map-append, append-nil, drop-append-le, drop-drop, length-drop}

@@ -1,7 +1,6 @@
 -- Folds change no answer: up to the first that says that the tail is full, the answers of a run are those that the rules give
 -- its commands, whatever was folded.
-use Rattle.std.proofs.Common.{◌≡◌, ◌≤◌, ◌+◌, ◌==◌, ℕ, List, [], ◌∷◌, ◌++◌, Bool, true, false, cond, take, refl, sym, ap, ◌∙◌, arith, one-add}
-use Rattle.std.specs.Prelude.{min, not, Option, Some, None, Result, Ok, Err}
+use Rattle.std.proofs.Common.{◌≡◌, ◌≤◌, ◌+◌, ◌==◌, ℕ, List, [], ◌∷◌, ◌++◌, Bool, true, false, cond, take, refl, sym, ap, ◌∙◌, arith, one-add, min, not, Option, Some, None, Result, Ok, Err}
 use Rattle.std.specs.List.{filter_map}
 use Rattle.std.proofs.lemmas.List.{take-take}
 use Rattle.pie_book.specs.Types.{Command, Answer, Event, Mode, Bounded, Rolling, Opening, Refusal}

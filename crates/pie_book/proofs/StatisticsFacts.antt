@@ -1,6 +1,5 @@
 -- What one more event at the end of a history does to the statistics.
-use Rattle.std.proofs.Common.{◌≡◌, ℕ, ◌+◌, List, [], ◌∷◌, ◌++◌, map, Bool, true, false, cond, refl, ap, ◌∙◌, arith}
-use Rattle.std.specs.Prelude.{max, Option, Some, None, if◌then◌else◌, sum_by}
+use Rattle.std.proofs.Common.{◌≡◌, ℕ, ◌+◌, List, [], ◌∷◌, ◌++◌, map, Bool, true, false, cond, refl, ap, ◌∙◌, arith, max, Option, Some, None, if◌then◌else◌, sum_by}
 use Rattle.std.specs.Option.{is_some, option_map_or}
 use Rattle.std.specs.List.{filter_map}
 use Rattle.std.proofs.lemmas.List.{map-append}

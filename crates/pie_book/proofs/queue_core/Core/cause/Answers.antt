@@ -1,5 +1,4 @@
-use Rattle.std.proofs.Common.{◌≡◌, ap, sym}
-use Rattle.std.specs.Prelude.{length}
+use Rattle.std.proofs.Common.{◌≡◌, ap, sym, length}
 use Rattle.pie_book.specs.declared.command.Command.TheVariants.{Arrive}
 use Rattle.pie_book.specs.Core.{CoreView}
 use Rattle.pie_book.proofs.CoreFacts.{cause-is}

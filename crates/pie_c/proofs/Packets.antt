@@ -6,7 +6,7 @@ use Rattle.pie_controller.specs.Calls.{Arrive, Depart, Pass, shown_by}
 use Rattle.pie_controller.specs.Events.{ControllerEvent, Opened}
 use Rattle.pie_controller.specs.Held.{Held}
 use Rattle.pie_controller.specs.History.{Shows}
-use Rattle.pie_controller.specs.Steps.{anew, arrived, bytes_with, capped, departed, judged, passed, turns_on, verdict}
+use Rattle.pie_controller.specs.Steps.{anew, accu_left, arrived, bytes_with, capped, departed, judged, passed, turns_on, verdict}
 use Rattle.pie_controller.proofs.InRange.{params-hold}
 use Rattle.pie_controller.proofs.Laws.{Shows-arrive, Shows-depart, Shows-pass, moved}
 use Rattle.pie_controller.proofs.Sounds.{Sound_call}
@@ -133,3 +133,15 @@ module _ (s : PieState) (sound : is_sound s ≡ true) (o : Opened) (events : Lis
 
   pub passed-shows : (moment : ℕ) → Shows o (events ++ shown_by (held_in s) (Pass moment) ∷ []) (held_in (record s { moment = max s.moment moment }))
   passed-shows moment = moved _ _ _ _ (ap held_in (passed-state s moment sound) ∙ held-state _) (Shows-pass o events (held_in s) shows moment)
+
+-- at an active controller an arrival changes the moment and the accumulated probability alone, and neither it nor the verdict hangs on
+-- the moment
+pub active-arrival : (s : PieState) (a : Arrival) (moment : ℕ) → s.active ≡ 1
+    → record s { moment = max s.moment moment; accu = accu_left (held_in (record s { moment = max s.moment moment })) a }
+    ≡ with_arrival s (arrived (held_in s) a moment)
+unfolding held_in accu_left
+active-arrival s a moment active = rw active refl
+
+pub verdict-later : (s : PieState) (moment : ℕ) (a : Arrival) → verdict (held_in (record s { moment = moment })) a ≡ verdict (held_in s) a
+unfolding held_in verdict
+verdict-later s moment a = refl

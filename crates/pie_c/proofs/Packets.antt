@@ -2,6 +2,7 @@
 use Rattle.std.proofs.Common.{◌≡◌, ℕ, ◌+◌, ◌≤◌, ◌<◌, ◌^◌, ◌==◌, ◌&&◌, not, max, min, if◌then◌else◌, nat_lt, Bool, true, false, List, [], ◌∷◌, ◌++◌, arith, refl, sym, ap, ◌∙◌}
 use Rattle.std.proofs.lemmas.Bool.Decides.{nat_tests}
 use Rattle.pie_controller.specs.declared.verdict.Arrival.{Arrival}
+use Rattle.pie_controller.specs.declared.verdict.Verdict.{Verdict}
 use Rattle.pie_controller.specs.Calls.{Arrive, Depart, Pass, shown_by}
 use Rattle.pie_controller.specs.Events.{ControllerEvent, Opened}
 use Rattle.pie_controller.specs.Held.{Held}
@@ -136,12 +137,13 @@ module _ (s : PieState) (sound : is_sound s ≡ true) (o : Opened) (events : Lis
 
 -- at an active controller an arrival changes the moment and the accumulated probability alone, and neither it nor the verdict hangs on
 -- the moment
-pub active-arrival : (s : PieState) (a : Arrival) (moment : ℕ) → s.active ≡ 1
-    → record s { moment = max s.moment moment; accu = accu_left (held_in (record s { moment = max s.moment moment })) a }
-    ≡ with_arrival s (arrived (held_in s) a moment)
+pub active-arrival : (s : PieState) (a b : Arrival) (moment later accu : ℕ) (h : Held) → s.active ≡ 1 → later ≡ max s.moment moment
+    → h ≡ held_in (record s { moment = later }) → accu ≡ accu_left h a → a ≡ b
+    → record s { moment = later; accu = accu } ≡ with_arrival s (arrived (held_in s) b moment)
 unfolding held_in accu_left
-active-arrival s a moment active = rw active refl
+active-arrival s a b moment later accu h active at held left same = rw (left, held, at, same, active) refl
 
-pub verdict-later : (s : PieState) (moment : ℕ) (a : Arrival) → verdict (held_in (record s { moment = moment })) a ≡ verdict (held_in s) a
+pub active-verdict : (s : PieState) (a b : Arrival) (later : ℕ) (h : Held) (v : Verdict) → h ≡ held_in (record s { moment = later })
+    → v ≡ verdict h a → a ≡ b → v ≡ verdict (held_in s) b
 unfolding held_in verdict
-verdict-later s moment a = refl
+active-verdict s a b later h v held is same = rw (is, held, same) refl

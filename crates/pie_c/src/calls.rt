@@ -50,7 +50,8 @@ pub extern "C" fn pie_arrive(
     ensures shows { (opened : Opened) (events : List ControllerEvent) → is_sound state.old ≡ true → arrival_refusal queued size bits moment ≡ 0 → Shows opened events (held_in state.old)
         → Shows opened (events ++ shown_by (held_in state.old) (Arrive (arrival_of queued size room bits word) moment) ∷ []) (held_in state.new) }
 {
-    if room != 0 && state.active == 1 {
+    let is_usual = room != 0 && state.active == 1;
+    if is_usual {
         arrive_active(state, queued, size, room, bits, word, moment)
     } else {
         arrive(state, queued, size, room, bits, word, moment)

@@ -65,16 +65,7 @@ fn is_considered(params: &RawParams, control: &RawControl, bytes: u64) -> bool
 {
     control.burst == 0
         && params.mean_pkt < half(bytes)
-        && !(is_short(control.old_delay, params.target) && control.prob < LOW_PROB)
-}
-
-/// Whether a delay is below half the target.
-#[inline(always)]
-#[tactic(auto, using(std::proofs::lemmas::Bool::Decides::nat_tests))]
-fn is_short(delay: u64, target: u64) -> bool
-    ensures { result ≡ nat_lt (2 * delay) target }
-{
-    delay < target && delay < target - delay
+        && !(control.old_delay < half(params.target) && control.prob < LOW_PROB)
 }
 
 /// Half of a number, rounded up: what is below it is below that number when doubled, and nothing here overflows.

@@ -135,15 +135,34 @@ module _ (s : PieState) (sound : is_sound s ≡ true) (o : Opened) (events : Lis
   pub passed-shows : (moment : ℕ) → Shows o (events ++ shown_by (held_in s) (Pass moment) ∷ []) (held_in (record s { moment = max s.moment moment }))
   passed-shows moment = moved _ _ _ _ (ap held_in (passed-state s moment sound) ∙ held-state _) (Shows-pass o events (held_in s) shows moment)
 
--- at an active controller an arrival changes the moment and the accumulated probability alone, and neither it nor the verdict hangs on
--- the moment
-pub active-arrival : (s : PieState) (a b : Arrival) (moment later accu : ℕ) (h : Held) → s.active ≡ 1 → later ≡ max s.moment moment
-    → h ≡ held_in (record s { moment = later }) → accu ≡ accu_left h a → a ≡ b
-    → record s { moment = later; accu = accu } ≡ with_arrival s (arrived (held_in s) b moment)
-unfolding held_in accu_left
-active-arrival s a b moment later accu h active at held left same = rw (left, held, at, same, active) refl
+-- an arrival at a state that has its moment already
+arrived-later : (s : PieState) (a : Arrival) (moment later : ℕ) → later ≡ max s.moment moment
+    → arrived (held_in (record s { moment = later })) a later ≡ arrived (held_in s) a moment
+unfolding held_in accu_left verdict
+arrived-later s a moment later at =
+    let same : max later later ≡ later = grind arith in
+    rw (same, at) refl
 
-pub active-verdict : (s : PieState) (a b : Arrival) (later : ℕ) (h : Held) (v : Verdict) → h ≡ held_in (record s { moment = later })
+pub kept-later : (s : PieState) (a b : Arrival) (moment later : ℕ) (h g : Held) → later ≡ max s.moment moment → h ≡ held_in (record s { moment = later })
+    → g ≡ arrived h a later → a ≡ b → with_arrival (record s { moment = later }) g ≡ with_arrival s (arrived (held_in s) b moment)
+kept-later s a b moment later h g at held after same =
+    let is : g ≡ arrived (held_in s) b moment = rw (after, held, same) (arrived-later s b moment later at) in
+    rw is refl
+
+arrived-moment : (h : Held) (a : Arrival) (moment : ℕ) → (arrived h a moment).moment ≡ max h.moment moment
+arrived-moment h a moment = by (turns_on h (bytes_with (verdict h a) a.queued a.size))
+  where
+    by : (on : Bool) → (if on then record (anew (judged h a moment)) { active = true } else judged h a moment).moment ≡ max h.moment moment
+    by true = refl
+    by false = refl
+
+pub moment-later : (s : PieState) (a : Arrival) (later : ℕ) (h g : Held) → h ≡ held_in (record s { moment = later }) → g ≡ arrived h a later → g.moment ≡ later
+unfolding held_in
+moment-later s a later h g held after =
+    let most : max later later ≡ later = grind arith in
+    ap (λ (k : Held). k.moment) after ∙ arrived-moment h a later ∙ ap (λ (k : Held). max k.moment later) held ∙ most
+
+pub verdict-later : (s : PieState) (a b : Arrival) (later : ℕ) (h : Held) (v : Verdict) → h ≡ held_in (record s { moment = later })
     → v ≡ verdict h a → a ≡ b → v ≡ verdict (held_in s) b
 unfolding held_in verdict
-active-verdict s a b later h v held is same = rw (is, held, same) refl
+verdict-later s a b later h v held is same = rw (is, held, same) refl

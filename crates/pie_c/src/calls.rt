@@ -50,64 +50,18 @@ pub extern "C" fn pie_arrive(
     ensures shows { (opened : Opened) (events : List ControllerEvent) → is_sound state.old ≡ true → arrival_refusal queued size bits moment ≡ 0 → Shows opened events (held_in state.old)
         → Shows opened (events ++ shown_by (held_in state.old) (Arrive (arrival_of queued size room bits word) moment) ∷ []) (held_in state.new) }
 {
+    // One number: the other way is then compiled once, and is a jump.
     let is_usual = room != 0 && state.active == 1;
     if is_usual {
-        arrive_active(state, queued, size, room, bits, word, moment)
-    } else {
         arrive(state, queued, size, room, bits, word, moment)
+    } else {
+        arrive_apart(state, queued, size, room, bits, word, moment)
     }
 }
 
-/// The same at an active controller, which no arrival turns on: the moment is written first, and of all else the accumulated
-/// probability alone.
+/// The same, to be compiled where it is called: where the controller is known to be active and the ring to have room, there is nothing
+/// of turning it on, nor of a full ring. The moment is written first, so that no register holds it from then on.
 #[inline(always)]
-#[tactic(auto, unfolding(crate::specs::Calls::arrival_refusal))]
-fn arrive_active(
-    state: &mut PieState,
-    queued: u64,
-    size: u32,
-    room: u32,
-    bits: u32,
-    word: u64,
-    moment: u64,
-) -> u32
-    requires { state.now.active ≡ 1 }
-    ensures answer { result ≡ unless_refused (arrival_refusal queued size bits moment) (verdict_number (verdict (held_in state.old) (arrival_of queued size room bits word))) }
-    ensures fields { state.new ≡ if_taken (arrival_refusal queued size bits moment) state.old (with_arrival state.old (arrived (held_in state.old) (arrival_of queued size room bits word) moment)) }
-
-    // a sound state: it is then what the controller holds, in every field
-    ensures after { is_sound state.old ≡ true → state.new ≡ kept_if_refused (arrival_refusal queued size bits moment) state.old (after_call (held_in state.old) (Arrive (arrival_of queued size room bits word) moment)) }
-    ensures sound { is_sound state.old ≡ true → is_sound state.new ≡ true }
-    ensures shows { (opened : Opened) (events : List ControllerEvent) → is_sound state.old ≡ true → arrival_refusal queued size bits moment ≡ 0 → Shows opened events (held_in state.old)
-        → Shows opened (events ++ shown_by (held_in state.old) (Arrive (arrival_of queued size room bits word) moment) ∷ []) (held_in state.new) }
-{
-    if moment > MAX_NANOS {
-        return BAD_MOMENT;
-    }
-    if is_bad_size(size) {
-        return BAD_SIZE;
-    }
-    let Some(ecn) = ecn(bits) else {
-        return BAD_ECN;
-    };
-    if queued > MAX_QUEUED {
-        return BAD_QUEUE;
-    }
-    let arrival = Arrival {
-        queued,
-        is_full: room == 0,
-        size,
-        ecn,
-        word,
-    };
-    state.moment = state.moment.max(moment);
-    let (verdict, accu) = raw(state).judge(arrival);
-    state.accu = accu;
-    of_verdict(verdict)
-}
-
-/// The same at any controller. A function of its own: what it takes costs the others nothing then.
-#[inline(never)]
 #[tactic(auto, unfolding(crate::specs::Calls::arrival_refusal))]
 fn arrive(
     state: &mut PieState,
@@ -146,10 +100,34 @@ fn arrive(
         ecn,
         word,
     };
+    state.moment = state.moment.max(moment);
     let mut held = raw(state);
-    let verdict = held.arrive(arrival, moment);
+    let verdict = held.arrive(arrival, state.moment);
     state.keep_arrived(&held);
     of_verdict(verdict)
+}
+
+/// The same as a function of its own: the registers that turning on takes cost an active controller nothing then.
+#[inline(never)]
+fn arrive_apart(
+    state: &mut PieState,
+    queued: u64,
+    size: u32,
+    room: u32,
+    bits: u32,
+    word: u64,
+    moment: u64,
+) -> u32
+    ensures answer { result ≡ unless_refused (arrival_refusal queued size bits moment) (verdict_number (verdict (held_in state.old) (arrival_of queued size room bits word))) }
+    ensures fields { state.new ≡ if_taken (arrival_refusal queued size bits moment) state.old (with_arrival state.old (arrived (held_in state.old) (arrival_of queued size room bits word) moment)) }
+
+    // a sound state: it is then what the controller holds, in every field
+    ensures after { is_sound state.old ≡ true → state.new ≡ kept_if_refused (arrival_refusal queued size bits moment) state.old (after_call (held_in state.old) (Arrive (arrival_of queued size room bits word) moment)) }
+    ensures sound { is_sound state.old ≡ true → is_sound state.new ≡ true }
+    ensures shows { (opened : Opened) (events : List ControllerEvent) → is_sound state.old ≡ true → arrival_refusal queued size bits moment ≡ 0 → Shows opened events (held_in state.old)
+        → Shows opened (events ++ shown_by (held_in state.old) (Arrive (arrival_of queued size room bits word) moment) ∷ []) (held_in state.new) }
+{
+    arrive(state, queued, size, room, bits, word, moment)
 }
 
 /// Takes in a packet that left the queue, with `left` bytes after it (RFC 8033, section 5.2). An inactive controller takes in the

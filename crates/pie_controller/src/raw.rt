@@ -69,11 +69,10 @@ impl RawController {
     }
 
     /// The verdict on an arriving packet, and the accumulated probability after it: tail drop by bytes, then by packets, before all
-    /// else, and then early drop, while the controller is active (RFC 8033, sections 4.1, 5.1, 5.4 and Appendix A). Of an active one
-    /// [`RawController::arrive`] changes that and the moment alone.
+    /// else, and then early drop, while the controller is active (RFC 8033, sections 4.1, 5.1, 5.4 and Appendix A).
     #[inline(always)]
     #[tactic(auto, unfolding(crate::specs::Steps::verdict, crate::specs::Steps::accu_left))]
-    pub fn judge(&self, arrival: Arrival) -> (Verdict, u64)
+    fn judge(&self, arrival: Arrival) -> (Verdict, u64)
         requires { arrival.queued ≤ 2 ^ 30 }
         ensures verdict { result.0 ≡ verdict (held_by self.now) arrival }
         ensures accu { result.1 ≡ accu_left (held_by self.now) arrival }

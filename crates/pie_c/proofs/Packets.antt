@@ -3,11 +3,12 @@ use Rattle.std.proofs.Common.{◌≡◌, ℕ, ◌+◌, ◌≤◌, ◌<◌, ◌^�
 use Rattle.std.proofs.lemmas.Bool.{eqb-true}
 use Rattle.std.proofs.lemmas.Bool.Decides.{nat_tests}
 use Rattle.pie_controller.specs.declared.verdict.Arrival.{Arrival}
+use Rattle.pie_controller.specs.declared.verdict.Verdict.{Verdict}
 use Rattle.pie_controller.specs.Calls.{Call, Depart, IsTaken, after_call, shown_by}
 use Rattle.pie_controller.specs.Events.{ControllerEvent, Opened}
 use Rattle.pie_controller.specs.Held.{Held}
 use Rattle.pie_controller.specs.History.{Shows}
-use Rattle.pie_controller.specs.Steps.{anew, arrived, bytes_with, capped, departed, judged, passed, turns_on, verdict}
+use Rattle.pie_controller.specs.Steps.{anew, accu_left, arrived, bytes_with, capped, departed, judged, passed, turns_on, verdict}
 use Rattle.pie_controller.proofs.InRange.{params-hold}
 use Rattle.pie_controller.proofs.Laws.{Shows_call, moved}
 use Rattle.pie_controller.proofs.Sounds.{Sound_call}
@@ -132,3 +133,35 @@ unmeasured-state s size left moment active measuring few =
 pub passed-state : (s : PieState) (moment : ℕ) → is_sound s ≡ true → record s { moment = max s.moment moment } ≡ state_of (passed (held_in s) moment)
 unfolding held_in
 passed-state s moment sound = kept-moment s (passed (held_in s) moment) sound refl
+
+-- an arrival at a state that has its moment already
+arrived-later : (s : PieState) (a : Arrival) (moment later : ℕ) → later ≡ max s.moment moment
+    → arrived (held_in (record s { moment = later })) a later ≡ arrived (held_in s) a moment
+unfolding held_in accu_left verdict
+arrived-later s a moment later at =
+    let same : max later later ≡ later = grind arith in
+    rw (same, at) refl
+
+pub kept-later : (s : PieState) (a b : Arrival) (moment later : ℕ) (h g : Held) → later ≡ max s.moment moment → h ≡ held_in (record s { moment = later })
+    → g ≡ arrived h a later → a ≡ b → with_arrival (record s { moment = later }) g ≡ with_arrival s (arrived (held_in s) b moment)
+kept-later s a b moment later h g at held after same =
+    let is : g ≡ arrived (held_in s) b moment = rw (after, held, same) (arrived-later s b moment later at) in
+    rw is refl
+
+arrived-moment : (h : Held) (a : Arrival) (moment : ℕ) → (arrived h a moment).moment ≡ max h.moment moment
+arrived-moment h a moment = by (turns_on h (bytes_with (verdict h a) a.queued a.size))
+  where
+    by : (on : Bool) → (if on then record (anew (judged h a moment)) { active = true } else judged h a moment).moment ≡ max h.moment moment
+    by true = refl
+    by false = refl
+
+pub moment-later : (s : PieState) (a : Arrival) (later : ℕ) (h g : Held) → h ≡ held_in (record s { moment = later }) → g ≡ arrived h a later → g.moment ≡ later
+unfolding held_in
+moment-later s a later h g held after =
+    let most : max later later ≡ later = grind arith in
+    ap (λ (k : Held). k.moment) after ∙ arrived-moment h a later ∙ ap (λ (k : Held). max k.moment later) held ∙ most
+
+pub verdict-later : (s : PieState) (a b : Arrival) (later : ℕ) (h : Held) (v : Verdict) → h ≡ held_in (record s { moment = later })
+    → v ≡ verdict h a → a ≡ b → v ≡ verdict (held_in s) b
+unfolding held_in verdict
+verdict-later s a b later h v held is same = rw (is, held, same) refl

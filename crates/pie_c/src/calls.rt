@@ -50,14 +50,17 @@ pub extern "C" fn pie_arrive(
     ensures shows { (opened : Opened) (events : List ControllerEvent) → is_sound state.old ≡ true → arrival_refusal queued size bits moment ≡ 0 → Shows opened events (held_in state.old)
         → Shows opened (events ++ shown_by (held_in state.old) (Arrive (arrival_of queued size room bits word) moment) ∷ []) (held_in state.new) }
 {
-    if state.active == 1 {
+    // One number: the other way is then compiled once, and is a jump.
+    let is_usual = room != 0 && state.active == 1;
+    if is_usual {
         arrive(state, queued, size, room, bits, word, moment)
     } else {
-        arrive_apart(state, size, queued, room, bits, word, moment)
+        arrive_apart(state, queued, size, room, bits, word, moment)
     }
 }
 
-/// The same, to be compiled where it is called: where the controller is known to be active, there is nothing of turning it on.
+/// The same, to be compiled where it is called: where the controller is known to be active and the ring to have room, there is nothing
+/// of turning it on, nor of a full ring. The moment is written first, so that no register holds it from then on.
 #[inline(always)]
 #[tactic(auto, unfolding(crate::specs::Calls::arrival_refusal))]
 fn arrive(
@@ -97,8 +100,9 @@ fn arrive(
         ecn,
         word,
     };
+    state.moment = state.moment.max(moment);
     let mut held = raw(state);
-    let verdict = held.arrive(arrival, moment);
+    let verdict = held.arrive(arrival, state.moment);
     state.keep_arrived(&held);
     of_verdict(verdict)
 }
@@ -107,8 +111,8 @@ fn arrive(
 #[inline(never)]
 fn arrive_apart(
     state: &mut PieState,
-    size: u32,
     queued: u64,
+    size: u32,
     room: u32,
     bits: u32,
     word: u64,

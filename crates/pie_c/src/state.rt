@@ -60,16 +60,17 @@ impl PieState {
         self.active = u64::from(controller.is_active());
     }
 
-    /// What an arrival changes: the moment and the accumulated probability, and each register where it turned the controller on.
+    /// What an arrival changes beside the moment, which the state has: the accumulated probability, and each register where it turned
+    /// the controller on.
     #[inline(always)]
     pub(crate) fn keep_arrived(&mut self, held: &RawController)
+        requires { held.now.moment ≡ self.old.moment }
         ensures { self.new ≡ with_arrival self.old (held_by held.now) }
     {
         if held.active && self.active != 1 {
             self.keep_registers(held);
             return;
         }
-        self.moment = held.moment;
         self.accu = held.accu;
     }
 

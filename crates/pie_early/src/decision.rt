@@ -4,7 +4,7 @@ ghost use Rattle.pie_early.specs.Decision.{accu_after, choice_of, is_considered,
 
 use crate::early::{Choice, LOW_PROB, NEVER_PICKED};
 use pie_control::RawControl;
-use pie_fixed::{ALWAYS_PICKED, Prob, chosen};
+use pie_fixed::{ALWAYS_PICKED, picks};
 use pie_params::RawParams;
 use pie_queue::Ecn;
 
@@ -78,26 +78,25 @@ fn half(number: u64) -> u64
 }
 
 /// Whether a considered arrival is picked, at a probability which isn't 0 and that joins the accumulated one (RFC 8033, section
-/// 5.4). A sum that stops at the greatest number is above 8.5 as the whole sum is.
+/// 5.4). A sum that no `u64` holds is above 8.5.
 #[inline(always)]
 #[tactic(auto, using(std::proofs::lemmas::Bool::Decides::nat_tests), unfolding(crate::specs::Decision::is_picked))]
 fn is_picked(prob: u64, accu: u64, word: u64) -> bool
     requires { 0 < prob }
     ensures { result ≡ is_picked prob (accu + prob) word }
 {
-    let sum = accu.saturating_add(prob);
+    let Some(sum) = accu.checked_add(prob) else {
+        return true;
+    };
     sum >= NEVER_PICKED && (sum >= ALWAYS_PICKED || is_chosen(prob, word))
 }
 
-/// Whether a random word picks a packet at a probability; above 1, every word does.
+/// Whether a random word picks a packet at a probability.
 #[inline(always)]
 fn is_chosen(prob: u64, word: u64) -> bool
     ensures { result ≡ nat_lt (word * 10 ^ 12) (prob * 2 ^ 64) }
 {
-    match Prob::from_units(prob) {
-        Some(prob) => chosen(prob, word),
-        None => true,
-    }
+    picks(prob, word)
 }
 
 /// What becomes of a picked packet (RFC 8033, section 5.1).

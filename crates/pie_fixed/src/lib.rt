@@ -4,8 +4,8 @@
 //! RFC 8033 leaves arithmetic to the implementer. The scales and the roundings here are this
 //! project's own. There is no floating point.
 //!
-//! Each type keeps its range: `from_units` answers a value exactly within it. `chosen` is exactly
-//! `word * 10^12 < prob * 2^64`; `toward_zero`, `bounded` and `Accu::plus` are their formulas.
+//! Each type keeps its range: `from_units` answers a value exactly within it. `chosen` and
+//! `picks` are exactly `word * 10^12 < prob * 2^64`; `toward_zero`, `bounded` and `Accu::plus` are their formulas.
 #![tactic(auto)]
 
 ghost use Rattle.std.specs.Prelude.{◌≡◌, ◌<◌, ◌↔◌, IsTrue, int_div, pos};
@@ -38,7 +38,15 @@ pub const MAX_ACCU: u64 = 9_500_000_000_000;
 pub fn chosen(prob: Prob, word: u64) -> bool
     ensures { IsTrue result ↔ Picks prob word }
 {
-    u128::from(word) * u128::from(ONE) < u128::from(prob.units()) << 64
+    picks(prob.units(), word)
+}
+
+/// The same at a number of units of `10^-12` that may be above [`ONE`], at which every word picks.
+#[inline(always)]
+pub fn picks(units: u64, word: u64) -> bool
+    ensures { IsTrue result ↔ Picks units word }
+{
+    u128::from(word) * u128::from(ONE) < u128::from(units) << 64
 }
 
 /// The quotient by a divisor of at least 1, rounded toward zero (this project's own rounding).

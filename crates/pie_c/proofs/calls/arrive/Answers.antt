@@ -1,21 +1,48 @@
-use Rattle.std.proofs.Common.{◌≡◌, ◌≤◌, ◌∙◌, sym, arith, rules}
+use Rattle.std.proofs.Common.{◌≡◌, ◌≤◌, ◌==◌, ◌∙◌, sym, ap, arith}
 use Rattle.std.proofs.lemmas.Bool.Decides.{nat_tests}
+use Rattle.pie_queue.specs.declared.ecn.Ecn.{Ecn}
+use Rattle.pie_controller.specs.declared.verdict.Arrival.{Arrival}
 use Rattle.pie_controller.specs.Calls.{Arrive}
-use Rattle.pie_controller.specs.Steps.{arrived}
+use Rattle.pie_controller.specs.Steps.{arrived, verdict}
 use Rattle.pie_c.specs.declared.state.PieState.{PieState}
-use Rattle.pie_c.specs.Calls.{arrival_of, arrival_refusal}
+use Rattle.pie_c.specs.Calls.{arrival_of, arrival_refusal, verdict_number}
 use Rattle.pie_c.specs.State.{held_in, with_arrival}
-use Rattle.pie_c.proofs.Packets.{arrival-taken, arrived-state, handed, shows-call, stays-sound}
+use Rattle.pie_c.proofs.Packets.{arrival-taken, arrived-state, handed, kept-later, moment-later, shows-call, stays-sound, verdict-later}
 use Rattle.pie_c.proofs.calls.arrive.Goals as goal
+use Rattle.pie_c.proofs.calls.arrive.Goals.{After-of_verdict}
+
+module _ (c : After-of_verdict) where
+  abbrev state : PieState
+  state = c.args.state.now
+
+  abbrev arrival : Arrival
+  arrival = arrival_of c.args.queued c.args.size c.args.room c.args.bits c.args.word
+
+  abbrev with_ecn : Ecn → Arrival
+  with_ecn ecn = record { queued = c.args.queued; is_full = c.args.room == 0; size = c.args.size; ecn = ecn; word = c.args.word }
+
+  taken : arrival_refusal c.args.queued c.args.size c.args.bits c.args.moment ≡ 0
+  taken =
+      let known : c.args.bits ≤ 3 = grind (c.in-Some.ensures.two, arith, nat_tests) in
+      arrival-taken c.args.queued c.args.size c.args.bits c.args.moment (omega arith) (sym c.is_bad_size.ensures ∙ c.if-is_bad_size.false) known (omega arith)
+
+  left : c.keep_arrived.new.self ≡ with_arrival state (arrived (held_in state) arrival c.args.moment)
+  left = c.keep_arrived.ensures ∙ kept-later state _ _ c.args.moment _ _ _ c.max-state.ensures c.raw-held.ensures c.arrive-verdict.ensures.after (ap with_ecn c.in-Some.ensures.value)
+
+  decided : c.arrive-verdict.result ≡ verdict (held_in state) arrival
+  decided = verdict-later state _ _ c.max-state.result _ _ c.raw-held.ensures c.arrive-verdict.ensures.verdict (ap with_ecn c.in-Some.ensures.value)
+
+pub keep_arrived-requires : goal.keep_arrived-requires
+keep_arrived-requires c = moment-later c.args.state.now _ c.max-state.result _ _ c.raw-held.ensures c.arrive-verdict.ensures.after
+
+pub returns-clause-answer : goal.returns-clause-answer
+returns-clause-answer c = rw (taken c) (c.of_verdict.ensures ∙ ap verdict_number (decided c))
+
+pub returns-clause-fields : goal.returns-clause-fields
+returns-clause-fields c = rw (taken c) (left c)
 
 pub returns-clause-after : goal.returns-clause-after
-returns-clause-after c sound =
-    let a = c.args in
-    let state : PieState = a.state.now in
-    let left : c.keep_arrived.new.self ≡ with_arrival state (arrived (held_in state) (arrival_of a.queued a.size a.room a.bits a.word) a.moment) = search rules in
-    let known : a.bits ≤ 3 = grind (c.in-Some.ensures.two, arith, nat_tests) in
-    rw (arrival-taken a.queued a.size a.bits a.moment (omega arith) (sym c.is_bad_size.ensures ∙ c.if-is_bad_size.false) known (omega arith))
-    (left ∙ arrived-state state (arrival_of a.queued a.size a.room a.bits a.word) a.moment sound)
+returns-clause-after c sound = rw (taken c) (left c ∙ arrived-state (state c) (arrival c) c.args.moment sound)
 
 pub returns-clause-sound : goal.returns-clause-sound
 unfolding arrival_refusal

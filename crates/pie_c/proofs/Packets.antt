@@ -135,6 +135,9 @@ unfolding held_in
 passed-state s moment sound = kept-moment s (passed (held_in s) moment) sound refl
 
 -- an arrival at a state that has its moment already
+abbrev pub at_later : PieState → ℕ → PieState
+at_later s moment = record s { moment = max s.moment moment }
+
 arrived-later : (s : PieState) (a : Arrival) (moment later : ℕ) → later ≡ max s.moment moment
     → arrived (held_in (record s { moment = later })) a later ≡ arrived (held_in s) a moment
 unfolding held_in accu_left verdict
@@ -142,11 +145,11 @@ arrived-later s a moment later at =
     let same : max later later ≡ later = grind arith in
     rw (same, at) refl
 
-pub kept-later : (s : PieState) (a b : Arrival) (moment later : ℕ) (h g : Held) → later ≡ max s.moment moment → h ≡ held_in (record s { moment = later })
-    → g ≡ arrived h a later → a ≡ b → with_arrival (record s { moment = later }) g ≡ with_arrival s (arrived (held_in s) b moment)
-kept-later s a b moment later h g at held after same =
-    let is : g ≡ arrived (held_in s) b moment = rw (after, held, same) (arrived-later s b moment later at) in
-    rw is refl
+pub kept-later : (s t : PieState) (a b : Arrival) (moment : ℕ) (h g : Held) → t ≡ at_later s moment → h ≡ held_in t → g ≡ arrived h a t.moment → a ≡ b
+    → with_arrival t g ≡ with_arrival s (arrived (held_in s) b moment)
+kept-later s t a b moment h g at held after same =
+    let is : g ≡ arrived (held_in s) b moment = rw (after, held, same, at) (arrived-later s b moment (max s.moment moment) refl) in
+    rw (is, at) refl
 
 arrived-moment : (h : Held) (a : Arrival) (moment : ℕ) → (arrived h a moment).moment ≡ max h.moment moment
 arrived-moment h a moment = by (turns_on h (bytes_with (verdict h a) a.queued a.size))
@@ -155,13 +158,13 @@ arrived-moment h a moment = by (turns_on h (bytes_with (verdict h a) a.queued a.
     by true = refl
     by false = refl
 
-pub moment-later : (s : PieState) (a : Arrival) (later : ℕ) (h g : Held) → h ≡ held_in (record s { moment = later }) → g ≡ arrived h a later → g.moment ≡ later
+pub moment-later : (t : PieState) (a : Arrival) (h g : Held) → h ≡ held_in t → g ≡ arrived h a t.moment → g.moment ≡ t.moment
 unfolding held_in
-moment-later s a later h g held after =
-    let most : max later later ≡ later = grind arith in
-    ap (λ (k : Held). k.moment) after ∙ arrived-moment h a later ∙ ap (λ (k : Held). max k.moment later) held ∙ most
+moment-later t a h g held after =
+    let most : max t.moment t.moment ≡ t.moment = grind arith in
+    ap (λ (k : Held). k.moment) after ∙ arrived-moment h a t.moment ∙ ap (λ (k : Held). max k.moment t.moment) held ∙ most
 
-pub verdict-later : (s : PieState) (a b : Arrival) (later : ℕ) (h : Held) (v : Verdict) → h ≡ held_in (record s { moment = later })
-    → v ≡ verdict h a → a ≡ b → v ≡ verdict (held_in s) b
+pub verdict-later : (s t : PieState) (a b : Arrival) (moment : ℕ) (h : Held) (v : Verdict) → t ≡ at_later s moment → h ≡ held_in t → v ≡ verdict h a → a ≡ b
+    → v ≡ verdict (held_in s) b
 unfolding held_in verdict
-verdict-later s a b later h v held is same = rw (is, held, same) refl
+verdict-later s t a b moment h v at held is same = rw (is, held, same, at) refl

@@ -100,7 +100,7 @@ fn arrive(
         ecn,
         word,
     };
-    state.moment = state.moment.max(moment);
+    state.reach(moment);
     let mut held = raw(state);
     let verdict = held.arrive(arrival, state.moment);
     state.keep_arrived(&held);

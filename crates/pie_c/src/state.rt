@@ -60,6 +60,17 @@ impl PieState {
         self.active = u64::from(controller.is_active());
     }
 
+    /// Moves the moment to this one, where it is later. By a test, and not by the greater of both: where the processor foresees its
+    /// outcome, the next call waits for no earlier one.
+    #[inline(always)]
+    pub(crate) fn reach(&mut self, moment: u64)
+        ensures { self.new ≡ record self.old { moment = max self.old.moment moment } }
+    {
+        if moment > self.moment {
+            self.moment = moment;
+        }
+    }
+
     /// What an arrival changes beside the moment, which the state has: the accumulated probability, and each register where it turned
     /// the controller on.
     #[inline(always)]

@@ -27,13 +27,13 @@ module _ (c : After-of_verdict) where
       arrival-taken c.args.queued c.args.size c.args.bits c.args.moment (omega arith) (sym c.is_bad_size.ensures ∙ c.if-is_bad_size.false) known (omega arith)
 
   left : c.keep_arrived.new.self ≡ with_arrival state (arrived (held_in state) arrival c.args.moment)
-  left = c.keep_arrived.ensures ∙ kept-later state _ _ c.args.moment _ _ _ c.max-state.ensures c.raw-held.ensures c.arrive-verdict.ensures.after (ap with_ecn c.in-Some.ensures.value)
+  left = c.keep_arrived.ensures ∙ kept-later state _ _ _ c.args.moment _ _ c.reach.ensures c.raw-held.ensures c.arrive-verdict.ensures.after (ap with_ecn c.in-Some.ensures.value)
 
   decided : c.arrive-verdict.result ≡ verdict (held_in state) arrival
-  decided = verdict-later state _ _ c.max-state.result _ _ c.raw-held.ensures c.arrive-verdict.ensures.verdict (ap with_ecn c.in-Some.ensures.value)
+  decided = verdict-later state _ _ _ c.args.moment _ _ c.reach.ensures c.raw-held.ensures c.arrive-verdict.ensures.verdict (ap with_ecn c.in-Some.ensures.value)
 
 pub keep_arrived-requires : goal.keep_arrived-requires
-keep_arrived-requires c = moment-later c.args.state.now _ c.max-state.result _ _ c.raw-held.ensures c.arrive-verdict.ensures.after
+keep_arrived-requires c = moment-later c.reach.new.self _ _ _ c.raw-held.ensures c.arrive-verdict.ensures.after
 
 pub returns-clause-answer : goal.returns-clause-answer
 returns-clause-answer c = rw (taken c) (c.of_verdict.ensures ∙ ap verdict_number (decided c))

@@ -51,21 +51,28 @@ fn open_with(rt: &impl Print, alloc: Global) -> io::Result<()> {
     tell(rt, "Link::open_with", made)
 }
 
-/// A link with three events, and two callers.
-fn three_events(alloc: Global) -> Option<(Link, Caller, Caller)>
-    ensures { IfSome result (λ made. (made.1.lock ≡ made.0) × (made.2.lock ≡ made.0)) }
+/// A link for two callers.
+fn opened(alloc: Global) -> Result<(Link, Caller), LinkRefusal>
+    ensures { IfOk result (λ made. made.1.lock ≡ made.0) }
 {
-    let params = Params::default_profile();
-    let Ok((link, mut one)) = Link::open(alloc, limits(), params, 0, 2) else {
-        return None;
-    };
-    let Ok(two) = link.share(&mut one) else {
-        return None;
-    };
-    let _ = link.try_arrive(&mut one, 1, packet(1), 0);
-    let _ = link.try_depart(&mut one, 2);
-    let _ = link.try_depart(&mut one, 3);
-    Some((link, one, two))
+    Link::open(alloc, limits(), Params::default_profile(), 0, 2)
+}
+
+/// Another caller, and three events of the first.
+fn three_events(link: &Link, one: &mut Caller) -> Option<Caller>
+    requires own { one.old.lock ≡ link.now }
+    ensures one { one.new.lock ≡ link.now }
+    ensures two { IfSome result (λ two. two.lock ≡ link.now) }
+{
+    match link.share(one) {
+        Ok(two) => {
+            let _ = link.try_arrive(one, 1, packet(1), 0);
+            let _ = link.try_depart(one, 2);
+            let _ = link.try_depart(one, 3);
+            Some(two)
+        }
+        Err(_) => None,
+    }
 }
 
 /// What the book of a link holds, as another caller reads it; nothing where the lock is not free.
@@ -90,16 +97,27 @@ fn count(link: &Link, caller: &mut Caller) -> u64
     }
 }
 
+/// An event of each of two callers, and how many events one of them then reads.
+fn arrive_and_depart(link: &Link, one: &mut Caller, two: &mut Caller) -> (bool, bool, u64)
+    requires own { (one.old.lock ≡ link.now) × (two.old.lock ≡ link.now) }
+    ensures { (one.new.lock ≡ link.now) × (two.new.lock ≡ link.now) }
+{
+    let arrived = link.try_arrive(two, 9, packet(9), 0).is_ok();
+    let left = link.try_depart(one, 9).is_ok();
+    (arrived, left, count(link, two))
+}
+
 /// Two callers' events, and what a caller reads, make no request for memory.
 fn events(rt: &impl Print, alloc: Global) -> io::Result<()> {
-    let Some((link, mut one, mut two)) = three_events(alloc) else {
+    let Ok((link, mut one)) = opened(alloc) else {
         return println!(rt; "Link::try_arrive: there is no link");
+    };
+    let Some(mut two) = three_events(&link, &mut one) else {
+        return println!(rt; "Link::try_arrive: there is no caller");
     };
     // (without `?`, beside which the link would be let go)
     let begun = begin(rt, "Link::try_arrive");
-    let arrived = link.try_arrive(&mut two, 9, packet(9), 0).is_ok();
-    let left = link.try_depart(&mut one, 9).is_ok();
-    let count = count(&link, &mut two);
+    let (arrived, left, count) = arrive_and_depart(&link, &mut one, &mut two);
     let closed = link.gather(&mut one, two).is_ok() && link.close(one).is_ok();
     begun?;
     println!(rt; "Link::try_arrive: {arrived} {left}, {count} events, {closed}")
@@ -173,7 +191,7 @@ fn tell_folds(
 }
 
 /// A fold of one caller that never blocks, and what the other finds.
-fn try_fold_at(rt: &impl Print, link: &Link, one: &mut Caller, two: &mut Caller) -> io::Result<()>
+fn try_fold_by(rt: &impl Print, link: &Link, one: &mut Caller, two: &mut Caller) -> io::Result<()>
     requires one { one.old.lock ≡ link.now }
     requires two { two.old.lock ≡ link.now }
 {
@@ -183,15 +201,25 @@ fn try_fold_at(rt: &impl Print, link: &Link, one: &mut Caller, two: &mut Caller)
     tell_folds(rt, "Link::try_fold", link, two, before, folded)
 }
 
+/// It, at a link where one caller made three events.
+fn try_fold_at(rt: &impl Print, link: &Link, one: &mut Caller) -> io::Result<()>
+    requires own { one.old.lock ≡ link.now }
+{
+    match three_events(link, one) {
+        Some(mut two) => try_fold_by(rt, link, one, &mut two),
+        None => println!(rt; "Link::try_fold: there is no caller"),
+    }
+}
+
 fn try_fold(rt: &impl Print, alloc: Global) -> io::Result<()> {
-    match three_events(alloc) {
-        Some((link, mut one, mut two)) => try_fold_at(rt, &link, &mut one, &mut two),
-        None => println!(rt; "Link::try_fold: there is no link"),
+    match opened(alloc) {
+        Ok((link, mut one)) => try_fold_at(rt, &link, &mut one),
+        Err(_) => println!(rt; "Link::try_fold: there is no link"),
     }
 }
 
 /// A fold of one caller that waits for the book, and what the other finds.
-fn fold_at<R: Wait + Print>(
+fn fold_by<R: Wait + Print>(
     rt: &R,
     link: &Link,
     one: &mut Caller,
@@ -206,9 +234,19 @@ fn fold_at<R: Wait + Print>(
     tell_folds(rt, "Link::fold", link, two, before, folded)
 }
 
+/// It, at such a link.
+fn fold_at<R: Wait + Print>(rt: &R, link: &Link, one: &mut Caller) -> io::Result<()>
+    requires own { one.old.lock ≡ link.now }
+{
+    match three_events(link, one) {
+        Some(mut two) => fold_by(rt, link, one, &mut two),
+        None => println!(rt; "Link::fold: there is no caller"),
+    }
+}
+
 fn fold<R: Wait + Print>(rt: &R, alloc: Global) -> io::Result<()> {
-    match three_events(alloc) {
-        Some((link, mut one, mut two)) => fold_at(rt, &link, &mut one, &mut two),
-        None => println!(rt; "Link::fold: there is no link"),
+    match opened(alloc) {
+        Ok((link, mut one)) => fold_at(rt, &link, &mut one),
+        Err(_) => println!(rt; "Link::fold: there is no link"),
     }
 }

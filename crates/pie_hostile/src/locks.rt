@@ -1,6 +1,5 @@
 //! The lock, over a counter.
-ghost use Rattle.std.specs.Prelude.{◌≡◌, Some};
-ghost use Rattle.pie_lock.specs.Tally.{Tells};
+ghost use Rattle.std.specs.Prelude.{◌≡◌, Some, IfSome};
 
 use crate::report::begin;
 use pie_lock::{Counter, CounterEntry, Pass, RuledLock};
@@ -41,7 +40,39 @@ fn new(rt: &impl Print, alloc: Global) -> io::Result<()> {
     }
 }
 
-/// Adds 5 under a lock, closes it, and prints what the counter then holds.
+/// Adds 5 under a lock that is free; nothing where it is not.
+fn add_five(lock: &RuledLock<Counter>, pass: Pass<Counter>) -> Option<Pass<Counter>>
+    requires own { pass.lock ≡ lock.now }
+    requires origin { lock.now.origin ≡ Some tt }
+    ensures { IfSome result (λ pass. pass.lock ≡ lock.now) }
+{
+    let caller = pass.first();
+    match lock.try_take(pass) {
+        Ok(mut held) => {
+            let entry = if held.state().add(5) {
+                Some(CounterEntry { caller, amount: 5 })
+            } else {
+                None
+            };
+            Some(lock.put(held, entry))
+        }
+        Err(_) => None,
+    }
+}
+
+/// Adds 5 under a lock, closes it, and answers what the counter then holds; nothing where it is held.
+fn sums(lock: RuledLock<Counter>, pass: Pass<Counter>) -> Option<(u64, u64)>
+    requires own { pass.lock ≡ lock }
+    requires origin { lock.origin ≡ Some tt }
+{
+    let pass = add_five(&lock, pass)?;
+    let Ok(counter) = lock.close(pass) else {
+        return None;
+    };
+    Some((counter.count(), counter.total()))
+}
+
+/// Prints what the counter of a lock holds after it.
 fn tell(
     rt: &impl Print,
     name: &str,
@@ -51,19 +82,8 @@ fn tell(
     requires own { pass.lock ≡ lock }
     requires origin { lock.origin ≡ Some tt }
 {
-    let caller = pass.first();
-    let Ok(mut held) = lock.try_take(pass) else {
-        return println!(rt; "{name}: the state is held");
-    };
-    let entry = if held.state().add(5) {
-        Some(CounterEntry { caller, amount: 5 })
-    } else {
-        None
-    };
-    let pass = lock.put(held, entry);
-    let Ok(counter) = lock.close(pass) else {
-        return println!(rt; "{name}: the state is held");
-    };
-    let (count, total) = (counter.count(), counter.total());
-    println!(rt; "{name}: count {count}, total {total}")
+    match sums(lock, pass) {
+        Some((count, total)) => println!(rt; "{name}: count {count}, total {total}"),
+        None => println!(rt; "{name}: the state is held"),
+    }
 }

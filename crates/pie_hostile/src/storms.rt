@@ -17,28 +17,42 @@ pub(crate) fn all<R: Threads + Wait + Print + Sync>(rt: &R, alloc: Global) -> io
     }
 }
 
+/// A list of one item.
+fn one<T: Drop>(alloc: Global, item: T) -> Result<Vec<T>, AllocError> {
+    let mut list = Vec::new(alloc);
+    list.push(item)?;
+    Ok(list)
+}
+
 /// One packet of a sender.
 fn arrival(alloc: Global, moment: u64) -> Result<Vec<Arrival>, AllocError> {
-    let one = Arrival {
+    let sent = Arrival {
         moment,
         packet: packet(moment),
         word: 0,
     };
-    Ok(vec![in alloc; one]?)
+    one(alloc, sent)
 }
 
-/// Two senders with a packet each, a departure, an update, a change and a fold.
+/// Two senders with a packet each.
+fn arrivals(alloc: Global) -> Result<Vec<Vec<Arrival>>, AllocError> {
+    let mut lists = one(alloc, arrival(alloc, 1)?)?;
+    lists.push(arrival(alloc, 2)?)?;
+    Ok(lists)
+}
+
+/// They, a departure, an update, a change and a fold.
 fn plan(alloc: Global) -> Result<Plan, AllocError> {
     let params = Params::default_profile();
     Ok(Plan {
         limits: limits(),
         params,
         moment: 0,
-        arrivals: vec![in alloc; arrival(alloc, 1)?, arrival(alloc, 2)?]?,
-        departs: vec![in alloc; 3]?,
-        updates: vec![in alloc; 15_000_000]?,
-        changes: vec![in alloc; Change { moment: 4, params }]?,
-        folds: vec![in alloc; 1]?,
+        arrivals: arrivals(alloc)?,
+        departs: one(alloc, 3)?,
+        updates: one(alloc, 15_000_000)?,
+        changes: one(alloc, Change { moment: 4, params })?,
+        folds: one(alloc, 1)?,
     })
 }
 

@@ -1,7 +1,8 @@
 //! The row of marks, drops and a lone enqueue, event by event: through a core alone, and through a book that folds as it goes.
 
-use pie_book::{Book, Core, Event, Opening};
-use pie_trace::{HistoryLines, Line};
+use crate::history::next_event;
+use pie_book::{Answer, Book, Core, Event, Opening, Refusal};
+use pie_trace::HistoryLines;
 use std::alloc::Global;
 use std::io;
 
@@ -41,18 +42,14 @@ pub(crate) fn all(rt: &impl Print, alloc: Global) -> io::Result<()> {
     }
 }
 
-/// The next event of the row.
-fn next(lines: &mut Lines) -> Option<Event> {
-    match lines.next_line() {
-        Ok(Some(Line::Made(event))) => Some(event),
-        Ok(_) => None,
-        Err(_) => None,
-    }
+/// What a core answers to the command of an event.
+fn apply(core: &mut Core, event: &Event) -> Result<Answer, Refusal> {
+    core.step(event.caller, event.command)
 }
 
 /// Prints what a core answers to the command of an event, and what it holds then.
 fn step(rt: &impl Print, core: &mut Core, event: &Event) -> io::Result<()> {
-    let answer = core.step(event.caller, event.command);
+    let answer = apply(core, event);
     let registers = core.registers();
     println!(rt; "Core::step: {answer:?}, {registers:?}")
 }
@@ -60,7 +57,7 @@ fn step(rt: &impl Print, core: &mut Core, event: &Event) -> io::Result<()> {
 /// The row through a core alone.
 fn steps(rt: &impl Print, lines: &mut Lines, core: &mut Core) -> io::Result<()> {
     for _ in 0..EVENTS {
-        match next(lines) {
+        match next_event(lines) {
             Some(event) => step(rt, core, &event)?,
             None => println!(rt; "Core::step: there is no event")?,
         }
@@ -85,7 +82,7 @@ fn core(rt: &impl Print, alloc: Global, lines: &mut Lines, opening: &Opening) ->
 /// Lets a core make these events.
 fn make(core: &mut Core, events: &[Event]) {
     for event in events {
-        let _ = core.step(event.caller, event.command);
+        let _ = apply(core, event);
     }
 }
 
@@ -108,7 +105,7 @@ fn fold(alloc: Global, book: &mut Book, behind: &mut Core, count: u64) -> bool {
 fn checkpoints(alloc: Global, lines: &mut Lines, book: &mut Book, behind: &mut Core) -> u64 {
     let mut same: u64 = 0;
     for place in 0..EVENTS {
-        if let Some(event) = next(lines) {
+        if let Some(event) = next_event(lines) {
             let _ = book.apply(event.caller, event.command);
         }
         same = same.saturating_add(u64::from(fold(alloc, book, behind, place % 3)));

@@ -6,7 +6,7 @@ _pie() {
     else
         case $subcommand in
             run | audit | migrate) words='--help' ;;
-            explain) words='--event --tag --lost --marked --all --from --to --csv --help' ;;
+            explain) words='--event --tag --lost --marked --all --from --to --summary --every --csv --help' ;;
             storm) words='--senders --packets --seed --load --count --help' ;;
             help) words='run audit explain migrate storm help' ;;
             *) words='' ;;

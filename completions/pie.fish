@@ -15,6 +15,8 @@ complete -c pie -n '__fish_seen_subcommand_from explain' -l marked -d 'each arri
 complete -c pie -n '__fish_seen_subcommand_from explain' -l all -d 'every event'
 complete -c pie -n '__fish_seen_subcommand_from explain' -l from -x -d 'only at this moment and later, such as 1.5ms'
 complete -c pie -n '__fish_seen_subcommand_from explain' -l to -x -d 'only at this moment and earlier'
+complete -c pie -n '__fish_seen_subcommand_from explain' -l summary -d 'sum up the chosen events'
+complete -c pie -n '__fish_seen_subcommand_from explain' -l every -x -d 'sum up the events of each period of this length'
 complete -c pie -n '__fish_seen_subcommand_from explain' -l csv -d 'write CSV in place of words'
 complete -c pie -n '__fish_seen_subcommand_from storm' -l senders -x -d 'how many senders, 2 to 8'
 complete -c pie -n '__fish_seen_subcommand_from storm' -l packets -x -d 'how many packets each sender has, 1 to 10000'

@@ -91,7 +91,7 @@ lost='11,arrive,2,1001003,1001003,6,500,early,picked_by_word_not_capable,2548,3,
 begins='1,arrive,1,0,0,1,1024,enqueue,low_delay,0,0,0,0,0,0,not,0,,1,,1024,1,0,0,0,0,1\n'
 changed=${history/ect0,0,mark/ect0,0,early}
 differs='pie: event 10 is not what the rules give there, so it and later events are not explained\n'
-choice='pie: explain takes exactly one of --event N, --tag T, --lost, --marked and --all; see pie explain --help\n'
+choice='pie: explain takes exactly one of --event N, --tag T, --lost, --marked and --all, or --summary; see pie explain --help\n'
 expect 'a lost packet' 0 "$header$lost" '' "$history" explain --csv --lost
 expect 'a tag' 0 "$header$lost" '' "$history" explain --tag 6 --csv
 expect 'no packet lost before a changed verdict' 2 "$header" "$differs" "$changed" explain --csv --lost
@@ -246,7 +246,7 @@ mistake "error: unexpected argument '--fast' found" storm --senders 3 --packets 
 mistake "error: unexpected argument 'more' found" storm --senders 3 --packets 10 --seed 7 more
 mistake "error: the argument '--seed <N>' cannot be used multiple times" storm --senders 3 --packets 10 --seed 7 --seed 8
 mistake "error: a value is required for '--tag <N>' but none was supplied" explain --csv --lost --all --event 1 --tag
-mistake 'pie: explain takes exactly one of --event N, --tag T, --lost, --marked and --all; see pie explain --help' explain --csv --lost --all --event 1 --tag 2
+mistake 'pie: explain takes exactly one of --event N, --tag T, --lost, --marked and --all, or --summary; see pie explain --help' explain --csv --lost --all --event 1 --tag 2
 mistake "error: unexpected argument 'ten' found" explain --csv --lost --all --event 1 --tag 2 ten
 mistake "error: unexpected argument '--twelve' found" explain --csv --lost --all --event 1 --tag 2 --twelve
 

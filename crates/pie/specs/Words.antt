@@ -24,13 +24,16 @@ flag_rule name = record (new_rule name) { long = Some name; action = Some SetTru
 abbrev pub text_rule : Text → Rule
 text_rule name = record (new_rule name) { long = Some name; value_names = 1 }
 
--- the subcommand `explain`: five options that choose events, two for their moments, and one for the form
+-- the subcommand `explain`: five options that choose events, two for their moments, and three for what is told of them
 abbrev pub choosing_app : App
 choosing_app = with_rule (with_rule (with_rule (with_rule (with_rule (new_app (codes "explain")) (number_rule (codes "event") 1 (2 ^ 64 - 1)))
     (number_rule (codes "tag") 0 (2 ^ 64 - 1))) (flag_rule (codes "lost"))) (flag_rule (codes "marked"))) (flag_rule (codes "all"))
 
+abbrev pub timed_app : App
+timed_app = with_rule (with_rule choosing_app (text_rule (codes "from"))) (text_rule (codes "to"))
+
 abbrev pub explain_app : App
-explain_app = with_rule (with_rule (with_rule choosing_app (text_rule (codes "from"))) (text_rule (codes "to"))) (flag_rule (codes "csv"))
+explain_app = with_rule (with_rule (with_rule timed_app (flag_rule (codes "summary"))) (text_rule (codes "every"))) (flag_rule (codes "csv"))
 
 -- the subcommand `storm`, whose options are four numbers, and one that asks for counts
 abbrev pub storm_app : App

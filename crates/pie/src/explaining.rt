@@ -1,7 +1,11 @@
 //! `pie explain`: which events the words choose, and how explaining them ends.
 ghost use Rattle.std.specs.Prelude.{◌≡◌, ◌≤◌, Err, IfSome};
 ghost use Rattle.clap.specs.Words.{found_of, rows_of};
-ghost use Rattle.pie.specs.Choice.{choice_of, chosen, form_of, moment_given, which_of};
+ghost use Rattle.std.specs.Io.KnownBytes.{Appends};
+ghost use Rattle.pie_record.specs.Text.{records_of};
+ghost use Rattle.pie_explain.specs.Answer.{IsTold, answer};
+ghost use Rattle.pie_explain.specs.Output.{output as output_of};
+ghost use Rattle.pie.specs.Choice.{choice_of, chosen, every_of, form_of, is_summary, lasts, moment_given, tale_by, which_of};
 ghost use Rattle.pie.specs.Ends.{EndsExplain, answer_status};
 
 use crate::command::fault;
@@ -9,22 +13,27 @@ use crate::end::{DIFFERS, DONE, FAULT};
 use crate::given::{flag, moment, number};
 use clap::ArgMatches;
 use pie_explain::{Choice, ExplainFault, Form, MomentFault, Which, explain};
+use pie_summary::Summary;
 use std::alloc::Global;
 use std::io::{Read, Write};
 
 /// What is said where the words don't choose events by exactly one option.
 const NO_CHOICE: &str =
-    "explain takes exactly one of --event N, --tag T, --lost, --marked and --all; see pie explain --help";
+    "explain takes exactly one of --event N, --tag T, --lost, --marked and --all, or --summary; see pie explain --help";
 
-/// The events that are chosen, where exactly one of the five options chooses some.
+/// What is said where a period has no length.
+const NO_PERIOD: &str = "--every: a period lasts at least 1 ns";
+
+/// The events that are chosen, where exactly one of the five options chooses some; a summary is of all where none does.
 fn chosen(
+    summary: bool,
     event: Option<u64>,
     tag: Option<u64>,
     lost: bool,
     marked: bool,
     all: bool,
 ) -> Option<Which>
-    ensures { result ≡ chosen event tag lost marked all }
+    ensures { result ≡ chosen summary event tag lost marked all }
 {
     match (event, tag, lost, marked, all) {
         (Some(event), None, false, false, false) => Some(Which::Number(event)),
@@ -32,7 +41,35 @@ fn chosen(
         (None, None, true, false, false) => Some(Which::Lost),
         (None, None, false, true, false) => Some(Which::Marked),
         (None, None, false, false, true) => Some(Which::All),
+        (None, None, false, false, false) => { if summary { Some(Which::All) } else { None } }
         _ => None,
+    }
+}
+
+/// The length of a period that these options want, where it can be read.
+fn every_of(options: &ArgMatches<'_>) -> Option<u64>
+    ensures { result ≡ every_of (rows_of (found_of options.now)) }
+{
+    match moment(options, "every") {
+        Ok(every) => every,
+        Err(_) => None,
+    }
+}
+
+/// Whether these options ask for summaries, of all chosen events or of each period.
+fn is_summary(options: &ArgMatches<'_>) -> bool
+    ensures { result ≡ is_summary (rows_of (found_of options.now)) }
+{
+    flag(options, "summary") || every_of(options).is_some()
+}
+
+/// Whether a period lasts some time.
+fn lasts(every: Option<u64>) -> bool
+    ensures { result ≡ lasts every }
+{
+    match every {
+        Some(every) => every != 0,
+        None => true,
     }
 }
 
@@ -43,7 +80,8 @@ fn which_of(options: &ArgMatches<'_>) -> Option<Which>
     let event = number(options, "event");
     let tag = number(options, "tag");
     let (lost, marked) = (flag(options, "lost"), flag(options, "marked"));
-    chosen(event, tag, lost, marked, flag(options, "all"))
+    let (all, summary) = (flag(options, "all"), is_summary(options));
+    chosen(summary, event, tag, lost, marked, all)
 }
 
 /// The moment that an option is given, with a line on `errors` where its text is none.
@@ -77,6 +115,13 @@ fn choice_of<E: Write>(options: &ArgMatches<'_>, errors: &mut E) -> Option<Choic
     let Ok(to) = moment_of(options, "to", errors) else {
         return None;
     };
+    let Ok(every) = moment_of(options, "every", errors) else {
+        return None;
+    };
+    if !lasts(every) {
+        let _ = fault(errors, NO_PERIOD);
+        return None;
+    }
     Some(Choice { which, from, to })
 }
 
@@ -88,6 +133,27 @@ fn form_of(options: &ArgMatches<'_>) -> Form
         Form::Csv
     } else {
         Form::Text
+    }
+}
+
+/// Writes what there is to say of the chosen events: of each, or summaries.
+fn tell<R: Read + Drop, W: Write>(
+    alloc: Global,
+    input: R,
+    output: &mut W,
+    choice: Choice,
+    summary: bool,
+    every: Option<u64>,
+    form: Form,
+) -> Result<u64, ExplainFault>
+    ensures answers { IfSome (R.remaining input) (λ text. IsTold result → result ≡ answer choice (records_of text)) }
+    ensures writes { IfSome (R.remaining input) (λ text. IsTold result
+        → Appends (W.contents output.old) (W.contents output.new) (output_of (tale_by summary every form) choice (records_of text))) }
+{
+    if summary {
+        explain(alloc, input, output, choice, Summary { form, every })
+    } else {
+        explain(alloc, input, output, choice, form)
     }
 }
 
@@ -133,6 +199,15 @@ pub(crate) fn explain_input<R: Read + Drop, W: Write, E: Write>(
     let Some(choice) = choice_of(options, errors) else {
         return FAULT;
     };
-    let given = explain(alloc, input, output, choice, form_of(options));
+    let (summary, every) = (is_summary(options), every_of(options));
+    let given = tell(
+        alloc,
+        input,
+        output,
+        choice,
+        summary,
+        every,
+        form_of(options),
+    );
     ended(errors, given)
 }

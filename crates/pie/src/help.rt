@@ -111,6 +111,13 @@ the event.
 With --from and --to only the chosen events are explained whose effective moments are within, both ends included. A moment is
 written as whole nanoseconds, or as a number with ns, us, ms or s: 1500000, 1500us, 1.5ms and 0.0015s are the same.
 
+With --summary the chosen events are summed up, all of them where no option chooses: what became of the arrivals and what
+decided them (by the words of the field cause), with their part of these arrivals; how long the packets had waited that left;
+the delays that updates took, and the probabilities after the events; and when the controller turned on and off. With --every
+there is such a summary of each period that has chosen events: with 100ms one of those before 100 ms, one of those from
+100 ms to before 200 ms, and so on. With --csv there is a header, and one record a summary. A summary is of the events before
+the first fault and the first event that differs.
+
 In words an event has some lines, with moments in milliseconds and probabilities in per cent, and the exact whole numbers in
 parentheses. With --csv there is a header, and then one record an event:
   number,kind,caller,moment,effective_moment,tag,size,verdict,cause,bytes,packets,delay,probability,

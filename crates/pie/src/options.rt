@@ -1,7 +1,7 @@
 //! The command line of `pie`.
 ghost use Rattle.std.specs.Prelude.{◌≡◌, IfOk, false};
 ghost use Rattle.clap.specs.Words.{app_of, new_app, rule_of};
-ghost use Rattle.pie.specs.Words.{choosing_app, explain_app, flag_rule, number_rule, pie_alone, pie_app, storm_app, text_rule};
+ghost use Rattle.pie.specs.Words.{choosing_app, explain_app, flag_rule, number_rule, pie_alone, pie_app, storm_app, text_rule, timed_app};
 
 use crate::help::{
     AUDIT_HELP, EXPLAIN_ABOUT, EXPLAIN_HELP, MIGRATE_ABOUT, MIGRATE_HELP, PIE_HELP, RUN_HELP,
@@ -92,9 +92,9 @@ fn choosing_command<'a>(alloc: Global) -> Result<Command<'a>, AllocError>
         .arg(all)
 }
 
-/// The subcommand `explain` and its options.
-fn explain_command<'a>(alloc: Global) -> Result<Command<'a>, AllocError>
-    ensures { IfOk result (λ explain. app_of explain ≡ explain_app) }
+/// .. and those for the moments of these events.
+fn timed_command<'a>(alloc: Global) -> Result<Command<'a>, AllocError>
+    ensures { IfOk result (λ timed. app_of timed ≡ timed_app) }
 {
     let from = text_option(
         alloc,
@@ -108,12 +108,30 @@ fn explain_command<'a>(alloc: Global) -> Result<Command<'a>, AllocError>
         "MOMENT",
         "Only the chosen events at this moment and earlier",
     );
+    choosing_command(alloc)?.arg(from)?.arg(to)
+}
+
+/// The subcommand `explain` and its options.
+fn explain_command<'a>(alloc: Global) -> Result<Command<'a>, AllocError>
+    ensures { IfOk result (λ explain. app_of explain ≡ explain_app) }
+{
+    let summary = flag_option(
+        alloc,
+        "summary",
+        "Sum up the chosen events, in place of each; all of them where none are chosen",
+    );
+    let every = text_option(
+        alloc,
+        "every",
+        "TIME",
+        "Sum up the events of each period of this length, such as 100ms",
+    );
     let csv = flag_option(
         alloc,
         "csv",
-        "Write CSV, a header and a record an event, in place of words",
+        "Write CSV, a header and a record an event or a summary, in place of words",
     );
-    choosing_command(alloc)?.arg(from)?.arg(to)?.arg(csv)
+    timed_command(alloc)?.arg(summary)?.arg(every)?.arg(csv)
 }
 
 /// The subcommand `storm` and its options.

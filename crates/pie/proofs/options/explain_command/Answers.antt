@@ -1,15 +1,15 @@
 use Rattle.std.proofs.Common.{◌≡◌, codes}
 use Rattle.std.proofs.lemmas.Result.{IfOk-weaker}
 use Rattle.clap.specs.Words.{AddsArg, app_of, with_rule}
-use Rattle.pie.specs.Words.{choosing_app, explain_app, flag_rule, text_rule}
+use Rattle.pie.specs.Words.{explain_app, flag_rule, text_rule, timed_app}
 use Rattle.pie.proofs.WordFacts.{adds_arg}
 use Rattle.pie.proofs.options.explain_command.Goals as goal
 
 pub returns : goal.returns
 returns c =
-    let with_from = with_rule choosing_app (text_rule (codes "from")) in
-    let with_to = with_rule with_from (text_rule (codes "to")) in
-    let one = adds_arg choosing_app (text_rule (codes "from")) c.in_ok-choosing_command.ensures c.text_option-from.ensures.local c.text_option-from.ensures.rule c.in_ok-arg.ensures in
-    let two = adds_arg with_from (text_rule (codes "to")) one c.text_option-to.ensures.local c.text_option-to.ensures.rule c.in_ok-arg-2.ensures in
+    let with_summary = with_rule timed_app (flag_rule (codes "summary")) in
+    let with_every = with_rule with_summary (text_rule (codes "every")) in
+    let one = adds_arg timed_app (flag_rule (codes "summary")) c.in_ok-timed_command.ensures c.flag_option-summary.ensures.local c.flag_option-summary.ensures.rule c.in_ok-arg.ensures in
+    let two = adds_arg with_summary (text_rule (codes "every")) one c.text_option-every.ensures.local c.text_option-every.ensures.rule c.in_ok-arg-2.ensures in
     IfOk-weaker c.arg-3.result (λ whole. AddsArg c.in_ok-arg-2.field-0 c.flag_option-csv.result whole) (λ explain. app_of explain ≡ explain_app)
-    (λ whole added. adds_arg with_to (flag_rule (codes "csv")) two c.flag_option-csv.ensures.local c.flag_option-csv.ensures.rule added) c.arg-3.ensures
+    (λ whole added. adds_arg with_every (flag_rule (codes "csv")) two c.flag_option-csv.ensures.local c.flag_option-csv.ensures.rule added) c.arg-3.ensures

@@ -1,0 +1,4 @@
+pub mod SeriesFacts
+pub mod SumsFacts
+pub mod PeriodFacts
+pub mod SummaryFacts

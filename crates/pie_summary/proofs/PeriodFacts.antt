@@ -1,0 +1,68 @@
+-- The last events of a list with one more.
+use Rattle.std.proofs.Common.{◌≡◌, ◌==◌, ◌⊎◌, ℕ, Bool, true, false, not, List, [], ◌∷◌, ◌++◌, map, refl, sym, ap, ◌∙◌, inl, inr}
+use Rattle.std.specs.Prelude.{Option, Some, None}
+use Rattle.std.proofs.lemmas.Bool.{eq-eqb, eqb-true}
+use Rattle.std.proofs.lemmas.List.{map_push}
+use Rattle.pie_controller.specs.Places.{last_or}
+use Rattle.pie_controller.proofs.Places.{after_last-push_no, after_last-push_yes, last_or-push}
+use Rattle.pie_explain.specs.declared.explanation.Explained.{Explained}
+use Rattle.pie_summary.specs.Period.{begins, is_elsewhere, last_events, last_period, period_at, since}
+
+-- a list is empty, or has a last element
+abbrev Ends : {X : Type 0} → List X → Type 0
+Ends {X} xs = (xs ≡ []) ⊎ ((front : List X) × (last : X) × (xs ≡ front ++ last ∷ []))
+
+ends-of : {X : Type 0} (xs : List X) → Ends xs
+ends-of [] = inl refl
+ends-of (x ∷ xs) = longer x xs (ends-of xs)
+  where
+    longer : {X : Type 0} (x : X) (xs : List X) → Ends xs → Ends (x ∷ xs)
+    longer x xs (inl none) = inr ([], x, ap (λ ys. x ∷ ys) none)
+    longer x xs (inr (front, last, is)) = inr (x ∷ front, last, ap (λ ys. x ∷ ys) is)
+
+-- the period of the last event
+pub last_period-push : (every : Option ℕ) (shown : List Explained) (one : Explained) → last_period every (shown ++ one ∷ []) ≡ Some (period_at every one)
+last_period-push every shown one =
+    ap (λ ps. last_or None ps) (map_push (λ e. Some (period_at every e)) shown one) ∙ last_or-push None (map (λ e. Some (period_at every e)) shown) (Some (period_at every one))
+
+-- an event is in its own period
+in_its_own : (every : Option ℕ) (one : Explained) → is_elsewhere every (period_at every one) one ≡ false
+in_its_own every one = ap not (eq-eqb (period_at every one) (period_at every one) refl)
+
+-- the last events, with one more
+pub last_events-push : (every : Option ℕ) (shown : List Explained) (one : Explained)
+    → last_events every (shown ++ one ∷ []) ≡ since every (Some (period_at every one)) shown ++ one ∷ []
+last_events-push every shown one =
+    ap (λ p. since every p (shown ++ one ∷ [])) (last_period-push every shown one)
+    ∙ after_last-push_no (is_elsewhere every (period_at every one)) shown one (in_its_own every one)
+
+-- .. in the same period as the one before, in another, or where none was before
+pub since-same : (every : Option ℕ) (period : ℕ) (shown : List Explained) (before : Option ℕ) → before ≡ last_period every shown → begins before period ≡ false
+    → since every (Some period) shown ≡ last_events every shown
+unfolding last_or
+since-same every period shown before is same = by_end (ends-of shown)
+  where
+    twice : (b : Bool) → not b ≡ false → b ≡ true
+    twice true e = refl
+    twice false e = sym e
+
+    equal : (other : ℕ) → not (other == period) ≡ false → other ≡ period
+    equal other not_other = eqb-true other period (twice (other == period) not_other)
+
+    by_end : Ends shown → since every (Some period) shown ≡ last_events every shown
+    by_end (inl none) = rw none refl
+    by_end (inr (front, last, whole)) =
+        let known : before ≡ Some (period_at every last) = is ∙ ap (last_period every) whole ∙ last_period-push every front last in
+        let at : period_at every last ≡ period = equal (period_at every last) (ap (λ b. begins b period) (sym known) ∙ same) in
+        ap (λ p. since every p shown) (ap Some (sym at) ∙ sym known ∙ is)
+
+pub since-begun : (every : Option ℕ) (period : ℕ) (shown : List Explained) (before : Option ℕ) → before ≡ last_period every shown → begins before period ≡ true
+    → since every (Some period) shown ≡ []
+since-begun every period shown before is begun = by_end (ends-of shown)
+  where
+    by_end : Ends shown → since every (Some period) shown ≡ []
+    by_end (inl none) = rw none refl
+    by_end (inr (front, last, whole)) =
+        let known : before ≡ Some (period_at every last) = is ∙ ap (last_period every) whole ∙ last_period-push every front last in
+        ap (λ all. since every (Some period) all) whole
+        ∙ after_last-push_yes (is_elsewhere every period) front last (ap (λ b. begins b period) (sym known) ∙ begun)

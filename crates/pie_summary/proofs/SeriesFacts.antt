@@ -1,0 +1,41 @@
+-- A list of numbers with one more.
+use Rattle.std.proofs.Common.{◌≡◌, ◌+◌, ◌==◌, arith, ℕ, suc, List, [], ◌∷◌, ◌++◌, length, refl, sym, ap, ◌∙◌}
+use Rattle.std.specs.Prelude.{max, min, slice_index, if◌then◌else◌}
+use Rattle.std.specs.List.{sum}
+use Rattle.std.proofs.lemmas.List.{length_push}
+use Rattle.std.proofs.lemmas.List.Sums.{sum_by_push}
+use Rattle.pie_controller.specs.Places.{greatest}
+use Rattle.pie_controller.proofs.Places.{greatest-push, last_or-push}
+use Rattle.pie_summary.specs.declared.series.Series.{Series}
+use Rattle.pie_summary.specs.Series.{first_with, kept, series_of}
+
+-- a number that is kept at a greatest one, with more
+pub kept-more : (n more most : ℕ) → min (min n most + more) most ≡ min (n + more) most
+kept-more n more most = omega arith
+
+-- the first number of a list with one more
+first-push : (numbers : List ℕ) (number : ℕ) → first_with (kept (length numbers)) (slice_index numbers 0) number ≡ slice_index (numbers ++ number ∷ []) 0
+first-push [] number = refl
+first-push (first ∷ numbers) number = later (length numbers)
+  where
+    later : (n : ℕ) → (if kept (suc n) == 0 then number else first) ≡ first
+    later n = grind arith
+
+-- the parts of a series
+abbrev the_series : ℕ → ℕ → ℕ → ℕ → ℕ → Series
+the_series count first last greatest total = record { count = count; first = first; last = last; greatest = greatest; total = total }
+
+pub series-push : (numbers : List ℕ) (number : ℕ) (old : Series) (count first greatest_then total : ℕ) → old ≡ series_of numbers
+    → count ≡ min (old.count + 1) 18446744073709551615 → first ≡ first_with old.count old.first number → greatest_then ≡ max old.greatest number
+    → total ≡ min (old.total + number) 340282366920938463463374607431768211455
+    → the_series count first number greatest_then total ≡ series_of (numbers ++ number ∷ [])
+series-push numbers number old count first greatest_then total old-is count-is first-is greatest-is total-is =
+    let counted : count ≡ kept (length (numbers ++ number ∷ [])) =
+    count-is ∙ ap (λ (s : Series). min (s.count + 1) 18446744073709551615) old-is ∙ kept-more (length numbers) 1 18446744073709551615 ∙ ap kept (sym (length_push numbers number)) in
+    let begun : first ≡ slice_index (numbers ++ number ∷ []) 0 = first-is ∙ ap (λ (s : Series). first_with s.count s.first number) old-is ∙ first-push numbers number in
+    let most : greatest_then ≡ greatest (numbers ++ number ∷ []) = greatest-is ∙ ap (λ (s : Series). max s.greatest number) old-is ∙ sym (greatest-push numbers number) in
+    let summed : total ≡ min (sum (numbers ++ number ∷ [])) 340282366920938463463374607431768211455 =
+    total-is ∙ ap (λ (s : Series). min (s.total + number) 340282366920938463463374607431768211455) old-is
+    ∙ kept-more (sum numbers) number 340282366920938463463374607431768211455
+    ∙ ap (λ (n : ℕ). min n 340282366920938463463374607431768211455) (sym (sum_by_push (λ (x : ℕ). x) numbers number)) in
+    rw (counted, begun, most, summed, last_or-push 0 numbers number) refl

@@ -1,0 +1,6 @@
+pub mod Series
+pub mod Sums
+pub mod Period
+pub mod Words
+pub mod Record
+pub mod Summary

@@ -1,0 +1,37 @@
+-- Periods of equal length: which of the explained events are summed up together.
+use Rattle.std.specs.Prelude.{ℕ, ◌/◌, ◌==◌, max, Bool, false, not, List, [], map, Option, Some, None}
+use Rattle.std.specs.List.{after_last}
+use Rattle.pie_controller.specs.Places.{last_or}
+use Rattle.pie_explain.specs.declared.explanation.Explained.{Explained}
+
+-- the number of the period in which a moment lies, counted from moment 0, where each lasts so many nanoseconds, 1 at least; 0 where no length
+-- is wanted
+abbrev pub period_of : Option ℕ → ℕ → ℕ
+period_of None moment = 0
+period_of (Some every) moment = moment / max every 1
+
+-- .. of an event, by its effective moment
+abbrev pub period_at : Option ℕ → Explained → ℕ
+period_at every one = period_of every one.told.moment
+
+-- .. of the last of these events
+abbrev pub last_period : Option ℕ → List Explained → Option ℕ
+last_period every all = last_or None (map (λ one. Some (period_at every one)) all)
+
+-- an event is not in this period
+abbrev pub is_elsewhere : Option ℕ → ℕ → Explained → Bool
+is_elsewhere every period one = not (period_at every one == period)
+
+-- the events after the last one that is not in this period
+abbrev pub since : Option ℕ → Option ℕ → List Explained → List Explained
+since every None all = []
+since every (Some period) all = after_last (is_elsewhere every period) all
+
+-- the last events, as far back as they are in the same period
+abbrev pub last_events : Option ℕ → List Explained → List Explained
+last_events every all = since every (last_period every all) all
+
+-- an event in this period is not in that of the event before it
+abbrev pub begins : Option ℕ → ℕ → Bool
+begins None period = false
+begins (Some before) period = not (before == period)

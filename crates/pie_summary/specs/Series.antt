@@ -1,0 +1,23 @@
+-- What a summary keeps of a list of numbers.
+use Rattle.std.specs.Prelude.{ℕ, ◌-◌, ◌^◌, ◌==◌, min, List, length, slice_index, if◌then◌else◌}
+use Rattle.std.specs.List.{sum}
+use Rattle.pie_controller.specs.Places.{greatest, last_or}
+use Rattle.pie_summary.specs.declared.series.Series.{Series}
+
+-- a count, kept at the greatest number of 64 bits where it is above it
+abbrev pub kept : ℕ → ℕ
+kept n = min n (2 ^ 64 - 1)
+
+-- how many numbers there are, the first, the last, the greatest, and their sum; all 0 where there is none
+abbrev pub series_of : List ℕ → Series
+series_of numbers = record {
+  count = kept (length numbers);
+  first = slice_index numbers 0;
+  last = last_or 0 numbers;
+  greatest = greatest numbers;
+  total = min (sum numbers) (2 ^ 128 - 1);
+}
+
+-- the first number, where so many were before this one
+abbrev pub first_with : ℕ → ℕ → ℕ → ℕ
+first_with count first number = if count == 0 then number else first

@@ -1,0 +1,47 @@
+-- What is written for summaries of the explained events.
+use Rattle.std.specs.Prelude.{ℕ, ◌≡◌, Bool, true, false, List, [], ◌++◌}
+use Rattle.std.specs.List.{flat_map}
+use Rattle.pie_controller.specs.Places.{Place, places}
+use Rattle.pie_explain.specs.declared.explainer.Form.{Form}
+use Rattle.pie_explain.specs.declared.explainer.Form.TheVariants.{Text, Csv}
+use Rattle.pie_explain.specs.declared.explanation.Explained.{Explained}
+use Rattle.pie_explain.specs.Record.{line_of}
+use Rattle.pie_summary.specs.declared.period.Period.{Period}
+use Rattle.pie_summary.specs.declared.summary.Summary.{Summary}
+use Rattle.pie_summary.specs.declared.sums.Sums.{Sums}
+use Rattle.pie_summary.specs.Period.{begins, last_events, last_period, period_at}
+use Rattle.pie_summary.specs.Record.{field_names, record_of}
+use Rattle.pie_summary.specs.Sums.{sums_of}
+use Rattle.pie_summary.specs.Words.{words}
+
+-- what stands before the first summary: for CSV the header row
+unfoldable pub header : Form → List ℕ
+header Text = []
+header Csv = line_of field_names
+
+-- these numbers in words, or as a CSV record
+abbrev pub said : Form → Sums → List ℕ
+said Text sums = words sums
+said Csv sums = record_of sums
+
+-- .. where these events have come to their end
+abbrev pub ended : Form → Bool → Sums → List ℕ
+ended form true sums = said form sums
+ended form false sums = []
+
+-- what is written at an event: a summary of the last events before it, where they are in another period
+abbrev pub ended_at : Summary → Place Explained → List ℕ
+ended_at summary place =
+    ended summary.form (begins (last_period summary.every place.before) (period_at summary.every place.event)) (sums_of (last_events summary.every place.before))
+
+-- .. at each of these events
+abbrev pub summaries : Summary → List Explained → List ℕ
+summaries summary all = header summary.form ++ flat_map (ended_at summary) (places all)
+
+-- .. and behind them, a summary of the last ones
+abbrev pub summary_of : Summary → List Explained → List ℕ
+summary_of summary all = summaries summary all ++ said summary.form (sums_of (last_events summary.every all))
+
+-- what is kept is the period of the last of these events, and the numbers of the last events in it
+abbrev pub keeps : Summary → Period → List Explained → Type 0
+keeps summary period all = (period.number ≡ last_period summary.every all) × (period.sums ≡ sums_of (last_events summary.every all))

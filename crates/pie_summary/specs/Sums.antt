@@ -1,0 +1,123 @@
+-- The numbers of a summary, each over the whole list of the events that were explained.
+use Rattle.std.specs.Prelude.{ℕ, ◌==◌, Bool, true, false, List, map, Option, Some, None, count_by}
+use Rattle.std.specs.List.{filter_map, range_with_len}
+use Rattle.pie_controller.specs.declared.cause.Cause.{Cause}
+use Rattle.pie_controller.specs.declared.cause.Cause.TheVariants.{NoRoomInBytes, NoRoomInPackets, Inactive, BurstAllowed, LowDelay, ShortQueue, NoProbability, LittleAccumulated, PickedBySum, PickedByWord, WordNotBelow}
+use Rattle.pie_controller.specs.declared.cause.Fate.TheVariants as fate
+use Rattle.pie_book.specs.declared.command.Command.{Command}
+use Rattle.pie_book.specs.declared.command.Command.TheVariants.{Arrive}
+use Rattle.pie_book.specs.declared.command.Answer.{Answer}
+use Rattle.pie_book.specs.declared.command.Answer.TheVariants.{Enqueued, Marked, DroppedEarly, DroppedBytes, DroppedPackets, Empty, Left, Updated, Done}
+use Rattle.pie_explain.specs.declared.explanation.Explained.{Explained}
+use Rattle.pie_summary.specs.declared.sums.Sums.{Sums}
+use Rattle.pie_summary.specs.Series.{kept, series_of}
+
+-- ---- of one event
+
+-- the place of an answer's count: queued, marked, dropped early, in bytes, in packets, a packet that left, none that did, an update, and
+-- a reset or new parameters
+abbrev pub answer_place : Answer → ℕ
+answer_place Enqueued = 0
+answer_place Marked = 1
+answer_place DroppedEarly = 2
+answer_place DroppedBytes = 3
+answer_place DroppedPackets = 4
+answer_place (Left packet) = 5
+answer_place Empty = 6
+answer_place (Updated delay prob burst) = 7
+answer_place Done = 8
+
+-- the place of the count of what decided an arrival, in the order of the decision; 15 of any other event
+
+abbrev pub cause_place : Option Cause → ℕ
+cause_place (Some (NoRoomInBytes bytes size limit)) = 0
+cause_place (Some (NoRoomInPackets packets)) = 1
+cause_place (Some Inactive) = 2
+cause_place (Some (BurstAllowed burst)) = 3
+cause_place (Some (LowDelay old_delay target prob)) = 4
+cause_place (Some (ShortQueue bytes two_packets)) = 5
+cause_place (Some NoProbability) = 6
+cause_place (Some (LittleAccumulated accu prob)) = 7
+cause_place (Some (PickedBySum accu prob (fate.Marked threshold))) = 8
+cause_place (Some (PickedBySum accu prob fate.NotCapable)) = 9
+cause_place (Some (PickedBySum accu prob (fate.NotBelow threshold))) = 10
+cause_place (Some (PickedByWord accu prob word (fate.Marked threshold))) = 11
+cause_place (Some (PickedByWord accu prob word fate.NotCapable)) = 12
+cause_place (Some (PickedByWord accu prob word (fate.NotBelow threshold))) = 13
+cause_place (Some (WordNotBelow accu prob word)) = 14
+cause_place None = 15
+
+-- the effective moment of an event
+abbrev pub moment_at : Explained → ℕ
+moment_at all = all.told.moment
+
+-- the size of the packet that arrived
+abbrev pub size_by : Command → Option ℕ
+size_by (Arrive moment packet word) = Some packet.size
+size_by _ = None
+
+abbrev pub size_in : Explained → Option ℕ
+size_in all = size_by all.told.event.command
+
+-- how long the packet had waited that left
+abbrev pub wait_by : Answer → ℕ → Option ℕ
+wait_by (Left packet) waited = Some waited
+wait_by _ waited = None
+
+abbrev pub wait_in : Explained → Option ℕ
+wait_in all = wait_by all.told.event.answer all.told.waited
+
+-- the delay that an update took, where the controller was active before it
+abbrev pub delay_by : Bool → Answer → Option ℕ
+delay_by true (Updated delay prob burst) = Some delay
+delay_by true _ = None
+delay_by false answer = None
+
+abbrev pub delay_in : Explained → Option ℕ
+delay_in all = delay_by all.told.before.active all.told.event.answer
+
+-- the probability after an event
+abbrev pub prob_at : Explained → ℕ
+prob_at all = all.after.prob
+
+-- the moment of an event that turned the controller on, or off, where the controller was active before it or not, and is after it or not
+abbrev pub turned_at : Bool → Bool → Bool → ℕ → Option ℕ
+turned_at true false true moment = Some moment
+turned_at false true false moment = Some moment
+turned_at _ _ _ moment = None
+
+abbrev pub turned_on : Explained → Option ℕ
+turned_on all = turned_at true all.told.before.active all.after.active all.told.moment
+
+abbrev pub turned_off : Explained → Option ℕ
+turned_off all = turned_at false all.told.before.active all.after.active all.told.moment
+
+-- ---- of a list of events
+
+-- how many events have this place
+abbrev pub count_at : (Explained → ℕ) → ℕ → List Explained → ℕ
+count_at place wanted all = kept (count_by (λ one. place one == wanted) all)
+
+-- .. for each of so many places
+abbrev pub counts_of : (Explained → ℕ) → ℕ → List Explained → List ℕ
+counts_of place places all = map (λ wanted. count_at place wanted all) (range_with_len 0 places)
+
+abbrev pub answer_of : Explained → ℕ
+answer_of all = answer_place all.told.event.answer
+
+abbrev pub cause_of : Explained → ℕ
+cause_of all = cause_place all.told.cause
+
+-- the numbers of a summary of these events
+unfoldable pub sums_of : List Explained → Sums
+sums_of all = record {
+  answers = counts_of answer_of 9 all;
+  causes = counts_of cause_of 16 all;
+  moments = series_of (map moment_at all);
+  arrived = series_of (filter_map size_in all);
+  waits = series_of (filter_map wait_in all);
+  delays = series_of (filter_map delay_in all);
+  probs = series_of (map prob_at all);
+  turned_on = series_of (filter_map turned_on all);
+  turned_off = series_of (filter_map turned_off all);
+}

@@ -1,0 +1,130 @@
+-- A summary in words: what became of the arrivals and why, how long packets waited, what the updates made, and when the controller turned.
+use Rattle.std.specs.Prelude.{ℕ, ◌-◌, ◌/◌, ◌^◌, ◌==◌, min, max, List, [], ◌∷◌, slice_index, codes, if◌then◌else◌}
+use Rattle.std.specs.Fmt.{decimal}
+use Rattle.pie_explain.specs.Words.{joined, millis, per_cent, share}
+use Rattle.pie_summary.specs.declared.cause_name.CauseName.{CauseName}
+use Rattle.pie_summary.specs.declared.cause_name.CauseName.TheVariants.{NoRoomInBytes, NoRoomInPackets, Inactive, BurstAllowed, LowDelay, ShortQueue, NoProbability, LittleAccumulated, PickedBySum, PickedBySumNotCapable, PickedBySumNotBelow, PickedByWord, PickedByWordNotCapable, PickedByWordNotBelow, WordNotBelow}
+use Rattle.pie_summary.specs.declared.series.Series.{Series}
+use Rattle.pie_summary.specs.declared.sums.Sums.{Sums}
+
+-- ---- counts of arrivals
+
+-- so many of all arrivals
+unfoldable pub row_words : List ℕ → ℕ → ℕ → List ℕ
+row_words name count all = joined (codes "    " ∷ name ∷ codes ": " ∷ decimal count ∷ codes ", " ∷ share count all ∷ codes "\n" ∷ [])
+
+-- what became of the arrivals
+unfoldable pub queued_words : List ℕ → ℕ → List ℕ
+queued_words answers all = joined (row_words (codes "queued") (slice_index answers 0) all ∷ row_words (codes "queued and marked") (slice_index answers 1) all ∷ [])
+
+unfoldable pub dropped_words : List ℕ → ℕ → List ℕ
+dropped_words answers all =
+    joined (row_words (codes "dropped early") (slice_index answers 2) all ∷ row_words (codes "dropped, no room in bytes") (slice_index answers 3) all
+    ∷ row_words (codes "dropped, no room in packets") (slice_index answers 4) all ∷ [])
+
+-- the word of a cause
+unfoldable pub cause_name : CauseName → List ℕ
+cause_name NoRoomInBytes = codes "no_room_in_bytes"
+cause_name NoRoomInPackets = codes "no_room_in_packets"
+cause_name Inactive = codes "inactive"
+cause_name BurstAllowed = codes "burst_allowed"
+cause_name LowDelay = codes "low_delay"
+cause_name ShortQueue = codes "short_queue"
+cause_name NoProbability = codes "no_probability"
+cause_name LittleAccumulated = codes "little_accumulated"
+cause_name PickedBySum = codes "picked_by_sum"
+cause_name PickedBySumNotCapable = codes "picked_by_sum_not_capable"
+cause_name PickedBySumNotBelow = codes "picked_by_sum_not_below"
+cause_name PickedByWord = codes "picked_by_word"
+cause_name PickedByWordNotCapable = codes "picked_by_word_not_capable"
+cause_name PickedByWordNotBelow = codes "picked_by_word_not_below"
+cause_name WordNotBelow = codes "word_not_below"
+
+-- how many arrivals a cause decided; nothing where it decided none
+unfoldable pub cause_row : CauseName → ℕ → ℕ → List ℕ
+cause_row name count all = if count == 0 then [] else row_words (cause_name name) count all
+
+unfoldable pub first_causes : List ℕ → ℕ → List ℕ
+first_causes causes all =
+    joined (cause_row NoRoomInBytes (slice_index causes 0) all
+    ∷ cause_row NoRoomInPackets (slice_index causes 1) all
+    ∷ cause_row Inactive (slice_index causes 2) all
+    ∷ cause_row BurstAllowed (slice_index causes 3) all ∷ [])
+
+unfoldable pub middle_causes : List ℕ → ℕ → List ℕ
+middle_causes causes all =
+    joined (cause_row LowDelay (slice_index causes 4) all
+    ∷ cause_row ShortQueue (slice_index causes 5) all
+    ∷ cause_row NoProbability (slice_index causes 6) all
+    ∷ cause_row LittleAccumulated (slice_index causes 7) all ∷ [])
+
+unfoldable pub sum_causes : List ℕ → ℕ → List ℕ
+sum_causes causes all =
+    joined (cause_row PickedBySum (slice_index causes 8) all
+    ∷ cause_row PickedBySumNotCapable (slice_index causes 9) all
+    ∷ cause_row PickedBySumNotBelow (slice_index causes 10) all ∷ [])
+
+unfoldable pub word_causes : List ℕ → ℕ → List ℕ
+word_causes causes all =
+    joined (cause_row PickedByWord (slice_index causes 11) all
+    ∷ cause_row PickedByWordNotCapable (slice_index causes 12) all
+    ∷ cause_row PickedByWordNotBelow (slice_index causes 13) all
+    ∷ cause_row WordNotBelow (slice_index causes 14) all ∷ [])
+
+unfoldable pub cause_words : List ℕ → ℕ → List ℕ
+cause_words causes all = joined (first_causes causes all ∷ middle_causes causes all ∷ sum_causes causes all ∷ word_causes causes all ∷ [])
+
+-- ---- the rest
+
+-- the mean of a series, rounded down; 0 where it is empty
+abbrev pub mean : Series → ℕ
+mean series = min (series.total / max series.count 1) (2 ^ 64 - 1)
+
+unfoldable pub head_words : Series → List ℕ
+head_words moments = joined (decimal moments.count ∷ codes " events, from " ∷ millis moments.first ∷ codes " to " ∷ millis moments.last ∷ codes "\n" ∷ [])
+
+unfoldable pub arrived_words : Series → List ℕ
+arrived_words arrived = joined (codes "  " ∷ decimal arrived.count ∷ codes " arrivals, " ∷ decimal arrived.total ∷ codes " bytes\n" ∷ [])
+
+unfoldable pub left_words : Series → List ℕ
+left_words waits =
+    joined (codes "  " ∷ decimal waits.count ∷ codes " packets left; they had waited at most " ∷ millis waits.greatest
+    ∷ codes ",\n    and in the mean " ∷ millis (mean waits) ∷ codes "\n" ∷ [])
+
+-- the delays that so many updates took
+unfoldable pub delay_words : ℕ → ℕ → ℕ → List ℕ
+delay_words updates greatest last =
+    joined (codes "  " ∷ decimal updates ∷ codes " updates; the greatest delay was " ∷ millis greatest ∷ codes ",\n    and the last " ∷ millis last ∷ codes "\n" ∷ [])
+
+-- the probabilities after the events
+unfoldable pub prob_words : ℕ → ℕ → List ℕ
+prob_words greatest last = joined (codes "  the greatest probability was " ∷ per_cent greatest ∷ codes ", and the last " ∷ per_cent last ∷ codes "\n" ∷ [])
+
+unfoldable pub update_words : ℕ → Series → Series → List ℕ
+update_words updates delays probs = joined (delay_words updates delays.greatest delays.last ∷ prob_words probs.greatest probs.last ∷ [])
+
+-- when the controller turned on, or off; nothing where it never did
+unfoldable pub turned_words : List ℕ → Series → List ℕ
+turned_words way turned =
+    if turned.count == 0 then []
+    else joined (codes "  turned " ∷ way ∷ codes " " ∷ decimal turned.count ∷ codes " times, first at " ∷ millis turned.first ∷ codes ",\n    and last at " ∷ millis turned.last
+    ∷ codes "\n" ∷ [])
+
+unfoldable pub verdict_words : Series → List ℕ → List ℕ
+verdict_words arrived answers = joined (arrived_words arrived ∷ queued_words answers arrived.count ∷ dropped_words answers arrived.count ∷ [])
+
+unfoldable pub title : List ℕ
+title = codes "  by what decided them\n"
+
+unfoldable pub arrival_words : Sums → List ℕ
+arrival_words sums =
+    joined (verdict_words sums.arrived sums.answers ∷ title ∷ cause_words sums.causes sums.arrived.count ∷ [])
+
+unfoldable pub later_words : Sums → List ℕ
+later_words sums =
+    joined (left_words sums.waits ∷ update_words (slice_index sums.answers 7) sums.delays sums.probs ∷ turned_words (codes "on") sums.turned_on
+    ∷ turned_words (codes "off") sums.turned_off ∷ [])
+
+-- a summary of these numbers
+unfoldable pub words : Sums → List ℕ
+words sums = joined (head_words sums.moments ∷ arrival_words sums ∷ later_words sums ∷ [])

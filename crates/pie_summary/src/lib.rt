@@ -1,0 +1,20 @@
+//! Summaries of a saved history: how many arrivals each verdict and each cause had, how long packets waited, what the updates made, and
+//! when the controller turned on and off; of all events, or of each period that has some.
+//!
+//! `Summary` is a report that `explain` of pie_explain writes of the chosen events, and its text is `summary_of` them. The numbers of a
+//! summary are those of `sums_of`, which looks at the whole list of its events. Each event costs the same, and nothing is kept of it but
+//! the numbers.
+#![tactic(auto)]
+
+mod cause_name;
+pub mod period;
+mod record;
+pub mod series;
+pub mod summary;
+pub mod sums;
+mod words;
+
+pub use period::Period;
+pub use series::Series;
+pub use summary::Summary;
+pub use sums::Sums;

@@ -1,0 +1,86 @@
+//! Summaries of the explained events.
+ghost use Rattle.std.specs.Prelude.{◌≡◌, ◌++◌, OnOk, string_bytes};
+ghost use Rattle.pie_summary.specs.Period.{begins};
+ghost use Rattle.pie_summary.specs.Summary.{ended, header, said};
+
+use crate::period::{Period, period_of};
+use crate::record::{HEADER, push_record};
+use crate::sums::Sums;
+use crate::words::push_words;
+use pie_explain::{Explained, Form, Report};
+use std::alloc::AllocError;
+
+/// Summaries of the explained events: how many arrivals each verdict and each cause had, how long packets waited, what the updates
+/// made, and when the controller turned on and off. One of all events, or one of each period that has some; each is written when its
+/// last event is known.
+#[derive(Clone, Copy, Debug, PartialEq, Eq)]
+pub struct Summary {
+    /// In words, or as CSV: a header row, and one record a summary.
+    pub form: Form,
+    /// How many nanoseconds a period lasts, 1 at least, the first from moment 0 on; none where all events are summed up together.
+    pub every: Option<u64>,
+}
+
+/// Writes what stands before the first summary: for CSV the header row.
+#[tactic(auto, unfolding(crate::specs::Summary::header))]
+fn push_header(page: &mut String, form: Form) -> Result<(), AllocError>
+    ensures { OnOk result (string_bytes page.new ≡ string_bytes page.old ++ header form) }
+{
+    match form {
+        Form::Text => Ok(()),
+        Form::Csv => page.push_str(HEADER),
+    }
+}
+
+/// Writes these numbers in words, or as CSV.
+fn push_said(page: &mut String, form: Form, sums: &Sums) -> Result<(), AllocError>
+    ensures { OnOk result (string_bytes page.new ≡ string_bytes page.old ++ said form sums.now) }
+{
+    match form {
+        Form::Text => push_words(page, sums),
+        Form::Csv => push_record(page, sums),
+    }
+}
+
+/// Writes a summary of the events of a period, where the next event is in another one.
+fn push_ended(page: &mut String, form: Form, period: &Period, next: u64) -> Result<(), AllocError>
+    ensures { OnOk result (string_bytes page.new ≡ string_bytes page.old ++ ended form (begins period.now.number next) period.now.sums) }
+{
+    if !period.ends_before(next) {
+        return Ok(());
+    }
+    push_said(page, form, &period.sums)
+}
+
+impl Report for Summary {
+    type State = Period;
+
+    ghost use Rattle.pie_summary.specs.Summary.{keeps, summaries, summary_of};
+
+    ghost shows = { keeps };
+
+    ghost so_far = { summaries };
+
+    ghost whole = { summary_of };
+
+    fn begin(&self, page: &mut String) -> Result<Period, AllocError> {
+        push_header(page, self.form)?;
+        Ok(Period::empty())
+    }
+
+    fn tell(
+        &self,
+        state: &mut Period,
+        told: &Explained,
+        page: &mut String,
+    ) -> Result<(), AllocError> {
+        let next = period_of(self.every, told.told.moment);
+        push_ended(page, self.form, state, next)?;
+        *state = state.with(self.every, told);
+        Ok(())
+    }
+
+    fn end(&self, state: &Period, page: &mut String) -> Result<(), AllocError> {
+        push_said(page, self.form, &state.sums)
+    }
+}

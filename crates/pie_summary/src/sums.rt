@@ -1,0 +1,175 @@
+//! The numbers of a summary.
+ghost use Rattle.std.specs.Prelude.{◌≡◌, ◌+◌, ◌-◌, ◌^◌, ◌<◌, ◌++◌, ◌∷◌, [], List, length, min, slice_index, slice_set};
+ghost use Rattle.pie_explain.specs.declared.explanation.Explained.{Explained};
+ghost use Rattle.pie_summary.specs.Sums.{answer_place, cause_place, delay_by, size_by, turned_at, wait_by};
+
+use crate::series::Series;
+use pie_book::{Answer, Cause, Command, Fate};
+use pie_explain::Explained;
+
+/// The numbers of a summary, each over all events that it was shown.
+#[derive(Clone, Copy, Debug)]
+pub struct Sums {
+    /// How many events have each answer: queued, marked, dropped early, in bytes, in packets, a packet that left, none that did, an
+    /// update, and a reset or new parameters.
+    pub answers: [u64; 9],
+    /// How many arrivals each cause decided, in the order of the decision; and how many other events there were.
+    pub causes: [u64; 16],
+    /// The effective moments of the events, in nanoseconds.
+    pub moments: Series,
+    /// The sizes of the packets that arrived, in bytes.
+    pub arrived: Series,
+    /// How long the packets that left had waited, in nanoseconds.
+    pub waits: Series,
+    /// The delays that the updates took, while the controller was active, in nanoseconds.
+    pub delays: Series,
+    /// The probabilities after the events, in units of 10^-12.
+    pub probs: Series,
+    /// The moments of the events that turned the controller on.
+    pub turned_on: Series,
+    /// The moments of those that turned it off.
+    pub turned_off: Series,
+}
+
+/// The place of an answer's count.
+fn answer_place(answer: Answer) -> usize
+    ensures place { result ≡ answer_place answer }
+    ensures within { result < 9 }
+{
+    match answer {
+        Answer::Enqueued => 0,
+        Answer::Marked => 1,
+        Answer::DroppedEarly => 2,
+        Answer::DroppedBytes => 3,
+        Answer::DroppedPackets => 4,
+        Answer::Left(_) => 5,
+        Answer::Empty => 6,
+        Answer::Updated { .. } => 7,
+        Answer::Done => 8,
+    }
+}
+
+/// The place of the count of what decided an arrival; 15 of any other event.
+fn cause_place(cause: Option<Cause>) -> usize
+    ensures place { result ≡ cause_place cause }
+    ensures within { result < 16 }
+{
+    let Some(cause) = cause else {
+        return 15;
+    };
+    match cause {
+        Cause::NoRoomInBytes { .. } => 0,
+        Cause::NoRoomInPackets { .. } => 1,
+        Cause::Inactive => 2,
+        Cause::BurstAllowed { .. } => 3,
+        Cause::LowDelay { .. } => 4,
+        Cause::ShortQueue { .. } => 5,
+        Cause::NoProbability => 6,
+        Cause::LittleAccumulated { .. } => 7,
+        Cause::PickedBySum { fate, .. } => match fate {
+            Fate::Marked { .. } => 8,
+            Fate::NotCapable => 9,
+            Fate::NotBelow { .. } => 10,
+        },
+        Cause::PickedByWord { fate, .. } => match fate {
+            Fate::Marked { .. } => 11,
+            Fate::NotCapable => 12,
+            Fate::NotBelow { .. } => 13,
+        },
+        Cause::WordNotBelow { .. } => 14,
+    }
+}
+
+/// Counts with one more at a place.
+fn counted<const N: usize>(counts: [u64; N], place: usize) -> [u64; N]
+    requires { place < length counts }
+    ensures { result ≡ slice_set counts.entry place (min (slice_index counts.entry place + 1) (2 ^ 64 - 1)) }
+{
+    let mut counts = counts;
+    counts[place] = counts[place].saturating_add(1);
+    counts
+}
+
+/// The size of the packet that arrived.
+fn size_by(command: Command) -> Option<u64>
+    ensures { result ≡ size_by command }
+{
+    match command {
+        Command::Arrive { packet, .. } => Some(u64::from(packet.size)),
+        _ => None,
+    }
+}
+
+/// How long the packet had waited that left.
+fn wait_by(answer: Answer, waited: u64) -> Option<u64>
+    ensures { result ≡ wait_by answer waited }
+{
+    match answer {
+        Answer::Left(_) => Some(waited),
+        _ => None,
+    }
+}
+
+/// The delay that an update took, where the controller was active before it or not.
+fn delay_by(active: bool, answer: Answer) -> Option<u64>
+    ensures { result ≡ delay_by active answer }
+{
+    if !active {
+        return None;
+    }
+    match answer {
+        Answer::Updated { delay, .. } => Some(delay),
+        _ => None,
+    }
+}
+
+/// The moment of an event that turned the controller on, or off: before it the controller was active or not, and after it is.
+fn turned_at(on: bool, was: bool, is: bool, moment: u64) -> Option<u64>
+    ensures { result ≡ turned_at on was is moment }
+{
+    match (on, was, is) {
+        (true, false, true) | (false, true, false) => Some(moment),
+        _ => None,
+    }
+}
+
+impl Sums {
+    ghost use Rattle.pie_summary.specs.Sums.{sums_of};
+
+    /// No event yet.
+    pub(crate) fn empty() -> Sums
+        ensures { result ≡ sums_of [] }
+    {
+        let none = Series::empty();
+        Sums {
+            answers: [0; 9],
+            causes: [0; 16],
+            moments: none,
+            arrived: none,
+            waits: none,
+            delays: none,
+            probs: none,
+            turned_on: none,
+            turned_off: none,
+        }
+    }
+
+    /// With one more event.
+    pub(crate) fn with(&self, all: &Explained) -> Sums
+        ensures { (shown : List Explained) → self.now ≡ sums_of shown → result ≡ sums_of (shown ++ all.now ∷ []) }
+    {
+        let (told, was, is) = (&all.told, all.told.before.active, all.after.active);
+        let (answer, moment) = (told.event.answer, told.moment);
+        Sums {
+            answers: counted(self.answers, answer_place(answer)),
+            causes: counted(self.causes, cause_place(told.cause)),
+            moments: self.moments.with(moment),
+            arrived: self.arrived.with_some(size_by(told.event.command)),
+            waits: self.waits.with_some(wait_by(answer, told.waited)),
+            delays: self.delays.with_some(delay_by(was, answer)),
+            probs: self.probs.with(all.after.prob),
+            turned_on: self.turned_on.with_some(turned_at(true, was, is, moment)),
+            turned_off: self.turned_off.with_some(turned_at(false, was, is, moment)),
+        }
+    }
+}

@@ -1,0 +1,245 @@
+//! A summary in words.
+ghost use Rattle.std.specs.Prelude.{◌≡◌, ◌++◌, OnOk, string_bytes};
+ghost use Rattle.pie_summary.specs.Words.{arrival_words, arrived_words, cause_row, cause_words, delay_words, dropped_words, first_causes, head_words, later_words, left_words, mean, middle_causes, prob_words, queued_words, row_words, sum_causes, title, turned_words, update_words, verdict_words, word_causes, words};
+
+use crate::cause_name::{CauseName, cause_name};
+use crate::series::Series;
+use crate::sums::Sums;
+use pie_explain::{Millis, PerCent, Share};
+use std::alloc::AllocError;
+
+/// So many of all arrivals.
+#[tactic(auto, unfolding(crate::specs::Words::row_words))]
+fn push_row(page: &mut String, name: &str, count: u64, all: u64) -> Result<(), AllocError>
+    ensures { OnOk result (string_bytes page.new ≡ string_bytes page.old ++ row_words name.now count all) }
+{
+    let share = Share { count, all };
+    write!(page, "    {name}: {count}, {share}\n")
+}
+
+/// How many arrivals a cause decided, where it decided some.
+#[tactic(auto, unfolding(crate::specs::Words::cause_row))]
+fn push_cause(page: &mut String, name: CauseName, count: u64, all: u64) -> Result<(), AllocError>
+    ensures { OnOk result (string_bytes page.new ≡ string_bytes page.old ++ cause_row name count all) }
+{
+    if count == 0 {
+        return Ok(());
+    }
+    push_row(page, cause_name(name), count, all)
+}
+
+/// How many arrivals were queued.
+#[tactic(auto, unfolding(crate::specs::Words::queued_words))]
+fn push_queued(page: &mut String, answers: &[u64; 9], all: u64) -> Result<(), AllocError>
+    ensures { OnOk result (string_bytes page.new ≡ string_bytes page.old ++ queued_words answers.now all) }
+{
+    push_row(page, "queued", answers[0], all)?;
+    push_row(page, "queued and marked", answers[1], all)
+}
+
+/// How many were dropped.
+#[tactic(auto, unfolding(crate::specs::Words::dropped_words))]
+fn push_dropped(page: &mut String, answers: &[u64; 9], all: u64) -> Result<(), AllocError>
+    ensures { OnOk result (string_bytes page.new ≡ string_bytes page.old ++ dropped_words answers.now all) }
+{
+    push_row(page, "dropped early", answers[2], all)?;
+    push_row(page, "dropped, no room in bytes", answers[3], all)?;
+    push_row(page, "dropped, no room in packets", answers[4], all)
+}
+
+/// How many arrivals each cause decided: no room, turned off, a burst.
+#[tactic(auto, unfolding(crate::specs::Words::first_causes))]
+fn push_first(page: &mut String, causes: &[u64; 16], all: u64) -> Result<(), AllocError>
+    ensures { OnOk result (string_bytes page.new ≡ string_bytes page.old ++ first_causes causes.now all) }
+{
+    push_cause(page, CauseName::NoRoomInBytes, causes[0], all)?;
+    push_cause(page, CauseName::NoRoomInPackets, causes[1], all)?;
+    push_cause(page, CauseName::Inactive, causes[2], all)?;
+    push_cause(page, CauseName::BurstAllowed, causes[3], all)
+}
+
+/// .. little delay, little that waits, a small probability.
+#[tactic(auto, unfolding(crate::specs::Words::middle_causes))]
+fn push_middle(page: &mut String, causes: &[u64; 16], all: u64) -> Result<(), AllocError>
+    ensures { OnOk result (string_bytes page.new ≡ string_bytes page.old ++ middle_causes causes.now all) }
+{
+    push_cause(page, CauseName::LowDelay, causes[4], all)?;
+    push_cause(page, CauseName::ShortQueue, causes[5], all)?;
+    push_cause(page, CauseName::NoProbability, causes[6], all)?;
+    push_cause(page, CauseName::LittleAccumulated, causes[7], all)
+}
+
+/// .. the accumulated probability.
+#[tactic(auto, unfolding(crate::specs::Words::sum_causes))]
+fn push_by_sum(page: &mut String, causes: &[u64; 16], all: u64) -> Result<(), AllocError>
+    ensures { OnOk result (string_bytes page.new ≡ string_bytes page.old ++ sum_causes causes.now all) }
+{
+    push_cause(page, CauseName::PickedBySum, causes[8], all)?;
+    push_cause(page, CauseName::PickedBySumNotCapable, causes[9], all)?;
+    push_cause(page, CauseName::PickedBySumNotBelow, causes[10], all)
+}
+
+/// .. the random word.
+#[tactic(auto, unfolding(crate::specs::Words::word_causes))]
+fn push_by_word(page: &mut String, causes: &[u64; 16], all: u64) -> Result<(), AllocError>
+    ensures { OnOk result (string_bytes page.new ≡ string_bytes page.old ++ word_causes causes.now all) }
+{
+    push_cause(page, CauseName::PickedByWord, causes[11], all)?;
+    push_cause(page, CauseName::PickedByWordNotCapable, causes[12], all)?;
+    push_cause(page, CauseName::PickedByWordNotBelow, causes[13], all)?;
+    push_cause(page, CauseName::WordNotBelow, causes[14], all)
+}
+
+/// How many arrivals each cause decided.
+#[tactic(auto, unfolding(crate::specs::Words::cause_words))]
+fn push_causes(page: &mut String, causes: &[u64; 16], all: u64) -> Result<(), AllocError>
+    ensures { OnOk result (string_bytes page.new ≡ string_bytes page.old ++ cause_words causes.now all) }
+{
+    push_first(page, causes, all)?;
+    push_middle(page, causes, all)?;
+    push_by_sum(page, causes, all)?;
+    push_by_word(page, causes, all)
+}
+
+/// The mean of a series, rounded down; 0 where it is empty.
+pub(crate) fn mean(series: &Series) -> u64
+    ensures { result ≡ mean series.now }
+{
+    let count = u128::from(series.count.max(1));
+    (series.total / count).min(u128::from(u64::MAX)) as u64
+}
+
+/// How many events there are, and when the first and the last were.
+#[tactic(auto, unfolding(crate::specs::Words::head_words))]
+fn push_head(page: &mut String, moments: &Series) -> Result<(), AllocError>
+    ensures { OnOk result (string_bytes page.new ≡ string_bytes page.old ++ head_words moments.now) }
+{
+    let (count, first, last) = (moments.count, Millis(moments.first), Millis(moments.last));
+    write!(page, "{count} events, from {first} to {last}\n")
+}
+
+/// How many packets arrived, and how many bytes.
+#[tactic(auto, unfolding(crate::specs::Words::arrived_words))]
+fn push_arrived(page: &mut String, arrived: &Series) -> Result<(), AllocError>
+    ensures { OnOk result (string_bytes page.new ≡ string_bytes page.old ++ arrived_words arrived.now) }
+{
+    let (count, bytes) = (arrived.count, arrived.total);
+    write!(page, "  {count} arrivals, {bytes} bytes\n")
+}
+
+/// How many packets left, and how long they had waited.
+#[tactic(auto, unfolding(crate::specs::Words::left_words))]
+fn push_left(page: &mut String, waits: &Series) -> Result<(), AllocError>
+    ensures { OnOk result (string_bytes page.new ≡ string_bytes page.old ++ left_words waits.now) }
+{
+    let (count, most, mean) = (waits.count, Millis(waits.greatest), Millis(mean(waits)));
+    write!(
+        page,
+        "  {count} packets left; they had waited at most {most},\n    and in the mean {mean}\n"
+    )
+}
+
+/// How many updates there were, and the delays that they took.
+#[tactic(auto, unfolding(crate::specs::Words::delay_words))]
+fn push_delays(
+    page: &mut String,
+    updates: u64,
+    greatest: Millis,
+    last: Millis,
+) -> Result<(), AllocError>
+    ensures { OnOk result (string_bytes page.new ≡ string_bytes page.old ++ delay_words updates greatest.0 last.0) }
+{
+    write!(
+        page,
+        "  {updates} updates; the greatest delay was {greatest},\n    and the last {last}\n"
+    )
+}
+
+/// The probabilities after the events.
+#[tactic(auto, unfolding(crate::specs::Words::prob_words))]
+fn push_probs(page: &mut String, greatest: PerCent, last: PerCent) -> Result<(), AllocError>
+    ensures { OnOk result (string_bytes page.new ≡ string_bytes page.old ++ prob_words greatest.0 last.0) }
+{
+    write!(
+        page,
+        "  the greatest probability was {greatest}, and the last {last}\n"
+    )
+}
+
+/// What the updates made.
+#[tactic(auto, unfolding(crate::specs::Words::update_words))]
+fn push_updates(
+    page: &mut String,
+    updates: u64,
+    delays: &Series,
+    probs: &Series,
+) -> Result<(), AllocError>
+    ensures { OnOk result (string_bytes page.new ≡ string_bytes page.old ++ update_words updates delays.now probs.now) }
+{
+    push_delays(page, updates, Millis(delays.greatest), Millis(delays.last))?;
+    push_probs(page, PerCent(probs.greatest), PerCent(probs.last))
+}
+
+/// When the controller turned on, or off.
+#[tactic(auto, unfolding(crate::specs::Words::turned_words))]
+fn push_turned(page: &mut String, way: &str, turned: &Series) -> Result<(), AllocError>
+    ensures { OnOk result (string_bytes page.new ≡ string_bytes page.old ++ turned_words way.now turned.now) }
+{
+    let (count, first, last) = (turned.count, Millis(turned.first), Millis(turned.last));
+    if count == 0 {
+        return Ok(());
+    }
+    write!(
+        page,
+        "  turned {way} {count} times, first at {first},\n    and last at {last}\n"
+    )
+}
+
+/// How many packets arrived, and what became of them.
+#[tactic(auto, unfolding(crate::specs::Words::verdict_words))]
+fn push_verdicts(page: &mut String, arrived: &Series, answers: &[u64; 9]) -> Result<(), AllocError>
+    ensures { OnOk result (string_bytes page.new ≡ string_bytes page.old ++ verdict_words arrived.now answers.now) }
+{
+    push_arrived(page, arrived)?;
+    push_queued(page, answers, arrived.count)?;
+    push_dropped(page, answers, arrived.count)
+}
+
+/// What stands before the causes.
+#[tactic(auto, unfolding(crate::specs::Words::title))]
+fn push_title(page: &mut String) -> Result<(), AllocError>
+    ensures { OnOk result (string_bytes page.new ≡ string_bytes page.old ++ title) }
+{
+    page.push_str("  by what decided them\n")
+}
+
+/// What became of the arrivals, and why.
+#[tactic(auto, unfolding(crate::specs::Words::arrival_words))]
+fn push_arrivals(page: &mut String, sums: &Sums) -> Result<(), AllocError>
+    ensures { OnOk result (string_bytes page.new ≡ string_bytes page.old ++ arrival_words sums.now) }
+{
+    push_verdicts(page, &sums.arrived, &sums.answers)?;
+    push_title(page)?;
+    push_causes(page, &sums.causes, sums.arrived.count)
+}
+
+/// How long packets waited, what the updates made, and when the controller turned.
+#[tactic(auto, unfolding(crate::specs::Words::later_words))]
+fn push_later(page: &mut String, sums: &Sums) -> Result<(), AllocError>
+    ensures { OnOk result (string_bytes page.new ≡ string_bytes page.old ++ later_words sums.now) }
+{
+    push_left(page, &sums.waits)?;
+    push_updates(page, sums.answers[7], &sums.delays, &sums.probs)?;
+    push_turned(page, "on", &sums.turned_on)?;
+    push_turned(page, "off", &sums.turned_off)
+}
+
+/// Writes a summary in words.
+#[tactic(auto, unfolding(crate::specs::Words::words))]
+pub(crate) fn push_words(page: &mut String, sums: &Sums) -> Result<(), AllocError>
+    ensures { OnOk result (string_bytes page.new ≡ string_bytes page.old ++ words sums.now) }
+{
+    push_head(page, &sums.moments)?;
+    push_arrivals(page, sums)?;
+    push_later(page, sums)
+}

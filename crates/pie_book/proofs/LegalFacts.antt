@@ -6,7 +6,7 @@ use Rattle.pie_params.specs.Range.{first_bad}
 use Rattle.pie_book.specs.Types.{Waiting, Arrival, Held, Command, Arrive, Depart, Update, Reset, SetParams, Answer, Event, Opening}
 use Rattle.pie_controller.specs.Calls.{after_call}
 use Rattle.pie_controller.specs.Steps as Steps
-use Rattle.pie_controller.specs.Steps.{anew, bytes_with, judged, no_estimate}
+use Rattle.pie_controller.specs.Steps.{anew, bytes_with, judged}
 use Rattle.pie_controller.proofs.InRange.{params-hold}
 use Rattle.pie_controller.proofs.Places.{place_of}
 use Rattle.pie_book.specs.Call.{arrival_of, departure_call}

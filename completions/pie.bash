@@ -5,7 +5,8 @@ _pie() {
         words='run audit explain migrate storm help --help --version'
     else
         case $subcommand in
-            run | audit | migrate) words='--help' ;;
+            run) words='--count --help' ;;
+            audit | migrate) words='--help' ;;
             explain) words='--event --tag --lost --marked --all --from --to --csv --help' ;;
             storm) words='--senders --packets --seed --load --count --help' ;;
             help) words='run audit explain migrate storm help' ;;
@@ -14,4 +15,4 @@ _pie() {
     fi
     COMPREPLY=($(compgen -W "$words" -- "$word"))
 }
-complete -F _pie pie
+complete -o default -F _pie pie

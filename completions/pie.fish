@@ -1,5 +1,5 @@
 # Completion of pie for fish: put it into a folder of fish_complete_path.
-complete -c pie -f
+complete -c pie -n 'not __fish_seen_subcommand_from run audit explain migrate' -f
 complete -c pie -n __fish_use_subcommand -a run -d 'run a trace and write its history'
 complete -c pie -n __fish_use_subcommand -a audit -d 'decide each event of a history again'
 complete -c pie -n __fish_use_subcommand -a explain -d 'say why events of a history went as they did'
@@ -8,6 +8,7 @@ complete -c pie -n __fish_use_subcommand -a storm -d 'run one controller under m
 complete -c pie -n __fish_use_subcommand -a help -d 'tell about a subcommand'
 complete -c pie -n __fish_use_subcommand -l version -d 'print the version'
 complete -c pie -l help -d 'tell about pie or a subcommand'
+complete -c pie -n '__fish_seen_subcommand_from run' -l count -d 'say how many events and refused records there were'
 complete -c pie -n '__fish_seen_subcommand_from explain' -l event -x -d 'the event with this number, from 1'
 complete -c pie -n '__fish_seen_subcommand_from explain' -l tag -x -d 'each event of the packets with this tag'
 complete -c pie -n '__fish_seen_subcommand_from explain' -l lost -d 'each arrival whose packet was dropped'

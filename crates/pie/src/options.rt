@@ -1,11 +1,11 @@
 //! The command line of `pie`.
 ghost use Rattle.std.specs.Prelude.{◌≡◌, IfOk, false};
 ghost use Rattle.clap.specs.Words.{app_of, new_app, rule_of};
-ghost use Rattle.pie.specs.Words.{choosing_app, explain_app, flag_rule, number_rule, pie_alone, pie_app, storm_app, text_rule};
+ghost use Rattle.pie.specs.Words.{audit_app, choosing_app, explain_app, file_rule, files_rule, flag_rule, migrate_app, number_rule, pie_alone, pie_app, run_app, storm_app, text_rule};
 
 use crate::help::{
-    AUDIT_HELP, EXPLAIN_ABOUT, EXPLAIN_HELP, MIGRATE_ABOUT, MIGRATE_HELP, PIE_HELP, RUN_HELP,
-    STORM_ABOUT, STORM_HELP,
+    AUDIT_ABOUT, AUDIT_HELP, EXPLAIN_ABOUT, EXPLAIN_HELP, MIGRATE_ABOUT, MIGRATE_HELP, PIE_HELP,
+    RUN_ABOUT, RUN_HELP, STORM_ABOUT, STORM_HELP,
 };
 use clap::builder::ValueParser;
 use clap::{Arg, ArgAction, Command};
@@ -48,11 +48,60 @@ fn text_option<'a>(alloc: Global, name: &'a str, value: &'a str, help: &'a str) 
         .help(help)
 }
 
+/// A file that may be named.
+fn file_argument<'a>(alloc: Global) -> Arg<'a>
+    ensures rule { rule_of result ≡ file_rule }
+    ensures local { result.global ≡ false }
+{
+    Arg::new(alloc, "file")
+        .value_name("FILE")
+        .help("The file to read; - or none: standard input")
+}
+
+/// Files, of which any number may be named.
+fn files_argument<'a>(alloc: Global) -> Arg<'a>
+    ensures rule { rule_of result ≡ files_rule }
+    ensures local { result.global ≡ false }
+{
+    Arg::new(alloc, "file")
+        .value_name("FILE")
+        .action(ArgAction::Append)
+        .help("The files to audit; -: standard input")
+}
+
 /// A subcommand without options.
 fn plain<'a>(alloc: Global, name: &'a str, about: &'a str, help: &'a str) -> Command<'a>
     ensures { app_of result ≡ new_app name.now }
 {
     Command::new(alloc, name).about(about).after_help(help)
+}
+
+/// The subcommand `run` and its options.
+fn run_command<'a>(alloc: Global) -> Result<Command<'a>, AllocError>
+    ensures { IfOk result (λ run. app_of run ≡ run_app) }
+{
+    let count = flag_option(
+        alloc,
+        "count",
+        "Say on standard error how many events and refused records there were",
+    );
+    plain(alloc, "run", RUN_ABOUT, RUN_HELP)
+        .arg(count)?
+        .arg(file_argument(alloc))
+}
+
+/// The subcommand `audit` and its files.
+fn audit_command<'a>(alloc: Global) -> Result<Command<'a>, AllocError>
+    ensures { IfOk result (λ audit. app_of audit ≡ audit_app) }
+{
+    plain(alloc, "audit", AUDIT_ABOUT, AUDIT_HELP).arg(files_argument(alloc))
+}
+
+/// The subcommand `migrate` and its file.
+fn migrate_command<'a>(alloc: Global) -> Result<Command<'a>, AllocError>
+    ensures { IfOk result (λ migrate. app_of migrate ≡ migrate_app) }
+{
+    plain(alloc, "migrate", MIGRATE_ABOUT, MIGRATE_HELP).arg(file_argument(alloc))
 }
 
 /// The subcommand `explain` with the options that choose events.
@@ -113,7 +162,11 @@ fn explain_command<'a>(alloc: Global) -> Result<Command<'a>, AllocError>
         "csv",
         "Write CSV, a header and a record an event, in place of words",
     );
-    choosing_command(alloc)?.arg(from)?.arg(to)?.arg(csv)
+    choosing_command(alloc)?
+        .arg(from)?
+        .arg(to)?
+        .arg(csv)?
+        .arg(file_argument(alloc))
 }
 
 /// The subcommand `storm` and its options.
@@ -176,20 +229,10 @@ fn alone<'a>(alloc: Global) -> Command<'a>
 pub(crate) fn options<'a>(alloc: Global) -> Result<Command<'a>, AllocError>
     ensures { IfOk result (λ options. app_of options ≡ pie_app) }
 {
-    let run = plain(
-        alloc,
-        "run",
-        "Reads a trace from standard input and writes its history to standard output",
-        RUN_HELP,
-    );
-    let audit = plain(
-        alloc,
-        "audit",
-        "Reads a history from standard input and decides each of its events again",
-        AUDIT_HELP,
-    );
+    let run = run_command(alloc)?;
+    let audit = audit_command(alloc)?;
     let explain = explain_command(alloc)?;
-    let migrate = plain(alloc, "migrate", MIGRATE_ABOUT, MIGRATE_HELP);
+    let migrate = migrate_command(alloc)?;
     let storm = storm_command(alloc)?;
     alone(alloc)
         .subcommand(run)?

@@ -5,7 +5,7 @@ use Rattle.std.specs.Str.{bytes_eq}
 use Rattle.clap.specs.Words.{Row, Text}
 use Rattle.pie.specs.declared.end.End.TheVariants.{Failed}
 use Rattle.pie.specs.declared.subcommand.Subcommand.{Subcommand}
-use Rattle.pie.specs.declared.subcommand.Subcommand.TheVariants.{Run, Audit, Explain, Migrate, Storm}
+use Rattle.pie.specs.declared.subcommand.Subcommand.TheVariants.{Run, Audit, Explain, Migrate, Storm, Params}
 use Rattle.pie.specs.AuditEnds.{EndsAudits}
 use Rattle.pie.specs.Files.{file_in, files_in, text_given}
 use Rattle.pie.specs.Subcommands.{EndsAs, word_of}
@@ -24,6 +24,7 @@ EndsAs-failed Explain options input files before now same =
     EndsExplain-failed options (text_given input files (file_in options)) 1 before now refl same
 EndsAs-failed Migrate options input files before now same = EndsMigrate-failed (text_given input files (file_in options)) before now same
 EndsAs-failed Storm options input files before now same = inl refl
+EndsAs-failed Params options input files before now same = inl refl
 
 -- no two are asked for by one word
 abbrev asked_by : Text → Option Subcommand
@@ -31,7 +32,8 @@ asked_by word = if bytes_eq word (codes "run") then Some Run
     else if bytes_eq word (codes "audit") then Some Audit
     else if bytes_eq word (codes "explain") then Some Explain
     else if bytes_eq word (codes "migrate") then Some Migrate
-    else Some Storm
+    else if bytes_eq word (codes "storm") then Some Storm
+    else Some Params
 
 asked-word : (subcommand : Subcommand) → asked_by (word_of subcommand) ≡ Some subcommand
 asked-word Run = refl
@@ -39,6 +41,7 @@ asked-word Audit = refl
 asked-word Explain = refl
 asked-word Migrate = refl
 asked-word Storm = refl
+asked-word Params = refl
 
 pub same-word : (one other : Subcommand) → Some (word_of one) ≡ Some (word_of other) → one ≡ other
 same-word one other same =

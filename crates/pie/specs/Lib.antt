@@ -5,4 +5,5 @@ pub mod Files
 pub mod StormEnds
 pub mod StormPlan
 pub mod Subcommands
+pub mod Tuning
 pub mod Words

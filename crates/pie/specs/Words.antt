@@ -50,6 +50,12 @@ choosing_app = with_rule (with_rule (with_rule (with_rule (with_rule (new_app (c
 abbrev pub explain_app : App
 explain_app = with_rule (with_rule (with_rule (with_rule choosing_app (text_rule (codes "from"))) (text_rule (codes "to"))) (flag_rule (codes "csv"))) file_rule
 
+-- the subcommand `params`: four texts with units, two gains, and what `tc` has or hasn't
+abbrev pub params_app : App
+params_app = with_rule (with_rule (with_rule (with_rule (with_rule (with_rule (with_rule (with_rule (with_rule (new_app (codes "params")) (text_rule (codes "rate")))
+    (text_rule (codes "target"))) (text_rule (codes "tupdate"))) (text_rule (codes "limit"))) (number_rule (codes "alpha") 0 32)) (number_rule (codes "beta") 0 32))
+    (flag_rule (codes "ecn"))) (flag_rule (codes "bytemode"))) (flag_rule (codes "dq_rate_estimator"))
+
 -- the subcommand `storm`, whose options are four numbers, and one that asks for counts
 abbrev pub storm_app : App
 storm_app = with_rule (with_rule (with_rule (with_rule (with_rule (new_app (codes "storm")) (number_rule (codes "senders") 2 8))
@@ -57,8 +63,8 @@ storm_app = with_rule (with_rule (with_rule (with_rule (with_rule (new_app (code
 
 -- .. `pie` with its subcommands
 abbrev pub pie_app : App
-pie_app = with_subcommand (with_subcommand (with_subcommand (with_subcommand (with_subcommand pie_alone run_app.top) audit_app.top) explain_app.top) migrate_app.top)
-    storm_app.top
+pie_app = with_subcommand (with_subcommand (with_subcommand (with_subcommand (with_subcommand (with_subcommand pie_alone run_app.top) audit_app.top) explain_app.top) migrate_app.top)
+    storm_app.top) params_app.top
 
 -- ---- subcommands
 

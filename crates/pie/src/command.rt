@@ -9,6 +9,7 @@ ghost use Rattle.pie.specs.Ends.{EndsAudit, EndsExplain, EndsMigrate, EndsRun, s
 ghost use Rattle.pie.specs.Files.{file_in, files_in, text_given};
 ghost use Rattle.pie.specs.StormEnds.{EndsStorm};
 ghost use Rattle.pie.specs.Subcommands.{EndsAs, word_of};
+ghost use Rattle.pie.specs.Tuning.{EndsParams};
 ghost use Rattle.pie.specs.Words.{AskFor, Asks, options_in, subcommand_in};
 
 use crate::auditing::audit_given;
@@ -20,6 +21,7 @@ use crate::options::options;
 use crate::running::{migrate_input, run_input};
 use crate::storming::make_storm;
 use crate::subcommand::Subcommand;
+use crate::tuning::tune;
 use clap::error::ErrorKind;
 use clap::{ArgMatches, Error};
 use std::alloc::Global;
@@ -54,6 +56,9 @@ use std::thread::Threads;
 ///
 /// For any words that ask for `pie storm`, the threads of the runtime make a storm of the plan that the options ask for. Its
 /// history is written, which is legal and clean, and the status is 0; or it is 1, where memory, a thread or the writer fails.
+///
+/// For any words that ask for `pie params`, the record that opens a book with the parameters that the options ask for is written, and the
+/// status is 0; or it is 1, where a text is no number of its kind, a number is out of its range, or the writer fails.
 pub fn command<H: Threads + Wait + Sync + NamedFiles, R: Read + Drop, W: Write, E: Write>(
     rt: &H,
     alloc: Global,
@@ -81,6 +86,8 @@ pub fn command<H: Threads + Wait + Sync + NamedFiles, R: Read + Drop, W: Write, 
         (λ text. EndsExplain (options_in (map string_bytes words.now)) text (status_of result) (W.contents output.old) (W.contents output.new)) }
     ensures storms { Asks (codes "storm") (map string_bytes words.now)
         → EndsStorm (options_in (map string_bytes words.now)) (status_of result) (W.contents output.old) (W.contents output.new) }
+    ensures params { Asks (codes "params") (map string_bytes words.now)
+        → EndsParams (options_in (map string_bytes words.now)) (status_of result) (W.contents output.old) (W.contents output.new) }
 {
     answer(rt, alloc, words, input, output, errors)
 }
@@ -133,6 +140,7 @@ fn perform<H: Threads + Wait + Sync + NamedFiles, R: Read + Drop, W: Write, E: W
     match subcommand {
         Subcommand::Audit => audit_given(rt, alloc, options, input, output, errors),
         Subcommand::Storm => End::with_status(make_storm(rt, alloc, options, output, errors)),
+        Subcommand::Params => End::with_status(tune(options, output, errors)),
         Subcommand::Run => match reader_of(rt, options, input, errors) {
             Some(reader) => run_input(alloc, flag(options, "count"), reader, output, errors),
             None => End::Failed,

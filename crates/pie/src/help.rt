@@ -171,6 +171,29 @@ writes
   arrive,1,10,7,1500,ect0,0,enqueue
   shown,1,10,1,1500,0,0,0,150000000,0,0,0,1";
 
+/// What `pie params` is for.
+pub(crate) const PARAMS_ABOUT: &str =
+    "Writes the parameters that tc's options ask for as the first record of a trace";
+
+/// What `pie params --help` says below its options.
+pub(crate) const PARAMS_HELP: &str =
+    "The record opens a rolling book of version two: open2,1,rolling,0,<packets>,<tail>,<events>,<nine>, as pie run --help has it. TIME is
+a whole number of ns, us, ms or s, RATE one of bit, kbit, mbit or gbit, and PACKETS one of packets, with or without a p.
+
+alpha and beta count sixteenths per second, as those of tc: 2 and 20 are 125 and 1250 thousandths, the values of RFC 8033. With --ecn
+packets of ECN-capable endpoints are marked while the probability is below 10 per cent, and without it never. limit_bytes is 200 ms
+at the rate, but no less than 262144 and no more than 2^30.
+
+Standard error names what has no counterpart here, and warns where limit_bytes is under rate x target.
+
+Example: what tc qdisc add dev eth0 root pie target 20ms limit 1000p ecn dq_rate_estimator asks for at 100 Mbit/s:
+
+  pie params --rate 100mbit --target 20ms --limit 1000p --ecn --dq_rate_estimator
+
+writes
+
+  open2,1,rolling,0,1000,1000,1099511627776,20000000,15000000,150000000,125,1250,1024,2500000,100000000000,16384";
+
 /// What `pie storm` is for.
 pub(crate) const STORM_ABOUT: &str =
     "Runs one controller under many threads at once and writes its history";

@@ -14,6 +14,7 @@ mod plan;
 mod running;
 mod storming;
 mod subcommand;
+mod tuning;
 
 use command::command;
 use std::env;

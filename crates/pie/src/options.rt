@@ -1,11 +1,11 @@
 //! The command line of `pie`.
 ghost use Rattle.std.specs.Prelude.{◌≡◌, IfOk, false};
 ghost use Rattle.clap.specs.Words.{app_of, new_app, rule_of};
-ghost use Rattle.pie.specs.Words.{audit_app, choosing_app, explain_app, file_rule, files_rule, flag_rule, migrate_app, number_rule, pie_alone, pie_app, run_app, storm_app, text_rule};
+ghost use Rattle.pie.specs.Words.{audit_app, choosing_app, explain_app, file_rule, files_rule, flag_rule, migrate_app, number_rule, params_app, pie_alone, pie_app, run_app, storm_app, text_rule};
 
 use crate::help::{
-    AUDIT_ABOUT, AUDIT_HELP, EXPLAIN_ABOUT, EXPLAIN_HELP, MIGRATE_ABOUT, MIGRATE_HELP, PIE_HELP,
-    RUN_ABOUT, RUN_HELP, STORM_ABOUT, STORM_HELP,
+    AUDIT_ABOUT, AUDIT_HELP, EXPLAIN_ABOUT, EXPLAIN_HELP, MIGRATE_ABOUT, MIGRATE_HELP,
+    PARAMS_ABOUT, PARAMS_HELP, PIE_HELP, RUN_ABOUT, RUN_HELP, STORM_ABOUT, STORM_HELP,
 };
 use clap::builder::ValueParser;
 use clap::{Arg, ArgAction, Command};
@@ -214,6 +214,50 @@ fn storm_command<'a>(alloc: Global) -> Result<Command<'a>, AllocError>
         .arg(count)
 }
 
+/// The subcommand `params` and its options, which are named as those of `tc`.
+fn params_command<'a>(alloc: Global) -> Result<Command<'a>, AllocError>
+    ensures { IfOk result (λ params. app_of params ≡ params_app) }
+{
+    let rate = text_option(
+        alloc,
+        "rate",
+        "RATE",
+        "The link's rate, as 100mbit, of which limit_bytes is 200 ms",
+    );
+    let target = text_option(alloc, "target", "TIME", "The wanted delay; 15ms by default");
+    let update = text_option(
+        alloc,
+        "tupdate",
+        "TIME",
+        "The time between two updates; 15ms by default",
+    );
+    let limit = text_option(
+        alloc,
+        "limit",
+        "PACKETS",
+        "How many packets may wait, as 1000p; 1000 by default",
+    );
+    let alpha = number_option(alloc, "alpha", 0, 32, "The gain alpha of tc; 2 by default");
+    let beta = number_option(alloc, "beta", 0, 32, "The gain beta of tc; 20 by default");
+    let ecn = flag_option(alloc, "ecn", "Mark packets of ECN-capable endpoints");
+    let bytemode = flag_option(alloc, "bytemode", "Is said to have no counterpart");
+    let estimator = flag_option(
+        alloc,
+        "dq_rate_estimator",
+        "Is so in any case; said where it is left out",
+    );
+    plain(alloc, "params", PARAMS_ABOUT, PARAMS_HELP)
+        .arg(rate)?
+        .arg(target)?
+        .arg(update)?
+        .arg(limit)?
+        .arg(alpha)?
+        .arg(beta)?
+        .arg(ecn)?
+        .arg(bytemode)?
+        .arg(estimator)
+}
+
 /// `pie` without its subcommands.
 fn alone<'a>(alloc: Global) -> Command<'a>
     ensures { app_of result ≡ pie_alone }
@@ -234,10 +278,12 @@ pub(crate) fn options<'a>(alloc: Global) -> Result<Command<'a>, AllocError>
     let explain = explain_command(alloc)?;
     let migrate = migrate_command(alloc)?;
     let storm = storm_command(alloc)?;
+    let params = params_command(alloc)?;
     alone(alloc)
         .subcommand(run)?
         .subcommand(audit)?
         .subcommand(explain)?
         .subcommand(migrate)?
-        .subcommand(storm)
+        .subcommand(storm)?
+        .subcommand(params)
 }

@@ -15,6 +15,8 @@ pub(crate) enum Subcommand {
     Migrate,
     /// Make a storm.
     Storm,
+    /// Write parameters as a record.
+    Params,
 }
 
 impl Subcommand {
@@ -28,6 +30,7 @@ impl Subcommand {
             "explain" => Some(Subcommand::Explain),
             "migrate" => Some(Subcommand::Migrate),
             "storm" => Some(Subcommand::Storm),
+            "params" => Some(Subcommand::Params),
             _ => None,
         }
     }

@@ -1,7 +1,7 @@
 use Rattle.std.proofs.Common.{List, Option, map, string_bytes, subst}
 use Rattle.std.specs.Prelude.{IfSome}
 use Rattle.clap.specs.Words.{Text}
-use Rattle.pie.specs.declared.subcommand.Subcommand.TheVariants.{Run, Audit, Explain, Migrate, Storm}
+use Rattle.pie.specs.declared.subcommand.Subcommand.TheVariants.{Run, Audit, Explain, Migrate, Storm, Params}
 use Rattle.pie.specs.AuditEnds.{EndsAudits}
 use Rattle.pie.specs.Ends.{EndsMigrate, EndsRun}
 use Rattle.pie.specs.Files.{text_given}
@@ -42,3 +42,6 @@ returns-clause-explains g c asks = c.answer.ensures.ends Explain asks
 
 pub returns-clause-storms : goal.returns-clause-storms
 returns-clause-storms g c asks = c.answer.ensures.ends Storm asks
+
+pub returns-clause-params : goal.returns-clause-params
+returns-clause-params g c asks = c.answer.ensures.ends Params asks

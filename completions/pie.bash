@@ -2,16 +2,18 @@
 _pie() {
     local word=${COMP_WORDS[COMP_CWORD]} subcommand=${COMP_WORDS[1]:-} words
     if [ "$COMP_CWORD" = 1 ]; then
-        words='run audit explain migrate storm help --help --version'
+        words='run audit explain migrate storm params help --help --version'
     else
         case $subcommand in
-            run | audit | migrate) words='--help' ;;
+            run) words='--count --help' ;;
+            audit | migrate) words='--help' ;;
             explain) words='--event --tag --lost --marked --all --from --to --summary --every --csv --help' ;;
             storm) words='--senders --packets --seed --load --count --help' ;;
-            help) words='run audit explain migrate storm help' ;;
+            params) words='--rate --target --tupdate --limit --alpha --beta --ecn --bytemode --dq_rate_estimator --help' ;;
+            help) words='run audit explain migrate storm params help' ;;
             *) words='' ;;
         esac
     fi
     COMPREPLY=($(compgen -W "$words" -- "$word"))
 }
-complete -F _pie pie
+complete -o default -F _pie pie

@@ -12,7 +12,7 @@ failed=0
 # expect NAME STATUS OUTPUT ERRORS INPUT WORDS..: texts as printf reads them
 expect() {
     local name=$1 status=$2
-    printf "$3" > "$work/output.want"
+    printf -- "$3" > "$work/output.want"
     printf "$4" > "$work/errors.want"
     printf "$5" > "$work/input"
     shift 5
@@ -173,6 +173,82 @@ expect 'a migrated opening with its parameters' 0 'open2,1,rolling,5,8,32,100,2,
     'rolling,5,8,32,100,2,1,5,850000,0,1,9000,1000000000000,1024\n' migrate
 expect 'a fault of a migrated history' 1 'open2,1,rolling,0,4,16,100\ndepart,1,9,empty\n' 'pie: record 3: unknown kind\n' \
     'rolling,0,4,16,100\ndepart,1,9,empty\ndep,1,10\n' migrate
+# Counts, on standard error and nowhere else; not of a run that ends at a fault.
+expect 'a counted run' 0 'open,0,4,1,100\ndepart,1,1,empty\nrefused,3,5\nrefused,4,3\n' 'pie: 1 events, 2 refused records\n' \
+    'open,0,4,1,100\ndepart,1,1\ndepart,1,1\nupdate,1,1\n' run --count
+expect 'a counted run with a fault' 1 'open,0,4,16,100\ndepart,1,9,empty\n' 'pie: record 3: unknown kind\n' \
+    'open,0,4,16,100\ndepart,1,9\ndep,1,10\ndepart,1,11\n' run --count
+
+# Files: what is read for one, and for -, is what is read for no word.
+printf "$trace" > "$work/trace"
+printf "$history" > "$work/history"
+printf "$changed" > "$work/changed"
+printf 'open,0,4,16,100\ndepart,1,9,empty\ndep,1,10\n' > "$work/faulty"
+printf 'open,0,4,16,100\ndepart,1,9\ndepart,1\n' > "$work/faulty.trace"
+printf "$one" > "$work/one"
+printf 'open,0,4,16,100\n' > "$work/none"
+expect 'a run of a file' 0 "$history" '' '' run "$work/trace"
+expect 'a counted run of a file' 0 "$history" 'pie: 11 events, 0 refused records\n' '' run "$work/trace" --count
+expect 'a run of -' 0 "$history" '' "$trace" run -
+expect 'a run of a file with a fault' 1 'open,0,4,16,100\ndepart,1,9,empty\n' 'pie: record 3: wrong number of fields\n' '' run "$work/faulty.trace"
+expect 'an explained file' 0 "$header$lost" '' '' explain --csv --lost "$work/history"
+expect 'an explained file that differs' 2 "${header}$begins" "$differs" '' explain "$work/changed" --csv --event=1
+expect 'a migrated file' 0 "$two" '' '' migrate "$work/one"
+expect 'an audit of a file' 0 "$work/history: clean,11\n" '' '' audit "$work/history"
+expect 'an audit of -' 0 '-: clean,11\n' '' "$history" audit -
+expect 'audits of files' 0 "$work/history: clean,11\n$work/none: clean,0\n-: clean,11\n" '' "$history" audit "$work/history" "$work/none" -
+expect 'audits of which one differs' 2 "$work/history: clean,11\n$work/changed: differs,10\n$work/none: clean,0\n" '' '' \
+    audit "$work/history" "$work/changed" "$work/none"
+expect 'audits of which one has a fault' 1 "$work/history: clean,11\n$work/none: clean,0\n" "pie: $work/faulty: record 3: unknown kind\n" '' \
+    audit "$work/history" "$work/faulty" "$work/none"
+expect 'a fault is worse than a difference' 1 "$work/changed: differs,10\n$work/none: clean,0\n" "pie: $work/faulty: record 3: unknown kind\n" '' \
+    audit "$work/changed" "$work/faulty" "$work/none"
+expect 'a difference is no better behind a fault' 1 "$work/changed: differs,10\n" "pie: $work/faulty: record 3: unknown kind\n" '' \
+    audit "$work/faulty" "$work/changed"
+expect 'standard input, twice' 1 '-: clean,11\n' 'pie: -: standard input was read already\n' "$history" audit - -
+missing="$work/missing: No such file or directory (os error 2)"
+expect 'a missing file' 1 "$work/none: clean,0\n" "pie: $missing\n" '' audit "$work/missing" "$work/none"
+for name in run migrate 'explain --all'; do
+    expect "$name of a missing file" 1 '' "pie: $missing\n" '' $name "$work/missing"
+    expect "$name of a folder" 1 '' 'pie: cannot read the input\n' '' $name "$work"
+done
+expect 'an audit of a folder' 1 '' "pie: $work: cannot read the input\n" '' audit "$work"
+
+# Parameters of tc: the record is one that a run accepts, and writes again as it is.
+stamps='pie: time stamps have no counterpart: delays are estimated from the departure rate, as by dq_rate_estimator\n'
+# params NAME RECORD ERRORS WORDS..
+params() {
+    local name=$1 record=$2 errors=$3
+    shift 3
+    expect "$name" 0 "$record\n" "$errors" '' params --dq_rate_estimator "$@"
+    expect "a run of $name" 0 "$record\n" '' "$record\n" run
+}
+params 'the defaults of tc' 'open2,1,rolling,0,1000,1000,1099511627776,15000000,15000000,150000000,125,1250,1024,262144,0,16384' ''
+params 'what tc shows' 'open2,1,rolling,0,1000,1000,1099511627776,20000000,15000000,150000000,125,1250,1024,2500000,100000000000,16384' '' \
+    --rate 100mbit --target 20ms --limit 1000p --alpha 2 --beta 20 --tupdate 15ms --ecn
+params 'other units' 'open2,1,rolling,0,65536,65536,1099511627776,500000,1000,150000000,0,2000,1024,262144,0,16384' '' \
+    --rate 9000kbit --target 500us --limit 65536 --alpha 0 --beta 32 --tupdate 1000ns
+# (the bytes are those of the table of include/pie.h, by pie_params_for)
+for row in 10mbit:262144 100mbit:2500000 1gbit:25000000 10gbit:250000000 40gbit:1000000000 100gbit:1073741824 41bit:262144 0bit:262144; do
+    params "a limit at ${row%:*}" "open2,1,rolling,0,1000,1000,1099511627776,15000000,15000000,150000000,125,1250,1024,${row#*:},0,16384" '' --rate "${row%:*}"
+done
+short='is under rate x target: the queue is full before it waits so long, and all losses are tail drops\n'
+params 'a limit that is too small' 'open2,1,rolling,0,1000,1000,1099511627776,1000000000,15000000,150000000,125,1250,1024,2500000,0,16384' \
+    "pie: limit_bytes, 2500000, $short" --rate 100mbit --target 1s
+params 'odd gains and bytemode' 'open2,1,rolling,0,1000,1000,1099511627776,15000000,15000000,150000000,187,1312,1024,262144,0,16384' \
+    "pie: bytemode has no counterpart: a packet's size doesn't change its chance\npie: alpha is rounded down to whole thousandths per second\npie: beta is rounded down to whole thousandths per second\n" \
+    --alpha 3 --beta 21 --bytemode
+expect 'time stamps' 0 'open2,1,rolling,0,1000,1000,1099511627776,15000000,15000000,150000000,125,1250,1024,262144,0,16384\n' "$stamps" '' params
+for time in 20 20m ms 1.5ms 020ms 20MS +20ms ' 20ms' 99999999999999999999ms ''; do
+    expect "no time: $time" 1 '' 'pie: --target is a number of ns, us, ms or s, as 20ms\n' '' params --target "$time"
+done
+expect 'no rate' 1 '' 'pie: --rate is a number of bit, kbit, mbit or gbit, as 100mbit\n' '' params --rate 100
+expect 'no limit' 1 '' 'pie: --limit is a number of packets, as 1000p\n' '' params --limit 1000kb
+expect 'a limit that is too great' 1 '' 'pie: --limit is 1 to 65536 packets\n' '' params --limit 65537p
+expect 'no packets' 1 '' 'pie: --limit is 1 to 65536 packets\n' '' params --limit 0
+expect 'a target that is too great' 1 '' 'pie: the parameter target is out of its range\n' '' params --target 11s
+expect 'a time above 2^64' 1 '' 'pie: the parameter t_update is out of its range\n' '' params --tupdate 18446744073709551615s
+
 expect 'a version' 0 'pie 0.1.0\n' '' '' --version
 expect 'a version, in short' 0 'pie 0.1.0\n' '' '' -V
 
@@ -193,7 +269,7 @@ help() {
 help pie --help
 help pie -h
 help pie help
-for name in run audit explain migrate storm; do
+for name in run audit explain migrate storm params; do
     help "$name" "$name" --help
     help "$name" "$name" -h
     help "$name" help "$name"
@@ -218,8 +294,10 @@ mistake "error: unrecognized subcommand 'runs'" runs
 mistake "error: unrecognized subcommand ''" ''
 mistake "error: unrecognized subcommand 'walk'" help walk
 mistake "error: unexpected argument '--fast' found" --fast
+mistake "error: unexpected argument 'more' found" run one more
+mistake "error: unexpected argument 'more' found" migrate one more
+mistake 'pie: one: No such file or directory (os error 2)' audit one more
 for name in run audit migrate; do
-    mistake "error: unexpected argument 'more' found" "$name" more
     mistake "error: unexpected argument '--wrong' found" "$name" --wrong
     mistake "error: unexpected argument '-x' found" "$name" -x
 done
@@ -230,7 +308,7 @@ mistake "error: invalid value '18446744073709551616' for '--tag <N>': number too
 mistake "error: a value is required for '--tag <N>' but none was supplied" explain --tag
 mistake "error: unexpected value 'yes' for '--lost' found; no more were expected" explain --lost=yes
 mistake "error: the argument '--lost' cannot be used multiple times" explain --lost --lost
-mistake "error: unexpected argument 'lost' found" explain lost
+mistake "error: unexpected argument 'more' found" explain one more
 mistake "error: invalid value '1' for '--senders <N>': 1 is not in 2..=8" storm --senders 1
 mistake "error: invalid value '9' for '--senders <N>': 9 is not in 2..=8" storm --senders 9
 mistake "error: invalid value 'two' for '--senders <N>': invalid digit found in string" storm --senders two
@@ -238,6 +316,7 @@ mistake "error: invalid value '0' for '--packets <N>': 0 is not in 1..=10000" st
 mistake "error: invalid value '10001' for '--packets <N>': 10001 is not in 1..=10000" storm --packets 10001
 mistake "error: invalid value '18446744073709551616' for '--seed <N>': number too large to fit in target type" storm --seed 18446744073709551616
 mistake "error: unexpected argument '-1' found" storm --seed -1
+mistake "error: invalid value '33' for '--alpha <N>': 33 is not in 0..=32" params --alpha 33
 mistake "error: invalid value '49' for '--load <N>': 49 is not in 50..=200" storm --load 49
 mistake "error: invalid value '201' for '--load <N>': 201 is not in 50..=200" storm --load 201
 mistake "error: unexpected argument '--fast' found" storm --fast
@@ -247,7 +326,7 @@ mistake "error: unexpected argument 'more' found" storm --senders 3 --packets 10
 mistake "error: the argument '--seed <N>' cannot be used multiple times" storm --senders 3 --packets 10 --seed 7 --seed 8
 mistake "error: a value is required for '--tag <N>' but none was supplied" explain --csv --lost --all --event 1 --tag
 mistake 'pie: explain takes exactly one of --event N, --tag T, --lost, --marked and --all, or --summary; see pie explain --help' explain --csv --lost --all --event 1 --tag 2
-mistake "error: unexpected argument 'ten' found" explain --csv --lost --all --event 1 --tag 2 ten
+mistake "error: unexpected argument 'eleven' found" explain --csv --lost --all --event 1 --tag 2 ten eleven
 mistake "error: unexpected argument '--twelve' found" explain --csv --lost --all --event 1 --tag 2 --twelve
 
 # Each way to choose events, in both forms, ends with each status: 0; 2 where the tenth event differs; and 1 where a fault stands behind

@@ -7,8 +7,23 @@ use Rattle.pie_explain.specs.declared.which.Which.{Which}
 use Rattle.pie_explain.specs.declared.which.Which.TheVariants.{Number, Lost, All}
 use Rattle.pie_explain.specs.Moment.{digit_count, number_after}
 use Rattle.pie.specs.Choice.{choice_of}
+use Rattle.pie.specs.Files.{file_in, files_in}
 use Rattle.pie.specs.StormEnds.{packets_in, seed_in, senders_in}
 use Rattle.pie.specs.Words.{Asks, options_in}
+
+-- ---- files
+
+audited : (name : Text) → Asks (codes "audit") (name ∷ codes "audit" ∷ codes "a" ∷ codes "-" ∷ [])
+unfolding clap_on_literals
+audited name = record { taken = refl; found = refl }
+
+audited-files : (name : Text) → files_in (options_in (name ∷ codes "audit" ∷ codes "a" ∷ codes "-" ∷ [])) ≡ codes "a" ∷ codes "-" ∷ []
+unfolding clap_on_literals
+audited-files name = refl
+
+run-file : (name : Text) → file_in (options_in (name ∷ codes "run" ∷ codes "a" ∷ codes "--count" ∷ [])) ≡ Some (codes "a")
+unfolding clap_on_literals
+run-file name = refl
 
 -- ---- `pie explain`
 

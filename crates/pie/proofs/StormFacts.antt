@@ -1,6 +1,6 @@
 -- A legal history is found clean, and so is the text that it is written as: so a storm ends with 0, or with 1 where something failed.
-use Rattle.std.proofs.Common.{◌≡◌, ◌≤◌, ◌<◌, ◌^◌, ◌==◌, ◌+◌, ℕ, zero, suc, List, [], ◌∷◌, ◌++◌, map, take, get_or, length, Bool, true, false, cond, refl, ap, subst, ◌∙◌, arith, add-one, eq-eqb, inl, inr}
-use Rattle.std.specs.Prelude.{◌⊎◌, All, IfSome, Option, Some, None, Result, Ok, if◌then◌else◌}
+use Rattle.std.proofs.Common.{◌≡◌, ◌≤◌, ◌<◌, ◌^◌, ◌==◌, ◌+◌, ℕ, zero, suc, List, [], ◌∷◌, ◌++◌, map, take, get_or, length, true, false, cond, refl, ap, subst, ◌∙◌, arith, add-one, eq-eqb, inl, inr}
+use Rattle.std.specs.Prelude.{◌⊎◌, All, IfSome, Option, Some, None, Result, Ok}
 use Rattle.std.specs.List.{find}
 use Rattle.std.specs.Io.KnownBytes.{Appends}
 use Rattle.clap.specs.Words.{Row}
@@ -8,8 +8,6 @@ use Rattle.std.proofs.lemmas.List.Elements.{All-cons, All-head, All-nil, All-tai
 use Rattle.std.proofs.lemmas.List.Sums.{sum_by-cons}
 use Rattle.pie_queue.specs.declared.packet.Packet.{Packet}
 use Rattle.pie_queue.specs.declared.packet.Waiting.{Waiting}
-use Rattle.pie_early.specs.declared.early.Choice.{Choice}
-use Rattle.pie_early.specs.declared.early.Choice.TheVariants.{Enqueue, Mark, Drop}
 use Rattle.pie_book.specs.declared.command.Command.{Command}
 use Rattle.pie_book.specs.declared.command.Command.TheVariants.{Arrive, Depart, Update, Reset, SetParams}
 use Rattle.pie_book.specs.Deed.{fits}

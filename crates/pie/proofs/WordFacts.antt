@@ -1,6 +1,6 @@
 -- What `clap` makes of the words that ask for a subcommand.
-use Rattle.std.proofs.Common.{◌≡◌, ◌∙◌, ℕ, Bool, List, [], ◌∷◌, Option, Some, None, true, false, codes, refl, sym, subst, ap}
-use Rattle.std.specs.Prelude.{◌&&◌, not, option_map, slice_index, unwrap_or}
+use Rattle.std.proofs.Common.{◌≡◌, ◌∙◌, Bool, List, [], ◌∷◌, Option, Some, None, true, false, codes, refl, sym, subst, ap}
+use Rattle.std.specs.Prelude.{◌&&◌, not, option_map, unwrap_or}
 use Rattle.std.specs.Box.{box_value}
 use Rattle.clap.specs.Words.{AddsArg, AddsSubcommand, App, HasMatchesOf, Row, Rule, Text, app_of, found_of, is_simple, rows_of, rule_of, subcommand_rows_of, takes, with_rule, with_subcommand}
 use Rattle.clap.specs.declared.builder.arg.Arg.{Arg}
@@ -9,6 +9,7 @@ use Rattle.clap.specs.Matches.{subcommand_name_of}
 use Rattle.clap.specs.declared.parser.matches.ArgMatches.{ArgMatches}
 use Rattle.clap.specs.declared.parser.matches.ArgMatches.TheViews.{out-ArgMatches, out-SubCommand}
 use Rattle.clap.proofs.OnLiterals.{clap_on_literals}
+use Rattle.pie.specs.Files.{file_in, files_in}
 use Rattle.pie.specs.Words.{AskFor, Asks, options_in, pie_app, subcommand_in}
 
 -- ---- how a command is put together
@@ -33,54 +34,52 @@ adds_subcommand {above} {sub} app sub_app above_is sub_is plain added =
     added.shape (third _ _ _ _ (ap (λ (a : App). a.top.is_plain) sub_is ∙ plain)) ∙ ap (λ (a : App). with_subcommand a (app_of sub).top) above_is
     ∙ ap (λ (a : App). with_subcommand app a.top) sub_is
 
--- ---- they are taken, whatever the program's own name is
+-- ---- they are taken, whatever the program's own name is, ask for their subcommand and name no file
 
-run_words-taken : (name : Text) → takes pie_app (name ∷ codes "run" ∷ []) ≡ true
+run_words-ask : (name : Text) → Asks (codes "run") (name ∷ codes "run" ∷ [])
 unfolding clap_on_literals
-run_words-taken name = refl
+run_words-ask name = record { taken = refl; found = refl }
 
-audit_words-taken : (name : Text) → takes pie_app (name ∷ codes "audit" ∷ []) ≡ true
+audit_words-ask : (name : Text) → Asks (codes "audit") (name ∷ codes "audit" ∷ [])
 unfolding clap_on_literals
-audit_words-taken name = refl
+audit_words-ask name = record { taken = refl; found = refl }
 
-pub run-taken : (app : App) (words : List Text) → app ≡ pie_app → AskFor (codes "run") words → takes app words ≡ true
-run-taken app words is asks = rw (is, asks.1) (run_words-taken asks.0)
-
-pub audit-taken : (app : App) (words : List Text) → app ≡ pie_app → AskFor (codes "audit") words → takes app words ≡ true
-audit-taken app words is asks = rw (is, asks.1) (audit_words-taken asks.0)
-
-migrate_words-taken : (name : Text) → takes pie_app (name ∷ codes "migrate" ∷ []) ≡ true
+migrate_words-ask : (name : Text) → Asks (codes "migrate") (name ∷ codes "migrate" ∷ [])
 unfolding clap_on_literals
-migrate_words-taken name = refl
+migrate_words-ask name = record { taken = refl; found = refl }
 
-pub migrate-taken : (app : App) (words : List Text) → app ≡ pie_app → AskFor (codes "migrate") words → takes app words ≡ true
-migrate-taken app words is asks = rw (is, asks.1) (migrate_words-taken asks.0)
+run_words-file : (name : Text) → file_in (options_in (name ∷ codes "run" ∷ [])) ≡ None
+unfolding clap_on_literals
+run_words-file name = refl
+
+audit_words-files : (name : Text) → files_in (options_in (name ∷ codes "audit" ∷ [])) ≡ []
+unfolding clap_on_literals
+audit_words-files name = refl
+
+migrate_words-file : (name : Text) → file_in (options_in (name ∷ codes "migrate" ∷ [])) ≡ None
+unfolding clap_on_literals
+migrate_words-file name = refl
+
+pub run-asks : (words : List Text) → AskFor (codes "run") words → Asks (codes "run") words
+run-asks words asks = rw asks.1 (run_words-ask asks.0)
+
+pub audit-asks : (words : List Text) → AskFor (codes "audit") words → Asks (codes "audit") words
+audit-asks words asks = rw asks.1 (audit_words-ask asks.0)
+
+pub migrate-asks : (words : List Text) → AskFor (codes "migrate") words → Asks (codes "migrate") words
+migrate-asks words asks = rw asks.1 (migrate_words-ask asks.0)
+
+pub run-file : (words : List Text) → AskFor (codes "run") words → file_in (options_in words) ≡ None
+run-file words asks = rw asks.1 (run_words-file asks.0)
+
+pub audit-files : (words : List Text) → AskFor (codes "audit") words → files_in (options_in words) ≡ []
+audit-files words asks = rw asks.1 (audit_words-files asks.0)
+
+pub migrate-file : (words : List Text) → AskFor (codes "migrate") words → file_in (options_in words) ≡ None
+migrate-file words asks = rw asks.1 (migrate_words-file asks.0)
 
 pub asked-taken : (app : App) (subcommand : Text) (words : List Text) → app ≡ pie_app → Asks subcommand words → takes app words ≡ true
 asked-taken app subcommand words is asks = subst (λ (a : App). takes a words ≡ true) (sym is) asks.taken
-
--- ---- and their subcommand is found
-
-run_words-in : (name : Text) → subcommand_in (name ∷ codes "run" ∷ []) ≡ Some (codes "run")
-unfolding clap_on_literals
-run_words-in name = refl
-
-audit_words-in : (name : Text) → subcommand_in (name ∷ codes "audit" ∷ []) ≡ Some (codes "audit")
-unfolding clap_on_literals
-audit_words-in name = refl
-
-migrate_words-in : (name : Text) → subcommand_in (name ∷ codes "migrate" ∷ []) ≡ Some (codes "migrate")
-unfolding clap_on_literals
-migrate_words-in name = refl
-
-pub run-in : (words : List Text) → AskFor (codes "run") words → subcommand_in words ≡ Some (codes "run")
-run-in words asks = rw asks.1 (run_words-in asks.0)
-
-pub audit-in : (words : List Text) → AskFor (codes "audit") words → subcommand_in words ≡ Some (codes "audit")
-audit-in words asks = rw asks.1 (audit_words-in asks.0)
-
-pub migrate-in : (words : List Text) → AskFor (codes "migrate") words → subcommand_in words ≡ Some (codes "migrate")
-migrate-in words asks = rw asks.1 (migrate_words-in asks.0)
 
 -- ---- and what its options are given
 
@@ -109,11 +108,3 @@ pub subcommand-found : (app : App) (words : List Text) (matches : ArgMatches) (n
 subcommand-found app words matches name subcommand is has met same =
     let found = subst (λ (a : App). HasMatchesOf a words matches) is has simple in
     sym (met ∙ name-rows matches ∙ ap (option_map (λ (p : Text × List Row). p.0)) found.1) ∙ ap (λ (n : Text). Some n) same
-
--- ---- one subcommand is no other: their names have other first letters
-
-abbrev first_letter : Option Text → ℕ
-first_letter name = slice_index (unwrap_or name []) 0
-
-pub no-other : (one other : Text) (words : List Text) → subcommand_in words ≡ Some one → subcommand_in words ≡ Some other → (slice_index one 0 ≡ slice_index other 0 → ⊥) → ⊥
-no-other one other words is_one is_other differ = differ (ap first_letter (sym is_one ∙ is_other))

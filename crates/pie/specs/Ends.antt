@@ -1,10 +1,12 @@
 -- How the program ends: its exit status, and what it writes to its output.
-use Rattle.std.specs.Prelude.{ℕ, ◌≡◌, ◌⊎◌, ◌^◌, List, false, Option, Some, None, Result, Ok, Err}
+use Rattle.std.specs.Prelude.{ℕ, ◌≡◌, ◌⊎◌, ◌^◌, ◌++◌, List, false, Option, Some, None, Result, Ok, Err, codes}
+use Rattle.std.specs.Fmt.{decimal}
 use Rattle.std.specs.Io.KnownBytes.{Appends}
 use Rattle.clap.specs.Words.{Row}
 use Rattle.pie_record.specs.declared.fault.TraceFault.{TraceFault}
 use Rattle.pie_record.specs.declared.fault.TraceFault.TheVariants as trace_fault
 use Rattle.pie_record.specs.Fault.{is_device}
+use Rattle.pie_trace.specs.declared.run.RunEnd.{RunEnd}
 use Rattle.pie_trace.specs.History.{fault_of, history_text}
 use Rattle.pie_trace.specs.Migrate.{history_fault, migrated_text}
 use Rattle.pie_record.specs.Text.{records_of}
@@ -51,6 +53,10 @@ run_ends found history Failed before now = now ≡ before
 -- .. the trace being this input
 abbrev pub EndsRun : List ℕ → End → Option (List ℕ) → Option (List ℕ) → Type 0
 EndsRun input = run_ends (fault_of (2 ^ 32) (records_of input)) (history_text (2 ^ 32) (records_of input))
+
+-- the line of how many events a run recorded, and how many records it refused
+abbrev pub counts_line : RunEnd → List ℕ
+counts_line end = codes "pie: " ++ (decimal end.events ++ (codes " events, " ++ (decimal end.refused ++ codes " refused records\n")))
 
 -- ---- `pie audit`
 

@@ -5,7 +5,7 @@ use Rattle.std.specs.Str.{bytes_eq}
 use Rattle.std.specs.Str.Parse.{digits_value, without_leading_plus}
 use Rattle.clap.specs.ValueTests.{accepts}
 use Rattle.clap.specs.Words.{App, Row, Rule, Text, new_app, new_rule, one_of, subcommand_of, takes, with_rule, with_subcommand}
-use Rattle.clap.specs.declared.builder.action.ArgAction.TheVariants.{SetTrue}
+use Rattle.clap.specs.declared.builder.action.ArgAction.TheVariants.{Append, SetTrue}
 use Rattle.clap.specs.declared.builder.value_parser.ValueParser.TheVariants.{Unsigned}
 
 -- `pie`, which has a version and wants a subcommand
@@ -24,7 +24,25 @@ flag_rule name = record (new_rule name) { long = Some name; action = Some SetTru
 abbrev pub text_rule : Text → Rule
 text_rule name = record (new_rule name) { long = Some name; value_names = 1 }
 
--- the subcommand `explain`: five options that choose events, two for their moments, and three for what is told of them
+-- a file, which may be named
+abbrev pub file_rule : Rule
+file_rule = record (new_rule (codes "file")) { value_names = 1 }
+
+-- files, of which any number may be named
+abbrev pub files_rule : Rule
+files_rule = record (new_rule (codes "file")) { value_names = 1; action = Some Append }
+
+-- the subcommands `run`, `audit` and `migrate`
+abbrev pub run_app : App
+run_app = with_rule (with_rule (new_app (codes "run")) (flag_rule (codes "count"))) file_rule
+
+abbrev pub audit_app : App
+audit_app = with_rule (new_app (codes "audit")) files_rule
+
+abbrev pub migrate_app : App
+migrate_app = with_rule (new_app (codes "migrate")) file_rule
+
+-- the subcommand `explain`: five options that choose events, two for their moments, three for what is told of them, and a file
 abbrev pub choosing_app : App
 choosing_app = with_rule (with_rule (with_rule (with_rule (with_rule (new_app (codes "explain")) (number_rule (codes "event") 1 (2 ^ 64 - 1)))
     (number_rule (codes "tag") 0 (2 ^ 64 - 1))) (flag_rule (codes "lost"))) (flag_rule (codes "marked"))) (flag_rule (codes "all"))
@@ -33,7 +51,13 @@ abbrev pub timed_app : App
 timed_app = with_rule (with_rule choosing_app (text_rule (codes "from"))) (text_rule (codes "to"))
 
 abbrev pub explain_app : App
-explain_app = with_rule (with_rule (with_rule timed_app (flag_rule (codes "summary"))) (text_rule (codes "every"))) (flag_rule (codes "csv"))
+explain_app = with_rule (with_rule (with_rule (with_rule timed_app (flag_rule (codes "summary"))) (text_rule (codes "every"))) (flag_rule (codes "csv"))) file_rule
+
+-- the subcommand `params`: four texts with units, two gains, and what `tc` has or hasn't
+abbrev pub params_app : App
+params_app = with_rule (with_rule (with_rule (with_rule (with_rule (with_rule (with_rule (with_rule (with_rule (new_app (codes "params")) (text_rule (codes "rate")))
+    (text_rule (codes "target"))) (text_rule (codes "tupdate"))) (text_rule (codes "limit"))) (number_rule (codes "alpha") 0 32)) (number_rule (codes "beta") 0 32))
+    (flag_rule (codes "ecn"))) (flag_rule (codes "bytemode"))) (flag_rule (codes "dq_rate_estimator"))
 
 -- the subcommand `storm`, whose options are four numbers, and one that asks for counts
 abbrev pub storm_app : App
@@ -42,8 +66,8 @@ storm_app = with_rule (with_rule (with_rule (with_rule (with_rule (new_app (code
 
 -- .. `pie` with its subcommands
 abbrev pub pie_app : App
-pie_app = with_subcommand (with_subcommand (with_subcommand (with_subcommand (with_subcommand pie_alone (new_app (codes "run")).top) (new_app (codes "audit")).top)
-    explain_app.top) (new_app (codes "migrate")).top) storm_app.top
+pie_app = with_subcommand (with_subcommand (with_subcommand (with_subcommand (with_subcommand (with_subcommand pie_alone run_app.top) audit_app.top) explain_app.top) migrate_app.top)
+    storm_app.top) params_app.top
 
 -- ---- subcommands
 

@@ -1,20 +1,29 @@
-//! The whole program over a list of words, a reader and two writers.
-ghost use Rattle.std.specs.Prelude.{◌≡◌, ◌≤◌, ◌⊎◌, Some, IfSome, codes, map, string_bytes};
-ghost use Rattle.clap.specs.Words.{kind_of};
+//! The whole program over a list of words, a reader, files and two writers.
+ghost use Rattle.std.specs.Prelude.{◌≡◌, ◌≤◌, ◌⊎◌, ◌∷◌, List, IfSome, Some, codes, map, string_bytes};
+ghost use Rattle.clap.specs.Words.{Text, found_of, kind_of, rows_of};
 ghost use Rattle.clap.specs.declared.error.kind.ErrorKind.{ErrorKind};
+ghost use Rattle.pie.specs.AuditEnds.{EndsFiles};
 ghost use Rattle.pie.specs.declared.end.End.{End};
+ghost use Rattle.pie.specs.declared.subcommand.Subcommand.{Subcommand};
 ghost use Rattle.pie.specs.Ends.{EndsAudit, EndsExplain, EndsMigrate, EndsRun, status_of};
+ghost use Rattle.pie.specs.Files.{file_in, files_in, text_given};
 ghost use Rattle.pie.specs.StormEnds.{EndsStorm};
+ghost use Rattle.pie.specs.Subcommands.{EndsAs, word_of};
+ghost use Rattle.pie.specs.Tuning.{EndsParams};
 ghost use Rattle.pie.specs.Words.{AskFor, Asks, options_in, subcommand_in};
 
-use crate::end::{DONE, End, FAULT, ended, failed, faulted};
+use crate::auditing::audit_given;
+use crate::end::{DONE, End, FAULT, failed};
 use crate::explaining::explain_input;
+use crate::files::{NamedFiles, reader_of};
+use crate::given::flag;
 use crate::options::options;
+use crate::running::{migrate_input, run_input};
 use crate::storming::make_storm;
-use clap::Error;
+use crate::subcommand::Subcommand;
+use crate::tuning::tune;
 use clap::error::ErrorKind;
-use pie_audit::{Finding, audit, write_finding};
-use pie_trace::{TraceFault, migrate, run_trace};
+use clap::{ArgMatches, Error};
 use std::alloc::Global;
 use std::fmt::Display;
 use std::io::{Read, Write};
@@ -25,6 +34,9 @@ use std::thread::Threads;
 /// Runs `pie` with these words, of which the first is the program's own name, and answers how it ended, which gives the exit status: 0
 /// done, 1 a fault, whose text stands on `errors`, 2 an audit or an explanation that met an event that differs. A mistake in the words
 /// prints what `clap` says of it on `errors` and ends with 1; a request for help prints it on `output` and ends with 0.
+///
+/// A `FILE` among the words is opened by `rt`, and then all that is said here of the reader holds of that file's text, where `rt` knows it; `-` is
+/// the reader. A file that can't be opened ends with 1, and nothing was written.
 ///
 /// For the words `pie run` a trace without a fault writes its whole history text and is done; one with a fault writes the history text of
 /// the records before it, and ends at that fault; or the end says which of the reader, the writer and memory failed. Refused records
@@ -44,7 +56,10 @@ use std::thread::Threads;
 ///
 /// For any words that ask for `pie storm`, the threads of the runtime make a storm of the plan that the options ask for. Its
 /// history is written, which is legal and clean, and the status is 0; or it is 1, where memory, a thread or the writer fails.
-pub fn command<H: Threads + Wait + Sync, R: Read + Drop, W: Write, E: Write>(
+///
+/// For any words that ask for `pie params`, the record that opens a book with the parameters that the options ask for is written, and the
+/// status is 0; or it is 1, where a text is no number of its kind, a number is out of its range, or the writer fails.
+pub fn command<H: Threads + Wait + Sync + NamedFiles, R: Read + Drop, W: Write, E: Write>(
     rt: &H,
     alloc: Global,
     words: &[String],
@@ -58,12 +73,38 @@ pub fn command<H: Threads + Wait + Sync, R: Read + Drop, W: Write, E: Write>(
         → IfSome (R.remaining input) (λ text. EndsRun text result (W.contents output.old) (W.contents output.new)) }
     ensures audits { AskFor (codes "audit") (map string_bytes words.now)
         → IfSome (R.remaining input) (λ text. EndsAudit text result (W.contents output.old) (W.contents output.new)) }
-    ensures explains { Asks (codes "explain") (map string_bytes words.now)
-        → IfSome (R.remaining input) (λ text. EndsExplain (options_in (map string_bytes words.now)) text (status_of result) (W.contents output.old) (W.contents output.new)) }
     ensures migrates { AskFor (codes "migrate") (map string_bytes words.now)
         → IfSome (R.remaining input) (λ text. EndsMigrate text result (W.contents output.old) (W.contents output.new)) }
+    ensures runs_file { Asks (codes "run") (map string_bytes words.now)
+        → IfSome (text_given (R.remaining input) (H.holds rt.now) (file_in (options_in (map string_bytes words.now)))) (λ text. EndsRun text result (W.contents output.old) (W.contents output.new)) }
+    ensures audits_files { Asks (codes "audit") (map string_bytes words.now) → (name : Text) (names : List Text) → files_in (options_in (map string_bytes words.now)) ≡ name ∷ names
+        → EndsFiles (R.remaining input) (H.holds rt.now) (name ∷ names) result (W.contents output.old) (W.contents output.new) }
+    ensures migrates_file { Asks (codes "migrate") (map string_bytes words.now)
+        → IfSome (text_given (R.remaining input) (H.holds rt.now) (file_in (options_in (map string_bytes words.now)))) (λ text. EndsMigrate text result (W.contents output.old) (W.contents output.new)) }
+    ensures explains { Asks (codes "explain") (map string_bytes words.now)
+        → IfSome (text_given (R.remaining input) (H.holds rt.now) (file_in (options_in (map string_bytes words.now))))
+        (λ text. EndsExplain (options_in (map string_bytes words.now)) text (status_of result) (W.contents output.old) (W.contents output.new)) }
     ensures storms { Asks (codes "storm") (map string_bytes words.now)
         → EndsStorm (options_in (map string_bytes words.now)) (status_of result) (W.contents output.old) (W.contents output.new) }
+    ensures params { Asks (codes "params") (map string_bytes words.now)
+        → EndsParams (options_in (map string_bytes words.now)) (status_of result) (W.contents output.old) (W.contents output.new) }
+{
+    answer(rt, alloc, words, input, output, errors)
+}
+
+/// What `command` does: each subcommand as it promises.
+fn answer<H: Threads + Wait + Sync + NamedFiles, R: Read + Drop, W: Write, E: Write>(
+    rt: &H,
+    alloc: Global,
+    words: &[String],
+    input: R,
+    output: &mut W,
+    errors: &mut E,
+) -> End
+    ensures status { status_of result ≤ 2 }
+    ensures differs { result ≡ End.Differs → (subcommand_in (map string_bytes words.now) ≡ Some (codes "audit")) ⊎ (subcommand_in (map string_bytes words.now) ≡ Some (codes "explain")) }
+    ensures ends { (subcommand : Subcommand) → Asks (word_of subcommand) (map string_bytes words.now)
+        → EndsAs subcommand (options_in (map string_bytes words.now)) (R.remaining input) (H.holds rt.now) result (W.contents output.old) (W.contents output.new) }
 {
     let options = match options(alloc) {
         Ok(options) => options,
@@ -76,65 +117,45 @@ pub fn command<H: Threads + Wait + Sync, R: Read + Drop, W: Write, E: Write>(
     let Some((name, options)) = matches.subcommand() else {
         return failed(errors, "no subcommand");
     };
-    match name {
-        "run" => run_input(alloc, input, output, errors),
-        "audit" => audit_input(alloc, input, output, errors),
-        "migrate" => migrate_input(alloc, input, output, errors),
-        "explain" => End::with_status(explain_input(alloc, options, input, output, errors)),
-        "storm" => End::with_status(make_storm(rt, alloc, options, output, errors)),
-        _ => failed(errors, "unknown subcommand"),
-    }
-}
-
-/// `pie run`: writes the history text of a trace, and ends at its first fault; or the end says what failed.
-fn run_input<R: Read + Drop, W: Write, E: Write>(
-    alloc: Global,
-    input: R,
-    output: &mut W,
-    errors: &mut E,
-) -> End
-    ensures status { status_of result ≤ 1 }
-    ensures runs { IfSome (R.remaining input) (λ text. EndsRun text result (W.contents output.old) (W.contents output.new)) }
-{
-    let given = run_trace(alloc, input, output);
-    ended(errors, given)
-}
-
-/// `pie audit`: a history with a fault ends at it and writes nothing; any other writes the line of its finding and ends as that says; or
-/// the end says what failed.
-fn audit_input<R: Read + Drop, W: Write, E: Write>(
-    alloc: Global,
-    input: R,
-    output: &mut W,
-    errors: &mut E,
-) -> End
-    ensures audits { IfSome (R.remaining input) (λ text. EndsAudit text result (W.contents output.old) (W.contents output.new)) }
-{
-    let found = match audit(alloc, input) {
-        Ok(found) => found,
-        Err(why) => return faulted(errors, why),
+    let Some(subcommand) = Subcommand::named(name) else {
+        return failed(errors, "unknown subcommand");
     };
-    if write_finding(found, output).is_err() {
-        return faulted(errors, TraceFault::Write);
-    }
-    match found {
-        Finding::Clean { .. } => End::Done,
-        Finding::Differs { .. } => End::Differs,
-    }
+    perform(rt, alloc, subcommand, options, input, output, errors)
 }
 
-/// `pie migrate`: writes a history in version two up to its first fault, and ends at that; or the end says what failed.
-fn migrate_input<R: Read + Drop, W: Write, E: Write>(
+/// Performs a subcommand with its options.
+fn perform<H: Threads + Wait + Sync + NamedFiles, R: Read + Drop, W: Write, E: Write>(
+    rt: &H,
     alloc: Global,
+    subcommand: Subcommand,
+    options: &ArgMatches<'_>,
     input: R,
     output: &mut W,
     errors: &mut E,
 ) -> End
-    ensures status { status_of result ≤ 1 }
-    ensures migrates { IfSome (R.remaining input) (λ text. EndsMigrate text result (W.contents output.old) (W.contents output.new)) }
+    ensures status { status_of result ≤ 2 }
+    ensures differs { result ≡ End.Differs → (subcommand ≡ Subcommand.Audit) ⊎ (subcommand ≡ Subcommand.Explain) }
+    ensures ends { EndsAs subcommand (rows_of (found_of options.now)) (R.remaining input) (H.holds rt.now) result (W.contents output.old) (W.contents output.new) }
 {
-    let given = migrate(alloc, input, output);
-    ended(errors, given)
+    match subcommand {
+        Subcommand::Audit => audit_given(rt, alloc, options, input, output, errors),
+        Subcommand::Storm => End::with_status(make_storm(rt, alloc, options, output, errors)),
+        Subcommand::Params => End::with_status(tune(options, output, errors)),
+        Subcommand::Run => match reader_of(rt, options, input, errors) {
+            Some(reader) => run_input(alloc, flag(options, "count"), reader, output, errors),
+            None => End::Failed,
+        },
+        Subcommand::Migrate => match reader_of(rt, options, input, errors) {
+            Some(reader) => migrate_input(alloc, reader, output, errors),
+            None => End::Failed,
+        },
+        Subcommand::Explain => match reader_of(rt, options, input, errors) {
+            Some(reader) => {
+                End::with_status(explain_input(alloc, options, reader, output, errors))
+            }
+            None => End::Failed,
+        },
+    }
 }
 
 /// Writes the line of a fault, and answers its status. Where that line can't be written the status is the same.
@@ -143,6 +164,11 @@ pub(crate) fn fault<E: Write, D: Display + Drop>(errors: &mut E, text: D) -> u8
 {
     let _ = writeln!(errors, "pie: {text}");
     FAULT
+}
+
+/// Writes the line of what is wrong with the file of this name.
+pub(crate) fn named_fault<E: Write, D: Display + Drop>(errors: &mut E, name: &str, text: D) {
+    let _ = writeln!(errors, "pie: {name}: {text}");
 }
 
 /// What `clap` says of the words: help, or a mistake.

@@ -8,6 +8,10 @@ pub(crate) const PIE_HELP: &str =
 
 What a run writes is its history, which pie audit decides again and pie explain explains.";
 
+/// What `pie run` is for.
+pub(crate) const RUN_ABOUT: &str =
+    "Reads a trace from a file or standard input and writes its history to standard output";
+
 /// What `pie run --help` says below its options.
 pub(crate) const RUN_HELP: &str =
     "A trace is a text of CSV records, one a line. Each is written again with what it was answered. Moments and times are
@@ -55,7 +59,9 @@ A record that is refused gives refused,<record>,<code>, and the run goes on:
   1 the moment is above 2^60 - 1     2 the size is out of range     3 the update comes too soon
   4 no more events                   5 the tail is full             6 the tail holds fewer events to fold
   7 a parameter is out of its range
-A record that cannot be read ends the run with status 1; the results of earlier records have been written.
+A record that cannot be read ends the run with status 1; the results of earlier records have been written. A run without such a
+record ends with status 0, however many were refused: with --count a line on standard error tells that, as
+pie: 11 events, 2 refused records.
 
 Example, in which three updates raise the probability until one packet is marked and one is dropped early:
 
@@ -72,6 +78,10 @@ ends with
   arrive,1,1001003,5,500,ect0,0,mark
   arrive,2,1001003,6,500,not,0,early";
 
+/// What `pie audit` is for.
+pub(crate) const AUDIT_ABOUT: &str =
+    "Reads histories from files, or one from standard input, and decides each of their events again";
+
 /// What `pie audit --help` says below its options.
 pub(crate) const AUDIT_HELP: &str =
     "A history is what pie run writes: the first record of a trace, and then one record for each that followed, with what it
@@ -80,7 +90,7 @@ was answered. An audit decides each event again, from the opening and the events
 Events are the records arrive, depart, update, reset and params, numbered from 1. The records refused, folded, shown and
 tallied are notes: they may stand anywhere after the first record, and are looked at for their shape alone.
 
-One line is written:
+One line is written, and with files one for each, behind the name that the words give it, as NAME: clean,11:
   clean,<events>    each event is what the rules give at its place, and there are so many; status 0
   differs,<event>   the first event that is not: its command would have been refused there, it has another answer, or it
                     sets parameters that are out of range; status 2
@@ -89,6 +99,10 @@ A full tail is no reason to refuse a command here, since a fold may have made ro
 which begins with open2, is decided by the profile that it names, and any other by profile 1. A record that cannot be
 read ends the audit with status 1 and no finding, also where an event before it differs; pie run --help says how records
 are written.
+
+With files all are looked at, in the order of the words. One that cannot be opened or read, or has a record that cannot be
+read, is told on standard error, as pie: NAME: record 12: unknown kind, and the next is audited. The status is the worst of
+all: 1 where a file could not be audited, else 2 where an event of one differs, and else 0.
 
 Example: what pie run writes is clean, and the line is clean,2:
 
@@ -100,7 +114,7 @@ A verdict that was changed is found, and the line is differs,1:
 
 /// What `pie explain` is for.
 pub(crate) const EXPLAIN_ABOUT: &str =
-    "Reads a history from standard input and says why its events went as they did";
+    "Reads a history from a file or standard input and says why its events went as they did";
 
 /// What `pie explain --help` says below its options.
 pub(crate) const EXPLAIN_HELP: &str =
@@ -144,7 +158,7 @@ writes why the last packet of that trace was dropped:
 
 /// What `pie migrate` is for.
 pub(crate) const MIGRATE_ABOUT: &str =
-    "Reads a history from standard input and writes the same history in version two";
+    "Reads a history from a file or standard input and writes the same history in version two";
 
 /// What `pie migrate --help` says below its options.
 pub(crate) const MIGRATE_HELP: &str =
@@ -163,6 +177,29 @@ writes
   open2,1,bounded,0,4,16,100
   arrive,1,10,7,1500,ect0,0,enqueue
   shown,1,10,1,1500,0,0,0,150000000,0,0,0,1";
+
+/// What `pie params` is for.
+pub(crate) const PARAMS_ABOUT: &str =
+    "Writes the parameters that tc's options ask for as the first record of a trace";
+
+/// What `pie params --help` says below its options.
+pub(crate) const PARAMS_HELP: &str =
+    "The record opens a rolling book of version two: open2,1,rolling,0,<packets>,<tail>,<events>,<nine>, as pie run --help has it. TIME is
+a whole number of ns, us, ms or s, RATE one of bit, kbit, mbit or gbit, and PACKETS one of packets, with or without a p.
+
+alpha and beta count sixteenths per second, as those of tc: 2 and 20 are 125 and 1250 thousandths, the values of RFC 8033. With --ecn
+packets of ECN-capable endpoints are marked while the probability is below 10 per cent, and without it never. limit_bytes is 200 ms
+at the rate, but no less than 262144 and no more than 2^30.
+
+Standard error names what has no counterpart here, and warns where limit_bytes is under rate x target.
+
+Example: what tc qdisc add dev eth0 root pie target 20ms limit 1000p ecn dq_rate_estimator asks for at 100 Mbit/s:
+
+  pie params --rate 100mbit --target 20ms --limit 1000p --ecn --dq_rate_estimator
+
+writes
+
+  open2,1,rolling,0,1000,1000,1099511627776,20000000,15000000,150000000,125,1250,1024,2500000,100000000000,16384";
 
 /// What `pie storm` is for.
 pub(crate) const STORM_ABOUT: &str =

@@ -1,11 +1,11 @@
 //! The command line of `pie`.
 ghost use Rattle.std.specs.Prelude.{◌≡◌, IfOk, false};
 ghost use Rattle.clap.specs.Words.{app_of, new_app, rule_of};
-ghost use Rattle.pie.specs.Words.{choosing_app, explain_app, flag_rule, number_rule, pie_alone, pie_app, storm_app, text_rule, timed_app};
+ghost use Rattle.pie.specs.Words.{audit_app, choosing_app, explain_app, file_rule, files_rule, flag_rule, migrate_app, number_rule, params_app, pie_alone, pie_app, run_app, storm_app, text_rule, timed_app};
 
 use crate::help::{
-    AUDIT_HELP, EXPLAIN_ABOUT, EXPLAIN_HELP, MIGRATE_ABOUT, MIGRATE_HELP, PIE_HELP, RUN_HELP,
-    STORM_ABOUT, STORM_HELP,
+    AUDIT_ABOUT, AUDIT_HELP, EXPLAIN_ABOUT, EXPLAIN_HELP, MIGRATE_ABOUT, MIGRATE_HELP,
+    PARAMS_ABOUT, PARAMS_HELP, PIE_HELP, RUN_ABOUT, RUN_HELP, STORM_ABOUT, STORM_HELP,
 };
 use clap::builder::ValueParser;
 use clap::{Arg, ArgAction, Command};
@@ -48,11 +48,60 @@ fn text_option<'a>(alloc: Global, name: &'a str, value: &'a str, help: &'a str) 
         .help(help)
 }
 
+/// A file that may be named.
+fn file_argument<'a>(alloc: Global) -> Arg<'a>
+    ensures rule { rule_of result ≡ file_rule }
+    ensures local { result.global ≡ false }
+{
+    Arg::new(alloc, "file")
+        .value_name("FILE")
+        .help("The file to read; - or none: standard input")
+}
+
+/// Files, of which any number may be named.
+fn files_argument<'a>(alloc: Global) -> Arg<'a>
+    ensures rule { rule_of result ≡ files_rule }
+    ensures local { result.global ≡ false }
+{
+    Arg::new(alloc, "file")
+        .value_name("FILE")
+        .action(ArgAction::Append)
+        .help("The files to audit; -: standard input")
+}
+
 /// A subcommand without options.
 fn plain<'a>(alloc: Global, name: &'a str, about: &'a str, help: &'a str) -> Command<'a>
     ensures { app_of result ≡ new_app name.now }
 {
     Command::new(alloc, name).about(about).after_help(help)
+}
+
+/// The subcommand `run` and its options.
+fn run_command<'a>(alloc: Global) -> Result<Command<'a>, AllocError>
+    ensures { IfOk result (λ run. app_of run ≡ run_app) }
+{
+    let count = flag_option(
+        alloc,
+        "count",
+        "Say on standard error how many events and refused records there were",
+    );
+    plain(alloc, "run", RUN_ABOUT, RUN_HELP)
+        .arg(count)?
+        .arg(file_argument(alloc))
+}
+
+/// The subcommand `audit` and its files.
+fn audit_command<'a>(alloc: Global) -> Result<Command<'a>, AllocError>
+    ensures { IfOk result (λ audit. app_of audit ≡ audit_app) }
+{
+    plain(alloc, "audit", AUDIT_ABOUT, AUDIT_HELP).arg(files_argument(alloc))
+}
+
+/// The subcommand `migrate` and its file.
+fn migrate_command<'a>(alloc: Global) -> Result<Command<'a>, AllocError>
+    ensures { IfOk result (λ migrate. app_of migrate ≡ migrate_app) }
+{
+    plain(alloc, "migrate", MIGRATE_ABOUT, MIGRATE_HELP).arg(file_argument(alloc))
 }
 
 /// The subcommand `explain` with the options that choose events.
@@ -131,7 +180,11 @@ fn explain_command<'a>(alloc: Global) -> Result<Command<'a>, AllocError>
         "csv",
         "Write CSV, a header and a record an event or a summary, in place of words",
     );
-    timed_command(alloc)?.arg(summary)?.arg(every)?.arg(csv)
+    timed_command(alloc)?
+        .arg(summary)?
+        .arg(every)?
+        .arg(csv)?
+        .arg(file_argument(alloc))
 }
 
 /// The subcommand `storm` and its options.
@@ -179,6 +232,50 @@ fn storm_command<'a>(alloc: Global) -> Result<Command<'a>, AllocError>
         .arg(count)
 }
 
+/// The subcommand `params` and its options, which are named as those of `tc`.
+fn params_command<'a>(alloc: Global) -> Result<Command<'a>, AllocError>
+    ensures { IfOk result (λ params. app_of params ≡ params_app) }
+{
+    let rate = text_option(
+        alloc,
+        "rate",
+        "RATE",
+        "The link's rate, as 100mbit, of which limit_bytes is 200 ms",
+    );
+    let target = text_option(alloc, "target", "TIME", "The wanted delay; 15ms by default");
+    let update = text_option(
+        alloc,
+        "tupdate",
+        "TIME",
+        "The time between two updates; 15ms by default",
+    );
+    let limit = text_option(
+        alloc,
+        "limit",
+        "PACKETS",
+        "How many packets may wait, as 1000p; 1000 by default",
+    );
+    let alpha = number_option(alloc, "alpha", 0, 32, "The gain alpha of tc; 2 by default");
+    let beta = number_option(alloc, "beta", 0, 32, "The gain beta of tc; 20 by default");
+    let ecn = flag_option(alloc, "ecn", "Mark packets of ECN-capable endpoints");
+    let bytemode = flag_option(alloc, "bytemode", "Is said to have no counterpart");
+    let estimator = flag_option(
+        alloc,
+        "dq_rate_estimator",
+        "Is so in any case; said where it is left out",
+    );
+    plain(alloc, "params", PARAMS_ABOUT, PARAMS_HELP)
+        .arg(rate)?
+        .arg(target)?
+        .arg(update)?
+        .arg(limit)?
+        .arg(alpha)?
+        .arg(beta)?
+        .arg(ecn)?
+        .arg(bytemode)?
+        .arg(estimator)
+}
+
 /// `pie` without its subcommands.
 fn alone<'a>(alloc: Global) -> Command<'a>
     ensures { app_of result ≡ pie_alone }
@@ -194,25 +291,17 @@ fn alone<'a>(alloc: Global) -> Command<'a>
 pub(crate) fn options<'a>(alloc: Global) -> Result<Command<'a>, AllocError>
     ensures { IfOk result (λ options. app_of options ≡ pie_app) }
 {
-    let run = plain(
-        alloc,
-        "run",
-        "Reads a trace from standard input and writes its history to standard output",
-        RUN_HELP,
-    );
-    let audit = plain(
-        alloc,
-        "audit",
-        "Reads a history from standard input and decides each of its events again",
-        AUDIT_HELP,
-    );
+    let run = run_command(alloc)?;
+    let audit = audit_command(alloc)?;
     let explain = explain_command(alloc)?;
-    let migrate = plain(alloc, "migrate", MIGRATE_ABOUT, MIGRATE_HELP);
+    let migrate = migrate_command(alloc)?;
     let storm = storm_command(alloc)?;
+    let params = params_command(alloc)?;
     alone(alloc)
         .subcommand(run)?
         .subcommand(audit)?
         .subcommand(explain)?
         .subcommand(migrate)?
-        .subcommand(storm)
+        .subcommand(storm)?
+        .subcommand(params)
 }

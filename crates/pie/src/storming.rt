@@ -33,7 +33,13 @@ const SEED: u64 = 1;
 const LOAD: u64 = 100;
 
 /// The number that an option is given, or else this one. `clap` refuses words that give one out of this range.
-fn number_or(options: &ArgMatches<'_>, name: &str, least: u64, most: u64, unnamed: u64) -> u64
+pub(crate) fn number_or(
+    options: &ArgMatches<'_>,
+    name: &str,
+    least: u64,
+    most: u64,
+    unnamed: u64,
+) -> u64
     requires { least ≤ most }
     ensures given { result ≡ number_or name.now least most unnamed (rows_of (found_of options.now)) }
     ensures least { least ≤ result }

@@ -1,7 +1,7 @@
 use Rattle.std.proofs.Common.{◌≡◌, codes}
 use Rattle.std.proofs.lemmas.Result.{IfOk-weaker}
 use Rattle.clap.specs.Words.{AddsArg, app_of, with_rule}
-use Rattle.pie.specs.Words.{explain_app, flag_rule, text_rule, timed_app}
+use Rattle.pie.specs.Words.{explain_app, file_rule, flag_rule, text_rule, timed_app}
 use Rattle.pie.proofs.WordFacts.{adds_arg}
 use Rattle.pie.proofs.options.explain_command.Goals as goal
 
@@ -9,7 +9,9 @@ pub returns : goal.returns
 returns c =
     let with_summary = with_rule timed_app (flag_rule (codes "summary")) in
     let with_every = with_rule with_summary (text_rule (codes "every")) in
+    let with_csv = with_rule with_every (flag_rule (codes "csv")) in
     let one = adds_arg timed_app (flag_rule (codes "summary")) c.in_ok-timed_command.ensures c.flag_option-summary.ensures.local c.flag_option-summary.ensures.rule c.in_ok-arg.ensures in
     let two = adds_arg with_summary (text_rule (codes "every")) one c.text_option-every.ensures.local c.text_option-every.ensures.rule c.in_ok-arg-2.ensures in
-    IfOk-weaker c.arg-3.result (λ whole. AddsArg c.in_ok-arg-2.field-0 c.flag_option-csv.result whole) (λ explain. app_of explain ≡ explain_app)
-    (λ whole added. adds_arg with_every (flag_rule (codes "csv")) two c.flag_option-csv.ensures.local c.flag_option-csv.ensures.rule added) c.arg-3.ensures
+    let three = adds_arg with_every (flag_rule (codes "csv")) two c.flag_option-csv.ensures.local c.flag_option-csv.ensures.rule c.in_ok-arg-3.ensures in
+    IfOk-weaker c.arg-4.result (λ whole. AddsArg c.in_ok-arg-3.field-0 c.file_argument.result whole) (λ explain. app_of explain ≡ explain_app)
+    (λ whole added. adds_arg with_csv file_rule three c.file_argument.ensures.local c.file_argument.ensures.rule added) c.arg-4.ensures

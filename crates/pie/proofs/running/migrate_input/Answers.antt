@@ -1,5 +1,5 @@
 use Rattle.pie.proofs.EndFacts.{EndsMigrate-told}
-use Rattle.pie.proofs.command.migrate_input.Goals as goal
+use Rattle.pie.proofs.running.migrate_input.Goals as goal
 
 pub returns-clause-migrates : goal.returns-clause-migrates
 returns-clause-migrates g c =

@@ -1,5 +1,5 @@
 use Rattle.pie.proofs.EndFacts.{EndsRun-told}
-use Rattle.pie.proofs.command.run_input.Goals as goal
+use Rattle.pie.proofs.running.run_input.Goals as goal
 
 pub returns-clause-runs : goal.returns-clause-runs
 returns-clause-runs g c =

@@ -1,0 +1,30 @@
+-- What each subcommand promises: how it ends, and what it writes.
+use Rattle.std.specs.Prelude.{ℕ, List, Option, IfSome, codes}
+use Rattle.clap.specs.Words.{Row, Text}
+use Rattle.pie.specs.declared.end.End.{End}
+use Rattle.pie.specs.declared.subcommand.Subcommand.{Subcommand}
+use Rattle.pie.specs.declared.subcommand.Subcommand.TheVariants.{Run, Audit, Explain, Migrate, Storm, Params}
+use Rattle.pie.specs.AuditEnds.{EndsAudits}
+use Rattle.pie.specs.Ends.{EndsExplain, EndsMigrate, EndsRun, status_of}
+use Rattle.pie.specs.Files.{file_in, files_in, text_given}
+use Rattle.pie.specs.StormEnds.{EndsStorm}
+use Rattle.pie.specs.Tuning.{EndsParams}
+
+-- the word that asks for it
+abbrev pub word_of : Subcommand → Text
+word_of Run = codes "run"
+word_of Audit = codes "audit"
+word_of Explain = codes "explain"
+word_of Migrate = codes "migrate"
+word_of Storm = codes "storm"
+word_of Params = codes "params"
+
+-- with these options, over a reader of which this is known, and files of which that is known
+abbrev pub EndsAs : Subcommand → List Row → Option (List ℕ) → (Text → Option (List ℕ)) → End → Option (List ℕ) → Option (List ℕ) → Type 0
+EndsAs Run options input files end before now = IfSome (text_given input files (file_in options)) (λ text. EndsRun text end before now)
+EndsAs Audit options input files end before now = EndsAudits input files (files_in options) end before now
+EndsAs Explain options input files end before now =
+    IfSome (text_given input files (file_in options)) (λ text. EndsExplain options text (status_of end) before now)
+EndsAs Migrate options input files end before now = IfSome (text_given input files (file_in options)) (λ text. EndsMigrate text end before now)
+EndsAs Storm options input files end before now = EndsStorm options (status_of end) before now
+EndsAs Params options input files end before now = EndsParams options (status_of end) before now

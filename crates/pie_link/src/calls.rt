@@ -141,12 +141,8 @@ impl Link {
         ensures answered { Answers self.now caller.old (Arrive moment packet word) result caller.new }
         ensures stays { StaysOne caller.old caller.new }
     {
-        let command = Command::Arrive {
-            moment,
-            packet,
-            word,
-        };
-        replace_with(&mut caller.pass, (self, rt, &command), turn::wait_and_apply)
+        let asked = (self, rt, moment, packet, word);
+        replace_with(&mut caller.pass, asked, turn::wait_and_arrive)
     }
 
     /// The link asks for the next packet (see `Command::Depart`). It waits while another caller has the book.
@@ -164,8 +160,7 @@ impl Link {
         ensures answered { Answers self.now caller.old (Depart moment) result caller.new }
         ensures stays { StaysOne caller.old caller.new }
     {
-        let asked = (self, rt, &Command::Depart { moment });
-        replace_with(&mut caller.pass, asked, turn::wait_and_apply)
+        replace_with(&mut caller.pass, (self, rt, moment), turn::wait_and_depart)
     }
 
     /// The probability is to be computed anew (see `Command::Update`). It waits while another caller has the book.

@@ -193,6 +193,23 @@ impl<S: Kept> RuledLock<S> {
         ensures numbered { All (λ e. S.number_of e < pass.lock.numbers) result.front }
         ensures same { HoldsAll pass → result.front ≡ pass.front }
     {
+        match self.try_take(pass) {
+            Ok(held) => held,
+            Err(pass) => self.wait_and_take(rt, pass),
+        }
+    }
+
+    // The same where another pass was seen to have the state. A function of its own: what waiting takes costs nothing where nobody waits.
+    #[inline(never)]
+    fn wait_and_take<R: Wait>(&self, rt: &R, pass: Pass<S>) -> Held<S>
+        requires own { pass.lock ≡ self.now }
+        ensures pass { IsOfPass pass result }
+        ensures front { GoesOn S.number_of pass.first pass.limit pass.front result.front }
+        ensures origin { result.lock.origin ≡ Some (S.origin_of result.state) }
+        ensures told { S.tells result.state result.front }
+        ensures numbered { All (λ e. S.number_of e < pass.lock.numbers) result.front }
+        ensures same { HoldsAll pass → result.front ≡ pass.front }
+    {
         let mut waiting = pass;
         let backoff = Backoff::new();
         for _ in rt.forever() {

@@ -1,5 +1,5 @@
 use Rattle.std.proofs.Common.{◌≡◌}
-use Rattle.pie_lock.proofs.lock.RuledLock.take.Given as goal
+use Rattle.pie_lock.proofs.lock.RuledLock.wait_and_take.Given as goal
 
 abbrev pub invariant-loop : goal.invariant-loop
 invariant-loop g l = l.waiting ≡ l.fn.pass

@@ -9,6 +9,7 @@ complete -c pie -n __fish_use_subcommand -a params -d 'write the parameters of t
 complete -c pie -n __fish_use_subcommand -a help -d 'tell about a subcommand'
 complete -c pie -n __fish_use_subcommand -l version -d 'print the version'
 complete -c pie -l help -d 'tell about pie or a subcommand'
+complete -c pie -n '__fish_seen_subcommand_from run explain migrate' -s o -l output -r -d 'write to this file, which is made anew'
 complete -c pie -n '__fish_seen_subcommand_from run' -l count -d 'say how many events and refused records there were'
 complete -c pie -n '__fish_seen_subcommand_from explain' -l event -x -d 'the event with this number, from 1'
 complete -c pie -n '__fish_seen_subcommand_from explain' -l tag -x -d 'each event of the packets with this tag'

@@ -212,6 +212,24 @@ for name in run migrate 'explain --all'; do
     expect "$name of a missing file" 1 '' "pie: $missing\n" '' $name "$work/missing"
     expect "$name of a folder" 1 '' 'pie: cannot read the input\n' '' $name "$work"
 done
+# -o: what would go to standard output goes to a file, which is made anew.
+# written NAME STATUS TEXT INPUT WORDS..: the file has this text, and standard output nothing
+written() {
+    local name=$1 status=$2 text=$3 input=$4
+    shift 4
+    printf 'older text, longer than what comes\n%.0s' 1 2 3 4 5 6 7 8 9 > "$work/made"
+    expect "$name" "$status" '' "${errors-}" "$input" "$@" -o "$work/made"
+    printf -- "$text" | cmp -s - "$work/made" || { echo "tests/pie.sh: $name: the file has another text"; failed=1; }
+}
+written 'a run to a file' 0 "$history" "$trace" run
+written 'a run of a file to a file' 0 "$history" '' run "$work/trace"
+written 'explanations to a file' 0 "$header$lost" "$history" explain --csv --lost
+written 'a migration to a file' 0 "$two" "$one" migrate
+errors='pie: record 3: wrong number of fields\n' written 'a fault, to a file' 1 'open,0,4,16,100\ndepart,1,9,empty\n' '' run "$work/faulty.trace"
+for name in run migrate 'explain --all'; do
+    expect "$name to a folder" 1 '' "pie: $work: Is a directory (os error 21)\n" "$one" $name -o "$work"
+    expect "$name to a folder that isn't there" 1 '' "pie: $work/no/made: No such file or directory (os error 2)\n" "$one" $name --output "$work/no/made"
+done
 expect 'an audit of a folder' 1 '' "pie: $work: cannot read the input\n" '' audit "$work"
 
 # Parameters of tc: the record is one that a run accepts, and writes again as it is.

@@ -10,6 +10,7 @@ use Rattle.clap.specs.declared.parser.matches.ArgMatches.{ArgMatches}
 use Rattle.clap.specs.declared.parser.matches.ArgMatches.TheViews.{out-ArgMatches, out-SubCommand}
 use Rattle.clap.proofs.OnLiterals.{clap_on_literals}
 use Rattle.pie.specs.Files.{file_in, files_in}
+use Rattle.pie.specs.Outputs.{output_in}
 use Rattle.pie.specs.Words.{AskFor, Asks, options_in, pie_app, subcommand_in}
 
 -- ---- how a command is put together
@@ -59,6 +60,20 @@ audit_words-files name = refl
 migrate_words-file : (name : Text) → file_in (options_in (name ∷ codes "migrate" ∷ [])) ≡ None
 unfolding clap_on_literals
 migrate_words-file name = refl
+
+run_words-output : (name : Text) → output_in (options_in (name ∷ codes "run" ∷ [])) ≡ None
+unfolding clap_on_literals
+run_words-output name = refl
+
+migrate_words-output : (name : Text) → output_in (options_in (name ∷ codes "migrate" ∷ [])) ≡ None
+unfolding clap_on_literals
+migrate_words-output name = refl
+
+pub run-output : (words : List Text) → AskFor (codes "run") words → output_in (options_in words) ≡ None
+run-output words asks = rw asks.1 (run_words-output asks.0)
+
+pub migrate-output : (words : List Text) → AskFor (codes "migrate") words → output_in (options_in words) ≡ None
+migrate-output words asks = rw asks.1 (migrate_words-output asks.0)
 
 pub run-asks : (words : List Text) → AskFor (codes "run") words → Asks (codes "run") words
 run-asks words asks = rw asks.1 (run_words-ask asks.0)

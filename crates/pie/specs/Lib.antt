@@ -2,6 +2,7 @@ pub mod AuditEnds
 pub mod Choice
 pub mod Ends
 pub mod Files
+pub mod Outputs
 pub mod StormEnds
 pub mod StormPlan
 pub mod Subcommands

@@ -7,6 +7,7 @@ ghost use Rattle.pie.specs.declared.end.End.{End};
 ghost use Rattle.pie.specs.declared.subcommand.Subcommand.{Subcommand};
 ghost use Rattle.pie.specs.Ends.{EndsAudit, EndsExplain, EndsMigrate, EndsRun, status_of};
 ghost use Rattle.pie.specs.Files.{file_in, files_in, text_given};
+ghost use Rattle.pie.specs.Outputs.{EndsIn, output_in};
 ghost use Rattle.pie.specs.StormEnds.{EndsStorm};
 ghost use Rattle.pie.specs.Subcommands.{EndsAs, word_of};
 ghost use Rattle.pie.specs.Tuning.{EndsParams};
@@ -14,11 +15,9 @@ ghost use Rattle.pie.specs.Words.{AskFor, Asks, options_in, subcommand_in};
 
 use crate::auditing::audit_given;
 use crate::end::{DONE, End, FAULT, failed};
-use crate::explaining::explain_input;
 use crate::files::{NamedFiles, reader_of};
-use crate::given::flag;
 use crate::options::options;
-use crate::running::{migrate_input, run_input};
+use crate::outputs::{explain_to, migrate_to, run_to};
 use crate::storming::make_storm;
 use crate::subcommand::Subcommand;
 use crate::tuning::tune;
@@ -36,7 +35,8 @@ use std::thread::Threads;
 /// prints what `clap` says of it on `errors` and ends with 1; a request for help prints it on `output` and ends with 0.
 ///
 /// A `FILE` among the words is opened by `rt`, and then all that is said here of the reader holds of that file's text, where `rt` knows it; `-` is
-/// the reader. A file that can't be opened ends with 1, and nothing was written.
+/// the reader. A file that can't be opened ends with 1, and nothing was written. Where `-o` names a file, `rt` makes it, and what is said here of
+/// `output` holds of that file, from when it was made to when it was left; to `output` nothing is written. A file that can't be made ends with 1.
 ///
 /// For the words `pie run` a trace without a fault writes its whole history text and is done; one with a fault writes the history text of
 /// the records before it, and ends at that fault; or the end says which of the reader, the writer and memory failed. Refused records
@@ -76,14 +76,17 @@ pub fn command<H: Threads + Wait + Sync + NamedFiles, R: Read + Drop, W: Write, 
     ensures migrates { AskFor (codes "migrate") (map string_bytes words.now)
         → IfSome (R.remaining input) (λ text. EndsMigrate text result (W.contents output.old) (W.contents output.new)) }
     ensures runs_file { Asks (codes "run") (map string_bytes words.now)
-        → IfSome (text_given (R.remaining input) (H.holds rt.now) (file_in (options_in (map string_bytes words.now)))) (λ text. EndsRun text result (W.contents output.old) (W.contents output.new)) }
+        → EndsIn H.Made.contents (H.makes rt.now) (output_in (options_in (map string_bytes words.now)))
+        (λ end before now. IfSome (text_given (R.remaining input) (H.holds rt.now) (file_in (options_in (map string_bytes words.now)))) (λ text. EndsRun text end before now)) result (W.contents output.old) (W.contents output.new) }
     ensures audits_files { Asks (codes "audit") (map string_bytes words.now) → (name : Text) (names : List Text) → files_in (options_in (map string_bytes words.now)) ≡ name ∷ names
         → EndsFiles (R.remaining input) (H.holds rt.now) (name ∷ names) result (W.contents output.old) (W.contents output.new) }
     ensures migrates_file { Asks (codes "migrate") (map string_bytes words.now)
-        → IfSome (text_given (R.remaining input) (H.holds rt.now) (file_in (options_in (map string_bytes words.now)))) (λ text. EndsMigrate text result (W.contents output.old) (W.contents output.new)) }
+        → EndsIn H.Made.contents (H.makes rt.now) (output_in (options_in (map string_bytes words.now)))
+        (λ end before now. IfSome (text_given (R.remaining input) (H.holds rt.now) (file_in (options_in (map string_bytes words.now)))) (λ text. EndsMigrate text end before now)) result (W.contents output.old) (W.contents output.new) }
     ensures explains { Asks (codes "explain") (map string_bytes words.now)
-        → IfSome (text_given (R.remaining input) (H.holds rt.now) (file_in (options_in (map string_bytes words.now))))
-        (λ text. EndsExplain (options_in (map string_bytes words.now)) text (status_of result) (W.contents output.old) (W.contents output.new)) }
+        → EndsIn H.Made.contents (H.makes rt.now) (output_in (options_in (map string_bytes words.now)))
+        (λ end before now. IfSome (text_given (R.remaining input) (H.holds rt.now) (file_in (options_in (map string_bytes words.now))))
+        (λ text. EndsExplain (options_in (map string_bytes words.now)) text (status_of end) before now)) result (W.contents output.old) (W.contents output.new) }
     ensures storms { Asks (codes "storm") (map string_bytes words.now)
         → EndsStorm (options_in (map string_bytes words.now)) (status_of result) (W.contents output.old) (W.contents output.new) }
     ensures params { Asks (codes "params") (map string_bytes words.now)
@@ -104,7 +107,7 @@ fn answer<H: Threads + Wait + Sync + NamedFiles, R: Read + Drop, W: Write, E: Wr
     ensures status { status_of result ≤ 2 }
     ensures differs { result ≡ End.Differs → (subcommand_in (map string_bytes words.now) ≡ Some (codes "audit")) ⊎ (subcommand_in (map string_bytes words.now) ≡ Some (codes "explain")) }
     ensures ends { (subcommand : Subcommand) → Asks (word_of subcommand) (map string_bytes words.now)
-        → EndsAs subcommand (options_in (map string_bytes words.now)) (R.remaining input) (H.holds rt.now) result (W.contents output.old) (W.contents output.new) }
+        → EndsAs H.Made.contents (H.makes rt.now) subcommand (options_in (map string_bytes words.now)) (R.remaining input) (H.holds rt.now) result (W.contents output.old) (W.contents output.new) }
 {
     let options = match options(alloc) {
         Ok(options) => options,
@@ -135,24 +138,22 @@ fn perform<H: Threads + Wait + Sync + NamedFiles, R: Read + Drop, W: Write, E: W
 ) -> End
     ensures status { status_of result ≤ 2 }
     ensures differs { result ≡ End.Differs → (subcommand ≡ Subcommand.Audit) ⊎ (subcommand ≡ Subcommand.Explain) }
-    ensures ends { EndsAs subcommand (rows_of (found_of options.now)) (R.remaining input) (H.holds rt.now) result (W.contents output.old) (W.contents output.new) }
+    ensures ends { EndsAs H.Made.contents (H.makes rt.now) subcommand (rows_of (found_of options.now)) (R.remaining input) (H.holds rt.now) result (W.contents output.old) (W.contents output.new) }
 {
     match subcommand {
         Subcommand::Audit => audit_given(rt, alloc, options, input, output, errors),
         Subcommand::Storm => End::with_status(make_storm(rt, alloc, options, output, errors)),
         Subcommand::Params => End::with_status(tune(options, output, errors)),
         Subcommand::Run => match reader_of(rt, options, input, errors) {
-            Some(reader) => run_input(alloc, flag(options, "count"), reader, output, errors),
+            Some(reader) => run_to(rt, alloc, options, reader, output, errors),
             None => End::Failed,
         },
         Subcommand::Migrate => match reader_of(rt, options, input, errors) {
-            Some(reader) => migrate_input(alloc, reader, output, errors),
+            Some(reader) => migrate_to(rt, alloc, options, reader, output, errors),
             None => End::Failed,
         },
         Subcommand::Explain => match reader_of(rt, options, input, errors) {
-            Some(reader) => {
-                End::with_status(explain_input(alloc, options, reader, output, errors))
-            }
+            Some(reader) => explain_to(rt, alloc, options, reader, output, errors),
             None => End::Failed,
         },
     }

@@ -1,5 +1,5 @@
 //! The files that the words name.
-ghost use Rattle.std.specs.Prelude.{◌≡◌, ◌⊎◌, ℕ, List, Option, None, IfOk, IfSome};
+ghost use Rattle.std.specs.Prelude.{◌≡◌, ◌⊎◌, ℕ, ⊤, List, Option, None, IfOk, IfSome};
 ghost use Rattle.either.specs.Either.{either};
 ghost use Rattle.clap.specs.Words.{found_of, rows_of};
 ghost use Rattle.pie.specs.Files.{ReadsNamed, file_in, text_given};
@@ -25,6 +25,19 @@ pub trait NamedFiles {
     /// Where there is no such file, or it can't be opened.
     fn open_named(&self, name: &str) -> io::Result<Self::File>
         ensures { IfOk result (λ file. Self.File.remaining file ≡ holds self.now name.now) };
+
+    /// A file that was made to be written.
+    type Made: Write + Drop;
+
+    ghost makes: { Self → List ℕ → Self.Made → Type 0 };
+
+    /// Makes the file of this name to write it. One that is there already is emptied.
+    ///
+    /// # Errors
+    ///
+    /// Where it can't be made.
+    fn make_named(&self, name: &str) -> io::Result<Self::Made>
+        ensures { IfOk result (λ file. makes self.now name.now file) };
 }
 
 impl NamedFiles for HostRuntime {
@@ -34,6 +47,14 @@ impl NamedFiles for HostRuntime {
 
     fn open_named(&self, name: &str) -> io::Result<File> {
         File::open(self, name)
+    }
+
+    type Made = File;
+
+    ghost makes = { λ _ _ _. ⊤ };
+
+    fn make_named(&self, name: &str) -> io::Result<File> {
+        File::create(self, name)
     }
 }
 

@@ -9,6 +9,7 @@ mod files;
 mod given;
 mod help;
 mod options;
+mod outputs;
 mod pace;
 mod plan;
 mod running;

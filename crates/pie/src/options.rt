@@ -1,7 +1,7 @@
 //! The command line of `pie`.
 ghost use Rattle.std.specs.Prelude.{◌≡◌, IfOk, false};
 ghost use Rattle.clap.specs.Words.{app_of, new_app, rule_of};
-ghost use Rattle.pie.specs.Words.{audit_app, choosing_app, explain_app, file_rule, files_rule, flag_rule, migrate_app, number_rule, params_app, pie_alone, pie_app, run_app, storm_app, text_rule, timed_app};
+ghost use Rattle.pie.specs.Words.{audit_app, choosing_app, explain_app, file_rule, files_rule, flag_rule, migrate_app, number_rule, output_rule, params_app, pie_alone, pie_app, run_app, storm_app, text_rule, timed_app};
 
 use crate::help::{
     AUDIT_ABOUT, AUDIT_HELP, EXPLAIN_ABOUT, EXPLAIN_HELP, MIGRATE_ABOUT, MIGRATE_HELP,
@@ -48,6 +48,18 @@ fn text_option<'a>(alloc: Global, name: &'a str, value: &'a str, help: &'a str) 
         .help(help)
 }
 
+/// The file to write in place of standard output.
+fn output_option<'a>(alloc: Global) -> Arg<'a>
+    ensures rule { rule_of result ≡ output_rule }
+    ensures local { result.global ≡ false }
+{
+    Arg::new(alloc, "output")
+        .short('o')
+        .long("output")
+        .value_name("FILE")
+        .help("Write to this file, which is made anew, and not to standard output")
+}
+
 /// A file that may be named.
 fn file_argument<'a>(alloc: Global) -> Arg<'a>
     ensures rule { rule_of result ≡ file_rule }
@@ -87,6 +99,7 @@ fn run_command<'a>(alloc: Global) -> Result<Command<'a>, AllocError>
     );
     plain(alloc, "run", RUN_ABOUT, RUN_HELP)
         .arg(count)?
+        .arg(output_option(alloc))?
         .arg(file_argument(alloc))
 }
 
@@ -97,11 +110,13 @@ fn audit_command<'a>(alloc: Global) -> Result<Command<'a>, AllocError>
     plain(alloc, "audit", AUDIT_ABOUT, AUDIT_HELP).arg(files_argument(alloc))
 }
 
-/// The subcommand `migrate` and its file.
+/// The subcommand `migrate` and its options.
 fn migrate_command<'a>(alloc: Global) -> Result<Command<'a>, AllocError>
     ensures { IfOk result (λ migrate. app_of migrate ≡ migrate_app) }
 {
-    plain(alloc, "migrate", MIGRATE_ABOUT, MIGRATE_HELP).arg(file_argument(alloc))
+    plain(alloc, "migrate", MIGRATE_ABOUT, MIGRATE_HELP)
+        .arg(output_option(alloc))?
+        .arg(file_argument(alloc))
 }
 
 /// The subcommand `explain` with the options that choose events.
@@ -184,6 +199,7 @@ fn explain_command<'a>(alloc: Global) -> Result<Command<'a>, AllocError>
         .arg(summary)?
         .arg(every)?
         .arg(csv)?
+        .arg(output_option(alloc))?
         .arg(file_argument(alloc))
 }
 

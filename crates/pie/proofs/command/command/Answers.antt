@@ -4,16 +4,22 @@ use Rattle.clap.specs.Words.{Text}
 use Rattle.pie.specs.declared.subcommand.Subcommand.TheVariants.{Run, Audit, Explain, Migrate, Storm, Params}
 use Rattle.pie.specs.AuditEnds.{EndsAudits}
 use Rattle.pie.specs.Ends.{EndsMigrate, EndsRun}
-use Rattle.pie.specs.Files.{text_given}
-use Rattle.pie.proofs.WordFacts.{audit-asks, audit-files, migrate-asks, migrate-file, run-asks, run-file}
+use Rattle.pie.specs.Files.{file_in, text_given}
+use Rattle.pie.specs.Outputs.{EndsIn}
+use Rattle.pie.specs.Words.{options_in}
+use Rattle.pie.proofs.WordFacts.{audit-asks, audit-files, migrate-asks, migrate-file, migrate-output, run-asks, run-file, run-output}
 use Rattle.pie.proofs.command.command.Goals as goal
 
 -- ---- with no file
 
 pub returns-clause-runs : goal.returns-clause-runs
 returns-clause-runs g c asks =
+    let words = map string_bytes c.args.words.now in
     subst (λ (file : Option Text). IfSome (text_given (g.R.Read.remaining c.args.input) (g.H.NamedFiles.holds c.args.rt.now) file) (λ text. EndsRun text c.answer.result (g.W.Write.contents c.args.output.now) (g.W.Write.contents c.answer.new.output)))
-    (run-file (map string_bytes c.args.words.now) asks) (c.answer.ensures.ends Run (run-asks (map string_bytes c.args.words.now) asks))
+    (run-file words asks)
+    (subst (λ (output : Option Text). EndsIn g.H.Made.Write.contents (g.H.NamedFiles.makes c.args.rt.now) output
+    (λ end before now. IfSome (text_given (g.R.Read.remaining c.args.input) (g.H.NamedFiles.holds c.args.rt.now) (file_in (options_in words))) (λ text. EndsRun text end before now)) c.answer.result (g.W.Write.contents c.args.output.now) (g.W.Write.contents c.answer.new.output))
+    (run-output words asks) (c.answer.ensures.ends Run (run-asks words asks)))
 
 pub returns-clause-audits : goal.returns-clause-audits
 returns-clause-audits g c asks =
@@ -22,8 +28,12 @@ returns-clause-audits g c asks =
 
 pub returns-clause-migrates : goal.returns-clause-migrates
 returns-clause-migrates g c asks =
+    let words = map string_bytes c.args.words.now in
     subst (λ (file : Option Text). IfSome (text_given (g.R.Read.remaining c.args.input) (g.H.NamedFiles.holds c.args.rt.now) file) (λ text. EndsMigrate text c.answer.result (g.W.Write.contents c.args.output.now) (g.W.Write.contents c.answer.new.output)))
-    (migrate-file (map string_bytes c.args.words.now) asks) (c.answer.ensures.ends Migrate (migrate-asks (map string_bytes c.args.words.now) asks))
+    (migrate-file words asks)
+    (subst (λ (output : Option Text). EndsIn g.H.Made.Write.contents (g.H.NamedFiles.makes c.args.rt.now) output
+    (λ end before now. IfSome (text_given (g.R.Read.remaining c.args.input) (g.H.NamedFiles.holds c.args.rt.now) (file_in (options_in words))) (λ text. EndsMigrate text end before now)) c.answer.result (g.W.Write.contents c.args.output.now) (g.W.Write.contents c.answer.new.output))
+    (migrate-output words asks) (c.answer.ensures.ends Migrate (migrate-asks words asks)))
 
 -- ---- with files, and with options
 

@@ -175,7 +175,8 @@ def main(words):
         used = resource.getrusage(resource.RUSAGE_CHILDREN)
         total = used.ru_utime + used.ru_stime
     table(follower, total)
-    print(f"the whole: {took / 60:.1f} minutes, {total / 60:.1f} processor minutes, on {len(os.sched_getaffinity(0))} processors; load at the start {load:.1f}")
+    machine = f"{len(os.sched_getaffinity(0))} processors; load at the start {load:.1f}"
+    print(f"the whole: {took / 60:.1f} minutes, {total / 60:.1f} processor minutes, on {machine}")
     if ran is not None:
         print(f"the gate's last line: {read(log).decode(errors='replace').rstrip().rpartition(chr(10))[2]}; status {ran.returncode}")
         sys.exit(ran.returncode)

@@ -15,7 +15,11 @@ python3 - "$program" "$work" "$senders" "$packets" "$runs" <<'PY'
 import os, statistics, subprocess, sys, time
 
 program, work, senders, packets, runs = sys.argv[1], sys.argv[2], sys.argv[3], sys.argv[4], int(sys.argv[5])
-calls = {"storm": (["storm", "--senders", senders, "--packets", packets], "/dev/null", "history"), "audit": (["audit"], "history", "finding"), "run": (["run"], "trace", "again")}
+calls = {
+    "storm": (["storm", "--senders", senders, "--packets", packets], "/dev/null", "history"),
+    "audit": (["audit"], "history", "finding"),
+    "run": (["run"], "trace", "again"),
+}
 FIELDS = {"open": 5, "arrive": 7, "depart": 3, "update": 3}
 
 
@@ -45,7 +49,9 @@ with open(f"{work}/finding") as finding:
     print(finding.read().strip())
 for word in calls:
     clock, used = ([time[i] for time in times[word]] for i in range(2))
-    print(f"{word} events {events} seconds {min(clock):.3f} median {statistics.median(clock):.3f} processor_seconds {min(used):.3f} median {statistics.median(used):.3f} events_a_second {events / min(clock):.0f}")
+    spent = f"seconds {min(clock):.3f} median {statistics.median(clock):.3f}"
+    spent += f" processor_seconds {min(used):.3f} median {statistics.median(used):.3f}"
+    print(f"{word} events {events} {spent} events_a_second {events / min(clock):.0f}")
 print(f"runs {runs} load {os.getloadavg()[0]:.1f}")
 
 

@@ -11,11 +11,14 @@ trap 'rm -rf "$work"' EXIT
 "$pie" explain --all --csv < "$history" > "$work/events.csv"
 # The target of the opening, in ms: its first parameter, and 15 ms where it has none.
 target=$(awk -F, 'NR == 1 { at = $1 == "open2" ? 8 : 6; printf "%.3f", (NF >= at ? $at : 15000000) / 1e6 }' "$history")
-# By the names of the header row: what each event left behind, the delay that each update took, and how many packets were dropped and marked in each of a hundred parts of the time.
+# By the names of the header row: what each event left behind, the delay that each update took, and how many packets were dropped and
+# marked in each of a hundred parts of the time.
 awk -F, -v work="$work" '
     NR == 1 { for (i = 1; i <= NF; i++) at[$i] = i; next }
-    { moment = $at["effective_moment"] / 1e9; if (NR == 2) first = moment; last = moment; print moment "," $at["bytes_after"] / 1e3 > (work "/bytes.csv") }
-    $at["kind"] == "update" { print moment "," $at["delay"] / 1e6 "," $at["probability_after"] / 1e10 "," $at["burst_allowance_after"] / 1e6 > (work "/updates.csv") }
+    { moment = $at["effective_moment"] / 1e9; if (NR == 2) first = moment; last = moment
+        print moment "," $at["bytes_after"] / 1e3 > (work "/bytes.csv") }
+    $at["kind"] == "update" { probability = $at["probability_after"] / 1e10; burst = $at["burst_allowance_after"] / 1e6
+        print moment "," $at["delay"] / 1e6 "," probability "," burst > (work "/updates.csv") }
     $at["kind"] == "arrive" { n++; when[n] = moment; how[n] = $at["verdict"] }
     END {
         part = (last - first) / 100; if (part <= 0) part = 1

@@ -24,7 +24,8 @@ example() {
     found=$("$program" audit < "$work/history")
     [ "$found" = "clean,$events" ] || fail "$name: its audit is $found, and not clean,$events"
     found=$(awk -F, '/^arrive/ { n[$8]++ } /^refused/ { n["refused"]++ }
-        END { printf "%d enqueued, %d marked, %d early", n["enqueue"], n["mark"], n["early"]; if (n["bytes"] + n["packets"] + n["refused"]) printf " and others" }' "$work/history")
+        END { printf "%d enqueued, %d marked, %d early", n["enqueue"], n["mark"], n["early"]
+              if (n["bytes"] + n["packets"] + n["refused"]) printf " and others" }' "$work/history")
     [ "$found" = "$verdicts" ] || fail "$name: $found, and not $verdicts"
     if command -v gnuplot > /dev/null; then
         if ! PIE=$program "$examples/plot.sh" "$work/history" "$work/$name.png" 2> /dev/null || ! [ -s "$work/$name.png" ]; then
@@ -38,7 +39,8 @@ example overload 1033 462 0 63
 example marks 835 399 5 8
 example off_and_on 180 54 0 0
 example reset 789 431 0 19
-[ "$(sed -n 's/^shown,.*,\([01]\)$/\1/p' "$examples/off_and_on.history" | tr '\n' ' ')" = '0 1 0 ' ] || fail 'off_and_on: another course of on and off'
+[ "$(sed -n 's/^shown,.*,\([01]\)$/\1/p' "$examples/off_and_on.history" | tr '\n' ' ')" = '0 1 0 ' ] ||
+    fail 'off_and_on: another course of on and off'
 [ "$(awk -F, '/^reset/ { after = 1 } /early$/ && after' "$examples/reset.history" | wc -l)" = 0 ] || fail 'reset: a drop after it'
 [ "$("$program" explain --lost < "$examples/overload.history" | grep -c 'DROPPED early')" = 63 ] || fail 'overload: not each lost packet is explained'
 if command -v python3 > /dev/null; then

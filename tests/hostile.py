@@ -59,7 +59,8 @@ def streams():
         check(shell(f'"$1" {name} <&- >&- 2>&-') == (1, b"", b""), name, "without any stream")
         check(shell(f'"$1" {name} </') == (1, b"", READ), name, "with a folder as input")
     check(shell('"$1" storm --packets 1 <&- 2>&-')[0] == 0, "a storm without standard input and error")
-    for line in ['"$1" storm --packets 1 >&-', '"$1" storm --packets 1 >/dev/full', '"$1" storm --packets 2000 | head -n 1 >/dev/null; exit ${PIPESTATUS[0]}']:
+    early_end = '"$1" storm --packets 2000 | head -n 1 >/dev/null; exit ${PIPESTATUS[0]}'
+    for line in ['"$1" storm --packets 1 >&-', '"$1" storm --packets 1 >/dev/full', early_end]:
         check(shell(line) == (1, b"", WRITE), line)
     check(shell('"$1" run --help >/dev/full') == (1, b"", WRITE), "help on a full device")
     check(shell('"$1" --help >&-') == (1, b"", WRITE), "help without standard output")

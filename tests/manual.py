@@ -112,8 +112,10 @@ def main():
             fail(f"completions/pie.{shell}: subcommands", offers([], ""), "and not", names)
     if shutil.which("zsh") and subprocess.run(["zsh", "-n", ROOT / "completions/_pie"], check=False).returncode != 0:
         fail("completions/_pie: zsh can't read it")
-    if shutil.which("man") and subprocess.run(["man", "--warnings", "-l", ROOT / "man/pie.1"], stdout=subprocess.DEVNULL, stderr=subprocess.PIPE, check=False).stderr:
-        fail("man/pie.1: man warns of it")
+    if shutil.which("man"):
+        read = ["man", "--warnings", "-l", ROOT / "man/pie.1"]
+        if subprocess.run(read, stdout=subprocess.DEVNULL, stderr=subprocess.PIPE, check=False).stderr:
+            fail("man/pie.1: man warns of it")
     for failure in failures:
         print("tests/manual.py:", failure)
     if not failures:

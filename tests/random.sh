@@ -42,4 +42,5 @@ for seed in $(seq "$first" $((first + runs - 1))); do
         exit 1
     fi
 done
-echo "tests/random.sh: $runs random traces of $steps steps: the histories are those of the reference, each is audited clean, and with one verdict changed it differs there"
+echo "tests/random.sh: $runs random traces of $steps steps: the histories are those of the reference, each is audited clean, and with one verdict"\
+    "changed it differs there"

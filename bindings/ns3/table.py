@@ -10,8 +10,8 @@ plot    the mean waits, for draw.sh
 How the two are compared was fixed before the runs were made. The runs of the two are mixed, and parted again at random, 5,000 times; `chance`
 is the share of those in which the means lie at least as far apart as they do in truth. Below 0.05 they differ beyond the spread of the runs.
 Of a hundred comparisons of the same thing with itself some five come out so. For all scenarios together the means of each scenario are divided
-by one another, and the mean of the logarithms of these ratios is compared, parting the runs of each scenario anew. A scenario with fewer than four runs of each has no
-chance of its own, since no parting of six is rarer than one of ten, but counts in what is said of all.
+by one another, and the mean of the logarithms of these ratios is compared, parting the runs of each scenario anew. A scenario with fewer than four
+runs of each has no chance of its own, since no parting of six is rarer than one of ten, but counts in what is said of all.
 """
 import csv
 import math

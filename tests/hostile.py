@@ -10,6 +10,7 @@ import sys
 import tempfile
 
 import damage
+from checks import check, finish
 
 PROGRAM = os.path.abspath(sys.argv[1])
 HERE = os.path.dirname(os.path.abspath(__file__))
@@ -22,18 +23,10 @@ THREAD = b"pie: a thread could not be started\n"
 
 TRACE = damage.TRACE
 
-failures = []
-
 
 def run(words, text, **environment):
     done = subprocess.run([PROGRAM, *words], input=text, capture_output=True, env={**os.environ, **environment}, timeout=60)
     return done.returncode, done.stdout, done.stderr
-
-
-def check(holds, *what):
-    if not holds:
-        failures.append(what)
-        print("tests/hostile.py:", *what)
 
 
 def is_error_line(text):
@@ -235,8 +228,7 @@ def main():
     cuts()
     refused(history)
     storms()
-    print(f"tests/hostile.py: {len(failures)} failed")
-    sys.exit(1 if failures else 0)
+    finish()
 
 
 main()

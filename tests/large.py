@@ -11,6 +11,8 @@ import subprocess
 import sys
 import tempfile
 
+from checks import check, finish
+
 PROGRAM = os.path.abspath(sys.argv[1])
 TAIL, PACKETS, PAIRS, FOLD = 2**20, 65536, 1_000_000, 5000
 # A threshold of 65536 bytes for a cycle of the departure rate, which no queue here reaches: so no delay and no probability is above 0.
@@ -23,14 +25,6 @@ HEADER = (
 # (the tail takes 112 bytes an event, and each of two rings 48 bytes a packet at the most)
 MEMORY = 512 * 2**20
 ECNS = ("not", "ect1", "ect0", "ce")
-
-failures = []
-
-
-def check(holds, *what):
-    if not holds:
-        failures.append(what)
-        print("tests/large.py:", *what)
 
 
 class Course:
@@ -140,8 +134,7 @@ def main():
             compare(work, name, ["explain", "--tag", "0", "--csv"], course.history, of_tag)
             compare(work, name, ["explain", "--csv", "--event", str(course.events)], course.history, [HEADER, course.explained[-1]])
             print(f"tests/large.py: {name} {len(course.trace)} records, {course.events} events")
-    print(f"tests/large.py: {len(failures)} failed")
-    sys.exit(1 if failures else 0)
+    finish()
 
 
 main()

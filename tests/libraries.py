@@ -11,6 +11,8 @@ import subprocess
 import sys
 import tempfile
 
+from checks import check, finish
+
 PROGRAMS = [os.path.abspath(name) for name in sys.argv[1:]]
 HERE = os.path.dirname(os.path.abspath(__file__))
 
@@ -54,14 +56,6 @@ REFUSED = {
 ROOM = {"Book::fold of one": (512, 64)}
 # No call makes so many requests.
 MOST = 1000
-
-failures = []
-
-
-def check(holds, *what):
-    if not holds:
-        failures.append(what)
-        print("tests/libraries.py:", *what)
 
 
 def calls_of(text):
@@ -144,8 +138,7 @@ def main():
             program.refuse_each(library, met)
             for name in set(ROOM) & set(program.refused):
                 program.has_room(library, met, name, *ROOM[name])
-    print(f"tests/libraries.py: {len(failures)} failed")
-    sys.exit(1 if failures else 0)
+    finish()
 
 
 main()

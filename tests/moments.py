@@ -5,55 +5,19 @@ are no moments. Exit status 1 where something differs.
 
 usage: tests/moments.py PROGRAM [FIRST_SEED] [RUNS] [STEPS]      PROGRAM: crates/pie/out/pie, as `rt run` builds it there
 """
-import csv
-import io
 import random
-import subprocess
-import sys
-import tempfile
-from pathlib import Path
+from itertools import compress
 
-ROOT = Path(__file__).resolve().parent.parent
-PROGRAM = sys.argv[1]
-FIRST, RUNS, STEPS = (int(word) for word in (sys.argv[2:5] + ["1", "12", "200"][len(sys.argv[2:5]) :]))
-
-def pie(history, *words):
-    done = subprocess.run([PROGRAM, "explain", *words], input=history, capture_output=True, check=False, encoding="utf-8")
-    return done.returncode, done.stdout, done.stderr
-
-
-def expect(what, got, want):
-    if got != want:
-        print(f"tests/moments.py: {what}:")
-        for name, text in (("wanted", want), ("got", got)):
-            print(f"  {name}: {text!r}"[:2000])
-        sys.exit(1)
-
-
-def written(moment, words):
-    """A way of writing a moment."""
-    unit, places = words.choice((("", 0), ("ns", 0), ("us", 3), ("ms", 6), ("s", 9)))
-    whole, rest = divmod(moment, 10**places)
-    decimals = f"{rest:0{places}}".rstrip("0" if words.random() < 0.5 else "") if places and (rest or words.random() < 0.5) else ""
-    return f"{whole}{'.' if decimals else ''}{decimals}{unit}"
+from checks import expect
+from explaining import FIRST, LOST, RUNS, histories, pie, records, within
 
 
 def hold(name, history, words):
-    status, text, _ = pie(history, "--all", "--csv")
-    expect(f"{name}: status of --all", status, 0)
-    rows = list(csv.DictReader(io.StringIO(text)))
-    moments = [int(row["effective_moment"]) for row in rows]
-    for first, last in [(None, None)] + [sorted((words.choice(moments), words.choice(moments) + words.randrange(3))) for _ in range(3)]:
-        options = []
-        if first is not None:
-            options = ["--from", written(first, words), f"--to={written(last, words)}"]
-        kept = [row for row, moment in zip(rows, moments) if first is None or first <= moment <= last]
-        lines = text.splitlines(keepends=True)
-        chosen = lines[0] + "".join(line for line, moment in zip(lines[1:], moments) if first is None or first <= moment <= last)
-        expect(f"{name}: --all --csv {options}", pie(history, "--all", "--csv", *options), (0, chosen, ""))
-        for which, verdicts in (("--lost", ("early", "bytes", "packets")), ("--marked", ("mark",))):
-            some = lines[0] + "".join(line for line, row in zip(lines[1:], rows) if row in kept and row["verdict"] in verdicts)
-            expect(f"{name}: {which} --csv {options}", pie(history, *options, "--csv", which), (0, some, ""))
+    lines, rows, moments = records(name, history)
+    for options, kept in within(moments, words):
+        for which, verdicts in (("--all", None), ("--lost", LOST), ("--marked", ("mark",))):
+            chosen = [line for line, row in compress(zip(lines[1:], rows), kept) if verdicts is None or row["verdict"] in verdicts]
+            expect(f"{name}: {which} --csv {options}", pie(history, *options, "--csv", which), (0, lines[0] + "".join(chosen), ""))
 
 
 def rows_of_moments():
@@ -78,13 +42,8 @@ def rows_of_moments():
 def main():
     words = random.Random(FIRST)
     rows_of_moments()
-    for path in sorted((ROOT / "examples").glob("*.history")):
-        hold(path.stem, path.read_text(), words)
-    with tempfile.TemporaryDirectory() as work:
-        for seed in range(FIRST, FIRST + RUNS):
-            trace, history = f"{work}/trace", f"{work}/history"
-            subprocess.run([sys.executable, ROOT / "bench/reference.py", trace, history, str(seed), str(STEPS)], check=True)
-            hold(f"seed {seed}", Path(history).read_text(), words)
+    for name, history in histories():
+        hold(name, history, words)
     print(f"tests/moments.py: of {RUNS} random histories and those of examples/ the events within are explained, and no others")
 
 

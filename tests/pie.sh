@@ -34,7 +34,7 @@ expect '119 refused records are none either' 0 "open,0,4,1,100\ndepart,1,1,empty
     "open,0,4,1,100\n$many" run
 expect 'a run of version two' 0 'open2,2,rolling,0,4,16,100\nshown,0,0,0,0,0,0,0,150000000,0,0,0,0\n' '' \
     'open2,2,rolling,0,4,16,100\nshow\n' run
-# The first session of the README, which is the example of `pie run --help` too.
+# The example of `pie run --help`.
 trace='open,0,8,32,100,2,1,0,850000,0,1,100000,1000000000000,1024
 arrive,1,0,1,1024,not,0
 arrive,1,0,2,1024,not,0

@@ -5,35 +5,17 @@ period, with lengths in each way of writing them. Exit status 1 where something 
 
 usage: tests/summary.py PROGRAM [FIRST_SEED] [RUNS] [STEPS]      PROGRAM: crates/pie/out/pie, as `rt run` builds it there
 """
-import csv
-import io
 import random
-import subprocess
-import sys
-import tempfile
-from pathlib import Path
+from itertools import compress
 
-ROOT = Path(__file__).resolve().parent.parent
-PROGRAM = sys.argv[1]
-FIRST, RUNS, STEPS = (int(word) for word in (sys.argv[2:5] + ["1", "12", "200"][len(sys.argv[2:5]) :]))
+from checks import expect
+from explaining import FIRST, LOST, RUNS, histories, pie, records, within, written
+
 VERDICTS = {"enqueue": "queued", "mark": "queued and marked", "early": "dropped early"}
 VERDICTS |= {"bytes": "dropped, no room in bytes", "packets": "dropped, no room in packets"}
 PICKED = [f"picked_by_{how}{fate}" for how in ("sum", "word") for fate in ("", "_not_capable", "_not_below")]
 CAUSES = "no_room_in_bytes no_room_in_packets inactive burst_allowed low_delay short_queue no_probability little_accumulated".split()
 CAUSES += [*PICKED, "word_not_below"]
-
-
-def pie(history, *words):
-    done = subprocess.run([PROGRAM, "explain", *words], input=history, capture_output=True, check=False, encoding="utf-8")
-    return done.returncode, done.stdout, done.stderr
-
-
-def expect(what, got, want):
-    if got != want:
-        print(f"tests/summary.py: {what}:")
-        for name, text in (("wanted", want), ("got", got)):
-            print(f"  {name}: {text!r}"[:2000])
-        sys.exit(1)
 
 
 def millis(time):
@@ -105,26 +87,12 @@ def by_period(rows, every):
     return [numbers([row for row, period in zip(rows, periods) if period == wanted]) for wanted in sorted(set(periods))] or [numbers([])]
 
 
-def written(moment, words):
-    """A way of writing a moment."""
-    unit, places = words.choice((("", 0), ("ns", 0), ("us", 3), ("ms", 6), ("s", 9)))
-    whole, rest = divmod(moment, 10**places)
-    decimals = f"{rest:0{places}}".rstrip("0" if words.random() < 0.5 else "") if places and (rest or words.random() < 0.5) else ""
-    return f"{whole}{'.' if decimals else ''}{decimals}{unit}"
-
-
 def hold(name, history, words):
-    status, text, _ = pie(history, "--all", "--csv")
-    expect(f"{name}: status of --all", status, 0)
-    rows = list(csv.DictReader(io.StringIO(text)))
-    moments = [int(row["effective_moment"]) for row in rows]
-    for first, last in [(None, None)] + [sorted((words.choice(moments), words.choice(moments) + words.randrange(3))) for _ in range(3)]:
-        options = []
-        if first is not None:
-            options = ["--from", written(first, words), f"--to={written(last, words)}"]
-        kept = [row for row, moment in zip(rows, moments) if first is None or first <= moment <= last]
-        lost = [row for row in kept if row["verdict"] in ("early", "bytes", "packets")]
-        length = max(moments[-1] - moments[0], 100)
+    _, rows, moments = records(name, history)
+    length = max(moments[-1] - moments[0], 100)
+    for options, are_kept in within(moments, words):
+        kept = list(compress(rows, are_kept))
+        lost = [row for row in kept if row["verdict"] in LOST]
         for which, some in (((), kept), (("--all",), kept), (("--lost",), lost)):
             every = words.choice((10**6, 10**9, length // 2 + 1, length // words.randrange(3, 30) + 1))
             period = f"--every={written(every, words)}"
@@ -146,13 +114,8 @@ def lengths():
 def main():
     words = random.Random(FIRST)
     lengths()
-    for path in sorted((ROOT / "examples").glob("*.history")):
-        hold(path.stem, path.read_text(), words)
-    with tempfile.TemporaryDirectory() as work:
-        for seed in range(FIRST, FIRST + RUNS):
-            trace, history = f"{work}/trace", f"{work}/history"
-            subprocess.run([sys.executable, ROOT / "bench/reference.py", trace, history, str(seed), str(STEPS)], check=True)
-            hold(f"seed {seed}", Path(history).read_text(), words)
+    for name, history in histories():
+        hold(name, history, words)
     print(f"tests/summary.py: {RUNS} random histories and those of examples/ are summed up as they have to be")
 
 

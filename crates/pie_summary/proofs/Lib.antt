@@ -1,3 +1,4 @@
+mod Examples
 pub mod SeriesFacts
 pub mod SumsFacts
 pub mod PeriodFacts

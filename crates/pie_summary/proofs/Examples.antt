@@ -1,0 +1,254 @@
+-- The definitions on worked lists: each theorem computes.
+use Rattle.std.specs.Prelude.{ℕ, ◌≡◌, ◌-◌, ◌^◌, Bool, true, false, List, [], ◌∷◌, ◌++◌, take, map, Option, Some, None, codes, refl, ⊤}
+use Rattle.std.specs.Fmt.{digits}
+use Rattle.pie_params.specs.Profile.{default_profile}
+use Rattle.pie_queue.specs.declared.ecn.Ecn.TheVariants.{NotEct, Ect0}
+use Rattle.pie_queue.specs.declared.packet.Packet.{Packet}
+use Rattle.pie_controller.specs.declared.cause.Cause.{Cause}
+use Rattle.pie_controller.specs.declared.cause.Cause.TheVariants.{NoRoomInBytes, NoRoomInPackets, Inactive, BurstAllowed, LowDelay, ShortQueue, NoProbability, LittleAccumulated, PickedBySum, PickedByWord, WordNotBelow}
+use Rattle.pie_controller.specs.declared.cause.Fate.TheVariants as fate
+use Rattle.pie_controller.specs.Places.{greatest, last_or, places}
+use Rattle.pie_book.specs.declared.command.Answer.{Answer}
+use Rattle.pie_book.specs.declared.command.Answer.TheVariants.{Enqueued, Marked, DroppedEarly, DroppedBytes, DroppedPackets, Empty, Left, Updated, Done}
+use Rattle.pie_book.specs.declared.command.Command.{Command}
+use Rattle.pie_book.specs.declared.command.Command.TheVariants.{Arrive, Depart, Update, Reset}
+use Rattle.pie_book.specs.declared.registers.Registers.{Registers}
+use Rattle.pie_explain.specs.declared.explainer.Form.TheVariants.{Text, Csv}
+use Rattle.pie_explain.specs.declared.explanation.Explained.{Explained}
+use Rattle.pie_explain.specs.Words.{millis, per_cent, share}
+use Rattle.pie_summary.specs.declared.series.Series.{Series}
+use Rattle.pie_summary.specs.Period.{begins, last_events, last_period, period_of}
+use Rattle.pie_summary.specs.Record.{cause_fields, first_fields, last_fields, later_fields, left_fields, middle_fields, moment_fields, record_of, turned_fields, update_fields, verdict_fields}
+use Rattle.pie_summary.specs.Series.{kept, series_of}
+use Rattle.pie_summary.specs.Summary.{header, summary_of}
+use Rattle.pie_summary.specs.Sums.{answer_place, cause_place, moment_at, sums_of, turned_at}
+use Rattle.pie_summary.specs.Words.{arrival_words, arrived_words, cause_name, cause_row, cause_words, delay_words, dropped_words, first_causes, head_words, later_words, left_words, mean, middle_causes, prob_words, queued_words, row_words, sum_causes, title, turned_words, update_words, verdict_words, word_causes, words}
+
+-- all that a theorem on a worked list computes with
+unfoldable worked : Type 0
+unfolding greatest last_or places sums_of header digits millis per_cent share moment_fields verdict_fields first_fields middle_fields last_fields
+    left_fields update_fields turned_fields cause_fields later_fields record_of row_words queued_words dropped_words cause_name cause_row
+    first_causes middle_causes sum_causes word_causes cause_words head_words arrived_words left_words delay_words prob_words update_words
+    turned_words verdict_words title arrival_words later_words words
+worked = ⊤
+
+-- ---- periods
+
+-- of 100 ns each, of no length, and of none that is wanted
+periods : (map (period_of (Some 100)) (0 ∷ 99 ∷ 100 ∷ 199 ∷ 250 ∷ []) ≡ 0 ∷ 0 ∷ 1 ∷ 1 ∷ 2 ∷ [])
+    × (map (period_of (Some 0)) (0 ∷ 7 ∷ []) ≡ 0 ∷ 7 ∷ []) × (period_of None 250 ≡ 0)
+periods = (refl, refl, refl)
+
+-- a period begins where another was before, and not with the first event
+beginnings : (begins None 2 ≡ false) × (begins (Some 2) 2 ≡ false) × (begins (Some 1) 2 ≡ true) × (begins (Some 0) 2 ≡ true)
+beginnings = (refl, refl, refl, refl)
+
+-- ---- series
+
+abbrev series : ℕ → ℕ → ℕ → ℕ → ℕ → Series
+series count first last greatest total = record { count = count; first = first; last = last; greatest = greatest; total = total }
+
+series-of-some : (series_of (5 ∷ 9 ∷ 2 ∷ []) ≡ series 3 5 2 9 16) × (series_of (7 ∷ []) ≡ series 1 7 7 7 7) × (series_of [] ≡ series 0 0 0 0 0)
+unfolding worked
+series-of-some = (refl, refl, refl)
+
+-- a sum stays at 2^128 - 1, a count at 2^64 - 1, and a mean is rounded down
+series-of-much : (series_of ((2 ^ 128 - 1) ∷ 3 ∷ []) ≡ series 2 (2 ^ 128 - 1) 3 (2 ^ 128 - 1) (2 ^ 128 - 1))
+    × (map kept ((2 ^ 64 - 1) ∷ 2 ^ 64 ∷ []) ≡ 18446744073709551615 ∷ 18446744073709551615 ∷ [])
+    × (map mean (series 3 111 15 140 266 ∷ series 0 0 0 0 0 ∷ []) ≡ 88 ∷ 0 ∷ [])
+unfolding worked
+series-of-much = (refl, refl, refl)
+
+-- ---- one event
+
+-- an event turned the controller on where it was off before it and is on after it, and off the other way round
+turns : (turned_at true false true 40 ≡ Some 40) × (turned_at true true true 40 ≡ None) × (turned_at true false false 40 ≡ None)
+    × (turned_at true true false 40 ≡ None) × (turned_at false true false 40 ≡ Some 40) × (turned_at false true true 40 ≡ None)
+    × (turned_at false false false 40 ≡ None) × (turned_at false false true 40 ≡ None)
+turns = (refl, refl, refl, refl, refl, refl, refl, refl)
+
+abbrev packet : ℕ → ℕ → Packet
+packet tag size = record { tag = tag; size = size; ecn = NotEct }
+
+abbrev capable : ℕ → ℕ → Packet
+capable tag size = record { tag = tag; size = size; ecn = Ect0 }
+
+-- each answer has a place of its own, and so has each cause, a picked one by its packet's fate; the last is that of other events
+answer-places : map answer_place
+    (Enqueued ∷ Marked ∷ DroppedEarly ∷ DroppedBytes ∷ DroppedPackets ∷ Left (packet 1 60) ∷ Empty ∷ Updated 1 2 3 ∷ Done ∷ [])
+    ≡ 0 ∷ 1 ∷ 2 ∷ 3 ∷ 4 ∷ 5 ∷ 6 ∷ 7 ∷ 8 ∷ []
+answer-places = refl
+
+cause-places : map (λ cause. cause_place (Some cause))
+    (NoRoomInBytes 1 2 3 ∷ NoRoomInPackets 1 ∷ Inactive ∷ BurstAllowed 1 ∷ LowDelay 1 2 3 ∷ ShortQueue 1 2 ∷ NoProbability ∷ LittleAccumulated 1 2
+    ∷ PickedBySum 1 2 (fate.Marked 3) ∷ PickedBySum 1 2 fate.NotCapable ∷ PickedBySum 1 2 (fate.NotBelow 3)
+    ∷ PickedByWord 1 2 3 (fate.Marked 4) ∷ PickedByWord 1 2 3 fate.NotCapable ∷ PickedByWord 1 2 3 (fate.NotBelow 4) ∷ WordNotBelow 1 2 3 ∷ [])
+    ≡ 0 ∷ 1 ∷ 2 ∷ 3 ∷ 4 ∷ 5 ∷ 6 ∷ 7 ∷ 8 ∷ 9 ∷ 10 ∷ 11 ∷ 12 ∷ 13 ∷ 14 ∷ []
+cause-places = refl
+
+no-cause-place : cause_place None ≡ 15
+no-cause-place = refl
+
+-- ---- a list of events
+
+-- what the controller holds: whether it is active, and the probability
+abbrev held : Bool → ℕ → Registers
+held active prob = record {
+  count = 0;
+  moment = 0;
+  packets = 0;
+  bytes = 0;
+  prob = prob;
+  old = 0;
+  accu = 0;
+  burst = 0;
+  last = 0;
+  average = 0;
+  measuring = false;
+  params = default_profile;
+  active = active;
+}
+
+-- an event, its effective moment, its cause, how long the packet had waited that left, and what was held before and after it
+abbrev event : Command → Answer → ℕ → Option Cause → ℕ → Registers → Registers → Explained
+event command answer moment cause waited before after = record {
+  told = record {
+    number = 0;
+    event = record { caller = 1; command = command; answer = answer };
+    moment = moment;
+    before = before;
+    delay = 0;
+    cause = cause;
+    waited = waited;
+    set_by = None;
+    updates = 0;
+  };
+  after = after;
+  delay = 0;
+}
+
+abbrev fifth : ℕ
+fifth = 200_000_000_000
+
+-- Periods of 100 ns. In the first an arrival turns the controller on, and an update makes the probability a fifth; in the second a packet is
+-- dropped, one is marked and one leaves; in the third an update turns the controller off, a packet leaves, and an update finds it off; the
+-- fourth has no event; in the fifth an arrival turns it on again, two find no room, a packet leaves, a departure finds none, and a reset ends it.
+-- A summary looks at none of the numbers of a cause.
+abbrev first_period : List Explained
+first_period =
+    event (Arrive 40 (packet 1 1000) 0) Enqueued 40 (Some Inactive) 0 (held false 0) (held true 0)
+    ∷ event (Update 99) (Updated 30 fifth 0) 99 None 0 (held true 0) (held true fifth) ∷ []
+
+abbrev second_period : List Explained
+second_period =
+    event (Arrive 100 (packet 2 500) 1) DroppedEarly 100 (Some (PickedByWord 1 2 3 fate.NotCapable)) 0 (held true fifth) (held true fifth)
+    ∷ event (Arrive 120 (capable 3 1501) 2) Marked 120 (Some (PickedByWord 1 2 3 (fate.Marked 4))) 0 (held true fifth) (held true fifth)
+    ∷ event (Depart 151) (Left (packet 1 1000)) 151 None 111 (held true fifth) (held true fifth) ∷ []
+
+abbrev third_period : List Explained
+third_period =
+    event (Update 250) (Updated 4 0 50) 250 None 0 (held true fifth) (held false 0)
+    ∷ event (Depart 260) (Left (packet 3 1501)) 260 None 140 (held false 0) (held false 0)
+    ∷ event (Update 299) (Updated 0 0 50) 299 None 0 (held false 0) (held false 0) ∷ []
+
+abbrev fifth_period : List Explained
+fifth_period =
+    event (Arrive 405 (packet 4 64) 3) Enqueued 405 (Some Inactive) 0 (held false 0) (held true 0)
+    ∷ event (Arrive 410 (packet 5 65535) 4) DroppedBytes 410 (Some (NoRoomInBytes 64 65535 65000)) 0 (held true 0) (held true 0)
+    ∷ event (Arrive 411 (packet 6 64) 5) DroppedPackets 411 (Some (NoRoomInPackets 1)) 0 (held true 0) (held true 0)
+    ∷ event (Depart 420) (Left (packet 4 64)) 420 None 15 (held true 0) (held true 0)
+    ∷ event (Depart 421) Empty 421 None 0 (held true 0) (held true 0)
+    ∷ event (Reset 499) Done 499 None 0 (held true 0) (held true 0) ∷ []
+
+abbrev fourteen : List Explained
+fourteen = first_period ++ second_period ++ third_period ++ fifth_period
+
+-- the update at 299 ns, which found the controller off, counts as an update, and its delay does not
+fourteen-sums : sums_of fourteen ≡ record {
+  answers = 2 ∷ 1 ∷ 1 ∷ 1 ∷ 1 ∷ 3 ∷ 1 ∷ 3 ∷ 1 ∷ [];
+  causes = 1 ∷ 1 ∷ 2 ∷ 0 ∷ 0 ∷ 0 ∷ 0 ∷ 0 ∷ 0 ∷ 0 ∷ 0 ∷ 1 ∷ 1 ∷ 0 ∷ 0 ∷ 8 ∷ [];
+  moments = series 14 40 499 499 3885;
+  arrived = series 6 1000 64 65535 68664;
+  waits = series 3 111 15 140 266;
+  delays = series 2 30 4 30 34;
+  probs = series 14 0 0 200_000_000_000 800_000_000_000;
+  turned_on = series 2 40 405 405 445;
+  turned_off = series 1 250 250 250 250;
+}
+unfolding worked
+fourteen-sums = refl
+
+-- of no event all numbers are 0
+no-sums : sums_of [] ≡ record {
+  answers = 0 ∷ 0 ∷ 0 ∷ 0 ∷ 0 ∷ 0 ∷ 0 ∷ 0 ∷ 0 ∷ [];
+  causes = 0 ∷ 0 ∷ 0 ∷ 0 ∷ 0 ∷ 0 ∷ 0 ∷ 0 ∷ 0 ∷ 0 ∷ 0 ∷ 0 ∷ 0 ∷ 0 ∷ 0 ∷ 0 ∷ [];
+  moments = series 0 0 0 0 0;
+  arrived = series 0 0 0 0 0;
+  waits = series 0 0 0 0 0;
+  delays = series 0 0 0 0 0;
+  probs = series 0 0 0 0 0;
+  turned_on = series 0 0 0 0 0;
+  turned_off = series 0 0 0 0 0;
+}
+unfolding worked
+no-sums = refl
+
+last-periods : map (last_period (Some 100)) ([] ∷ first_period ∷ fourteen ∷ []) ≡ None ∷ Some 0 ∷ Some 4 ∷ []
+unfolding worked
+last-periods = refl
+
+-- the last events are those of the last period; without a length all, and of none none
+last-of-fourteen : (last_events (Some 100) fourteen ≡ fifth_period) × (last_events (Some 100) (take 8 fourteen) ≡ third_period)
+    × (last_events (Some 100) (take 6 fourteen) ≡ take 1 third_period) × (last_events None fourteen ≡ fourteen) × (last_events (Some 100) [] ≡ [])
+unfolding worked
+last-of-fourteen = (refl, refl, refl, refl, refl)
+
+-- .. as far back as no event of another period comes between
+last-of-a-return : map moment_at (last_events (Some 100) (first_period ++ second_period ++ first_period)) ≡ 40 ∷ 99 ∷ []
+unfolding worked
+last-of-a-return = refl
+
+-- ---- what is written
+
+abbrev names : List ℕ
+names =
+    codes "events,first_moment,last_moment,arrivals,arrived_bytes,enqueue,mark,early,bytes,packets,no_room_in_bytes,no_room_in_packets,inactive,"
+    ++ codes "burst_allowed,low_delay,short_queue,no_probability,little_accumulated,picked_by_sum,picked_by_sum_not_capable,picked_by_sum_not_below,"
+    ++ codes "picked_by_word,picked_by_word_not_capable,picked_by_word_not_below,word_not_below,left,greatest_wait,mean_wait,updates,greatest_delay,"
+    ++ codes "last_delay,greatest_probability,last_probability,turned_on,first_turned_on,last_turned_on,turned_off,first_turned_off,last_turned_off\n"
+
+-- one record of all
+all-record : summary_of (record { form = Csv; every = None }) fourteen
+    ≡ names ++ codes "14,40,499,6,68664,2,1,1,1,1,1,1,2,0,0,0,0,0,0,0,0,1,1,0,0,3,140,88,3,30,4,200000000000,0,2,40,405,1,250,250\n"
+unfolding worked
+all-record = refl
+
+-- one of each period that has events
+period-records : summary_of (record { form = Csv; every = Some 100 }) fourteen
+    ≡ names ++ codes "2,40,99,1,1000,1,0,0,0,0,0,0,1,0,0,0,0,0,0,0,0,0,0,0,0,0,0,0,1,30,30,200000000000,200000000000,1,40,40,0,0,0\n"
+    ++ codes "3,100,151,2,2001,0,1,1,0,0,0,0,0,0,0,0,0,0,0,0,0,1,1,0,0,1,111,111,0,0,0,200000000000,200000000000,0,0,0,0,0,0\n"
+    ++ codes "3,250,299,0,0,0,0,0,0,0,0,0,0,0,0,0,0,0,0,0,0,0,0,0,0,1,140,140,2,4,4,0,0,0,0,0,1,250,250\n"
+    ++ codes "6,405,499,3,65663,1,0,0,1,1,1,1,1,0,0,0,0,0,0,0,0,0,0,0,0,1,15,15,0,0,0,0,0,1,405,405,0,0,0\n"
+unfolding worked
+period-records = refl
+
+-- where there is no event, one of none
+no-record : summary_of (record { form = Csv; every = Some 100 }) []
+    ≡ names ++ codes "0,0,0,0,0,0,0,0,0,0,0,0,0,0,0,0,0,0,0,0,0,0,0,0,0,0,0,0,0,0,0,0,0,0,0,0,0,0,0\n"
+unfolding worked
+no-record = refl
+
+-- in words: shares of the arrivals, rounded down, no line of a cause that decided none, and times in milliseconds too
+all-words : summary_of (record { form = Text; every = None }) fourteen
+    ≡ codes "14 events, from 0.000040 ms (40 ns) to 0.000499 ms (499 ns)\n  6 arrivals, 68664 bytes\n    queued: 2, 33.3333 %\n"
+    ++ codes "    queued and marked: 1, 16.6666 %\n    dropped early: 1, 16.6666 %\n    dropped, no room in bytes: 1, 16.6666 %\n"
+    ++ codes "    dropped, no room in packets: 1, 16.6666 %\n  by what decided them\n    no_room_in_bytes: 1, 16.6666 %\n"
+    ++ codes "    no_room_in_packets: 1, 16.6666 %\n    inactive: 2, 33.3333 %\n    picked_by_word: 1, 16.6666 %\n"
+    ++ codes "    picked_by_word_not_capable: 1, 16.6666 %\n  3 packets left; they had waited at most 0.000140 ms (140 ns),\n"
+    ++ codes "    and in the mean 0.000088 ms (88 ns)\n  3 updates; the greatest delay was 0.000030 ms (30 ns),\n"
+    ++ codes "    and the last 0.000004 ms (4 ns)\n"
+    ++ codes "  the greatest probability was 20.0000 % (200000000000), and the last 0.0000 % (0)\n"
+    ++ codes "  turned on 2 times, first at 0.000040 ms (40 ns),\n    and last at 0.000405 ms (405 ns)\n"
+    ++ codes "  turned off 1 times, first at 0.000250 ms (250 ns),\n    and last at 0.000250 ms (250 ns)\n"
+unfolding worked
+all-words = refl

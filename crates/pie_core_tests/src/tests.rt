@@ -1,9 +1,93 @@
-//! One module for each crate: units (pie_fixed), parameters, queue, departure rate, control, early drop, and the book.
+//! What no clause says and no program shows: texts, that there is memory for the largest ring, and calls that nothing else makes.
 
-mod book;
-mod control;
-mod early;
-mod params;
-mod queue;
-mod rate;
-mod units;
+use pie_book::{Book, FoldRefusal, Limits, OpenRefusal, Refusal};
+use pie_fixed::{Accu, Prob};
+use pie_params::{BadParam, Field, Params};
+use pie_queue::{ByteQueue, Ecn, Memory};
+use pie_record::TraceFault;
+use std::alloc::Global;
+use std::fmt::Display;
+
+/// Whether this is said so.
+fn says<T: Display>(alloc: Global, it: &T, want: &str) -> bool {
+    match format!(in alloc; "{it}") {
+        Ok(text) => text.as_str() == want,
+        Err(_) => false,
+    }
+}
+
+/// The refusals of a command.
+fn say_why_a_command_is_refused(alloc: Global) -> bool {
+    says(alloc, &Refusal::Moment, "moment out of range")
+        && says(alloc, &Refusal::Size, "packet size out of range")
+        && says(
+            alloc,
+            &Refusal::TooSoon { due: 5 },
+            "the update is due at 5",
+        )
+        && says(alloc, &Refusal::Exhausted, "no more events")
+        && says(alloc, &Refusal::HistoryFull, "the tail is full")
+}
+
+/// Those of an opening, of a fold, of parameters, of a queue, and of a trace longer than a test can run.
+fn say_why_others_are_refused(alloc: Global) -> bool {
+    let held = FoldRefusal::TooMany { held: 4 };
+    let bad = BadParam(Field::DqThreshold);
+    says(alloc, &OpenRefusal::BadLimits, "limits out of range")
+        && says(alloc, &OpenRefusal::Moment, "moment out of range")
+        && says(alloc, &OpenRefusal::Memory, "out of memory")
+        && says(alloc, &held, "the tail holds 4 events")
+        && says(alloc, &FoldRefusal::Memory, "out of memory")
+        && says(
+            alloc,
+            &bad,
+            "the parameter dq_threshold is out of its range",
+        )
+        && says(alloc, &Memory, "out of memory")
+        && says(alloc, &TraceFault::TooLong, "too many records")
+}
+
+#[test]
+fn refusals_in_words(rt: HostRuntime) {
+    let alloc = rt.alloc();
+    assert!(rt; say_why_a_command_is_refused(alloc) && say_why_others_are_refused(alloc));
+}
+
+/// Whether there is memory for a ring of the greatest size.
+fn is_largest_ring_made(alloc: Global) -> bool {
+    match ByteQueue::new(alloc, 65536) {
+        Ok(queue) => queue.packets() == 65536,
+        Err(Memory) => false,
+    }
+}
+
+#[test]
+fn a_ring_of_65536(rt: HostRuntime) {
+    assert!(rt; is_largest_ring_made(rt.alloc()));
+}
+
+/// Whether a new book shows that it has no event, and when it was opened.
+fn shows_its_opening(alloc: Global) -> bool {
+    let limits = Limits {
+        packets: 4,
+        tail: 16,
+        events: 100,
+    };
+    match Book::open(alloc, limits, Params::default_profile(), 3) {
+        Ok(book) => book.event(0).is_none() && book.opening().moment == 3,
+        Err(_) => false,
+    }
+}
+
+/// What is accumulated after one arrival that was considered at a tenth.
+fn accumulated() -> Option<u64> {
+    let tenth = Prob::from_units(100_000_000_000)?;
+    Some(Accu::zero().plus(tenth).units())
+}
+
+#[test]
+fn calls_that_nothing_else_makes(rt: HostRuntime) {
+    let is_shown = shows_its_opening(rt.alloc());
+    let is_added = accumulated() == Some(100_000_000_000);
+    assert!(rt; is_shown && is_added && Ecn::Ect0.bits() == 0b10);
+}

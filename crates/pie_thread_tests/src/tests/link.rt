@@ -1,12 +1,12 @@
-//! Worked rows, and arrangements of threads that end by themselves.
+//! Worked rows, and arrangements of threads that end by themselves. Calls and their comparisons are in functions that answer a `bool`: a test that
+//! lets the link go on each of its ways out costs the prover as much as a call on each.
 ghost use Rattle.std.specs.Prelude.{◌≡◌, IfOk};
 
-mod kept;
 mod one_thread;
 mod storms;
 mod threads;
 
-use pie_book::{Book, Choices, Limits, Mode, Profile};
+use pie_book::Limits;
 use pie_link::{Caller, Link, LinkRefusal};
 use pie_params::Params;
 use pie_queue::{Ecn, Packet};
@@ -21,8 +21,8 @@ fn packet(tag: u64) -> Packet {
     }
 }
 
-// A link at moment 0 with the default parameters and rings of four packets, and a caller with all numbers.
-fn opened(alloc: Global, tail: u32, callers: u16, mode: Mode) -> Result<(Link, Caller), LinkRefusal>
+// A bounded link at moment 0 with the default parameters and rings of four packets, and a caller with all numbers.
+fn opened(alloc: Global, tail: u32, callers: u16) -> Result<(Link, Caller), LinkRefusal>
     ensures { IfOk result (λ made. made.1.lock ≡ made.0) }
 {
     let limits = Limits {
@@ -30,25 +30,5 @@ fn opened(alloc: Global, tail: u32, callers: u16, mode: Mode) -> Result<(Link, C
         tail,
         events: 100,
     };
-    let choices = Choices {
-        mode,
-        profile: Profile::One,
-    };
-    Link::open_with(
-        alloc,
-        limits,
-        Params::default_profile(),
-        0,
-        callers,
-        choices,
-    )
-}
-
-// The book, once these two callers are one that has all numbers.
-fn closed(link: Link, one: Caller, two: Caller) -> Option<Book>
-    requires { (one.lock ≡ link) × (two.lock ≡ link) }
-{
-    let mut one = one;
-    link.gather(&mut one, two).ok()?;
-    link.close(one).ok()
+    Link::open(alloc, limits, Params::default_profile(), 0, callers)
 }

@@ -1,14 +1,13 @@
-//! What each call answers to one thread. Calls and their comparisons are in functions that answer a `bool`: a test lets the link go on each of
-//! its ways out, and each of those costs the prover as much as a call.
+//! What each call answers to one thread.
 ghost use Rattle.std.specs.Prelude.{◌≡◌};
 ghost use Rattle.pie_link.specs.Views.{StaysOne};
 
-use super::{closed, opened, packet};
-use pie_book::{Answer, Command, FoldRefusal, Limits, Mode, OpenRefusal, Refusal};
-use pie_link::{Caller, Link, LinkRefusal, Told, Tried};
+use super::{opened, packet};
+use pie_book::{Answer, Book, FoldRefusal, Refusal};
+use pie_link::{Caller, Link, Told, Tried};
 use pie_params::Params;
+use std::alloc::Global;
 use std::sync::Wait;
-use std::test::Fail;
 
 // Whether a call that never blocks is answered so, at this number.
 fn is_tried(told: Result<Told<Answer>, Tried<Refusal>>, answer: Answer, number: u64) -> bool {
@@ -158,163 +157,149 @@ fn later_waiting_calls<R: Wait>(rt: &R, link: &Link, caller: &mut Caller) -> boo
     reset && set && few && folded && stats.answer.waited == 10 && stats.number == 5
 }
 
-#[test]
-fn calls_that_never_block(rt: HostRuntime) -> Result<(), Fail> {
-    let (link, mut caller) = opened(rt.alloc(), 8, 3, Mode::Bounded)?;
-    let is_whole = caller.first() == 0 && caller.limit() == 3;
-    let first = first_calls(&link, &mut caller);
-    let later = later_calls(&link, &mut caller);
-    assert!(rt; is_whole && first && later);
-    Ok(())
-}
-
-#[test]
-fn calls_that_wait(rt: HostRuntime) -> Result<(), Fail> {
-    let (link, mut caller) = opened(rt.alloc(), 8, 3, Mode::Bounded)?;
-    let first = first_waiting_calls(&rt, &link, &mut caller);
-    let later = later_waiting_calls(&rt, &link, &mut caller);
-    assert!(rt; first && later);
-    Ok(())
-}
-
-// Whether a fold of one event hands out the first arrival.
-fn hands_out_the_first(link: &Link, caller: &mut Caller) -> bool
-    requires own { caller.old.lock ≡ link.now }
-    ensures stays { StaysOne caller.old caller.new }
-{
-    let first = Command::Arrive {
-        moment: 1,
-        packet: packet(1),
-        word: 0,
-    };
-    match link.try_fold(caller, 1) {
-        Ok(told) => match told.answer.first() {
-            Some(event) => event.command == first && event.caller == 0 && told.number == 1,
-            None => false,
-        },
+// Whether a new link for three callers answers the row.
+fn never_blocks(alloc: Global) -> bool {
+    match opened(alloc, 8, 3) {
+        Ok((link, mut caller)) => first_calls(&link, &mut caller)
+            && later_calls(&link, &mut caller),
         Err(_) => false,
     }
 }
 
-// A tail of two events gets full, and has room again after a fold.
-fn fills_and_folds(link: &Link, caller: &mut Caller) -> bool
+#[test]
+fn calls_that_never_block(rt: HostRuntime) {
+    assert!(rt; never_blocks(rt.alloc()));
+}
+
+// Whether it does so by the calls that wait.
+fn waits<R: Wait>(rt: &R, alloc: Global) -> bool {
+    match opened(alloc, 8, 3) {
+        Ok((link, mut caller)) => {
+            first_waiting_calls(rt, &link, &mut caller)
+                && later_waiting_calls(rt, &link, &mut caller)
+        }
+        Err(_) => false,
+    }
+}
+
+#[test]
+fn calls_that_wait(rt: HostRuntime) {
+    let is_so = waits(&rt, rt.alloc());
+    assert!(rt; is_so);
+}
+
+// Whether the next arrival is enqueued, as the event with this number.
+fn arrives(link: &Link, caller: &mut Caller, number: u64) -> bool
     requires own { caller.old.lock ≡ link.now }
     ensures stays { StaysOne caller.old caller.new }
 {
-    let one = is_tried(
-        link.try_arrive(caller, 1, packet(1), 0),
-        Answer::Enqueued,
-        1,
-    );
-    let two = is_tried(
-        link.try_arrive(caller, 2, packet(2), 0),
-        Answer::Enqueued,
-        2,
-    );
+    let arrived = link.try_arrive(caller, number, packet(number), 0);
+    is_tried(arrived, Answer::Enqueued, number)
+}
+
+// Whether a tail of two events gets full, and has room again after a fold.
+fn fills_and_folds(link: &Link, caller: &mut Caller) -> bool
+    requires own { caller.old.lock ≡ link.now }
+{
+    let two = arrives(link, caller, 1) && arrives(link, caller, 2);
     let full = match link.try_arrive(caller, 3, packet(3), 0) {
         Err(Tried::Refused(why)) => why == Refusal::HistoryFull,
         _ => false,
     };
     let few = is_refused(link, caller, 3, 2);
-    let first = hands_out_the_first(link, caller);
-    let three = is_tried(
-        link.try_arrive(caller, 3, packet(3), 0),
-        Answer::Enqueued,
-        3,
-    );
-    one && two && full && few && first && three
+    let first = is_folded(link, caller, 1, 1);
+    two && full && few && first && arrives(link, caller, 3)
+}
+
+fn is_full_and_folded(alloc: Global) -> bool {
+    match opened(alloc, 2, 1) {
+        Ok((link, mut caller)) => fills_and_folds(&link, &mut caller),
+        Err(_) => false,
+    }
 }
 
 #[test]
-fn a_full_tail_is_folded(rt: HostRuntime) -> Result<(), Fail> {
-    let (link, mut caller) = opened(rt.alloc(), 2, 1, Mode::Bounded)?;
-    let is_so = fills_and_folds(&link, &mut caller);
-    assert!(rt; is_so);
-    Ok(())
+fn a_full_tail_is_folded(rt: HostRuntime) {
+    assert!(rt; is_full_and_folded(rt.alloc()));
 }
 
-// The tail of a rolling link holds two events after three.
-fn lets_go(link: &Link, caller: &mut Caller) -> bool
+// What one caller does another reads, which made no call.
+fn is_read(link: &Link, one: &mut Caller) -> bool
+    requires own { one.old.lock ≡ link.now }
+    ensures { one.new.lock ≡ link.now }
+{
+    match link.share(one) {
+        Ok(mut two) => arrives(link, one, 1) && shows_one(link, &mut two),
+        Err(_) => false,
+    }
+}
+
+// How many events a link has that closes by a caller which lacks numbers, if they were read so.
+fn events_at_close(alloc: Global) -> Option<u64> {
+    match opened(alloc, 8, 2) {
+        Ok((link, mut one)) => {
+            let is_read = is_read(&link, &mut one);
+            match link.close(one) {
+                Ok(book) if is_read => Some(book.count()),
+                Ok(_) | Err(_) => None,
+            }
+        }
+        Err(_) => None,
+    }
+}
+
+#[test]
+fn a_caller_reads_what_another_did(rt: HostRuntime) {
+    assert!(rt; events_at_close(rt.alloc()) == Some(1));
+}
+
+// So many departures of a link where no packet waits, and how many were answered so.
+fn depart_often(link: &Link, caller: &mut Caller, times: u32) -> u32
     requires own { caller.old.lock ≡ link.now }
-    ensures stays { StaysOne caller.old caller.new }
+    ensures { StaysOne caller.old caller.new }
 {
-    let one = is_tried(link.try_depart(caller, 1), Answer::Empty, 1);
-    let two = is_tried(link.try_depart(caller, 1), Answer::Empty, 2);
-    let three = is_tried(link.try_depart(caller, 1), Answer::Empty, 3);
-    let few = is_refused(link, caller, 3, 2);
-    let folded = is_folded(link, caller, 2, 3);
-    one && two && three && few && folded
+    let mut empty = 0u32;
+    for _ in 0..times {
+        match link.try_depart(caller, 1) {
+            Ok(told) if told.answer == Answer::Empty => empty = empty.wrapping_add(1),
+            Ok(_) | Err(_) => {}
+        }
+    }
+    empty
 }
 
+// Whether the uppermost caller of 65535 fills a tail of 70 events and folds 65 of them, and the other then finds room.
+fn folds_from_above(link: &Link, caller: &mut Caller, upper: &mut Caller) -> bool
+    requires own { (caller.old.lock ≡ link.now) × (upper.old.lock ≡ link.now) }
+    ensures { upper.new.lock ≡ link.now }
+{
+    let filled = depart_often(link, upper, 71);
+    let folds = is_folded(link, upper, 65, 65) && is_refused(link, upper, 6, 5);
+    let more = depart_often(link, caller, 1);
+    filled == 70 && folds && more == 1
+}
+
+// The book that the uppermost caller then closes, if all was so.
+fn book_from_above(alloc: Global) -> Option<Book> {
+    match opened(alloc, 70, 65535) {
+        Ok((link, mut caller)) => {
+            let mut upper = link.share(&mut caller).ok()?;
+            let is_so = folds_from_above(&link, &mut caller, &mut upper);
+            match link.close(upper) {
+                Ok(book) if is_so => Some(book),
+                Ok(_) | Err(_) => None,
+            }
+        }
+        Err(_) => None,
+    }
+}
+
+// A mistake might treat sizes and numbers so high differently, and a caller above 0 might close with less than the whole tail.
 #[test]
-fn a_rolling_link_lets_its_oldest_event_go(rt: HostRuntime) -> Result<(), Fail> {
-    let (link, mut caller) = opened(rt.alloc(), 2, 1, Mode::Rolling)?;
-    let is_so = lets_go(&link, &mut caller);
+fn a_caller_of_65535_folds_and_closes(rt: HostRuntime) {
+    let is_so = match book_from_above(rt.alloc()) {
+        Some(book) => book.count() == 71 && book.tail_len() == 6,
+        None => false,
+    };
     assert!(rt; is_so);
-    Ok(())
-}
-
-// What one caller does the other reads.
-fn see_each_other(link: &Link, one: &mut Caller, two: &mut Caller) -> bool
-    requires own { (one.old.lock ≡ link.now) × (two.old.lock ≡ link.now) }
-    ensures stays { StaysOne one.old one.new × StaysOne two.old two.new }
-{
-    let arrived = is_tried(link.try_arrive(one, 10, packet(1), 0), Answer::Enqueued, 1);
-    let shown = shows_one(link, two);
-    let left = is_tried(link.try_depart(two, 11), Answer::Left(packet(1)), 2);
-    arrived && shown && left
-}
-
-#[test]
-fn a_caller_reads_what_another_did(rt: HostRuntime) -> Result<(), Fail> {
-    let (link, mut one) = opened(rt.alloc(), 8, 2, Mode::Bounded)?;
-    let mut two = link.share(&mut one)?;
-    let is_seen = see_each_other(&link, &mut one, &mut two);
-    let count = match closed(link, one, two) {
-        Some(book) => book.count(),
-        None => 0,
-    };
-    assert!(rt; is_seen && count == 2);
-    Ok(())
-}
-
-#[test]
-fn a_caller_that_lacks_numbers_closes_a_free_link(rt: HostRuntime) -> Result<(), Fail> {
-    let (link, mut one) = opened(rt.alloc(), 8, 2, Mode::Bounded)?;
-    let mut two = link.share(&mut one)?;
-    let left = is_tried(link.try_depart(&mut two, 5), Answer::Empty, 1);
-    let count = match link.close(one) {
-        Ok(book) => book.count(),
-        Err(_) => 0,
-    };
-    assert!(rt; left && count == 1);
-    Ok(())
-}
-
-// Why a link with these limits, at this moment, for so many callers is not opened.
-fn refusal(rt: &HostRuntime, packets: u32, moment: u64, callers: u16) -> Option<LinkRefusal> {
-    let limits = Limits {
-        packets,
-        tail: 8,
-        events: 100,
-    };
-    Link::open(
-        rt.alloc(),
-        limits,
-        Params::default_profile(),
-        moment,
-        callers,
-    )
-    .err()
-}
-
-#[test]
-fn openings_are_refused_in_order(rt: HostRuntime) {
-    let limits = LinkRefusal::Book(OpenRefusal::BadLimits);
-    let moment = LinkRefusal::Book(OpenRefusal::Moment);
-    let bad = refusal(&rt, 0, 1 << 60, 0) == Some(limits);
-    let late = refusal(&rt, 4, 1 << 60, 0) == Some(moment);
-    let none = refusal(&rt, 4, 0, 0) == Some(LinkRefusal::NoCallers);
-    let good = refusal(&rt, 4, 0, 1).is_none();
-    assert!(rt; bad && late && none && good);
 }

@@ -1,12 +1,14 @@
+//! What no clause of a storm says: that its workers are at work at once, that a gate stands around each call, and that a fold finds what the tail
+//! holds.
+
 use super::packet;
 use crossbeam_utils::Backoff;
-use pie_book::{Event, Limits, OpenRefusal, Registers, Stats};
-use pie_link::{Arrival, Change, Gate, LinkRefusal, NoGate, Plan, StormFault, storm};
+use pie_book::{Event, Limits};
+use pie_link::{Arrival, Change, Gate, Plan, StormEnd, storm};
 use pie_params::Params;
 use std::alloc::{AllocError, Global};
 use std::sync::Wait;
 use std::sync::atomic::{AtomicU64, Ordering};
-use std::test::Fail;
 use std::thread::Threads;
 
 // The longest that a worker is held: so many turns.
@@ -48,7 +50,7 @@ impl Gate for Flags {
 
 // Caller `held` is held before its first call until so many calls of caller `awaited` were answered; 0 stands for all others. That
 // one begins when `held` is at its first call, and after its last is held until `held` was answered its second. So an event that
-// is made before `before` or after `after` comes where it should not.
+// is made before `before` or after `after` comes where it should not. The numbers of all calls are added up, before them and after.
 #[derive(Drop)]
 struct Hold {
     held: u16,
@@ -57,10 +59,13 @@ struct Hold {
     arrived: AtomicU64,
     answered: AtomicU64,
     gone: AtomicU64,
+    asked_in_all: AtomicU64,
+    answered_in_all: AtomicU64,
 }
 
 impl Gate for Hold {
     fn before(&self, caller: u16, call: u64) {
+        self.asked_in_all.fetch_add(call, Ordering::SeqCst);
         if caller == self.held && call == 1 {
             self.arrived.store(1, Ordering::SeqCst);
             wait_for(&self.answered, self.until);
@@ -71,6 +76,7 @@ impl Gate for Hold {
     }
 
     fn after(&self, caller: u16, call: u64) {
+        self.answered_in_all.fetch_add(call, Ordering::SeqCst);
         if caller == self.held && call == 2 {
             self.gone.store(1, Ordering::SeqCst);
         }
@@ -92,14 +98,9 @@ fn holding(held: u16, awaited: u16, until: u64) -> Hold {
         arrived: AtomicU64::new(0),
         answered: AtomicU64::new(0),
         gone: AtomicU64::new(0),
+        asked_in_all: AtomicU64::new(0),
+        answered_in_all: AtomicU64::new(0),
     }
-}
-
-// A list with these moments.
-fn moments(alloc: Global, of: &[u64]) -> Result<Vec<u64>, AllocError> {
-    let mut list = Vec::new(alloc);
-    list.extend_from_slice(of)?;
-    Ok(list)
 }
 
 // One list with an arrival at each of these moments.
@@ -115,32 +116,53 @@ fn arrivals(alloc: Global, of: &[u64]) -> Result<Vec<Arrival>, AllocError> {
     Ok(list)
 }
 
-// A plan with so many senders, each of which sends at these moments, with departures and updates at these.
-fn plan(
-    alloc: Global,
-    senders: usize,
-    sent: &[u64],
-    departs: &[u64],
-    updates: &[u64],
-) -> Result<Plan, AllocError> {
+// A plan whose events all fit, with these lists of arrivals and nothing else yet.
+fn plan(alloc: Global, arrivals: Vec<Vec<Arrival>>) -> Plan {
+    Plan {
+        limits: Limits {
+            packets: 1024,
+            tail: 8,
+            events: 8,
+        },
+        params: Params::default_profile(),
+        moment: 0,
+        arrivals,
+        departs: Vec::new(alloc),
+        updates: Vec::new(alloc),
+        changes: Vec::new(alloc),
+        folds: Vec::new(alloc),
+    }
+}
+
+// A plan of so many senders, each of which sends at these moments.
+fn plan_of(alloc: Global, senders: u64, sent: &[u64]) -> Result<Plan, AllocError> {
     let mut lists = Vec::new(alloc);
     for _ in 0..senders {
         lists.push(arrivals(alloc, sent)?)?;
     }
-    Ok(Plan {
-        limits: Limits {
-            packets: 1024,
-            tail: 6,
-            events: 6,
-        },
-        params: Params::default_profile(),
-        moment: 0,
-        arrivals: lists,
-        departs: moments(alloc, departs)?,
-        updates: moments(alloc, updates)?,
-        changes: Vec::new(alloc),
-        folds: Vec::new(alloc),
-    })
+    Ok(plan(alloc, lists))
+}
+
+// Whether so many senders with a packet each see one another's flags.
+fn see_each_other<R: Threads + Wait + Sync>(rt: &R, alloc: Global, senders: u64) -> bool {
+    let gate = Flags {
+        senders,
+        raised: AtomicU64::new(0),
+        saw_all: AtomicU64::new(0),
+    };
+    match plan_of(alloc, senders, &[1]) {
+        Ok(plan) => {
+            storm(rt, alloc, &plan, &gate).is_ok() && gate.saw_all.load(Ordering::SeqCst) == senders
+        }
+        Err(_) => false,
+    }
+}
+
+#[test]
+fn senders_see_each_other(rt: HostRuntime) {
+    let two = see_each_other(&rt, rt.alloc(), 2);
+    let eight = see_each_other(&rt, rt.alloc(), 8);
+    assert!(rt; two && eight);
 }
 
 // Each event of the one caller stands before each of the other.
@@ -157,83 +179,6 @@ fn stands_before(events: &[Event], one: u16, other: u16) -> bool {
     true
 }
 
-// What a storm ended with, but for its list of events.
-#[derive(Clone, Copy)]
-struct Ended {
-    events: usize,
-    too_soon: u64,
-    too_many: u64,
-    registers: Registers,
-    stats: Stats,
-}
-
-// What a storm ends with.
-fn end_of<R: Threads + Wait + Sync, G: Gate + Sync>(
-    rt: &R,
-    alloc: Global,
-    plan: &Plan,
-    gate: &G,
-) -> Result<Ended, StormFault> {
-    match storm(rt, alloc, plan, gate) {
-        Ok(end) => Ok(Ended {
-            events: end.events.len(),
-            too_soon: end.too_soon,
-            too_many: end.too_many,
-            registers: end.registers,
-            stats: end.stats,
-        }),
-        Err(why) => Err(why),
-    }
-}
-
-// Whether a storm ends with so many events, so many updates that were too soon and so many folds that asked for too many.
-fn ends_with(
-    ended: &Result<Ended, StormFault>,
-    events: usize,
-    too_soon: u64,
-    too_many: u64,
-) -> bool {
-    match ended {
-        Ok(end) => end.events == events && end.too_soon == too_soon && end.too_many == too_many,
-        Err(_) => false,
-    }
-}
-
-// Whether so many senders, each with these packets, see one another's flags, and the storm ends with so many events.
-fn see_each_other<R: Threads + Wait + Sync>(
-    rt: &R,
-    alloc: Global,
-    plan: &Plan,
-    senders: u64,
-    events: usize,
-) -> bool {
-    let gate = Flags {
-        senders,
-        raised: AtomicU64::new(0),
-        saw_all: AtomicU64::new(0),
-    };
-    let ended = end_of(rt, alloc, plan, &gate);
-    ends_with(&ended, events, 0, 0) && gate.saw_all.load(Ordering::SeqCst) == senders
-}
-
-#[test]
-fn two_senders_see_each_other(rt: HostRuntime) -> Result<(), Fail> {
-    let plan = plan(rt.alloc(), 2, &[1, 2], &[5], &[15_000_000])?;
-    let is_so = see_each_other(&rt, rt.alloc(), &plan, 2, 6);
-    assert!(rt; is_so);
-    Ok(())
-}
-
-#[test]
-fn eight_senders_see_each_other(rt: HostRuntime) -> Result<(), Fail> {
-    let mut plan = plan(rt.alloc(), 8, &[1], &[], &[])?;
-    plan.limits.tail = 8;
-    plan.limits.events = 8;
-    let is_so = see_each_other(&rt, rt.alloc(), &plan, 8, 8);
-    assert!(rt; is_so);
-    Ok(())
-}
-
 // Whether a caller that is held until another has made two calls comes after it.
 fn comes_last<R: Threads + Wait + Sync>(
     rt: &R,
@@ -242,121 +187,72 @@ fn comes_last<R: Threads + Wait + Sync>(
     held: u16,
     awaited: u16,
 ) -> bool {
-    let gate = holding(held, awaited, 2);
-    match storm(rt, alloc, plan, &gate) {
+    match storm(rt, alloc, plan, &holding(held, awaited, 2)) {
         Ok(end) => stands_before(end.events.as_slice(), awaited, held),
         Err(_) => false,
     }
 }
 
-#[test]
-fn a_held_sender_comes_last(rt: HostRuntime) -> Result<(), Fail> {
-    let plan = plan(rt.alloc(), 2, &[1, 2], &[5], &[15_000_000])?;
-    let first = comes_last(&rt, rt.alloc(), &plan, 1, 2);
-    let second = comes_last(&rt, rt.alloc(), &plan, 2, 1);
-    assert!(rt; first && second);
-    Ok(())
-}
-
-// Whether one update was made.
-fn has_one_update(ended: &Result<Ended, StormFault>) -> bool {
-    match ended {
-        Ok(end) => end.stats.updates == 1,
+// Whether that is so of either of two senders.
+fn either_comes_last<R: Threads + Wait + Sync>(rt: &R, alloc: Global) -> bool {
+    match plan_of(alloc, 2, &[1, 2]) {
+        Ok(plan) => comes_last(rt, alloc, &plan, 1, 2) && comes_last(rt, alloc, &plan, 2, 1),
         Err(_) => false,
     }
 }
 
 #[test]
-fn an_update_that_is_too_soon_is_passed_over(rt: HostRuntime) -> Result<(), Fail> {
-    let departs = [500_000, 1_000_000];
-    let plan = plan(rt.alloc(), 2, &[1_000_000], &departs, &[1, 15_000_000])?;
-    let ended = end_of(&rt, rt.alloc(), &plan, &NoGate);
-    let is_so = ends_with(&ended, 5, 1, 0) && has_one_update(&ended);
+fn a_held_sender_comes_last(rt: HostRuntime) {
+    let is_so = either_comes_last(&rt, rt.alloc());
     assert!(rt; is_so);
-    Ok(())
 }
 
-// Whether a storm by this plan is refused so.
-fn is_refused<R: Threads + Wait + Sync>(
-    rt: &R,
-    alloc: Global,
-    plan: &Plan,
-    why: StormFault,
-) -> bool {
-    match end_of(rt, alloc, plan, &NoGate) {
-        Ok(_) => false,
-        Err(found) => found == why,
-    }
-}
-
-// A plan of so many senders, each of which sends at these moments, is refused as bad.
-fn is_bad<R: Threads + Wait + Sync>(
-    rt: &R,
-    alloc: Global,
-    senders: usize,
-    sent: &[u64],
-) -> Result<bool, AllocError> {
-    let plan = plan(alloc, senders, sent, &[], &[])?;
-    Ok(is_refused(rt, alloc, &plan, StormFault::BadPlan))
-}
-
-#[test]
-fn bad_plans_are_refused_in_order(rt: HostRuntime) -> Result<(), Fail> {
-    let mut small = plan(rt.alloc(), 2, &[1, 2], &[5], &[15_000_000])?;
-    small.limits.tail = 5;
-    small.limits.packets = 0;
-    let bad = is_refused(&rt, rt.alloc(), &small, StormFault::BadPlan);
-    small.limits.tail = 6;
-    let limits = StormFault::Opening(LinkRefusal::Book(OpenRefusal::BadLimits));
-    let opening = is_refused(&rt, rt.alloc(), &small, limits);
-    assert!(rt; bad && opening);
-    Ok(())
-}
-
-#[test]
-fn plans_of_too_late_too_few_and_too_many_senders(rt: HostRuntime) -> Result<(), Fail> {
-    let late = is_bad(&rt, rt.alloc(), 2, &[1 << 60])?;
-    let one = is_bad(&rt, rt.alloc(), 1, &[1])?;
-    let nine = is_bad(&rt, rt.alloc(), 9, &[])?;
-    assert!(rt; late && one && nine);
-    Ok(())
-}
-
-// A plan of one sender with packets at 9 and 3 and one with a packet at 5, a change and three folds.
+// One sender with packets at 9 and 3 and one with a packet at 5, a change and three folds.
 fn plan_with_folds(alloc: Global) -> Result<Plan, AllocError> {
-    let mut plan = plan(alloc, 0, &[], &[], &[])?;
+    let mut lists = Vec::new(alloc);
+    lists.push(arrivals(alloc, &[9, 3])?)?;
+    lists.push(arrivals(alloc, &[5])?)?;
+    let mut plan = plan(alloc, lists);
     plan.limits = Limits {
         packets: 4,
         tail: 5,
         events: 5,
     };
-    plan.arrivals.push(arrivals(alloc, &[9, 3])?)?;
-    plan.arrivals.push(arrivals(alloc, &[5])?)?;
     let params = Params::default_profile();
     plan.changes.push(Change { moment: 4, params })?;
-    plan.folds = moments(alloc, &[2, 1, 2])?;
+    plan.folds.extend_from_slice(&[2, 1, 2])?;
     Ok(plan)
 }
 
-// Whether these are the registers and the statistics that such a plan ends with.
-fn is_as_folded(ended: &Result<Ended, StormFault>) -> bool {
-    match ended {
-        Ok(end) => {
-            end.stats.arrivals == 3
-                && end.stats.changes == 1
-                && end.registers.moment == 9
-                && end.registers.bytes == 300
-        }
+// Whether these are the four events, the registers and the statistics that such a plan ends with, where one fold asked for too many.
+fn is_as_folded(end: &StormEnd) -> bool {
+    end.events.len() == 4
+        && end.too_soon == 0
+        && end.too_many == 1
+        && end.stats.arrivals == 3
+        && end.stats.changes == 1
+        && end.registers.moment == 9
+        && end.registers.bytes == 300
+}
+
+// Whether a storm by that plan ends so, its folds held until all else was answered, and each call passed its gate: one and two of a sender, one of
+// the other, one change, and one to three of the folds.
+fn folds_what_is_held<R: Threads + Wait + Sync>(rt: &R, alloc: Global) -> bool {
+    let gate = holding(6, 0, 4);
+    let is_so = match plan_with_folds(alloc) {
+        Ok(plan) => match storm(rt, alloc, &plan, &gate) {
+            Ok(end) => is_as_folded(&end),
+            Err(_) => false,
+        },
         Err(_) => false,
-    }
+    };
+    is_so
+        && gate.asked_in_all.load(Ordering::SeqCst) == 11
+        && gate.answered_in_all.load(Ordering::SeqCst) == 11
 }
 
 #[test]
-fn folds_and_a_change_take_part(rt: HostRuntime) -> Result<(), Fail> {
-    let plan = plan_with_folds(rt.alloc())?;
-    let gate = holding(6, 0, 4);
-    let ended = end_of(&rt, rt.alloc(), &plan, &gate);
-    let is_so = ends_with(&ended, 4, 0, 1) && is_as_folded(&ended);
+fn folds_and_a_change_take_part(rt: HostRuntime) {
+    let is_so = folds_what_is_held(&rt, rt.alloc());
     assert!(rt; is_so);
-    Ok(())
 }

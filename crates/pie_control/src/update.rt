@@ -4,7 +4,7 @@ ghost use Rattle.pie_params.specs.Range.{IsInRange};
 ghost use Rattle.pie_control.specs.Delay.{delay_of};
 ghost use Rattle.pie_control.specs.Next.{decayed, next, raw_step, tuned_step, tuning_divisor};
 
-use pie_fixed::{Prob, bounded, toward_zero};
+use pie_fixed::{Prob, bounded};
 use pie_params::{Params, RawParams};
 
 /// The greatest delay, `2^40` nanoseconds, at which an estimate is cut off (this project's own).
@@ -14,7 +14,7 @@ pub const MAX_DELAY: u64 = 1 << 40;
 const CAPPED_FROM: u64 = 100_000_000_000;
 
 /// Two hundredths, the largest step upward from there (RFC 8033, section 5.5).
-const LARGEST_STEP: i128 = 20_000_000_000;
+const LARGEST_STEP: i64 = 20_000_000_000;
 
 /// The queueing delay in nanoseconds, at most [`MAX_DELAY`]: `bytes * average / threshold`, rounded
 /// down, where `average` nanoseconds is the average time in which `threshold` bytes leave (RFC
@@ -32,7 +32,7 @@ pub fn delay(bytes: u64, average: u64, threshold: u64) -> u64
 }
 
 /// A gain times the difference of two times, in units of `10^-12`.
-fn weighted(gain: u64, time: u64, from: u64) -> i128
+fn weighted(gain: u64, time: u64, from: u64) -> i64
     requires gain { gain ≤ 10 ^ 6 }
     requires time { time ≤ MAX_DELAY }
     requires from { from ≤ MAX_DELAY }
@@ -40,12 +40,12 @@ fn weighted(gain: u64, time: u64, from: u64) -> i128
     ensures above { negsuc (2 ^ 60) ≤ℤ result }
     ensures below { result ≤ℤ pos (2 ^ 60) }
 {
-    i128::from(gain) * (i128::from(time) - i128::from(from))
+    gain as i64 * (time as i64 - from as i64)
 }
 
 /// By how much the probability would change, before auto-tuning.
 #[tactic(auto, unfolding(crate::specs::Next::raw_step))]
-fn raw_step(params: &RawParams, delay: u64, old: u64) -> i128
+fn raw_step(params: &RawParams, delay: u64, old: u64) -> i64
     requires params { IsInRange params.now }
     requires delay { delay ≤ MAX_DELAY }
     requires old { old ≤ MAX_DELAY }
@@ -75,7 +75,7 @@ fn tuning_divisor(prob: u64) -> u32
 
 /// The step after auto-tuning and the cap, at the probability before the update.
 #[tactic(auto, using(crate::proofs::Quotients::quotients), unfolding(crate::specs::Next::tuned_step))]
-fn tuned_step(prob: u64, step: i128) -> i128
+fn tuned_step(prob: u64, step: i64) -> i64
     requires above { negsuc (2 ^ 62) ≤ℤ step }
     requires below { step ≤ℤ pos (2 ^ 62) }
     ensures value { result ≡ tuned_step prob step }
@@ -83,7 +83,7 @@ fn tuned_step(prob: u64, step: i128) -> i128
     ensures below { result ≤ℤ pos (2 ^ 62) }
     ensures cap { 10 ^ 11 ≤ prob → result ≤ℤ pos 20_000_000_000 }
 {
-    let tuned = toward_zero(step, tuning_divisor(prob));
+    let tuned = step / i64::from(tuning_divisor(prob));
     if prob < CAPPED_FROM {
         tuned
     } else {
@@ -131,5 +131,5 @@ pub(crate) fn next(params: &RawParams, prob: u64, delay: u64, old: u64) -> Prob
     ensures cap { 10 ^ 11 ≤ prob → result ≤ prob + 20_000_000_000 }
 {
     let step = tuned_step(prob, raw_step(params, delay, old));
-    bounded(decayed(delay, old, i128::from(prob) + step))
+    bounded(decayed(delay, old, i128::from(prob) + i128::from(step)))
 }

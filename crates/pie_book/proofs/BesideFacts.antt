@@ -5,7 +5,7 @@ use Rattle.pie_params.specs.Range.{first_bad}
 use Rattle.pie_controller.specs.Calls.{Call, after_call}
 use Rattle.pie_book.specs.Types.{Held, Command, Event, Opening}
 use Rattle.pie_controller.specs.Places.{Place, places}
-use Rattle.pie_controller.proofs.InRange.{params-hold}
+use Rattle.pie_controller.proofs.InRange.{threshold-holds}
 use Rattle.pie_controller.proofs.Places.{place_of, places-push}
 use Rattle.pie_book.specs.Beside.{IsOpening, IsStep, after_calls, call_at, calls_of, held_after_calls, opened_by}
 use Rattle.pie_book.specs.Call.{call_of}
@@ -26,7 +26,7 @@ pub step_beside : (opening : Opening) (core : CoreView) (history : List Event) �
 step_beside opening core history shows caller command good free = record {
   decided = next-decided opening core history shows command;
   core_after = closed (after_event core command);
-  shows = event-shows opening core history shows caller command (λ packet moment is left. (params-hold core.held.params good).dq_threshold) free;
+  shows = event-shows opening core history shows caller command (λ packet moment is left. (threshold-holds core.held.params good).1) free;
   holds = refl;
 }
 

@@ -7,7 +7,7 @@ use Rattle.pie_book.specs.Types.{Waiting, Arrival, Held, Command, Arrive, Depart
 use Rattle.pie_controller.specs.Calls.{after_call}
 use Rattle.pie_controller.specs.Steps as Steps
 use Rattle.pie_controller.specs.Steps.{anew, bytes_with, judged}
-use Rattle.pie_controller.proofs.InRange.{params-hold}
+use Rattle.pie_controller.proofs.InRange.{threshold-holds}
 use Rattle.pie_controller.proofs.Places.{place_of}
 use Rattle.pie_book.specs.Call.{arrival_of, departure_call}
 use Rattle.pie_book.specs.Core.{CoreView, Shows, closed, refusal_of}
@@ -76,7 +76,7 @@ module _ (P : List Event → CoreView → Type 0) (opening : Opening) (stays : S
       record {
         core = closed (after_event core event.command);
         shows = subst (λ (e : Event). Shows opening (closed (after_event core event.command)) (history ++ e ∷ [])) same
-            (event-shows opening core history run.shows event.caller event.command (λ packet moment is left. (params-hold core.held.params run.good).dq_threshold) free);
+            (event-shows opening core history run.shows event.caller event.command (λ packet moment is left. (threshold-holds core.held.params run.good).1) free);
         good = good-next core event.command run.good fit;
         holds = stays core history event run.shows run.holds fit free;
       }

@@ -1,15 +1,18 @@
 -- What the calls for each packet leave of a sound state is what the controller then holds.
-use Rattle.std.proofs.Common.{◌≡◌, ℕ, ◌+◌, ◌≤◌, ◌<◌, ◌^◌, ◌==◌, ◌&&◌, not, max, min, if◌then◌else◌, nat_lt, Bool, true, false, List, [], ◌∷◌, ◌++◌, arith, refl, sym, ap, ◌∙◌}
+use Rattle.std.proofs.Common.{◌≡◌, ℕ, ◌+◌, ◌≤◌, ◌<◌, ◌^◌, ◌==◌, ◌&&◌, ◌||◌, not, max, min, if◌then◌else◌, nat_lt, Bool, true, false, List, [], ◌∷◌, ◌++◌, arith, refl, sym, ap, ◌∙◌}
 use Rattle.std.proofs.lemmas.Bool.{eqb-true}
 use Rattle.std.proofs.lemmas.Bool.Decides.{nat_tests}
 use Rattle.pie_controller.specs.declared.verdict.Arrival.{Arrival}
 use Rattle.pie_controller.specs.declared.verdict.Verdict.{Verdict}
 use Rattle.pie_controller.specs.Calls.{Call, Depart, IsTaken, after_call, shown_by}
 use Rattle.pie_controller.specs.Events.{ControllerEvent, Opened}
+use Rattle.pie_params.specs.declared.raw.RawParams.{RawParams}
+use Rattle.pie_controller.specs.declared.profile.Profile.{Profile}
+use Rattle.pie_controller.specs.declared.profile.Profile.TheVariants.{One, Two}
 use Rattle.pie_controller.specs.Held.{Held}
 use Rattle.pie_controller.specs.History.{Shows}
-use Rattle.pie_controller.specs.Steps.{anew, accu_left, arrived, bytes_with, capped, departed, judged, passed, turns_on, verdict}
-use Rattle.pie_controller.proofs.InRange.{params-hold}
+use Rattle.pie_controller.specs.Steps.{anew, accu_left, arrived, bytes_with, capped, changed, departed, judged, opened, passed, reset, turns_on, verdict}
+use Rattle.pie_controller.proofs.InRange.{threshold-holds}
 use Rattle.pie_controller.proofs.Laws.{Shows_call, moved}
 use Rattle.pie_controller.proofs.Sounds.{Sound_call}
 use Rattle.pie_c.specs.declared.params.PieParams.{PieParams}
@@ -17,7 +20,7 @@ use Rattle.pie_c.specs.declared.state.PieState.{PieState}
 use Rattle.pie_c.specs.Calls.{arrival_refusal, departure_refusal, if_taken, is_bad_size, kept_if_refused, moment_refusal}
 use Rattle.pie_c.specs.Params.{params_of, raw_of}
 use Rattle.pie_c.specs.State.{held_in, is_sound, last_moment, profile_number, profile_of, state_of, with_arrival, with_rate, with_registers}
-use Rattle.pie_c.proofs.Sound.{held-sound, held-state, kept-arrived, kept-departed, kept-moment, params-from, parts-of, profile-back, state-sound}
+use Rattle.pie_c.proofs.Sound.{held-sound, held-state, kept-arrived, kept-departed, kept-moment, params-from, parts-of, profile-back, state-held, state-sound}
 
 -- ---- a call that nothing refuses
 
@@ -41,7 +44,7 @@ unfolding moment_refusal
 moment-taken moment m = let early : nat_lt last_moment moment ≡ false = grind (arith, nat_tests) in rw early refl
 
 threshold-of : (s : PieState) → is_sound s ≡ true → s.params.dq_threshold ≤ 65536
-threshold-of s sound = let parts = parts-of s sound in (params-hold (raw_of s.params) (params-from s.params parts.params)).dq_threshold
+threshold-of s sound = let parts = parts-of s sound in (threshold-holds (raw_of s.params) (params-from s.params parts.params)).1
 
 pub threshold-held : (s : PieState) → is_sound s ≡ true → (held_in s).params.dq_threshold ≤ 65536
 unfolding held_in
@@ -79,12 +82,14 @@ on-alone : (b c : Bool) → (not b && c) ≡ true → (true && not b) ≡ true
 on-alone true c e = cc
 on-alone false c e = refl
 
-registers-state : (s : PieState) (h : Held) → is_sound s ≡ true → h.params ≡ raw_of s.params → h.profile ≡ profile_of s.profile → with_registers s h ≡ state_of h
+pub registers-state : (s : PieState) (h : Held) → h.params ≡ raw_of s.params → profile_number h.profile ≡ s.profile → with_registers s h ≡ state_of h
 unfolding state_of
-registers-state s h sound same kind =
-    let parts = parts-of s sound in
+registers-state s h same kind =
     ap (λ (p : PieParams). record (with_registers s h) { params = p }) (sym (ap params_of same))
-    ∙ ap (λ (n : ℕ). record (with_registers s h) { params = params_of h.params; profile = n }) (sym (profile-back (s.profile == 2) s refl parts.activity) ∙ sym (ap profile_number kind))
+    ∙ ap (λ (n : ℕ). record (with_registers s h) { params = params_of h.params; profile = n }) (sym kind)
+
+kind-back : (s : PieState) → is_sound s ≡ true → profile_number (profile_of s.profile) ≡ s.profile
+kind-back s sound = let parts = parts-of s sound in profile-back (s.profile == 2) s refl parts.activity
 
 pub arrived-state : (s : PieState) (a : Arrival) (moment : ℕ) → is_sound s ≡ true
     → with_arrival s (arrived (held_in s) a moment) ≡ state_of (arrived (held_in s) a moment)
@@ -95,7 +100,7 @@ arrived-state s a moment sound = by (turns_on (held_in s) (bytes_with (verdict (
         → with_arrival s (if on then record (anew (judged (held_in s) a moment)) { active = true } else judged (held_in s) a moment)
         ≡ state_of (if on then record (anew (judged (held_in s) a moment)) { active = true } else judged (held_in s) a moment)
     by true e =
-        rw (on-alone (s.active == 1) _ e) (registers-state s (record (anew (judged (held_in s) a moment)) { active = true }) sound refl refl)
+        rw (on-alone (s.active == 1) _ e) (registers-state s (record (anew (judged (held_in s) a moment)) { active = true }) refl (kind-back s sound))
     by false e = rw (not-both (s.active == 1)) (kept-arrived s (judged (held_in s) a moment) sound refl)
 
 capped-is : (h : Held) → h.params.dq_threshold ≤ 65536 → capped h ≡ h
@@ -168,3 +173,25 @@ pub verdict-later : (s t : PieState) (a b : Arrival) (moment : ℕ) (h : Held) (
     → v ≡ verdict (held_in s) b
 unfolding held_in verdict
 verdict-later s t a b moment h v at held is same = rw (is, held, same, at) refl
+
+-- ---- the state after the other calls
+
+pub reset-state : (s : PieState) (h g : Held) (moment : ℕ) → is_sound s ≡ true → h ≡ held_in s → g ≡ reset h moment → with_registers s g ≡ state_of (reset (held_in s) moment)
+unfolding held_in
+reset-state s h g moment sound held after = rw (after, held) (registers-state s (reset (held_in s) moment) refl (kind-back s sound))
+
+pub changed-state : (s : PieState) (params : PieParams) (raw : RawParams) (h g : Held) (moment : ℕ) → is_sound s ≡ true → h ≡ held_in s → g ≡ changed h raw moment
+    → with_rate (record s { params = params }) g ≡ state_of (changed (held_in s) (raw_of params) moment)
+unfolding held_in state_of
+changed-state s params raw h g moment sound held after =
+    rw (after, held) (ap (λ (t : PieState). with_rate (record t { params = params }) (changed (held_in s) (raw_of params) moment)) (sym (state-held s sound)))
+
+pub opened-state : (s : PieState) (params : PieParams) (raw : RawParams) (g : Held) (moment number profile : ℕ) (kind : Profile) → ((profile == 1) || (profile == 2)) ≡ true
+    → number ≡ profile → kind ≡ profile_of number → raw ≡ raw_of params → g ≡ opened kind raw moment
+    → with_registers (record s { params = params; profile = number }) g ≡ state_of (opened (profile_of profile) (raw_of params) moment)
+opened-state s params raw g moment number profile kind known same of is after =
+    rw (after, of, is, same) (registers-state (record s { params = params; profile = profile }) (opened (profile_of profile) (raw_of params) moment) refl (by (profile == 2) refl))
+  where
+    by : (two : Bool) → (profile == 2) ≡ two → profile_number (if two then Two else One) ≡ profile
+    by true is = grind (arith, nat_tests)
+    by false is = grind (arith, nat_tests)

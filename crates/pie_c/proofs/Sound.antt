@@ -158,7 +158,7 @@ unfolding is_rate_sound
 cycle-back true s e h = record { flag = grind (arith, nat_tests); start = refl; count = refl }
 cycle-back false s e h = record { flag = grind (arith, nat_tests); start = grind (arith, nat_tests); count = grind (arith, nat_tests) }
 
-state-held : (s : PieState) → is_sound s ≡ true → state_of (held_in s) ≡ s
+pub state-held : (s : PieState) → is_sound s ≡ true → state_of (held_in s) ≡ s
 unfolding held_in state_of
 state-held s sound =
     let parts = parts-of s sound in

@@ -1,6 +1,6 @@
 //! The calls on a state. Those for each packet read the state's numbers as they are: their rules are total, so nothing of the state
-//! is checked. The others take a sound state into a controller, and refuse any other. Each refuses what it is handed out of its
-//! range, lets the controller make its step, and writes back what it holds.
+//! is checked. The others refuse a state that isn't sound. Each refuses what it is handed out of its range, lets the controller
+//! make its step, and writes back what that changed.
 ghost use Rattle.std.specs.Prelude.{◌≡◌, ◌^◌, ◌<◌, ◌∷◌, [], ◌++◌, List, if◌then◌else◌, max, true};
 ghost use Rattle.pie_controller.specs.Calls.{Arrive, Change, Depart, Pass, Restart, Update, after_call, shown_by};
 ghost use Rattle.pie_controller.specs.Events.{ControllerEvent, Opened};
@@ -10,7 +10,7 @@ ghost use Rattle.pie_c.specs.Params.{raw_of};
 ghost use Rattle.pie_c.specs.State.{held_in, is_sound, with_arrival, with_rate};
 ghost use Rattle.pie_c.specs.Calls.{arrival_of, arrival_refusal, departure_refusal, if_taken, kept_if_refused, moment_refusal, params_refusal, reset_refusal, state_refusal, unless_refused, update_refusal, updated_by, verdict_number};
 
-use crate::checked::{controller, ecn, is_bad_size, raw};
+use crate::checked::{ecn, is_bad_size, is_sound, raw};
 use crate::code::{
     BAD_ECN, BAD_MOMENT, BAD_PARAMS, BAD_QUEUE, BAD_SIZE, BAD_STATE, DONE, TOO_SOON, of_verdict,
 };
@@ -18,7 +18,7 @@ use crate::params::PieParams;
 use crate::state::PieState;
 use crate::updated::PieUpdated;
 use pie_controller::{Arrival, counted, opens_cycle};
-use pie_fixed::{MAX_NANOS, Nanos};
+use pie_fixed::MAX_NANOS;
 use pie_params::Params;
 
 /// The most bytes that a queue holds: the greatest byte limit.
@@ -258,21 +258,22 @@ pub extern "C" fn pie_update(state: &mut PieState, queued: u64, moment: u64) -> 
     ensures shows { (opened : Opened) (events : List ControllerEvent) → update_refusal state.old queued moment ≡ 0 → Shows opened events (held_in state.old)
         → Shows opened (events ++ shown_by (held_in state.old) (Update queued moment) ∷ []) (held_in state.new) }
 {
-    let Some(mut controller) = controller(state) else {
+    if !is_sound(state) {
         return PieUpdated::refused(BAD_STATE);
-    };
-    let Some(moment) = Nanos::from_units(moment) else {
+    }
+    if moment > MAX_NANOS {
         return PieUpdated::refused(BAD_MOMENT);
-    };
+    }
     if queued > MAX_QUEUED {
         return PieUpdated::refused(BAD_QUEUE);
     }
-    if controller.moment().max(moment).units() < controller.due() {
-        return PieUpdated::made(TOO_SOON, controller.control().old(), &controller);
+    let mut held = raw(state);
+    if held.moment.max(moment) < held.due() {
+        return PieUpdated::made(TOO_SOON, held.control.old_delay, &held);
     }
-    let delay = controller.update(queued, moment);
-    state.keep_updated(&controller);
-    PieUpdated::made(DONE, delay, &controller)
+    let delay = held.update(queued, moment);
+    state.keep_updated(&held);
+    PieUpdated::made(DONE, delay, &held)
 }
 
 /// Sets probability, old delay, accumulated probability and rate estimate to 0 and the burst allowance
@@ -286,14 +287,15 @@ pub extern "C" fn pie_reset(state: &mut PieState, moment: u64) -> u32
     ensures shows { (opened : Opened) (events : List ControllerEvent) → reset_refusal state.old moment ≡ 0 → Shows opened events (held_in state.old)
         → Shows opened (events ++ shown_by (held_in state.old) (Restart moment) ∷ []) (held_in state.new) }
 {
-    let Some(mut controller) = controller(state) else {
+    if !is_sound(state) {
         return BAD_STATE;
-    };
-    let Some(moment) = Nanos::from_units(moment) else {
+    }
+    if moment > MAX_NANOS {
         return BAD_MOMENT;
-    };
-    controller.reset(moment);
-    state.keep(&controller);
+    }
+    let mut held = raw(state);
+    held.reset(moment);
+    state.keep_registers(&held);
     DONE
 }
 
@@ -309,18 +311,19 @@ pub extern "C" fn pie_set_params(state: &mut PieState, params: &PieParams, momen
     ensures shows { (opened : Opened) (events : List ControllerEvent) → params_refusal state.old params.now moment ≡ 0 → Shows opened events (held_in state.old)
         → Shows opened (events ++ shown_by (held_in state.old) (Change (raw_of params.now) moment) ∷ []) (held_in state.new) }
 {
-    let Some(mut controller) = controller(state) else {
+    if !is_sound(state) {
         return BAD_STATE;
-    };
-    let Ok(checked) = Params::check(params.raw()) else {
+    }
+    if Params::from_raw(params.raw()).is_none() {
         return BAD_PARAMS;
-    };
-    let Some(moment) = Nanos::from_units(moment) else {
+    }
+    if moment > MAX_NANOS {
         return BAD_MOMENT;
-    };
-    controller.set_params(checked, moment);
+    }
+    let mut held = raw(state);
+    held.set_params(params.raw(), moment);
     state.params = *params;
-    state.keep(&controller);
+    state.keep_departed(&held);
     DONE
 }
 
@@ -330,9 +333,5 @@ pub extern "C" fn pie_set_params(state: &mut PieState, params: &PieParams, momen
 pub extern "C" fn pie_check_state(state: &PieState) -> u32
     ensures { result ≡ state_refusal state.now }
 {
-    if controller(state).is_some() {
-        DONE
-    } else {
-        BAD_STATE
-    }
+    if is_sound(state) { DONE } else { BAD_STATE }
 }

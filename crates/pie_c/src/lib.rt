@@ -6,8 +6,8 @@
 //!
 //! For each call, whatever is handed in: what it answers (clause `answer`), with the refusals in their order. What a call for each
 //! packet leaves of any state is the clause `fields`; `after` says it of a sound one, and of every state for the other calls. All of
-//! it is pie_controller's, of whose rules there is none here: a call reads the numbers into a `RawController` or a `Controller`, lets
-//! it decide, and writes back what it holds. A sound state stays sound (`sound`), so a state that `pie_open` or `pie_open_with` made
+//! it is pie_controller's, of whose rules there is none here: a call reads the numbers into a `RawController`, lets it decide, and
+//! writes back what that changed. A sound state stays sound (`sound`), so a state that `pie_open` or `pie_open_with` made
 //! is never refused. If a state summarizes what the controller was shown since the opening, it does so with this call added (`shows`).
 #![tactic(auto)]
 

@@ -1,12 +1,10 @@
 ghost use Rattle.std.specs.Prelude.{◌≡◌, ◌==◌, max, true};
-ghost use Rattle.pie_c.specs.Params.{raw_of};
+ghost use Rattle.pie_control.specs.Parts.{parts_of};
 ghost use Rattle.pie_controller.specs.Held.{held_by};
-ghost use Rattle.pie_c.specs.State.{count_of, flag_of, held_in, is_sound, profile_number, start_of, state_of, with_arrival, with_rate, with_registers};
+ghost use Rattle.pie_c.specs.State.{held_in, is_sound, state_of, with_arrival, with_rate, with_registers};
 
 use crate::params::PieParams;
-use pie_control::Control;
-use pie_controller::{Controller, Profile, RawController};
-use pie_rate::Rate;
+use pie_controller::RawController;
 
 /// The controller's state, which its caller owns: the parameters in force, the registers, the profile and whether the controller is
 /// active. Times are in nanoseconds, probabilities in units of `10^-12` (RFC 8033, sections 4.2, 4.4, 5.2, 5.3 and 5.4; the scales
@@ -43,23 +41,6 @@ pub struct PieState {
 }
 
 impl PieState {
-    /// Says all that the controller holds, under the parameters that the state has.
-    #[inline(always)]
-    #[tactic(auto, unfolding(crate::specs::State::state_of))]
-    pub(crate) fn keep(&mut self, controller: &Controller)
-        requires { controller.now.params ≡ raw_of self.old.params }
-        ensures { self.new ≡ state_of controller.now }
-    {
-        let control = controller.control();
-        self.moment = controller.moment().units();
-        self.write_control(&control);
-        self.accu = controller.early().accu().units();
-        let rate = controller.rate();
-        self.write_rate(&rate);
-        self.profile = number(controller.profile());
-        self.active = u64::from(controller.is_active());
-    }
-
     /// Moves the moment to this one, where it is later. By a test, and not by the greater of both: where the processor foresees its
     /// outcome, the next call waits for no earlier one.
     #[inline(always)]
@@ -85,15 +66,12 @@ impl PieState {
         self.accu = held.accu;
     }
 
-    /// Each register, as a controller that was turned on holds it.
-    fn keep_registers(&mut self, held: &RawController)
+    /// Each register, and whether the controller is active.
+    pub(crate) fn keep_registers(&mut self, held: &RawController)
         ensures { self.new ≡ with_registers self.old (held_by held.now) }
     {
         self.keep_departed(held);
-        self.prob = held.control.prob;
-        self.old_delay = held.control.old_delay;
-        self.burst = held.control.burst;
-        self.last = held.control.last;
+        self.keep_control(held);
         self.accu = held.accu;
         self.active = u64::from(held.active);
     }
@@ -129,55 +107,26 @@ impl PieState {
         self.moment = self.moment.max(moment);
     }
 
-    /// The same after an update: the moment, the control law's registers, and activity.
+    /// What an update changes: the moment, the control law's registers, and activity.
     #[inline(always)]
-    pub(crate) fn keep_updated(&mut self, controller: &Controller)
+    pub(crate) fn keep_updated(&mut self, held: &RawController)
         requires sound { is_sound self.old ≡ true }
-        requires same { controller.now ≡ record (held_in self.old) { moment = controller.now.moment; active = controller.now.active; control = controller.now.control } }
-        ensures { self.new ≡ state_of controller.now }
+        requires same { held_by held.now ≡ record (held_in self.old) { moment = held.now.moment; active = held.now.active; control = parts_of held.now.control } }
+        ensures { self.new ≡ state_of (held_by held.now) }
     {
-        let control = controller.control();
-        self.moment = controller.moment().units();
-        self.write_control(&control);
-        self.active = u64::from(controller.is_active());
+        self.moment = held.moment;
+        self.keep_control(held);
+        self.active = u64::from(held.active);
     }
 
-    /// Says these registers of the control law.
+    /// The control law's registers.
     #[inline(always)]
-    fn write_control(&mut self, control: &Control)
-        ensures { self.new ≡ record self.old { prob = control.now.prob; old_delay = control.now.old_delay; burst = control.now.burst; last = control.now.last } }
+    fn keep_control(&mut self, held: &RawController)
+        ensures { self.new ≡ record self.old { prob = held.now.control.prob; old_delay = held.now.control.old_delay; burst = held.now.control.burst; last = held.now.control.last } }
     {
-        self.prob = control.prob().units();
-        self.old_delay = control.old();
-        self.burst = control.burst();
-        self.last = control.last().units();
-    }
-
-    /// Says this estimate of the departure rate.
-    #[inline(always)]
-    fn write_rate(&mut self, rate: &Rate)
-        ensures { self.new ≡ record self.old {
-          average = rate.now.average;
-          measuring = flag_of rate.now.begun;
-          cycle_start = start_of rate.now.begun;
-          cycle_count = count_of rate.now.begun;
-        } }
-    {
-        self.average = rate.average();
-        (self.measuring, self.cycle_start, self.cycle_count) = match rate.begun() {
-            Some(cycle) => (1, cycle.start.units(), cycle.count),
-            None => (0, 0, 0),
-        };
-    }
-}
-
-/// The number of a profile.
-#[inline(always)]
-fn number(profile: Profile) -> u64
-    ensures { result ≡ profile_number profile }
-{
-    match profile {
-        Profile::One => 1,
-        Profile::Two => 2,
+        self.prob = held.control.prob;
+        self.old_delay = held.control.old_delay;
+        self.burst = held.control.burst;
+        self.last = held.control.last;
     }
 }

@@ -1,7 +1,8 @@
 ghost use Rattle.std.specs.Prelude.{◌≡◌};
+ghost use Rattle.pie_controller.specs.Held.{IsSound, held_by};
 ghost use Rattle.pie_c.specs.Calls.{nothing_updated, updated_with};
 
-use pie_controller::Controller;
+use pie_controller::RawController;
 
 /// What an update answers.
 #[repr(C)]
@@ -34,16 +35,16 @@ impl PieUpdated {
     }
 
     /// What an update answers with this number and this delay, from the registers.
-    pub(crate) fn made(code: u32, delay: u64, controller: &Controller) -> PieUpdated
-        ensures { result ≡ updated_with code delay controller.now }
+    pub(crate) fn made(code: u32, delay: u64, held: &RawController) -> PieUpdated
+        requires { IsSound (held_by held.now) }
+        ensures { result ≡ updated_with code delay (held_by held.now) }
     {
-        let control = controller.control();
         PieUpdated {
             code: u64::from(code),
-            due: controller.due(),
+            due: held.due(),
             delay,
-            prob: control.prob().units(),
-            burst: control.burst(),
+            prob: held.control.prob,
+            burst: held.control.burst,
         }
     }
 }

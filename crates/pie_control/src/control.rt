@@ -4,11 +4,10 @@ ghost use Rattle.pie_control.specs.declared.update.TheConstants.{MAX_DELAY};
 ghost use Rattle.pie_control.specs.Events.{ControlEvent, idled, reset, update_at};
 ghost use Rattle.pie_control.specs.History.{Shows, burst_after, ends_calm, granted_burst, is_calm_after};
 ghost use Rattle.pie_control.specs.Next.{next};
-ghost use Rattle.pie_control.specs.Parts.{parts_of};
+ghost use Rattle.pie_control.specs.Parts.{IsWithin, parts_of};
 
 use crate::raw::RawControl;
-use crate::update::next_probability;
-use pie_fixed::{Nanos, Prob, bounded};
+use pie_fixed::{Nanos, Prob};
 use pie_params::Params;
 use std::marker::Model;
 
@@ -16,24 +15,19 @@ use std::marker::Model;
 /// the last update.
 #[derive(Clone, Copy, Debug, PartialEq, Eq)]
 pub struct Control {
-    prob: Prob,
-    old_delay: u64,
-    burst: u64,
-    last: Nanos,
+    raw: RawControl,
 }
 
 impl Model for Control {
-    ghost use Rattle.std.specs.Prelude.{◌^◌, ◌≤◌};
-    ghost use Rattle.pie_control.specs.declared.update.TheConstants.{MAX_DELAY};
-    ghost use Rattle.pie_control.specs.Parts.{Parts};
+    ghost use Rattle.pie_control.specs.Parts.{IsWithin, Parts, parts_of};
 
     ghost Value = { Parts };
 
-    ghost view = { λ c. record { prob = c.prob; old_delay = c.old_delay; burst = c.burst; last = c.last } };
+    ghost view = { λ c. parts_of c.raw };
 
-    ghost invariant = { λ c. (c.old_delay ≤ MAX_DELAY) × (c.burst ≤ 10 ^ 12) };
+    ghost invariant = { λ c. IsWithin (parts_of c.raw) };
 
-    ghost inverse = { λ c. record { prob = c.prob; old_delay = c.old_delay; burst = c.burst; last = c.last } };
+    ghost inverse = { λ p. record { raw = record { prob = p.prob; old_delay = p.old_delay; burst = p.burst; last = p.last } } };
 }
 
 impl Control {
@@ -46,7 +40,9 @@ impl Control {
         ensures last { result.last ≡ moment }
         ensures shows { Shows params.now moment [] result }
     {
-        Control::from_parts(bounded(0), 0, params.max_burst().units(), moment)
+        Control {
+            raw: RawControl::opened(params.max_burst().units(), moment.units()),
+        }
     }
 
     /// A controller in any state: the old delay is at most [`MAX_DELAY`](crate::MAX_DELAY), the burst
@@ -60,11 +56,22 @@ impl Control {
         ensures last { result.last ≡ last }
     {
         Control {
-            prob,
-            old_delay: old,
-            burst,
-            last,
+            raw: RawControl {
+                prob: prob.units(),
+                old_delay: old,
+                burst,
+                last: last.units(),
+            },
         }
+    }
+
+    /// A controller with these numbers, which are in their ranges.
+    #[inline(always)]
+    pub fn from_raw(raw: RawControl) -> Self
+        requires { IsWithin (parts_of raw) }
+        ensures { result ≡ parts_of raw }
+    {
+        Control { raw }
     }
 
     /// Makes an update: the next probability from the given delay and the old one, and the burst
@@ -87,17 +94,7 @@ impl Control {
         ensures look_back { (opening : RawParams) (start : ℕ) (events : List ControlEvent) →
             Shows opening start events self.old → result ≡ is_calm_after events params.now delay }
     {
-        let prob = next_probability(params, self.prob, delay, self.old_delay);
-        let calm = is_calm(params, prob, delay, self.old_delay);
-        let whole = params.max_burst().units();
-        let reduced = self.burst.saturating_sub(params.t_update().units());
-        *self = Control {
-            prob,
-            old_delay: delay,
-            burst: if calm { whole } else { reduced },
-            last: moment,
-        };
-        calm
+        self.raw.update(&params.raw(), delay, moment.units())
     }
 
     /// Makes an idle update: the moment becomes that of the last update, and all else is kept (this
@@ -108,7 +105,7 @@ impl Control {
             Shows opening start events self.old →
             Shows opening start (events ++ idled moment ∷ []) self.new }
     {
-        *self = Control::from_parts(self.prob, self.old_delay, self.burst, moment);
+        self.raw.idle(moment.units());
     }
 
     /// Sets probability and old delay to 0 and the burst allowance to `max_burst`, and keeps the
@@ -122,14 +119,14 @@ impl Control {
             Shows opening start events self.old →
             Shows opening start (events ++ reset params.now ∷ []) self.new }
     {
-        *self = Control::from_parts(bounded(0), 0, params.max_burst().units(), self.last);
+        self.raw.reset(params.max_burst().units());
     }
 
     /// The probability of drop or mark (RFC 8033, section 4.2).
     pub fn prob(&self) -> Prob
         ensures { result ≡ self.now.prob }
     {
-        self.prob
+        Prob::from_units(self.raw.prob).unwrap()
     }
 
     /// The old delay, that of the last update, in nanoseconds, at most
@@ -138,7 +135,7 @@ impl Control {
         ensures value { result ≡ self.now.old_delay }
         ensures within { self.now.old_delay ≤ MAX_DELAY }
     {
-        self.old_delay
+        self.raw.old_delay
     }
 
     /// The burst allowance, in nanoseconds, at most 10^12 (RFC 8033, section 4.4).
@@ -150,14 +147,14 @@ impl Control {
         ensures granted { (opening : RawParams) (start : ℕ) (events : List ControlEvent) →
             Shows opening start events self.now → self.now.burst ≤ granted_burst opening events }
     {
-        self.burst
+        self.raw.burst
     }
 
     /// The moment of the last update, or of the opening (RFC 8033, section 4.2).
     pub fn last(&self) -> Nanos
         ensures { result ≡ self.now.last }
     {
-        self.last
+        Nanos::of_units(self.raw.last)
     }
 
     /// The registers as plain numbers.
@@ -165,22 +162,6 @@ impl Control {
     pub fn raw(&self) -> RawControl
         ensures { parts_of result ≡ self.now }
     {
-        RawControl {
-            prob: self.prob.units(),
-            old_delay: self.old_delay,
-            burst: self.burst,
-            last: self.last.units(),
-        }
+        self.raw
     }
-}
-
-/// Whether an update is calm: the probability after it is 0, and its delay and the old one are each
-/// below half the target (RFC 8033, section 4.4).
-fn is_calm(params: &Params, prob: Prob, delay: u64, old: u64) -> bool
-    requires delay { delay ≤ MAX_DELAY }
-    requires old { old ≤ MAX_DELAY }
-    ensures { result ≡ ends_calm params.now prob delay old }
-{
-    let target = params.target().units();
-    prob.units() == 0 && 2 * delay < target && 2 * old < target
 }

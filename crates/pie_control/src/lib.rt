@@ -3,7 +3,7 @@
 //!
 //! `delay` and `next_probability` are exact over their whole ranges. If a `Control` summarizes a list of updates, idle updates
 //! and resets, `update`, `idle` and `reset` make it summarize that list with this one at its end (clause `shows`). `update`
-//! also answers whether it was calm (`calm`, `look_back`).
+//! also answers whether it was calm (`calm`, `look_back`). Each is `RawControl`'s, over plain numbers.
 #![tactic(auto)]
 
 mod control;

@@ -1,4 +1,15 @@
-/// The control law's registers as plain numbers, each in its range or not.
+//! The control law over plain numbers.
+ghost use Rattle.std.specs.Prelude.{◌≡◌, ◌^◌, ◌≤◌};
+ghost use Rattle.pie_params.specs.Range.{IsInRange};
+ghost use Rattle.pie_control.specs.declared.update.TheConstants.{MAX_DELAY};
+ghost use Rattle.pie_control.specs.History.{burst_after, ends_calm};
+ghost use Rattle.pie_control.specs.Next.{next};
+ghost use Rattle.pie_control.specs.Parts.{parts_of};
+
+use crate::update::next;
+use pie_params::RawParams;
+
+/// The control law's registers as plain numbers, each in its range or not: their rules are [`Control`](crate::Control)'s.
 #[derive(Clone, Copy, Debug, PartialEq, Eq)]
 pub struct RawControl {
     /// The probability of drop or mark, in units of `10^-12` (RFC 8033, section 4.2).
@@ -9,4 +20,72 @@ pub struct RawControl {
     pub burst: u64,
     /// The moment of the last update, or of the opening, in nanoseconds.
     pub last: u64,
+}
+
+impl RawControl {
+    /// At an opening, as [`Control::opened`](crate::Control::opened) says it.
+    #[inline(always)]
+    pub fn opened(max_burst: u64, moment: u64) -> RawControl
+        ensures { parts_of result ≡ record { prob = 0; old_delay = 0; burst = max_burst; last = moment } }
+    {
+        RawControl {
+            prob: 0,
+            old_delay: 0,
+            burst: max_burst,
+            last: moment,
+        }
+    }
+
+    /// Makes a reset, as [`Control::reset`](crate::Control::reset) does.
+    #[inline(always)]
+    pub fn reset(&mut self, max_burst: u64)
+        ensures { parts_of self.new ≡ record (parts_of self.old) { prob = 0; old_delay = 0; burst = max_burst } }
+    {
+        *self = RawControl::opened(max_burst, self.last);
+    }
+
+    /// Makes an idle update, as [`Control::idle`](crate::Control::idle) does.
+    #[inline(always)]
+    pub fn idle(&mut self, moment: u64)
+        ensures { self.new ≡ record self.old { last = moment } }
+    {
+        self.last = moment;
+    }
+
+    /// Makes an update, as [`Control::update`](crate::Control::update) does, where probability and old delay are in their ranges.
+    pub fn update(&mut self, params: &RawParams, delay: u64, moment: u64) -> bool
+        requires params { IsInRange params.now }
+        requires prob { self.old.prob ≤ 10 ^ 12 }
+        requires old { self.old.old_delay ≤ MAX_DELAY }
+        requires delay { delay ≤ MAX_DELAY }
+        ensures calm { result ≡ ends_calm params.now self.new.prob delay self.old.old_delay }
+        ensures after { parts_of self.new ≡ record {
+          prob = next params.now self.old.prob delay self.old.old_delay;
+          old_delay = delay;
+          burst = burst_after params.now (parts_of self.old) delay;
+          last = moment;
+        } }
+        ensures within { self.new.prob ≤ 10 ^ 12 }
+    {
+        let prob = next(params, self.prob, delay, self.old_delay).units();
+        let calm = is_calm(params, prob, delay, self.old_delay);
+        let reduced = self.burst.saturating_sub(params.t_update);
+        *self = RawControl {
+            prob,
+            old_delay: delay,
+            burst: if calm { params.max_burst } else { reduced },
+            last: moment,
+        };
+        calm
+    }
+}
+
+/// Whether an update is calm: the probability after it is 0, and its delay and the old one are each
+/// below half the target (RFC 8033, section 4.4).
+fn is_calm(params: &RawParams, prob: u64, delay: u64, old: u64) -> bool
+    requires delay { delay ≤ MAX_DELAY }
+    requires old { old ≤ MAX_DELAY }
+    ensures { result ≡ ends_calm params.now prob delay old }
+{
+    prob == 0 && 2 * delay < params.target && 2 * old < params.target
 }

@@ -1,10 +1,11 @@
 ghost use Rattle.std.specs.Prelude.{◌≡◌, ℕ, ◌+◌, ◌^◌, ◌<◌, ◌≤◌, pos, negsuc, ◌-ℤ◌, ◌*ℤ◌, ◌≤ℤ◌};
 ghost use Rattle.pie_fixed.specs.declared.TheConstants.{ONE};
+ghost use Rattle.pie_params.specs.Range.{IsInRange};
 ghost use Rattle.pie_control.specs.Delay.{delay_of};
 ghost use Rattle.pie_control.specs.Next.{decayed, next, raw_step, tuned_step, tuning_divisor};
 
-use pie_fixed::{Gain, Prob, bounded, toward_zero};
-use pie_params::Params;
+use pie_fixed::{Prob, bounded};
+use pie_params::{Params, RawParams};
 
 /// The greatest delay, `2^40` nanoseconds, at which an estimate is cut off (this project's own).
 pub const MAX_DELAY: u64 = 1 << 40;
@@ -13,7 +14,7 @@ pub const MAX_DELAY: u64 = 1 << 40;
 const CAPPED_FROM: u64 = 100_000_000_000;
 
 /// Two hundredths, the largest step upward from there (RFC 8033, section 5.5).
-const LARGEST_STEP: i128 = 20_000_000_000;
+const LARGEST_STEP: i64 = 20_000_000_000;
 
 /// The queueing delay in nanoseconds, at most [`MAX_DELAY`]: `bytes * average / threshold`, rounded
 /// down, where `average` nanoseconds is the average time in which `threshold` bytes leave (RFC
@@ -31,35 +32,37 @@ pub fn delay(bytes: u64, average: u64, threshold: u64) -> u64
 }
 
 /// A gain times the difference of two times, in units of `10^-12`.
-fn weighted(gain: Gain, time: u64, from: u64) -> i128
+fn weighted(gain: u64, time: u64, from: u64) -> i64
+    requires gain { gain ≤ 10 ^ 6 }
     requires time { time ≤ MAX_DELAY }
     requires from { from ≤ MAX_DELAY }
     ensures value { result ≡ pos gain *ℤ (pos time -ℤ pos from) }
     ensures above { negsuc (2 ^ 60) ≤ℤ result }
     ensures below { result ≤ℤ pos (2 ^ 60) }
 {
-    i128::from(gain.units()) * (i128::from(time) - i128::from(from))
+    gain as i64 * (time as i64 - from as i64)
 }
 
 /// By how much the probability would change, before auto-tuning.
 #[tactic(auto, unfolding(crate::specs::Next::raw_step))]
-fn raw_step(params: &Params, delay: u64, old: u64) -> i128
+fn raw_step(params: &RawParams, delay: u64, old: u64) -> i64
+    requires params { IsInRange params.now }
     requires delay { delay ≤ MAX_DELAY }
     requires old { old ≤ MAX_DELAY }
     ensures value { result ≡ raw_step params.now delay old }
     ensures above { negsuc (2 ^ 62) ≤ℤ result }
     ensures below { result ≤ℤ pos (2 ^ 62) }
 {
-    weighted(params.alpha(), delay, params.target().units()) + weighted(params.beta(), delay, old)
+    weighted(params.alpha, delay, params.target) + weighted(params.beta, delay, old)
 }
 
 /// What auto-tuning divides a step by, at the probability before the update.
 #[tactic(auto, unfolding(crate::specs::Next::tuning_divisor))]
-fn tuning_divisor(prob: Prob) -> u32
+fn tuning_divisor(prob: u64) -> u32
     ensures value { result ≡ tuning_divisor prob }
     ensures positive { 0 < result }
 {
-    match prob.units() {
+    match prob {
         ..1_000_000 => 2048,
         ..10_000_000 => 512,
         ..100_000_000 => 128,
@@ -72,7 +75,7 @@ fn tuning_divisor(prob: Prob) -> u32
 
 /// The step after auto-tuning and the cap, at the probability before the update.
 #[tactic(auto, using(crate::proofs::Quotients::quotients), unfolding(crate::specs::Next::tuned_step))]
-fn tuned_step(prob: Prob, step: i128) -> i128
+fn tuned_step(prob: u64, step: i64) -> i64
     requires above { negsuc (2 ^ 62) ≤ℤ step }
     requires below { step ≤ℤ pos (2 ^ 62) }
     ensures value { result ≡ tuned_step prob step }
@@ -80,8 +83,8 @@ fn tuned_step(prob: Prob, step: i128) -> i128
     ensures below { result ≤ℤ pos (2 ^ 62) }
     ensures cap { 10 ^ 11 ≤ prob → result ≤ℤ pos 20_000_000_000 }
 {
-    let tuned = toward_zero(step, tuning_divisor(prob));
-    if prob.units() < CAPPED_FROM {
+    let tuned = step / i64::from(tuning_divisor(prob));
+    if prob < CAPPED_FROM {
         tuned
     } else {
         tuned.min(LARGEST_STEP)
@@ -105,7 +108,7 @@ fn decayed(delay: u64, old: u64, sum: i128) -> i128
 
 /// The probability after an update with the given delay, from that before it and the old delay (RFC
 /// 8033, sections 4.2 and 5.5). Delays are in nanoseconds, at most [`MAX_DELAY`].
-#[tactic(auto, unfolding(crate::specs::Next::next))]
+#[inline(always)]
 pub fn next_probability(params: &Params, prob: Prob, delay: u64, old: u64) -> Prob
     requires delay { delay ≤ MAX_DELAY }
     requires old { old ≤ MAX_DELAY }
@@ -113,6 +116,20 @@ pub fn next_probability(params: &Params, prob: Prob, delay: u64, old: u64) -> Pr
     ensures within { result ≤ ONE }
     ensures cap { 10 ^ 11 ≤ prob → result ≤ prob + 20_000_000_000 }
 {
+    next(&params.raw(), prob.units(), delay, old)
+}
+
+/// The same over plain numbers that are in their ranges.
+#[tactic(auto, unfolding(crate::specs::Next::next))]
+pub(crate) fn next(params: &RawParams, prob: u64, delay: u64, old: u64) -> Prob
+    requires params { IsInRange params.now }
+    requires prob { prob ≤ 10 ^ 12 }
+    requires delay { delay ≤ MAX_DELAY }
+    requires old { old ≤ MAX_DELAY }
+    ensures value { result ≡ next params.now prob delay old }
+    ensures within { result ≤ ONE }
+    ensures cap { 10 ^ 11 ≤ prob → result ≤ prob + 20_000_000_000 }
+{
     let step = tuned_step(prob, raw_step(params, delay, old));
-    bounded(decayed(delay, old, i128::from(prob.units()) + step))
+    bounded(decayed(delay, old, i128::from(prob) + i128::from(step)))
 }

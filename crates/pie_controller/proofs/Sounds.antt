@@ -1,5 +1,5 @@
 -- What a controller holds stays sound at each call.
-use Rattle.std.proofs.Common.{◌≡◌, ◌≤◌, ◌<◌, ◌+◌, ◌-◌, ◌^◌, ◌==◌, ◌&&◌, ℕ, ℤ, pos, negsuc, ◌+ℤ◌, Bool, true, false, refl, ap, arith, if◌then◌else◌}
+use Rattle.std.proofs.Common.{◌≡◌, ◌≤◌, ◌<◌, ◌+◌, ◌-◌, ◌^◌, ◌==◌, ◌&&◌, ℕ, ℤ, pos, negsuc, ◌+ℤ◌, Bool, true, false, refl, ap, subst, sym, arith, if◌then◌else◌}
 use Rattle.std.specs.Prelude.{max, nat_lt, Option, Some, None}
 use Rattle.std.proofs.lemmas.Bool.Decides.{nat_tests}
 use Rattle.pie_fixed.specs.Fixed.{bounded_of}
@@ -15,7 +15,7 @@ use Rattle.pie_early.proofs.Arrivals.{accu_below}
 use Rattle.pie_controller.specs.Calls.{Arrive, Call, Change, Depart, IsTaken, Pass, Restart, Update, after_call}
 use Rattle.pie_controller.specs.Held.{Held, IsSound, IsWithin}
 use Rattle.pie_controller.specs.Steps.{accu_left, anew, bytes_with, control_after, control_updated, delay_in, is_calm, judged, no_estimate, now_at, opened, opens_active, renewed, stays_active, turns_on, verdict}
-use Rattle.pie_controller.proofs.InRange.{params-hold}
+use Rattle.pie_controller.proofs.InRange.{in-range, threshold-holds}
 
 -- ---- the accumulated probability
 
@@ -103,7 +103,7 @@ Sound_opened profile params moment good within = record {
   moment = within;
   prob = omega arith;
   old_delay = omega arith;
-  burst = (params-hold params good).max_burst;
+  burst = (in-range params good).max_burst;
   last = omega arith;
   accu = omega arith;
   average = omega arith;
@@ -154,7 +154,7 @@ module _ (h : Held) (sound : IsSound h) where
   Sound-anew : (active : Bool) → (h.profile ≡ One → active ≡ true) → IsSound (record (anew h) { active = active })
   Sound-anew active always =
       Sound-with active no_estimate (renewed h.params h.control) 0 always (record { average = omega arith; cycle = tt })
-      (record { prob = omega arith; old_delay = omega arith; burst = (params-hold h.params sound.params).max_burst; last = sound.last }) (omega arith)
+      (record { prob = omega arith; old_delay = omega arith; burst = (in-range h.params sound.params).max_burst; last = sound.last }) (omega arith)
 
 arrive-sound : (h : Held) → IsSound h → (a : Arrival) (moment : ℕ) → moment < 2 ^ 60 → IsSound (after_call h (Arrive a moment))
 arrive-sound h sound a moment within = by (turns_on h (bytes_with (verdict h a) a.queued a.size))
@@ -185,9 +185,9 @@ depart-sound h sound size left moment within = by h.active
 
     by : (active : Bool) → IsSound (record h { moment = now_at h moment; rate = if active then after_departure h.params.dq_threshold h.rate (departure size left (now_at h moment)) else h.rate })
     by true =
-        let params = params-hold h.params sound.params in
-        let least = params.dq_least in
-        let step = step-holds h.params.dq_threshold h.rate.average size left (now_at h moment) h.rate.begun (omega arith) params.dq_threshold passed.moment sound.average passed.cycle in
+        let threshold = threshold-holds h.params sound.params in
+        let least = threshold.0 in
+        let step = step-holds h.params.dq_threshold h.rate.average size left (now_at h moment) h.rate.begun (omega arith) threshold.1 passed.moment sound.average passed.cycle in
         Sound-with here passed h.active (after_departure h.params.dq_threshold h.rate (departure size left (now_at h moment))) h.control h.accu sound.active step (registers here passed) sound.accu
     by false = passed
 
@@ -208,7 +208,7 @@ update-sound h sound queued moment within =
       old_delay = delay-hold queued h.rate.average h.params.dq_threshold;
       burst = let before = sound.burst in
           either (ends_calm h.params (next h.params h.control.prob (delay_in h queued) h.control.old_delay) (delay_in h queued) h.control.old_delay)
-          h.params.max_burst (h.control.burst - h.params.t_update) (10 ^ 12) (params-hold h.params sound.params).max_burst (omega arith);
+          h.params.max_burst (h.control.burst - h.params.t_update) (10 ^ 12) (in-range h.params sound.params).max_burst (omega arith);
       last = omega arith;
     }
     by false = record { prob = sound.prob; old_delay = sound.old_delay; burst = sound.burst; last = omega arith }
@@ -236,3 +236,6 @@ Sound_call h sound (Pass moment) taken = Sound-pass h sound moment taken
 Sound_call h sound (Update queued moment) taken = update-sound h sound queued moment taken
 Sound_call h sound (Restart moment) taken = Sound-anew (record h { moment = now_at h moment }) (Sound-pass h sound moment taken) h.active sound.active
 Sound_call h sound (Change params moment) taken = change-sound h sound params moment taken.0 taken.1
+
+pub stays_sound : (h g : Held) → g ≡ h → IsSound h → IsSound g
+stays_sound h g is sound = subst (λ (k : Held). IsSound k) (sym is) sound

@@ -1,13 +1,13 @@
-//! The controller and its calls.
-ghost use Rattle.std.specs.Prelude.{◌≡◌, ℕ, ◌+◌, ◌^◌, ◌<◌, ◌≤◌, List, [], ◌∷◌, ◌++◌, max, true, false};
+//! The controller and its calls: those of plain numbers that are in their ranges.
+ghost use Rattle.std.specs.Prelude.{◌≡◌, ◌+◌, ◌^◌, ◌≤◌, List, [], ◌∷◌, ◌++◌, true, false};
 ghost use Rattle.pie_controller.specs.Calls.{Arrive, Change, Depart, Pass, Restart, Update, shown_by};
 ghost use Rattle.pie_controller.specs.Events.{ControllerEvent, Opened};
-ghost use Rattle.pie_controller.specs.Held.{held_by};
+ghost use Rattle.pie_controller.specs.Held.{IsSound, held_by};
 ghost use Rattle.pie_controller.specs.History.{Shows};
-ghost use Rattle.pie_controller.specs.Steps.{anew, arrived, changed, control_after, delay_answered, delay_in, departed, due, is_calm, is_queued, opened, passed, reset, stays_active, updated, verdict, woken};
+ghost use Rattle.pie_controller.specs.Steps.{arrived, changed, delay_answered, delay_in, departed, due, is_queued, opened, passed, reset, updated, verdict};
 
 use crate::{Arrival, Profile, RawController, Verdict};
-use pie_control::{Control, delay};
+use pie_control::Control;
 use pie_early::Early;
 use pie_fixed::Nanos;
 use pie_params::Params;
@@ -19,29 +19,17 @@ use std::marker::Model;
 /// Contracts see what it holds. They speak of the list of events that it was shown since it was opened.
 #[derive(Drop)]
 pub struct Controller {
-    profile: Profile,
-    params: Params,
-    moment: Nanos,
-    active: bool,
-    rate: Rate,
-    control: Control,
-    early: Early,
+    raw: RawController,
 }
 
 impl Model for Controller {
-    ghost use Rattle.pie_controller.specs.Held.{Held};
+    ghost use Rattle.pie_controller.specs.Held.{Held, IsSound, held_by};
 
     ghost Value = { Held };
 
-    ghost view = { λ c. record {
-      profile = c.profile;
-      params = c.params;
-      moment = c.moment;
-      active = c.active;
-      rate = c.rate;
-      control = c.control;
-      accu = c.early;
-    } };
+    ghost view = { λ c. held_by c.raw };
+
+    ghost invariant = { λ c. IsSound (held_by c.raw) };
 }
 
 impl Controller {
@@ -52,46 +40,16 @@ impl Controller {
         ensures shows { Shows (record { profile = profile; params = params; moment = moment }) [] result }
     {
         Controller {
-            profile,
-            params,
-            moment,
-            active: profile.opens_active(),
-            rate: Rate::cleared(),
-            control: Control::opened(&params, moment),
-            early: Early::opened(),
+            raw: RawController::opened(profile, params.raw(), moment.units()),
         }
     }
 
-    /// A controller in any state of its parts.
+    /// The same controller once more.
     #[inline(always)]
-    pub fn from_parts(
-        profile: Profile,
-        params: Params,
-        moment: Nanos,
-        active: bool,
-        rate: Rate,
-        control: Control,
-        early: Early,
-    ) -> Self
-        ensures { result ≡ record {
-          profile = profile;
-          params = params;
-          moment = moment;
-          active = active;
-          rate = rate;
-          control = control;
-          accu = early;
-        } }
+    pub fn copied(&self) -> Self
+        ensures { result ≡ self.now }
     {
-        Controller {
-            profile,
-            params,
-            moment,
-            active,
-            rate,
-            control,
-            early,
-        }
+        Controller { raw: self.raw }
     }
 
     /// Decides on an arriving packet, which the caller then queues, marks and queues, or drops: tail drop by bytes, then by
@@ -107,49 +65,16 @@ impl Controller {
         ensures shows { (opened : Opened) (events : List ControllerEvent) → Shows opened events self.old
             → Shows opened (events ++ shown_by self.old (Arrive arrival moment) ∷ []) self.new }
     {
-        let outcome = self.raw().outcome(arrival);
-        self.early = Early::from_units(outcome.accu);
-        self.reach(moment);
-        if outcome.starts {
-            self.start_anew();
-            self.active = true;
-        }
-        outcome.decided
+        self.raw.arrive(arrival, moment.units())
     }
 
     /// What it holds, as plain numbers.
     #[inline(always)]
-    fn raw(&self) -> RawController
+    pub fn raw(&self) -> RawController
         ensures held { held_by result ≡ self.now }
-        ensures accu { self.now.accu < 8_500_000_000_000 }
-        ensures limit { self.now.params.limit_bytes ≤ 2 ^ 30 }
+        ensures sound { IsSound self.now }
     {
-        RawController {
-            profile: self.profile,
-            params: self.params.raw(),
-            moment: self.moment.units(),
-            active: self.active,
-            rate: self.rate.raw(),
-            control: self.control.raw(),
-            accu: self.early.units(),
-        }
-    }
-
-    /// Moves the effective moment to this one, where it is later.
-    #[inline(always)]
-    fn reach(&mut self, moment: Nanos)
-        ensures { self.new ≡ passed self.old moment }
-    {
-        self.moment = self.moment.max(moment);
-    }
-
-    /// Probability, old delay, accumulated probability and rate estimate become 0, and the burst allowance `max_burst`.
-    fn start_anew(&mut self)
-        ensures { self.new ≡ anew self.old }
-    {
-        self.rate = Rate::cleared();
-        self.control.reset(&self.params);
-        self.early.clear();
+        self.raw
     }
 
     /// Takes in a packet that departed, with `left` bytes after it (RFC 8033, section 5.2). An inactive controller takes in the
@@ -161,11 +86,7 @@ impl Controller {
         ensures shows { (opened : Opened) (events : List ControllerEvent) → Shows opened events self.old
             → Shows opened (events ++ shown_by self.old (Depart size left moment) ∷ []) self.new }
     {
-        self.reach(moment);
-        let threshold = self.params.dq_threshold();
-        if self.active {
-            self.rate.departed(size, left, self.moment, threshold);
-        }
+        self.raw.depart(size, left, moment.units());
     }
 
     /// Takes in a departure that found no packet: its moment counts, and nothing else.
@@ -175,7 +96,7 @@ impl Controller {
         ensures shows { (opened : Opened) (events : List ControllerEvent) → Shows opened events self.old
             → Shows opened (events ++ shown_by self.old (Pass moment) ∷ []) self.new }
     {
-        self.reach(moment);
+        self.raw.pass(moment.units());
     }
 
     /// Makes an update, with `queued` bytes in the queue, and answers its delay (RFC 8033, sections 4.2, 4.4 and 5.5). A calm one turns
@@ -189,18 +110,7 @@ impl Controller {
         ensures shows { (opened : Opened) (events : List ControllerEvent) → Shows opened events self.old
             → Shows opened (events ++ shown_by self.old (Update queued moment) ∷ []) self.new }
     {
-        self.reach(moment);
-        if !self.active {
-            self.control.idle(self.moment);
-            return 0;
-        }
-        let delay = self.delay(queued);
-        let is_calm = self.control.update(&self.params, delay, self.moment);
-        self.active = match self.profile {
-            Profile::One => true,
-            Profile::Two => !is_calm,
-        };
-        delay
+        self.raw.update(queued, moment.units())
     }
 
     /// Makes a reset: probability, old delay, accumulated probability and rate estimate become 0, and the burst allowance
@@ -210,8 +120,7 @@ impl Controller {
         ensures shows { (opened : Opened) (events : List ControllerEvent) → Shows opened events self.old
             → Shows opened (events ++ shown_by self.old (Restart moment) ∷ []) self.new }
     {
-        self.reach(moment);
-        self.start_anew();
+        self.raw.reset(moment.units());
     }
 
     /// Puts new parameters in force, and clears the rate estimate; the other registers stay.
@@ -220,9 +129,7 @@ impl Controller {
         ensures shows { (opened : Opened) (events : List ControllerEvent) → Shows opened events self.old
             → Shows opened (events ++ shown_by self.old (Change params moment) ∷ []) self.new }
     {
-        self.reach(moment);
-        self.params = params;
-        self.rate = Rate::cleared();
+        self.raw.set_params(params.raw(), moment.units());
     }
 
     /// The queueing delay of so many bytes, in nanoseconds: at most `2^40` (RFC 8033, section 5.2).
@@ -231,14 +138,14 @@ impl Controller {
         ensures value { result ≡ delay_in self.now queued }
         ensures within { result ≤ 2 ^ 40 }
     {
-        delay(queued, self.rate.average(), self.params.dq_threshold())
+        self.raw.delay(queued)
     }
 
     /// The moment from which an update isn't too soon, in nanoseconds: the last update's, and `t_update` after it.
     pub fn due(&self) -> u64
         ensures { result ≡ due self.now }
     {
-        self.control.last().units() + self.params.t_update().units()
+        self.raw.due()
     }
 
     /// The profile.
@@ -246,14 +153,14 @@ impl Controller {
     pub fn profile(&self) -> Profile
         ensures { result ≡ self.now.profile }
     {
-        self.profile
+        self.raw.profile
     }
 
     /// The parameters in force.
     pub fn params(&self) -> Params
         ensures { result ≡ self.now.params }
     {
-        self.params
+        Params::from_raw(self.raw.params).unwrap()
     }
 
     /// The effective moment: the greatest so far.
@@ -261,7 +168,7 @@ impl Controller {
     pub fn moment(&self) -> Nanos
         ensures { result ≡ self.now.moment }
     {
-        self.moment
+        Nanos::of_units(self.raw.moment)
     }
 
     /// Whether the controller works: always in profile one (RFC 8033, section 5.3).
@@ -269,7 +176,7 @@ impl Controller {
     pub fn is_active(&self) -> bool
         ensures { result ≡ self.now.active }
     {
-        self.active
+        self.raw.active
     }
 
     /// The estimate of the departure rate.
@@ -277,7 +184,7 @@ impl Controller {
     pub fn rate(&self) -> Rate
         ensures { result ≡ self.now.rate }
     {
-        self.rate
+        Rate::from_raw(self.raw.rate)
     }
 
     /// The control law's registers.
@@ -285,7 +192,7 @@ impl Controller {
     pub fn control(&self) -> Control
         ensures { result ≡ self.now.control }
     {
-        self.control
+        Control::from_raw(self.raw.control)
     }
 
     /// Early drop's accumulated probability.
@@ -293,6 +200,6 @@ impl Controller {
     pub fn early(&self) -> Early
         ensures { result ≡ self.now.accu }
     {
-        self.early
+        Early::from_units(self.raw.accu)
     }
 }

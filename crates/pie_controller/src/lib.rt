@@ -4,6 +4,9 @@
 //! accumulated probability, and whether it is active. It is handed the bytes in the queue at each call. If it summarizes events e1
 //! to en, a call that shows it event e makes it summarize e1 to en and e (clause `shows`); and each call leaves exactly what the
 //! rule makes of what was held (`after`). `Controller::cause` names what decides an arrival, and its verdict is that of `arrive`.
+//!
+//! The rules stand over plain numbers, as `RawController`'s calls. A `Controller` is one whose numbers are sound (`raw`, clause
+//! `sound`), and hands each call on.
 #![tactic(auto)]
 
 mod cause;

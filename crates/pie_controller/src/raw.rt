@@ -1,22 +1,23 @@
-//! The calls for each packet, over plain numbers; and beside the rule of an arrival what names its cause, whose verdict is the same.
-ghost use Rattle.std.specs.Prelude.{◌≡◌, ◌+◌, ◌^◌, ◌<◌, ◌≤◌, SomeIff, min, true, false};
+//! The controller's rules over plain numbers; and beside the rule of an arrival what names its cause, whose verdict is the same.
+ghost use Rattle.std.specs.Prelude.{◌≡◌, ◌+◌, ◌^◌, ◌<◌, ◌≤◌, SomeIff, max, min, true, false};
 ghost use Rattle.pie_controller.specs.Cause.{cause, considered_cause, early_cause, fate_of, verdict_of};
-ghost use Rattle.pie_controller.specs.Held.{held_by};
-ghost use Rattle.pie_controller.specs.Steps.{accu_left, anew, arrived, bytes_with, capped, departed, is_queued, turns_on, verdict};
+ghost use Rattle.pie_controller.specs.Held.{IsSound, held_by};
+ghost use Rattle.pie_controller.specs.Steps.{accu_left, anew, arrived, capped, changed, delay_answered, delay_in, departed, due, is_queued, opened, reset, updated, verdict};
 
-use crate::verdict::{Outcome, wakes};
+use crate::verdict::wakes;
 use crate::{Arrival, Cause, Controller, Fate, Profile, Verdict};
-use pie_control::{Control, RawControl};
+use pie_control::{Control, RawControl, delay};
 use pie_early::{LOW_PROB, NEVER_PICKED, decide};
 use pie_fixed::{ALWAYS_PICKED, Accu, Prob, chosen};
 use pie_params::{Params, RawParams};
 use pie_queue::Ecn;
 use pie_rate::{MAX_THRESHOLD, RawCycle, RawRate};
 
-/// What a [`Controller`](crate::Controller) holds, as plain numbers, each in its range or not.
+/// What a [`Controller`](crate::Controller) holds, as plain numbers, each in its range or not: the controller's rules, each of which
+/// stands here alone.
 ///
-/// Its calls are the controller's for each packet. They check nothing, and need not: no numbers make them overflow, and for
-/// numbers in their ranges they are the controller's.
+/// Its calls check nothing. Those for each packet need not: no numbers make them overflow. An update, its delay and when it is due
+/// want numbers in their ranges.
 #[derive(Clone, Copy, Debug, PartialEq, Eq)]
 pub struct RawController {
     /// The profile.
@@ -36,39 +37,38 @@ pub struct RawController {
 }
 
 impl RawController {
+    /// At its opening, as [`Controller::open`](crate::Controller::open) says it.
+    #[inline(always)]
+    pub fn opened(profile: Profile, params: RawParams, moment: u64) -> RawController
+        ensures { held_by result ≡ opened profile params moment }
+    {
+        RawController {
+            profile,
+            params,
+            moment,
+            active: profile.opens_active(),
+            rate: RawRate::cleared(),
+            control: RawControl::opened(params.max_burst, moment),
+            accu: 0,
+        }
+    }
+
     /// Decides on an arriving packet, as [`Controller::arrive`](crate::Controller::arrive) does.
     #[inline(always)]
     pub fn arrive(&mut self, arrival: Arrival, moment: u64) -> Verdict
         requires { arrival.queued ≤ 2 ^ 30 }
         ensures verdict { result ≡ verdict (held_by self.old) arrival }
+        ensures fits { is_queued result ≡ true → (arrival.is_full ≡ false) × (arrival.queued + arrival.size ≤ self.old.params.limit_bytes) }
         ensures after { held_by self.new ≡ arrived (held_by self.old) arrival moment }
     {
-        let outcome = self.outcome(arrival);
-        self.accu = outcome.accu;
-        self.moment = self.moment.max(moment);
-        if outcome.starts {
+        let (verdict, accu) = self.judge(arrival);
+        self.accu = accu;
+        self.pass(moment);
+        if wakes(self.active, self.params.limit_bytes, verdict, arrival) {
             self.start_anew();
             self.active = true;
         }
-        outcome.decided
-    }
-
-    /// What an arriving packet comes to. Both controllers' arrivals do what this says.
-    #[inline(always)]
-    pub(crate) fn outcome(&self, arrival: Arrival) -> Outcome
-        requires { arrival.queued ≤ 2 ^ 30 }
-        ensures decided { result.decided ≡ verdict (held_by self.now) arrival }
-        ensures accu { result.accu ≡ accu_left (held_by self.now) arrival }
-        ensures below { self.now.accu < 8_500_000_000_000 → result.accu < 8_500_000_000_000 }
-        ensures starts { result.starts ≡ turns_on (held_by self.now) (bytes_with (verdict (held_by self.now) arrival) arrival.queued arrival.size) }
-        ensures fits { is_queued result.decided ≡ true → (arrival.is_full ≡ false) × (arrival.queued + arrival.size ≤ self.now.params.limit_bytes) }
-    {
-        let (decided, accu) = self.judge(arrival);
-        Outcome {
-            decided,
-            accu,
-            starts: wakes(self.active, self.params.limit_bytes, decided, arrival),
-        }
+        verdict
     }
 
     /// The verdict on an arriving packet, and the accumulated probability after it: tail drop by bytes, then by packets, before all
@@ -104,17 +104,19 @@ impl RawController {
     /// Probability, old delay, accumulated probability and rate estimate become 0, and the burst allowance `max_burst`.
     #[inline(always)]
     fn start_anew(&mut self)
-        ensures params { self.new.params ≡ self.old.params }
-        ensures after { held_by self.new ≡ anew (held_by self.old) }
+        ensures { held_by self.new ≡ anew (held_by self.old) }
     {
         self.rate = RawRate::cleared();
-        self.control = RawControl {
-            prob: 0,
-            old_delay: 0,
-            burst: self.params.max_burst,
-            last: self.control.last,
-        };
+        self.control.reset(self.params.max_burst);
         self.accu = 0;
+    }
+
+    /// Moves the effective moment to this one, where it is later.
+    #[inline(always)]
+    pub fn pass(&mut self, moment: u64)
+        ensures { self.new ≡ record self.old { moment = max self.old.moment moment } }
+    {
+        self.moment = self.moment.max(moment);
     }
 
     /// Takes in a packet that departed, as [`Controller::depart`](crate::Controller::depart) does. A `dq_threshold` above 65536
@@ -123,11 +125,73 @@ impl RawController {
     pub fn depart(&mut self, size: u32, left: u64, moment: u64)
         ensures { held_by self.new ≡ record (departed (capped (held_by self.old)) size left moment) { params = self.old.params } }
     {
-        self.moment = self.moment.max(moment);
+        self.pass(moment);
         if self.active {
             let threshold = self.params.dq_threshold.min(MAX_THRESHOLD);
             self.rate.departed(size, left, self.moment, threshold);
         }
+    }
+
+    /// Makes an update, as [`Controller::update`](crate::Controller::update) does.
+    #[inline(always)]
+    pub fn update(&mut self, queued: u64, moment: u64) -> u64
+        requires sound { IsSound (held_by self.old) }
+        requires queued { queued ≤ 2 ^ 30 }
+        ensures delay { result ≡ delay_answered (held_by self.old) queued }
+        ensures after { held_by self.new ≡ updated (held_by self.old) queued moment }
+    {
+        self.pass(moment);
+        if !self.active {
+            self.control.idle(self.moment);
+            return 0;
+        }
+        let delay = self.delay(queued);
+        let is_calm = self.control.update(&self.params, delay, self.moment);
+        self.active = match self.profile {
+            Profile::One => true,
+            Profile::Two => !is_calm,
+        };
+        delay
+    }
+
+    /// Makes a reset, as [`Controller::reset`](crate::Controller::reset) does.
+    #[inline(always)]
+    pub fn reset(&mut self, moment: u64)
+        ensures { held_by self.new ≡ reset (held_by self.old) moment }
+    {
+        self.pass(moment);
+        self.start_anew();
+    }
+
+    /// Puts new parameters in force, as [`Controller::set_params`](crate::Controller::set_params) does.
+    #[inline(always)]
+    pub fn set_params(&mut self, params: RawParams, moment: u64)
+        ensures { held_by self.new ≡ changed (held_by self.old) params moment }
+    {
+        self.pass(moment);
+        self.params = params;
+        self.rate = RawRate::cleared();
+    }
+
+    /// The queueing delay of so many bytes, as [`Controller::delay`](crate::Controller::delay) says it.
+    #[inline(always)]
+    pub fn delay(&self, queued: u64) -> u64
+        requires average { self.now.rate.average < 2 ^ 60 }
+        requires threshold { 0 < self.now.params.dq_threshold }
+        requires queued { queued ≤ 2 ^ 30 }
+        ensures value { result ≡ delay_in (held_by self.now) queued }
+        ensures within { result ≤ 2 ^ 40 }
+    {
+        delay(queued, self.rate.average, self.params.dq_threshold)
+    }
+
+    /// The moment from which an update isn't too soon, as [`Controller::due`](crate::Controller::due) says it.
+    #[inline(always)]
+    pub fn due(&self) -> u64
+        requires { IsSound (held_by self.now) }
+        ensures { result ≡ due (held_by self.now) }
+    {
+        self.control.last + self.params.t_update
     }
 }
 

@@ -130,6 +130,15 @@ impl Nanos {
         }
     }
 
+    /// That many nanoseconds, for a number that is known to be at most `2^60 - 1`: nothing is looked at.
+    #[inline(always)]
+    pub fn of_units(units: u64) -> Self
+        requires { units ≤ MAX_NANOS }
+        ensures { result ≡ units }
+    {
+        Nanos { nanos: units }
+    }
+
     /// The number of nanoseconds, 0 to `2^60 - 1`.
     pub fn units(self) -> u64
         ensures value { result ≡ self }

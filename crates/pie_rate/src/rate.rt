@@ -5,7 +5,7 @@ ghost use Rattle.pie_rate.specs.Cycles.{cycles, begun, first_closing};
 ghost use Rattle.pie_rate.specs.Departures.{Departure, departure};
 ghost use Rattle.std.specs.Prelude.{option_map};
 ghost use Rattle.std.specs.Option.{ForSome};
-ghost use Rattle.pie_rate.specs.Estimate.{Shows, estimate_of};
+ghost use Rattle.pie_rate.specs.Estimate.{IsWithin, Shows, estimate_of};
 ghost use Rattle.pie_rate.specs.Step.{after_departure, begun_of};
 
 use crate::raw::{RawCycle, RawRate};
@@ -72,6 +72,15 @@ impl Rate {
         Rate {
             raw: RawRate { average, begun },
         }
+    }
+
+    /// An estimate with these numbers, which are in their ranges.
+    #[inline(always)]
+    pub fn from_raw(raw: RawRate) -> Rate
+        requires { IsWithin (estimate_of raw) }
+        ensures { result ≡ estimate_of raw }
+    {
+        Rate { raw }
     }
 
     /// Takes in one departure: the packet's size and the bytes remaining in the queue after it, its
@@ -145,7 +154,7 @@ impl Rate {
     {
         match self.raw.begun {
             Some(RawCycle { start, count }) => Some(OpenCycle {
-                start: Nanos::from_units(start).unwrap(),
+                start: Nanos::of_units(start),
                 count,
             }),
             None => None,

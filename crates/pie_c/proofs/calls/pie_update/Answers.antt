@@ -1,30 +1,43 @@
-use Rattle.std.proofs.Common.{◌≡◌, ◌<◌, ◌^◌, arith, refl, rules, true}
-use Rattle.pie_controller.proofs.Sounds.{Sound_call}
+use Rattle.std.proofs.Common.{◌≡◌, ◌∙◌, ap, arith, rules, true}
+use Rattle.pie_controller.proofs.Sounds.{Sound_call, stays_sound}
 use Rattle.pie_controller.specs.Calls.{Update}
-use Rattle.pie_c.specs.Calls.{update_refusal}
+use Rattle.pie_controller.specs.Held.{Held}
+use Rattle.pie_controller.specs.Steps.{updated}
+use Rattle.pie_c.specs.Calls.{update_refusal, updated_with}
 use Rattle.pie_c.specs.State.{held_in, is_sound}
-use Rattle.pie_c.proofs.Sound.{held-sound, held-state, state-sound}
+use Rattle.pie_c.proofs.Packets.{shows-call, stays-sound}
+use Rattle.pie_c.proofs.Sound.{held-sound}
 use Rattle.pie_c.proofs.calls.pie_update.Goals as goal
 
-pub returns-then-units-due-clause-answer : goal.returns-then-units-due-clause-answer
+pub due-requires : goal.due-requires
+due-requires c = rw c.raw-held.ensures (held-sound c.args.state.now (search rules))
+
+pub made-requires : goal.made-requires
+made-requires c = rw c.raw-held.ensures (held-sound c.args.state.now (search rules))
+
+pub returns-then-max-due-clause-answer : goal.returns-then-max-due-clause-answer
 unfolding held_in update_refusal
-returns-then-units-due-clause-answer c =
+returns-then-max-due-clause-answer c =
     let soon : update_refusal c.args.state.now c.args.queued c.args.moment ≡ 103 = search rules in
-    rw (soon, c.made.ensures, c.old.ensures.value, c.control.ensures, c.in-Some.ensures.held) refl
+    rw (soon, c.made.ensures) (ap (λ (h : Held). updated_with 103 h.control.old_delay h) c.raw-held.ensures)
 
-pub keep_updated-requires-clause-sound : goal.keep_updated-requires-clause-sound
-keep_updated-requires-clause-sound c = let sound : is_sound c.args.state.now ≡ true = search rules in sound
+pub update-delay-requires-clause-sound : goal.update-delay-requires-clause-sound
+update-delay-requires-clause-sound c = rw c.raw-held.ensures (held-sound c.args.state.now (search rules))
 
-pub keep_updated-requires-clause-same : goal.keep_updated-requires-clause-same
-keep_updated-requires-clause-same c = rw (c.update-delay.ensures.after, c.in-Some.ensures.held) refl
+pub made-requires-2 : goal.made-requires-2
+made-requires-2 c =
+    let a = c.args in
+    stays_sound _ _ (c.update-delay.ensures.after ∙ ap (λ (h : Held). updated h a.queued a.moment) c.raw-held.ensures) (Sound_call (held_in a.state.now) (held-sound a.state.now (search rules)) (Update a.queued a.moment) (omega arith))
+
+pub returns-clause-after : goal.returns-clause-after
+unfolding update_refusal
+returns-clause-after c = search rules
 
 pub returns-clause-sound : goal.returns-clause-sound
-returns-clause-sound c = λ sound.
-    let state = c.args.state.now in
-    let most = c.in-Some-from_units.ensures.0 in
-    let within : c.args.moment < 2 ^ 60 = omega (arith, most) in
-    rw (c.keep_updated.ensures, c.update-delay.ensures.after, c.in-Some.ensures.held, c.in-Some-from_units.ensures.1) (state-sound _ (Sound_call (held_in state) (held-sound state sound) (Update c.args.queued c.args.moment) within))
+returns-clause-sound c sound = let a = c.args in stays-sound a.state.now _ (Update a.queued a.moment) (update_refusal a.state.now a.queued a.moment) sound (returns-clause-after c) (λ free. omega arith)
 
 pub returns-clause-shows : goal.returns-clause-shows
-returns-clause-shows c opened events taken shows =
-    rw (c.keep_updated.ensures, held-state, ← c.in-Some-from_units.ensures.1) (c.update-delay.ensures.shows opened events (rw c.in-Some.ensures.held shows))
+returns-clause-shows c opened events free =
+    let a = c.args in
+    let sound : is_sound a.state.now ≡ true = search rules in
+    shows-call a.state.now _ (Update a.queued a.moment) (update_refusal a.state.now a.queued a.moment) sound (returns-clause-after c) opened events free

@@ -1,6 +1,7 @@
 use Rattle.std.proofs.Common.{rules}
+use Rattle.pie_controller.specs.Held.{held_by}
 use Rattle.pie_c.proofs.Sound.{kept-updated}
 use Rattle.pie_c.proofs.state.PieState.keep_updated.Goals as goal
 
 pub returns : goal.returns
-returns c = search (kept-updated c.args.self.now c.args.controller.now c.requires.sound c.requires.same, rules)
+returns c = search (kept-updated c.args.self.now (held_by c.args.held.now) c.requires.sound c.requires.same, rules)

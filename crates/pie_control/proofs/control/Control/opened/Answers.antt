@@ -1,12 +1,14 @@
-use Rattle.std.proofs.Common.{arith, rules}
-use Rattle.pie_control.specs.History.{probability, last_delay, last_moment, granted_burst, burst_allowance}
+use Rattle.std.proofs.Common.{arith, refl, subst, sym}
+use Rattle.std.specs.Prelude.{[]}
+use Rattle.pie_control.specs.History.{Shows, probability, last_delay, last_moment, granted_burst, burst_allowance}
+use Rattle.pie_control.specs.Parts.{Parts}
 use Rattle.pie_control.proofs.control.Control.opened.Goals as goal
 
 pub returns-clause-shows : goal.returns-clause-shows
 unfolding probability last_delay last_moment granted_burst burst_allowance
-returns-clause-shows c = record {
-  prob = search rules;
-  old_delay = c.from_parts.ensures.old;
-  burst = omega (arith, c.from_parts.ensures, c.units.ensures, c.max_burst.ensures);
-  last = c.from_parts.ensures.last;
-}
+returns-clause-shows c = subst (λ (p : Parts). Shows c.args.params.now c.args.moment [] p) (sym c.opened.ensures) (record {
+  prob = refl;
+  old_delay = refl;
+  burst = omega (arith, c.units.ensures, c.max_burst.ensures);
+  last = c.units-2.ensures.value;
+})

@@ -1,8 +1,8 @@
-use Rattle.std.proofs.Common.{refl, rules}
+use Rattle.std.proofs.Common.{rules}
 use Rattle.pie_control.proofs.Laws.{Shows-updated}
 use Rattle.pie_control.proofs.control.Control.update.Goals as goal
 
 pub returns-clause-shows : goal.returns-clause-shows
 returns-clause-shows c opening start events shows =
     Shows-updated opening start events c.args.params.now c.args.delay c.args.moment c.args.self.now _ shows
-    (search rules) refl (search rules) refl
+    (search rules) (search rules) (search rules) (search rules)

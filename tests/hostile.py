@@ -14,7 +14,7 @@ import damage
 PROGRAM = os.path.abspath(sys.argv[1])
 HERE = os.path.dirname(os.path.abspath(__file__))
 # The commands that read a history, as far as the source has them.
-SOURCE = open(f"{HERE}/../crates/pie/src/options.rt").read()
+SOURCE = open(f"{HERE}/../crates/pie_options/src/command_line.rt").read()
 KNOWN = {"audit": ["audit"], "explain": ["explain", "--all"], "summary": ["explain", "--summary", "--every", "100us"], "migrate": ["migrate"]}
 READERS = {name: words for name, words in KNOWN.items() if f'"{name}"' in SOURCE}
 READ, WRITE, MEMORY = b"pie: cannot read the input\n", b"pie: cannot write the output\n", b"pie: out of memory\n"

@@ -2,29 +2,29 @@
 ghost use Rattle.std.specs.Prelude.{◌≡◌, ◌≤◌, ◌⊎◌, ◌∷◌, List, IfSome, Some, codes, map, string_bytes};
 ghost use Rattle.clap.specs.Words.{Text, found_of, kind_of, rows_of};
 ghost use Rattle.clap.specs.declared.error.kind.ErrorKind.{ErrorKind};
-ghost use Rattle.pie.specs.AuditEnds.{EndsFiles};
-ghost use Rattle.pie.specs.declared.end.End.{End};
-ghost use Rattle.pie.specs.declared.subcommand.Subcommand.{Subcommand};
-ghost use Rattle.pie.specs.Ends.{EndsAudit, EndsExplain, EndsMigrate, EndsRun, status_of};
-ghost use Rattle.pie.specs.Files.{file_in, files_in, text_given};
-ghost use Rattle.pie.specs.Outputs.{EndsIn, output_in};
+ghost use Rattle.pie_options.specs.declared.subcommand.Subcommand.{Subcommand};
+ghost use Rattle.pie_options.specs.Subcommands.{word_of};
+ghost use Rattle.pie_options.specs.Words.{AskFor, Asks, file_in, files_in, options_in, output_in, subcommand_in};
+ghost use Rattle.pie_files.specs.declared.end.End.{End};
+ghost use Rattle.pie_files.specs.AuditEnds.{EndsFiles};
+ghost use Rattle.pie_files.specs.Ends.{EndsAudit, EndsMigrate, EndsRun, status_of};
+ghost use Rattle.pie_files.specs.Files.{text_given};
+ghost use Rattle.pie_files.specs.Outputs.{EndsIn};
+ghost use Rattle.pie.specs.ExplainEnds.{EndsExplain};
 ghost use Rattle.pie.specs.StormEnds.{EndsStorm};
-ghost use Rattle.pie.specs.Subcommands.{EndsAs, word_of};
+ghost use Rattle.pie.specs.Subcommands.{EndsAs};
 ghost use Rattle.pie.specs.Tuning.{EndsParams};
-ghost use Rattle.pie.specs.Words.{AskFor, Asks, options_in, subcommand_in};
 
-use crate::auditing::audit_given;
-use crate::end::{DONE, End, FAULT, failed};
-use crate::files::{NamedFiles, reader_of};
-use crate::options::options;
-use crate::outputs::{explain_to, migrate_to, run_to};
+use crate::explaining::explain_to;
 use crate::storming::make_storm;
-use crate::subcommand::Subcommand;
 use crate::tuning::tune;
 use clap::error::ErrorKind;
 use clap::{ArgMatches, Error};
+use pie_files::{
+    DONE, End, FAULT, NamedFiles, audit_given, failed, fault, migrate_to, reader_of, run_to,
+};
+use pie_options::{Subcommand, options};
 use std::alloc::Global;
-use std::fmt::Display;
 use std::io::{Read, Write};
 use std::marker::Sync;
 use std::sync::Wait;
@@ -159,21 +159,8 @@ fn perform<H: Threads + Wait + Sync + NamedFiles, R: Read + Drop, W: Write, E: W
     }
 }
 
-/// Writes the line of a fault, and answers its status. Where that line can't be written the status is the same.
-pub(crate) fn fault<E: Write, D: Display + Drop>(errors: &mut E, text: D) -> u8
-    ensures { result ≡ 1 }
-{
-    let _ = writeln!(errors, "pie: {text}");
-    FAULT
-}
-
-/// Writes the line of what is wrong with the file of this name.
-pub(crate) fn named_fault<E: Write, D: Display + Drop>(errors: &mut E, name: &str, text: D) {
-    let _ = writeln!(errors, "pie: {name}: {text}");
-}
-
 /// What `clap` says of the words: help, or a mistake.
-pub(crate) fn mistake<W: Write, E: Write>(error: Error, output: &mut W, errors: &mut E) -> u8
+fn mistake<W: Write, E: Write>(error: Error, output: &mut W, errors: &mut E) -> u8
     ensures status { result ≤ 1 }
     ensures memory { kind_of error ≡ ErrorKind.OutOfMemory → (result ≡ 1) × (W.contents output.new ≡ W.contents output.old) }
 {

@@ -4,8 +4,8 @@ use Rattle.clap.specs.Words.{found_of, rows_of}
 use Rattle.pie_explain.specs.declared.choice.Choice.{Choice}
 use Rattle.pie_explain.specs.declared.explanation.Explained.{Explained}
 use Rattle.pie.specs.Choice.{tale_by, tale_of}
-use Rattle.pie.specs.Ends.{explain_ends}
-use Rattle.pie.proofs.EndFacts.{EndsExplain-told}
+use Rattle.pie.specs.ExplainEnds.{explain_ends}
+use Rattle.pie.proofs.ExplainFacts.{EndsExplain-told}
 use Rattle.pie.proofs.explaining.explain_input.Goals as goal
 
 pub returns-clause-explains : goal.returns-clause-explains

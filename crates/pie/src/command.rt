@@ -21,7 +21,7 @@ use crate::tuning::tune;
 use clap::error::ErrorKind;
 use clap::{ArgMatches, Error};
 use pie_files::{
-    DONE, End, FAULT, NamedFiles, audit_given, failed, fault, migrate_to, reader_of, run_to,
+    DONE, End, FAULT, NamedFiles, Screen, audit_given, failed, fault, migrate_to, reader_of, run_to,
 };
 use pie_options::{Subcommand, options};
 use std::alloc::Global;
@@ -37,6 +37,9 @@ use std::thread::Threads;
 /// A `FILE` among the words is opened by `rt`, and then all that is said here of the reader holds of that file's text, where `rt` knows it; `-` is
 /// the reader. A file that can't be opened ends with 1, and nothing was written. Where `-o` names a file, `rt` makes it, and what is said here of
 /// `output` holds of that file, from when it was made to when it was left; to `output` nothing is written. A file that can't be made ends with 1.
+///
+/// While `pie run`, `audit`, `explain` and `migrate` read, `errors` is told how far they have come, where `rt` has it at a terminal or the option
+/// `--progress` is there; it is wiped before anything else is written there, and nothing that is said here changes by it.
 ///
 /// For the words `pie run` a trace without a fault writes its whole history text and is done; one with a fault writes the history text of
 /// the records before it, and ends at that fault; or the end says which of the reader, the writer and memory failed. Refused records
@@ -59,7 +62,7 @@ use std::thread::Threads;
 ///
 /// For any words that ask for `pie params`, the record that opens a book with the parameters that the options ask for is written, and the
 /// status is 0; or it is 1, where a text is no number of its kind, a number is out of its range, or the writer fails.
-pub fn command<H: Threads + Wait + Sync + NamedFiles, R: Read + Drop, W: Write, E: Write>(
+pub fn command<H: Threads + Wait + Sync + NamedFiles + Screen, R: Read + Drop, W: Write, E: Write>(
     rt: &H,
     alloc: Global,
     words: &[String],
@@ -96,7 +99,7 @@ pub fn command<H: Threads + Wait + Sync + NamedFiles, R: Read + Drop, W: Write, 
 }
 
 /// What `command` does: each subcommand as it promises.
-fn answer<H: Threads + Wait + Sync + NamedFiles, R: Read + Drop, W: Write, E: Write>(
+fn answer<H: Threads + Wait + Sync + NamedFiles + Screen, R: Read + Drop, W: Write, E: Write>(
     rt: &H,
     alloc: Global,
     words: &[String],
@@ -127,7 +130,7 @@ fn answer<H: Threads + Wait + Sync + NamedFiles, R: Read + Drop, W: Write, E: Wr
 }
 
 /// Performs a subcommand with its options.
-fn perform<H: Threads + Wait + Sync + NamedFiles, R: Read + Drop, W: Write, E: Write>(
+fn perform<H: Threads + Wait + Sync + NamedFiles + Screen, R: Read + Drop, W: Write, E: Write>(
     rt: &H,
     alloc: Global,
     subcommand: Subcommand,

@@ -13,11 +13,13 @@ ghost use Rattle.pie.specs.ExplainEnds.{EndsExplain, answer_status};
 
 use clap::ArgMatches;
 use pie_explain::{Choice, ExplainFault, Form, Moment, MomentFault, Which, explain};
-use pie_files::{DIFFERS, DONE, End, FAULT, NamedFiles, fault, made_named};
+use pie_files::{DIFFERS, DONE, End, FAULT, NamedFiles, Screen, fault, made_named, shows_progress};
 use pie_options::{flag, number};
+use pie_progress::Watched;
 use pie_summary::Summary;
 use std::alloc::Global;
 use std::io::{Read, Write};
+use std::time::Clock;
 
 /// What is said where the words don't choose events by exactly one option.
 const NO_CHOICE: &str =
@@ -205,10 +207,12 @@ fn ended<E: Write>(errors: &mut E, given: Result<u64, ExplainFault>) -> u8
 
 /// `pie explain`: writes what there is to say of the chosen events of a history, up to its first fault and the first event that
 /// differs. Ends with 2 where an event differs, and with 1 where the history has a fault, where the options choose no events, where
-/// no event is the chosen one, and where the reader, the writer or memory fails: each is told on `errors`.
-fn explain_input<R: Read + Drop, W: Write, E: Write>(
+/// no event is the chosen one, and where the reader, the writer or memory fails: each is told on `errors`. So is progress, where it `is_shown`.
+fn explain_input<H: Clock, R: Read + Drop, W: Write, E: Write>(
+    rt: &H,
     alloc: Global,
     options: &ArgMatches<'_>,
+    is_shown: bool,
     input: R,
     output: &mut W,
     errors: &mut E,
@@ -220,9 +224,10 @@ fn explain_input<R: Read + Drop, W: Write, E: Write>(
         return FAULT;
     };
     let (summary, every) = (is_summary(options), every_of(options));
+    let watched = Watched::new(input, &mut *errors, rt, is_shown);
     let given = tell(
         alloc,
-        input,
+        watched,
         output,
         choice,
         summary,
@@ -233,7 +238,7 @@ fn explain_input<R: Read + Drop, W: Write, E: Write>(
 }
 
 /// `pie explain` of what is read, to the output that the options name.
-pub(crate) fn explain_to<H: NamedFiles, R: Read + Drop, W: Write, E: Write>(
+pub(crate) fn explain_to<H: NamedFiles + Screen, R: Read + Drop, W: Write, E: Write>(
     rt: &H,
     alloc: Global,
     options: &ArgMatches<'_>,
@@ -247,10 +252,16 @@ pub(crate) fn explain_to<H: NamedFiles, R: Read + Drop, W: Write, E: Write>(
         result (W.contents output.old) (W.contents output.new) }
 {
     match options.get_str("output") {
-        None => End::with_status(explain_input(alloc, options, reader, output, errors)),
+        None => {
+            let is_shown = shows_progress(rt, options, true);
+            End::with_status(explain_input(rt, alloc, options, is_shown, reader, output, errors))
+        }
         Some(name) => match made_named(rt, name, errors) {
             Some(mut file) => {
-                End::with_status(explain_input(alloc, options, reader, &mut file, errors))
+                let is_shown = shows_progress(rt, options, false);
+                End::with_status(explain_input(
+                    rt, alloc, options, is_shown, reader, &mut file, errors,
+                ))
             }
             None => End::Failed,
         },

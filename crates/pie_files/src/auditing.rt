@@ -12,24 +12,30 @@ ghost use Rattle.pie_options.specs.Words.{files_in};
 use crate::end::{End, faulted};
 use crate::faults::named_fault;
 use crate::files::{NamedFiles, reader_named};
+use crate::progress::{Screen, shows_progress};
 use clap::ArgMatches;
 use pie_audit::{Finding, audit, write_finding};
+use pie_progress::Watched;
 use pie_trace::TraceFault;
 use std::alloc::Global;
 use std::io;
 use std::io::{Read, Write};
+use std::time::Clock;
 
 /// `pie audit` of what is handed in: a history with a fault ends at it and writes nothing; any other writes the line of its finding and
 /// ends as that says; or the end says what failed.
-fn audit_input<R: Read + Drop, W: Write, E: Write>(
+fn audit_input<H: Clock, R: Read + Drop, W: Write, E: Write>(
+    rt: &H,
     alloc: Global,
+    is_shown: bool,
     input: R,
     output: &mut W,
     errors: &mut E,
 ) -> End
     ensures audits { IfSome (R.remaining input) (λ text. EndsAudit text result (W.contents output.old) (W.contents output.new)) }
 {
-    let found = match audit(alloc, input) {
+    let watched = Watched::new(input, &mut *errors, rt, is_shown);
+    let found = match audit(alloc, watched) {
         Ok(found) => found,
         Err(why) => return faulted(errors, why),
     };
@@ -43,15 +49,18 @@ fn audit_input<R: Read + Drop, W: Write, E: Write>(
 }
 
 /// The finding of the history that a file holds; or none, with a line on `errors`.
-fn finding_of<R: Read + Drop, E: Write>(
+fn finding_of<H: Clock, R: Read + Drop, E: Write>(
+    rt: &H,
     alloc: Global,
+    is_shown: bool,
     reader: R,
     name: &str,
     errors: &mut E,
 ) -> Option<Finding>
     ensures { IfSome result (λ found. IfSome (R.remaining reader) (λ text. text_finding (records_of text) ≡ Ok found)) }
 {
-    match audit(alloc, reader) {
+    let watched = Watched::new(reader, &mut *errors, rt, is_shown);
+    match audit(alloc, watched) {
         Ok(found) => Some(found),
         Err(why) => {
             named_fault(errors, name, why);
@@ -61,9 +70,10 @@ fn finding_of<R: Read + Drop, E: Write>(
 }
 
 /// The finding of the history in the file of this name; or none, with a line on `errors`.
-fn finding_named<H: NamedFiles, R: Read + Drop, E: Write>(
+fn finding_named<H: NamedFiles + Clock, R: Read + Drop, E: Write>(
     rt: &H,
     alloc: Global,
+    is_shown: bool,
     name: &str,
     input: &mut Option<R>,
     errors: &mut E,
@@ -72,7 +82,7 @@ fn finding_named<H: NamedFiles, R: Read + Drop, E: Write>(
     ensures input { (input.new ≡ input.old) ⊎ (input.new ≡ None) }
 {
     match reader_named(rt, name, input, errors) {
-        Some(reader) => finding_of(alloc, reader, name, errors),
+        Some(reader) => finding_of(rt, alloc, is_shown, reader, name, errors),
         None => None,
     }
 }
@@ -89,9 +99,10 @@ fn write_named<W: Write>(name: &str, found: Finding, output: &mut W) -> io::Resu
 }
 
 /// Audits the file of this name, and writes the line of its finding, if it has one.
-fn audit_named<H: NamedFiles, R: Read + Drop, W: Write, E: Write>(
+fn audit_named<H: NamedFiles + Clock, R: Read + Drop, W: Write, E: Write>(
     rt: &H,
     alloc: Global,
+    is_shown: bool,
     name: &str,
     input: &mut Option<R>,
     output: &mut W,
@@ -101,7 +112,7 @@ fn audit_named<H: NamedFiles, R: Read + Drop, W: Write, E: Write>(
     ensures written { IfOk result (λ told. Appends (W.contents output.old) (W.contents output.new) (line_of name.now told)) }
     ensures input { (input.new ≡ input.old) ⊎ (input.new ≡ None) }
 {
-    match finding_named(rt, alloc, name, input, errors) {
+    match finding_named(rt, alloc, is_shown, name, input, errors) {
         Some(found) => {
             write_named(name, found, output)?;
             Ok(Some(found))
@@ -145,9 +156,10 @@ fn name_at<'a>(names: &[&'a str], place: usize) -> &'a str
 
 /// `pie audit FILE..`: audits each file in turn, and writes the line of each finding; a file that has a fault, or can't be read, is told on
 /// `errors`. Ends with the worst of all; or the end says that a line could not be written.
-fn audit_files<H: NamedFiles, R: Read + Drop, W: Write, E: Write>(
+fn audit_files<H: NamedFiles + Clock, R: Read + Drop, W: Write, E: Write>(
     rt: &H,
     alloc: Global,
+    is_shown: bool,
     names: &[&str],
     input: R,
     output: &mut W,
@@ -160,7 +172,7 @@ fn audit_files<H: NamedFiles, R: Read + Drop, W: Write, E: Write>(
     let mut different = false;
     for place in 0..names.len() {
         let name = name_at(names, place);
-        let told = match audit_named(rt, alloc, name, &mut given, output, errors) {
+        let told = match audit_named(rt, alloc, is_shown, name, &mut given, output, errors) {
             Ok(told) => told,
             Err(_) => return faulted(errors, TraceFault::Write),
         };
@@ -171,9 +183,10 @@ fn audit_files<H: NamedFiles, R: Read + Drop, W: Write, E: Write>(
 }
 
 /// Audits these files, or with none what is handed in.
-fn audit_any<H: NamedFiles, R: Read + Drop, W: Write, E: Write>(
+fn audit_any<H: NamedFiles + Clock, R: Read + Drop, W: Write, E: Write>(
     rt: &H,
     alloc: Global,
+    is_shown: bool,
     names: &[&str],
     input: R,
     output: &mut W,
@@ -182,13 +195,13 @@ fn audit_any<H: NamedFiles, R: Read + Drop, W: Write, E: Write>(
     ensures { EndsAudits (R.remaining input) (H.holds rt.now) (map (λ name. name.now) names.now) result (W.contents output.old) (W.contents output.new) }
 {
     if names.is_empty() {
-        return audit_input(alloc, input, output, errors);
+        return audit_input(rt, alloc, is_shown, input, output, errors);
     }
-    audit_files(rt, alloc, names, input, output, errors)
+    audit_files(rt, alloc, is_shown, names, input, output, errors)
 }
 
 /// `pie audit`: of what is handed in, or of the files that the options name.
-pub fn audit_given<H: NamedFiles, R: Read + Drop, W: Write, E: Write>(
+pub fn audit_given<H: NamedFiles + Screen, R: Read + Drop, W: Write, E: Write>(
     rt: &H,
     alloc: Global,
     options: &ArgMatches<'_>,
@@ -198,8 +211,9 @@ pub fn audit_given<H: NamedFiles, R: Read + Drop, W: Write, E: Write>(
 ) -> End
     ensures { EndsAudits (R.remaining input) (H.holds rt.now) (files_in (rows_of (found_of options.now))) result (W.contents output.old) (W.contents output.new) }
 {
+    let is_shown = shows_progress(rt, options, false);
     match options.get_strs("file") {
-        Some(names) => audit_any(rt, alloc, names, input, output, errors),
-        None => audit_input(alloc, input, output, errors),
+        Some(names) => audit_any(rt, alloc, is_shown, names, input, output, errors),
+        None => audit_input(rt, alloc, is_shown, input, output, errors),
     }
 }

@@ -8,6 +8,7 @@ ghost use Rattle.pie_options.specs.Words.{output_in};
 use crate::end::End;
 use crate::faults::named_fault;
 use crate::files::NamedFiles;
+use crate::progress::{Screen, shows_progress};
 use crate::running::{migrate_input, run_input};
 use clap::ArgMatches;
 use pie_options::flag;
@@ -28,7 +29,7 @@ pub fn made_named<H: NamedFiles, E: Write>(rt: &H, name: &str, errors: &mut E) -
 }
 
 /// `pie run` of what is read, to the output that the options name.
-pub fn run_to<H: NamedFiles, R: Read + Drop, W: Write, E: Write>(
+pub fn run_to<H: NamedFiles + Screen, R: Read + Drop, W: Write, E: Write>(
     rt: &H,
     alloc: Global,
     options: &ArgMatches<'_>,
@@ -42,16 +43,22 @@ pub fn run_to<H: NamedFiles, R: Read + Drop, W: Write, E: Write>(
 {
     let is_counted = flag(options, "count");
     match options.get_str("output") {
-        None => run_input(alloc, is_counted, reader, output, errors),
+        None => {
+            let is_shown = shows_progress(rt, options, true);
+            run_input(rt, alloc, is_counted, is_shown, reader, output, errors)
+        }
         Some(name) => match made_named(rt, name, errors) {
-            Some(mut file) => run_input(alloc, is_counted, reader, &mut file, errors),
+            Some(mut file) => {
+                let is_shown = shows_progress(rt, options, false);
+                run_input(rt, alloc, is_counted, is_shown, reader, &mut file, errors)
+            }
             None => End::Failed,
         },
     }
 }
 
 /// `pie migrate` of what is read, to the output that the options name.
-pub fn migrate_to<H: NamedFiles, R: Read + Drop, W: Write, E: Write>(
+pub fn migrate_to<H: NamedFiles + Screen, R: Read + Drop, W: Write, E: Write>(
     rt: &H,
     alloc: Global,
     options: &ArgMatches<'_>,
@@ -64,9 +71,15 @@ pub fn migrate_to<H: NamedFiles, R: Read + Drop, W: Write, E: Write>(
         (λ end before now. IfSome (R.remaining reader) (λ text. EndsMigrate text end before now)) result (W.contents output.old) (W.contents output.new) }
 {
     match options.get_str("output") {
-        None => migrate_input(alloc, reader, output, errors),
+        None => {
+            let is_shown = shows_progress(rt, options, true);
+            migrate_input(rt, alloc, is_shown, reader, output, errors)
+        }
         Some(name) => match made_named(rt, name, errors) {
-            Some(mut file) => migrate_input(alloc, reader, &mut file, errors),
+            Some(mut file) => {
+                let is_shown = shows_progress(rt, options, false);
+                migrate_input(rt, alloc, is_shown, reader, &mut file, errors)
+            }
             None => End::Failed,
         },
     }

@@ -4,10 +4,12 @@ ghost use Rattle.std.specs.Io.KnownBytes.{Appends};
 ghost use Rattle.pie_files.specs.Ends.{EndsMigrate, EndsRun, counts_line, status_of};
 
 use crate::end::{End, ended};
+use pie_progress::Watched;
 use pie_trace::{RunEnd, TraceFault, migrate, run_trace};
 use std::alloc::Global;
 use std::io;
 use std::io::{Read, Write};
+use std::time::Clock;
 
 /// Writes how many events a run recorded, and how many records it refused.
 fn write_counts<E: Write>(end: &RunEnd, errors: &mut E) -> io::Result<()>
@@ -25,10 +27,12 @@ fn say_counts<E: Write>(errors: &mut E, given: &Result<RunEnd, TraceFault>) {
 }
 
 /// `pie run`: writes the history text of a trace, and ends at its first fault; or the end says what failed. Without a fault it says
-/// on `errors` how many events and refused records there were, where that is asked.
-pub(crate) fn run_input<R: Read + Drop, W: Write, E: Write>(
+/// on `errors` how many events and refused records there were, where that is asked; progress too, where it `is_shown`.
+pub(crate) fn run_input<H: Clock, R: Read + Drop, W: Write, E: Write>(
+    rt: &H,
     alloc: Global,
     is_counted: bool,
+    is_shown: bool,
     input: R,
     output: &mut W,
     errors: &mut E,
@@ -36,16 +40,20 @@ pub(crate) fn run_input<R: Read + Drop, W: Write, E: Write>(
     ensures status { status_of result ≤ 1 }
     ensures runs { IfSome (R.remaining input) (λ text. EndsRun text result (W.contents output.old) (W.contents output.new)) }
 {
-    let given = run_trace(alloc, input, output);
+    let watched = Watched::new(input, &mut *errors, rt, is_shown);
+    let given = run_trace(alloc, watched, output);
     if is_counted {
         say_counts(errors, &given);
     }
     ended(errors, given)
 }
 
-/// `pie migrate`: writes a history in version two up to its first fault, and ends at that; or the end says what failed.
-pub(crate) fn migrate_input<R: Read + Drop, W: Write, E: Write>(
+/// `pie migrate`: writes a history in version two up to its first fault, and ends at that; or the end says what failed. Progress is told on
+/// `errors` where it `is_shown`.
+pub(crate) fn migrate_input<H: Clock, R: Read + Drop, W: Write, E: Write>(
+    rt: &H,
     alloc: Global,
+    is_shown: bool,
     input: R,
     output: &mut W,
     errors: &mut E,
@@ -53,6 +61,7 @@ pub(crate) fn migrate_input<R: Read + Drop, W: Write, E: Write>(
     ensures status { status_of result ≤ 1 }
     ensures migrates { IfSome (R.remaining input) (λ text. EndsMigrate text result (W.contents output.old) (W.contents output.new)) }
 {
-    let given = migrate(alloc, input, output);
+    let watched = Watched::new(input, &mut *errors, rt, is_shown);
+    let given = migrate(alloc, watched, output);
     ended(errors, given)
 }

@@ -24,6 +24,10 @@ flag_rule name = record (new_rule name) { long = Some name; action = Some SetTru
 abbrev pub text_rule : Text → Rule
 text_rule name = record (new_rule name) { long = Some name; value_names = 1 }
 
+-- the option that asks to be told how far reading has come
+abbrev pub progress_rule : Rule
+progress_rule = flag_rule (codes "progress")
+
 -- the file to write in place of standard output
 abbrev pub output_rule : Rule
 output_rule = record (new_rule (codes "output")) { long = Some (codes "output"); short = Some 111; value_names = 1 }
@@ -38,15 +42,15 @@ files_rule = record (new_rule (codes "file")) { value_names = 1; action = Some A
 
 -- the subcommands `run`, `audit` and `migrate`
 abbrev pub run_app : App
-run_app = with_rule (with_rule (with_rule (new_app (codes "run")) (flag_rule (codes "count"))) output_rule) file_rule
+run_app = with_rule (with_rule (with_rule (with_rule (new_app (codes "run")) (flag_rule (codes "count"))) progress_rule) output_rule) file_rule
 
 abbrev pub audit_app : App
-audit_app = with_rule (new_app (codes "audit")) files_rule
+audit_app = with_rule (with_rule (new_app (codes "audit")) progress_rule) files_rule
 
 abbrev pub migrate_app : App
-migrate_app = with_rule (with_rule (new_app (codes "migrate")) output_rule) file_rule
+migrate_app = with_rule (with_rule (with_rule (new_app (codes "migrate")) progress_rule) output_rule) file_rule
 
--- the subcommand `explain`: five options that choose events, two for their moments, three for what is told of them, and a file
+-- the subcommand `explain`: five options that choose events, two for their moments, three for what is told of them, one for progress, and two files
 abbrev pub choosing_app : App
 choosing_app = with_rule (with_rule (with_rule (with_rule (with_rule (new_app (codes "explain")) (number_rule (codes "event") 1 (2 ^ 64 - 1)))
     (number_rule (codes "tag") 0 (2 ^ 64 - 1))) (flag_rule (codes "lost"))) (flag_rule (codes "marked"))) (flag_rule (codes "all"))
@@ -55,7 +59,7 @@ abbrev pub timed_app : App
 timed_app = with_rule (with_rule choosing_app (text_rule (codes "from"))) (text_rule (codes "to"))
 
 abbrev pub explain_app : App
-explain_app = with_rule (with_rule (with_rule (with_rule (with_rule timed_app (flag_rule (codes "summary"))) (text_rule (codes "every"))) (flag_rule (codes "csv"))) output_rule) file_rule
+explain_app = with_rule (with_rule (with_rule (with_rule (with_rule (with_rule timed_app (flag_rule (codes "summary"))) (text_rule (codes "every"))) (flag_rule (codes "csv"))) progress_rule) output_rule) file_rule
 
 -- the subcommand `params`: four texts with units, two gains, and what `tc` has or hasn't
 abbrev pub params_app : App

@@ -1,7 +1,7 @@
 //! The command line of `pie`.
 ghost use Rattle.std.specs.Prelude.{◌≡◌, IfOk, false};
 ghost use Rattle.clap.specs.Words.{app_of, new_app, rule_of};
-ghost use Rattle.pie_options.specs.Words.{audit_app, choosing_app, explain_app, file_rule, files_rule, flag_rule, migrate_app, number_rule, output_rule, params_app, pie_alone, pie_app, run_app, storm_app, text_rule, timed_app};
+ghost use Rattle.pie_options.specs.Words.{audit_app, choosing_app, explain_app, file_rule, files_rule, flag_rule, migrate_app, number_rule, output_rule, params_app, pie_alone, pie_app, progress_rule, run_app, storm_app, text_rule, timed_app};
 
 use crate::help::{
     AUDIT_ABOUT, AUDIT_HELP, EXPLAIN_ABOUT, EXPLAIN_HELP, MIGRATE_ABOUT, MIGRATE_HELP,
@@ -46,6 +46,18 @@ fn text_option<'a>(alloc: Global, name: &'a str, value: &'a str, help: &'a str) 
         .long(name)
         .value_name(value)
         .help(help)
+}
+
+/// What asks to be told how far reading has come.
+fn progress_option<'a>(alloc: Global) -> Arg<'a>
+    ensures rule { rule_of result ≡ progress_rule }
+    ensures local { result.global ≡ false }
+{
+    flag_option(
+        alloc,
+        "progress",
+        "Show on standard error how much was read, as is done where that is a terminal",
+    )
 }
 
 /// The file to write in place of standard output.
@@ -99,15 +111,18 @@ fn run_command<'a>(alloc: Global) -> Result<Command<'a>, AllocError>
     );
     plain(alloc, "run", RUN_ABOUT, RUN_HELP)
         .arg(count)?
+        .arg(progress_option(alloc))?
         .arg(output_option(alloc))?
         .arg(file_argument(alloc))
 }
 
-/// The subcommand `audit` and its files.
+/// The subcommand `audit`, its option and its files.
 fn audit_command<'a>(alloc: Global) -> Result<Command<'a>, AllocError>
     ensures { IfOk result (λ audit. app_of audit ≡ audit_app) }
 {
-    plain(alloc, "audit", AUDIT_ABOUT, AUDIT_HELP).arg(files_argument(alloc))
+    plain(alloc, "audit", AUDIT_ABOUT, AUDIT_HELP)
+        .arg(progress_option(alloc))?
+        .arg(files_argument(alloc))
 }
 
 /// The subcommand `migrate` and its options.
@@ -115,6 +130,7 @@ fn migrate_command<'a>(alloc: Global) -> Result<Command<'a>, AllocError>
     ensures { IfOk result (λ migrate. app_of migrate ≡ migrate_app) }
 {
     plain(alloc, "migrate", MIGRATE_ABOUT, MIGRATE_HELP)
+        .arg(progress_option(alloc))?
         .arg(output_option(alloc))?
         .arg(file_argument(alloc))
 }
@@ -199,6 +215,7 @@ fn explain_command<'a>(alloc: Global) -> Result<Command<'a>, AllocError>
         .arg(summary)?
         .arg(every)?
         .arg(csv)?
+        .arg(progress_option(alloc))?
         .arg(output_option(alloc))?
         .arg(file_argument(alloc))
 }

@@ -5,10 +5,10 @@ _pie() {
         words='run audit explain migrate storm params help --help --version'
     else
         case $subcommand in
-            run) words='--count --output --help' ;;
-            audit) words='--help' ;;
-            migrate) words='--output --help' ;;
-            explain) words='--event --tag --lost --marked --all --from --to --summary --every --csv --output --help' ;;
+            run) words='--count --progress --output --help' ;;
+            audit) words='--progress --help' ;;
+            migrate) words='--progress --output --help' ;;
+            explain) words='--event --tag --lost --marked --all --from --to --summary --every --csv --progress --output --help' ;;
             storm) words='--senders --packets --seed --load --count --help' ;;
             params) words='--rate --target --tupdate --limit --alpha --beta --ecn --bytemode --dq_rate_estimator --help' ;;
             help) words='run audit explain migrate storm params help' ;;

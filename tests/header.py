@@ -281,7 +281,7 @@ def compare_rates(header, formats):
 def compare_versions(header, root):
     version = header.defines.get("PIE_VERSION")
     for path, pattern in (("bindings/rust/Cargo.toml", r'^version = "(.*?)"'),
-                          ("crates/pie/src/options.rt", r'const VERSION: &str = "(.*?)"')):
+                          ("crates/pie_options/src/command_line.rt", r'const VERSION: &str = "(.*?)"')):
         if (root / path).exists():
             found = re.search(pattern, (root / path).read_text(), re.M)
             if not found or found[1] != version:

@@ -3,6 +3,7 @@
 malformed text, and each request for memory, each read, each write and each start of a thread refused in turn.
 usage: tests/hostile.py PROGRAM      PROGRAM: crates/pie/out/pie, as `rt run` builds it there"""
 import os
+import pty
 import re
 import shutil
 import subprocess
@@ -15,7 +16,7 @@ from checks import check, finish
 PROGRAM = os.path.abspath(sys.argv[1])
 HERE = os.path.dirname(os.path.abspath(__file__))
 # The commands that read a history, as far as the source has them.
-SOURCE = open(f"{HERE}/../crates/pie/src/options.rt").read()
+SOURCE = open(f"{HERE}/../crates/pie_options/src/command_line.rt").read()
 KNOWN = {"audit": ["audit"], "explain": ["explain", "--all"], "summary": ["explain", "--summary", "--every", "100us"], "migrate": ["migrate"]}
 READERS = {name: words for name, words in KNOWN.items() if f'"{name}"' in SOURCE}
 READ, WRITE, MEMORY = b"pie: cannot read the input\n", b"pie: cannot write the output\n", b"pie: out of memory\n"
@@ -61,6 +62,40 @@ def streams():
     # (the reader of the pipe is gone long before the history has been written)
     broken = '(printf "open,0,4,1048576,4194304\\n"; yes depart,1,1 | head -n 300000) | ("$1" run; echo $? >&3) 3>&2 | head -n 1 >/dev/null'
     check(shell(broken)[2] == WRITE + b"1\n", "a broken pipe")
+
+
+def at_terminal(words, path, is_output_terminal):
+    """What is written to standard error, which is a terminal; standard output is one too, or written to nowhere."""
+    errors, error_end = pty.openpty()
+    output, output_end = pty.openpty()
+    with open(path, "rb") as text:
+        process = subprocess.Popen([PROGRAM, *words], stdin=text, stdout=output_end if is_output_terminal else subprocess.DEVNULL, stderr=error_end)
+    os.close(error_end)
+    os.close(output_end)
+    written = b""
+    try:
+        while piece := os.read(errors, 65536):
+            written += piece
+    except OSError:
+        pass
+    process.wait(timeout=60)
+    os.close(errors)
+    os.close(output)
+    return written
+
+
+def terminals():
+    """Progress: shown and wiped where standard error is a terminal, but not where standard output is one too and is written meanwhile."""
+    shown = re.compile(rb"(\r\x1b\[K\d+\.\d million records, \d+ MB(, \d+ MB/s)?)+\r\x1b\[K")
+    with tempfile.TemporaryDirectory() as work:
+        path = f"{work}/history"
+        with open(path, "wb") as text:
+            text.write(b"rolling,0,4,16,1099511627776\n" + b"".join(b"depart,1,%d,empty\n" % moment for moment in range(1, 800_001)))
+        rows = [(["audit"], False, True), (["audit"], True, True), (["explain", "--summary"], False, True), (["explain", "--summary"], True, False),
+                (["migrate"], False, True), (["migrate", "-o", f"{work}/made"], True, True), (["explain", "--summary", "--progress"], True, True)]
+        for words, is_output_terminal, is_shown in rows:
+            got = at_terminal(words, path, is_output_terminal)
+            check(bool(shown.fullmatch(got)) if is_shown else got == b"", "progress at a terminal", words, is_output_terminal, got[-200:])
 
 
 def words():
@@ -222,6 +257,7 @@ def main():
         check(run([name, "--help"], b"")[0] == 0, "there is no", name)
     print("tests/hostile.py: commands that read a history:", *READERS)
     streams()
+    terminals()
     words()
     malformed()
     small()

@@ -179,6 +179,30 @@ expect 'a counted run' 0 'open,0,4,1,100\ndepart,1,1,empty\nrefused,3,5\nrefused
 expect 'a counted run with a fault' 1 'open,0,4,16,100\ndepart,1,9,empty\n' 'pie: record 3: unknown kind\n' \
     'open,0,4,16,100\ndepart,1,9\ndep,1,10\ndepart,1,11\n' run --count
 
+# Progress, where it is asked for: on standard error alone, a line over and over, which is wiped at the end and before a fault. Unasked nothing is
+# told, since this standard error is no terminal, and nothing of a short text.
+awk 'BEGIN { print "rolling,0,4,16,1099511627776"; for (i = 1; i <= 1000000; i++) print "depart,1," i }' > "$work/long.trace"
+"$program" run "$work/long.trace" > "$work/long"
+wiped=$(printf '\r\033[K')
+for words in "run $work/long.trace" "audit $work/long" "explain --summary $work/long" "migrate $work/long"; do
+    "$program" $words > "$work/output.want" 2> "$work/errors.want"
+    "$program" $words --progress > "$work/output" 2> "$work/errors"
+    other=$(tr '\r' '\n' < "$work/errors" | sed 's/^\x1b\[K//' | grep -vE '^([0-9]+\.[0-9] million records, [0-9]+ MB(, [0-9]+ MB\/s)?)?$')
+    if [ -s "$work/errors.want" ] || ! cmp -s "$work/output" "$work/output.want" || [ -n "$other" ] || ! grep -q 'million records' "$work/errors" \
+        || [ "$(tail -c 4 "$work/errors")" != "$wiped" ]; then
+        echo "tests/pie.sh: $words with and without --progress: another output, or on standard error $(cat -v "$work/errors.want" "$work/errors")"
+        failed=1
+    fi
+done
+echo dep >> "$work/long.trace"
+"$program" run --progress "$work/long.trace" > "$work/output" 2> "$work/errors"
+if ! cmp -s "$work/output" "$work/long" || [ "$(tr '\r' '\n' < "$work/errors" | tail -n 1)" != "$(printf '\033[Kpie: record 1000002: unknown kind')" ]; then
+    echo "tests/pie.sh: progress before a fault: $(cat -v "$work/errors")"
+    failed=1
+fi
+rm "$work/long.trace" "$work/long"
+expect 'progress of a short trace' 0 'open,0,4,16,100\ndepart,1,9,empty\n' '' 'open,0,4,16,100\ndepart,1,9\n' run --progress
+
 # Files: what is read for one, and for -, is what is read for no word.
 printf "$trace" > "$work/trace"
 printf "$history" > "$work/history"

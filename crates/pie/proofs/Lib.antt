@@ -1,10 +1,5 @@
-pub mod AuditFacts
-pub mod EndFacts
-pub mod ExamplesWords
-pub mod FileFacts
-mod OutputFacts
-pub mod GivenFacts
-pub mod PlanFacts
-pub mod StormFacts
-pub mod SubcommandFacts
-pub mod WordFacts
+mod ExamplesChoice
+mod ExplainFacts
+mod MomentFacts
+mod StormEndFacts
+mod SubcommandFacts

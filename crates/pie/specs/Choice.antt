@@ -1,7 +1,7 @@
 -- Which events the words of `pie explain` choose, and how they are explained.
 use Rattle.std.specs.Prelude.{ℕ, ◌==◌, ◌||◌, Bool, true, false, not, List, Option, Some, None, Result, Ok, Err, codes, if◌then◌else◌, is_some}
 use Rattle.clap.specs.Words.{Row, Text, one_of}
-use Rattle.pie.specs.Words.{flag_given, number_given}
+use Rattle.pie_options.specs.Words.{flag_given, number_given}
 use Rattle.pie_explain.specs.declared.choice.Choice.{Choice}
 use Rattle.pie_explain.specs.declared.explainer.Form.{Form}
 use Rattle.pie_explain.specs.declared.explainer.Form.TheVariants.{Text as Words, Csv}

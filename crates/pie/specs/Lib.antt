@@ -1,10 +1,5 @@
-pub mod AuditEnds
 pub mod Choice
-pub mod Ends
-pub mod Files
-pub mod Outputs
+pub mod ExplainEnds
 pub mod StormEnds
-pub mod StormPlan
 pub mod Subcommands
 pub mod Tuning
-pub mod Words

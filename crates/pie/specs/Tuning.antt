@@ -6,8 +6,7 @@ use Rattle.pie_params.specs.Range.{IsInRange}
 use Rattle.pie_tuning.specs.declared.asked.Asked.{Asked}
 use Rattle.pie_tuning.specs.Opening.{gain_of, opening_line, params_for}
 use Rattle.pie_tuning.specs.Units.{packets_of, rate_of, time_of}
-use Rattle.pie.specs.StormEnds.{number_or}
-use Rattle.pie.specs.Words.{flag_given}
+use Rattle.pie_options.specs.Words.{flag_given, number_or}
 
 -- what an option's text comes to, and another number where it isn't given
 abbrev pub given_or : (Text → Option ℕ) → ℕ → Option Text → Option ℕ

@@ -2,29 +2,29 @@
 ghost use Rattle.std.specs.Prelude.{◌≡◌, ◌≤◌, ◌⊎◌, ◌∷◌, List, IfSome, Some, codes, map, string_bytes};
 ghost use Rattle.clap.specs.Words.{Text, found_of, kind_of, rows_of};
 ghost use Rattle.clap.specs.declared.error.kind.ErrorKind.{ErrorKind};
-ghost use Rattle.pie.specs.AuditEnds.{EndsFiles};
-ghost use Rattle.pie.specs.declared.end.End.{End};
-ghost use Rattle.pie.specs.declared.subcommand.Subcommand.{Subcommand};
-ghost use Rattle.pie.specs.Ends.{EndsAudit, EndsExplain, EndsMigrate, EndsRun, status_of};
-ghost use Rattle.pie.specs.Files.{file_in, files_in, text_given};
-ghost use Rattle.pie.specs.Outputs.{EndsIn, output_in};
+ghost use Rattle.pie_options.specs.declared.subcommand.Subcommand.{Subcommand};
+ghost use Rattle.pie_options.specs.Subcommands.{word_of};
+ghost use Rattle.pie_options.specs.Words.{AskFor, Asks, file_in, files_in, options_in, output_in, subcommand_in};
+ghost use Rattle.pie_files.specs.declared.end.End.{End};
+ghost use Rattle.pie_files.specs.AuditEnds.{EndsFiles};
+ghost use Rattle.pie_files.specs.Ends.{EndsAudit, EndsMigrate, EndsRun, status_of};
+ghost use Rattle.pie_files.specs.Files.{text_given};
+ghost use Rattle.pie_files.specs.Outputs.{EndsIn};
+ghost use Rattle.pie.specs.ExplainEnds.{EndsExplain};
 ghost use Rattle.pie.specs.StormEnds.{EndsStorm};
-ghost use Rattle.pie.specs.Subcommands.{EndsAs, word_of};
+ghost use Rattle.pie.specs.Subcommands.{EndsAs};
 ghost use Rattle.pie.specs.Tuning.{EndsParams};
-ghost use Rattle.pie.specs.Words.{AskFor, Asks, options_in, subcommand_in};
 
-use crate::auditing::audit_given;
-use crate::end::{DONE, End, FAULT, failed};
-use crate::files::{NamedFiles, reader_of};
-use crate::options::options;
-use crate::outputs::{explain_to, migrate_to, run_to};
+use crate::explaining::explain_to;
 use crate::storming::make_storm;
-use crate::subcommand::Subcommand;
 use crate::tuning::tune;
 use clap::error::ErrorKind;
 use clap::{ArgMatches, Error};
+use pie_files::{
+    DONE, End, FAULT, NamedFiles, Screen, audit_given, failed, fault, migrate_to, reader_of, run_to,
+};
+use pie_options::{Subcommand, options};
 use std::alloc::Global;
-use std::fmt::Display;
 use std::io::{Read, Write};
 use std::marker::Sync;
 use std::sync::Wait;
@@ -37,6 +37,9 @@ use std::thread::Threads;
 /// A `FILE` among the words is opened by `rt`, and then all that is said here of the reader holds of that file's text, where `rt` knows it; `-` is
 /// the reader. A file that can't be opened ends with 1, and nothing was written. Where `-o` names a file, `rt` makes it, and what is said here of
 /// `output` holds of that file, from when it was made to when it was left; to `output` nothing is written. A file that can't be made ends with 1.
+///
+/// While `pie run`, `audit`, `explain` and `migrate` read, `errors` is told how far they have come, where `rt` has it at a terminal or the option
+/// `--progress` is there; it is wiped before anything else is written there, and nothing that is said here changes by it.
 ///
 /// For the words `pie run` a trace without a fault writes its whole history text and is done; one with a fault writes the history text of
 /// the records before it, and ends at that fault; or the end says which of the reader, the writer and memory failed. Refused records
@@ -59,7 +62,7 @@ use std::thread::Threads;
 ///
 /// For any words that ask for `pie params`, the record that opens a book with the parameters that the options ask for is written, and the
 /// status is 0; or it is 1, where a text is no number of its kind, a number is out of its range, or the writer fails.
-pub fn command<H: Threads + Wait + Sync + NamedFiles, R: Read + Drop, W: Write, E: Write>(
+pub fn command<H: Threads + Wait + Sync + NamedFiles + Screen, R: Read + Drop, W: Write, E: Write>(
     rt: &H,
     alloc: Global,
     words: &[String],
@@ -96,7 +99,7 @@ pub fn command<H: Threads + Wait + Sync + NamedFiles, R: Read + Drop, W: Write, 
 }
 
 /// What `command` does: each subcommand as it promises.
-fn answer<H: Threads + Wait + Sync + NamedFiles, R: Read + Drop, W: Write, E: Write>(
+fn answer<H: Threads + Wait + Sync + NamedFiles + Screen, R: Read + Drop, W: Write, E: Write>(
     rt: &H,
     alloc: Global,
     words: &[String],
@@ -127,7 +130,7 @@ fn answer<H: Threads + Wait + Sync + NamedFiles, R: Read + Drop, W: Write, E: Wr
 }
 
 /// Performs a subcommand with its options.
-fn perform<H: Threads + Wait + Sync + NamedFiles, R: Read + Drop, W: Write, E: Write>(
+fn perform<H: Threads + Wait + Sync + NamedFiles + Screen, R: Read + Drop, W: Write, E: Write>(
     rt: &H,
     alloc: Global,
     subcommand: Subcommand,
@@ -159,21 +162,8 @@ fn perform<H: Threads + Wait + Sync + NamedFiles, R: Read + Drop, W: Write, E: W
     }
 }
 
-/// Writes the line of a fault, and answers its status. Where that line can't be written the status is the same.
-pub(crate) fn fault<E: Write, D: Display + Drop>(errors: &mut E, text: D) -> u8
-    ensures { result ≡ 1 }
-{
-    let _ = writeln!(errors, "pie: {text}");
-    FAULT
-}
-
-/// Writes the line of what is wrong with the file of this name.
-pub(crate) fn named_fault<E: Write, D: Display + Drop>(errors: &mut E, name: &str, text: D) {
-    let _ = writeln!(errors, "pie: {name}: {text}");
-}
-
 /// What `clap` says of the words: help, or a mistake.
-pub(crate) fn mistake<W: Write, E: Write>(error: Error, output: &mut W, errors: &mut E) -> u8
+fn mistake<W: Write, E: Write>(error: Error, output: &mut W, errors: &mut E) -> u8
     ensures status { result ≤ 1 }
     ensures memory { kind_of error ≡ ErrorKind.OutOfMemory → (result ≡ 1) × (W.contents output.new ≡ W.contents output.old) }
 {

@@ -5,17 +5,21 @@ ghost use Rattle.std.specs.Io.KnownBytes.{Appends};
 ghost use Rattle.pie_record.specs.Text.{records_of};
 ghost use Rattle.pie_explain.specs.Answer.{IsTold, answer};
 ghost use Rattle.pie_explain.specs.Output.{output as output_of};
-ghost use Rattle.pie.specs.Choice.{choice_of, chosen, every_of, form_of, is_summary, lasts, moment_given, tale_by, which_of};
-ghost use Rattle.pie.specs.Ends.{EndsExplain, answer_status};
+ghost use Rattle.pie_options.specs.Words.{output_in};
+ghost use Rattle.pie_files.specs.Ends.{status_of};
+ghost use Rattle.pie_files.specs.Outputs.{EndsIn};
+ghost use Rattle.pie.specs.Choice.{choice_of, chosen, every_of, form_of, is_summary, lasts, moment_given, tale_by, units_of, which_of};
+ghost use Rattle.pie.specs.ExplainEnds.{EndsExplain, answer_status};
 
-use crate::command::fault;
-use crate::end::{DIFFERS, DONE, FAULT};
-use crate::given::{flag, moment, number};
 use clap::ArgMatches;
-use pie_explain::{Choice, ExplainFault, Form, MomentFault, Which, explain};
+use pie_explain::{Choice, ExplainFault, Form, Moment, MomentFault, Which, explain};
+use pie_files::{DIFFERS, DONE, End, FAULT, NamedFiles, Screen, fault, made_named, shows_progress};
+use pie_options::{flag, number};
+use pie_progress::Watched;
 use pie_summary::Summary;
 use std::alloc::Global;
 use std::io::{Read, Write};
+use std::time::Clock;
 
 /// What is said where the words don't choose events by exactly one option.
 const NO_CHOICE: &str =
@@ -44,6 +48,24 @@ fn chosen(
         (None, None, false, false, false) => { if summary { Some(Which::All) } else { None } }
         _ => None,
     }
+}
+
+/// The nanoseconds of a moment that was read, if there was one to read.
+fn units_of(read: Result<Option<Moment>, MomentFault>) -> Result<Option<u64>, MomentFault>
+    ensures { result ≡ units_of read }
+{
+    match read {
+        Ok(Some(moment)) => Ok(Some(moment.0)),
+        Ok(None) => Ok(None),
+        Err(why) => Err(why),
+    }
+}
+
+/// The moment that an option is given, in nanoseconds.
+fn moment(options: &ArgMatches<'_>, name: &str) -> Result<Option<u64>, MomentFault>
+    ensures { result ≡ moment_given name.now (rows_of (found_of options.now)) }
+{
+    units_of(options.try_get_one::<Moment>(name))
 }
 
 /// The length of a period that these options want, where it can be read.
@@ -158,7 +180,7 @@ fn tell<R: Read + Drop, W: Write>(
 }
 
 /// The status where a history was not explained to its end.
-fn status_of(why: ExplainFault) -> u8
+fn fault_status(why: ExplainFault) -> u8
     ensures { result ≡ answer_status (Err why) }
 {
     match why {
@@ -178,17 +200,19 @@ fn ended<E: Write>(errors: &mut E, given: Result<u64, ExplainFault>) -> u8
         Ok(_) => DONE,
         Err(why) => {
             let _ = fault(errors, why);
-            status_of(why)
+            fault_status(why)
         }
     }
 }
 
 /// `pie explain`: writes what there is to say of the chosen events of a history, up to its first fault and the first event that
 /// differs. Ends with 2 where an event differs, and with 1 where the history has a fault, where the options choose no events, where
-/// no event is the chosen one, and where the reader, the writer or memory fails: each is told on `errors`.
-pub(crate) fn explain_input<R: Read + Drop, W: Write, E: Write>(
+/// no event is the chosen one, and where the reader, the writer or memory fails: each is told on `errors`. So is progress, where it `is_shown`.
+fn explain_input<H: Clock, R: Read + Drop, W: Write, E: Write>(
+    rt: &H,
     alloc: Global,
     options: &ArgMatches<'_>,
+    is_shown: bool,
     input: R,
     output: &mut W,
     errors: &mut E,
@@ -200,9 +224,10 @@ pub(crate) fn explain_input<R: Read + Drop, W: Write, E: Write>(
         return FAULT;
     };
     let (summary, every) = (is_summary(options), every_of(options));
+    let watched = Watched::new(input, &mut *errors, rt, is_shown);
     let given = tell(
         alloc,
-        input,
+        watched,
         output,
         choice,
         summary,
@@ -210,4 +235,35 @@ pub(crate) fn explain_input<R: Read + Drop, W: Write, E: Write>(
         form_of(options),
     );
     ended(errors, given)
+}
+
+/// `pie explain` of what is read, to the output that the options name.
+pub(crate) fn explain_to<H: NamedFiles + Screen, R: Read + Drop, W: Write, E: Write>(
+    rt: &H,
+    alloc: Global,
+    options: &ArgMatches<'_>,
+    reader: R,
+    output: &mut W,
+    errors: &mut E,
+) -> End
+    ensures status { status_of result ≤ 2 }
+    ensures explains { EndsIn H.Made.contents (H.makes rt.now) (output_in (rows_of (found_of options.now)))
+        (λ end before now. IfSome (R.remaining reader) (λ text. EndsExplain (rows_of (found_of options.now)) text (status_of end) before now))
+        result (W.contents output.old) (W.contents output.new) }
+{
+    match options.get_str("output") {
+        None => {
+            let is_shown = shows_progress(rt, options, true);
+            End::with_status(explain_input(rt, alloc, options, is_shown, reader, output, errors))
+        }
+        Some(name) => match made_named(rt, name, errors) {
+            Some(mut file) => {
+                let is_shown = shows_progress(rt, options, false);
+                End::with_status(explain_input(
+                    rt, alloc, options, is_shown, reader, &mut file, errors,
+                ))
+            }
+            None => End::Failed,
+        },
+    }
 }

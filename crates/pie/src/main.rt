@@ -1,20 +1,9 @@
 //! `pie`: runs traces of a PIE queue controller (RFC 8033), writes their histories, audits them and explains their events.
 #![tactic(auto)]
 
-mod auditing;
 mod command;
-mod end;
 mod explaining;
-mod files;
-mod given;
-mod help;
-mod options;
-mod outputs;
-mod pace;
-mod plan;
-mod running;
 mod storming;
-mod subcommand;
 mod tuning;
 
 use command::command;

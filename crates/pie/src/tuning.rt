@@ -4,11 +4,9 @@ ghost use Rattle.clap.specs.Words.{first_of, found_of, rows_of};
 ghost use Rattle.pie_tuning.specs.Units.{packets_of, rate_of, time_of};
 ghost use Rattle.pie.specs.Tuning.{AsksFor, EndsParams, given_or};
 
-use crate::command::fault;
-use crate::end::{DONE, FAULT};
-use crate::given::{flag, number};
-use crate::storming::number_or;
 use clap::ArgMatches;
+use pie_files::{DONE, FAULT, fault};
+use pie_options::{flag, number, number_or};
 use pie_params::{Params, RawParams};
 use pie_tuning::{
     Asked, gain_of, is_short, packets_of, params_for, rate_of, time_of, write_opening,

@@ -1,10 +1,11 @@
 use Rattle.std.proofs.Common.{◌≡◌, ◌∙◌, Some, List, map, refl, string_bytes, sym, subst}
 use Rattle.clap.specs.Words.{Row, app_of, found_of, rows_of}
-use Rattle.pie.specs.declared.subcommand.Subcommand.{Subcommand}
-use Rattle.pie.specs.Subcommands.{EndsAs, word_of}
-use Rattle.pie.specs.Words.{options_in, subcommand_in}
-use Rattle.pie.proofs.SubcommandFacts.{EndsAs-failed, may-differ, same-word}
-use Rattle.pie.proofs.WordFacts.{asked-taken, options-in, subcommand-found}
+use Rattle.pie_options.specs.declared.subcommand.Subcommand.{Subcommand}
+use Rattle.pie_options.specs.Subcommands.{word_of}
+use Rattle.pie.specs.Subcommands.{EndsAs}
+use Rattle.pie_options.specs.Words.{options_in, subcommand_in}
+use Rattle.pie.proofs.SubcommandFacts.{EndsAs-failed, may-differ}
+use Rattle.pie_options.proofs.WordFacts.{asked-taken, options-in, same-word, subcommand-found}
 use Rattle.pie.proofs.command.answer.Goals as goal
 
 -- ---- no subcommand began

@@ -1,13 +1,14 @@
 use Rattle.std.proofs.Common.{List, Option, map, string_bytes, subst}
 use Rattle.std.specs.Prelude.{IfSome}
 use Rattle.clap.specs.Words.{Text}
-use Rattle.pie.specs.declared.subcommand.Subcommand.TheVariants.{Run, Audit, Explain, Migrate, Storm, Params}
-use Rattle.pie.specs.AuditEnds.{EndsAudits}
-use Rattle.pie.specs.Ends.{EndsMigrate, EndsRun}
-use Rattle.pie.specs.Files.{file_in, text_given}
-use Rattle.pie.specs.Outputs.{EndsIn}
-use Rattle.pie.specs.Words.{options_in}
-use Rattle.pie.proofs.WordFacts.{audit-asks, audit-files, migrate-asks, migrate-file, migrate-output, run-asks, run-file, run-output}
+use Rattle.pie_options.specs.declared.subcommand.Subcommand.TheVariants.{Run, Audit, Explain, Migrate, Storm, Params}
+use Rattle.pie_files.specs.AuditEnds.{EndsAudits}
+use Rattle.pie_files.specs.Ends.{EndsMigrate, EndsRun}
+use Rattle.pie_options.specs.Words.{file_in}
+use Rattle.pie_files.specs.Files.{text_given}
+use Rattle.pie_files.specs.Outputs.{EndsIn}
+use Rattle.pie_options.specs.Words.{options_in}
+use Rattle.pie_options.proofs.WordFacts.{audit-asks, audit-files, migrate-asks, migrate-file, migrate-output, run-asks, run-file, run-output}
 use Rattle.pie.proofs.command.command.Goals as goal
 
 -- ---- with no file

@@ -1,8 +1,10 @@
 use Rattle.std.proofs.Common.{ℕ, List, Option, refl, subst}
 use Rattle.std.specs.Prelude.{IfSome}
 use Rattle.clap.specs.Words.{found_of, rows_of}
-use Rattle.pie.specs.Ends.{EndsExplain, status_of}
-use Rattle.pie.specs.Outputs.{EndsIn, output_in}
+use Rattle.pie_files.specs.Ends.{status_of}
+use Rattle.pie.specs.ExplainEnds.{EndsExplain}
+use Rattle.pie_options.specs.Words.{output_in}
+use Rattle.pie_files.specs.Outputs.{EndsIn}
 use Rattle.pie.proofs.SubcommandFacts.{EndsAs-failed}
 use Rattle.pie.proofs.command.perform.Goals as goal
 

@@ -1,0 +1,4 @@
+mod AuditFacts
+pub mod EndFacts
+mod FileFacts
+pub mod OutputFacts

@@ -1,0 +1,4 @@
+pub mod AuditEnds
+pub mod Ends
+pub mod Files
+pub mod Outputs

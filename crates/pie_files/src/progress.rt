@@ -1,0 +1,32 @@
+//! Whether progress is told while a subcommand reads.
+
+use clap::ArgMatches;
+use pie_options::flag;
+use std::io::IsTerminal;
+use std::time::Clock;
+
+/// What reads the clock, and knows which standard streams are terminals.
+pub trait Screen: Clock {
+    /// Whether standard output is a terminal.
+    fn has_output_terminal(&self) -> bool;
+
+    /// Whether standard error is a terminal.
+    fn has_error_terminal(&self) -> bool;
+}
+
+impl Screen for HostRuntime {
+    fn has_output_terminal(&self) -> bool {
+        self.stdout().is_terminal()
+    }
+
+    fn has_error_terminal(&self) -> bool {
+        self.stderr().is_terminal()
+    }
+}
+
+/// Whether these options ask to be told of progress, or else standard error is a terminal. Where standard output `is_written` meanwhile, it
+/// must not be a terminal too, on which both would stand mixed.
+pub fn shows_progress<H: Screen>(rt: &H, options: &ArgMatches<'_>, is_written: bool) -> bool {
+    let is_mixed = is_written && rt.has_output_terminal();
+    flag(options, "progress") || (rt.has_error_terminal() && !is_mixed)
+}

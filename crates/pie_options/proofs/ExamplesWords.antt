@@ -1,0 +1,43 @@
+-- Which words ask for which subcommand, and what they give its options, worked out.
+use Rattle.std.proofs.Common.{◌≡◌, [], ◌∷◌, Some, codes, refl}
+use Rattle.clap.specs.Words.{Text}
+use Rattle.clap.proofs.OnLiterals.{clap_on_literals}
+use Rattle.pie_options.specs.Words.{Asks, file_in, files_in, options_in, packets_in, seed_in, senders_in}
+
+-- ---- files
+
+audited : (name : Text) → Asks (codes "audit") (name ∷ codes "audit" ∷ codes "a" ∷ codes "-" ∷ [])
+unfolding clap_on_literals
+audited name = record { taken = refl; found = refl }
+
+audited-files : (name : Text) → files_in (options_in (name ∷ codes "audit" ∷ codes "a" ∷ codes "-" ∷ [])) ≡ codes "a" ∷ codes "-" ∷ []
+unfolding clap_on_literals
+audited-files name = refl
+
+run-file : (name : Text) → file_in (options_in (name ∷ codes "run" ∷ codes "a" ∷ codes "--count" ∷ [])) ≡ Some (codes "a")
+unfolding clap_on_literals
+run-file name = refl
+
+-- ---- `pie explain`
+
+lost : (name : Text) → Asks (codes "explain") (name ∷ codes "explain" ∷ codes "--lost" ∷ [])
+unfolding clap_on_literals
+lost name = record { taken = refl; found = refl }
+
+-- ---- `pie storm`
+
+storm : (name : Text) → Asks (codes "storm") (name ∷ codes "storm" ∷ codes "--senders" ∷ codes "3" ∷ [])
+unfolding clap_on_literals
+storm name = record { taken = refl; found = refl }
+
+storm-senders : (name : Text) → senders_in (options_in (name ∷ codes "storm" ∷ codes "--senders" ∷ codes "3" ∷ [])) ≡ 3
+unfolding clap_on_literals
+storm-senders name = refl
+
+storm-packets : (name : Text) → packets_in (options_in (name ∷ codes "storm" ∷ codes "--senders" ∷ codes "3" ∷ [])) ≡ 100
+unfolding clap_on_literals
+storm-packets name = refl
+
+storm-seed : (name : Text) → seed_in (options_in (name ∷ codes "storm" ∷ codes "--senders" ∷ codes "3" ∷ [])) ≡ 1
+unfolding clap_on_literals
+storm-seed name = refl

@@ -1,0 +1,4 @@
+mod CommandFacts
+mod ExamplesWords
+mod GivenFacts
+pub mod WordFacts

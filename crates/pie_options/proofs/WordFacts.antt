@@ -1,0 +1,125 @@
+-- What `clap` makes of the words that ask for a subcommand.
+use Rattle.std.proofs.Common.{◌≡◌, ◌∙◌, List, [], ◌∷◌, Option, Some, None, true, codes, refl, sym, subst, ap}
+use Rattle.std.specs.Prelude.{option_and_then, option_map, unwrap_or, if◌then◌else◌}
+use Rattle.std.specs.Str.{bytes_eq}
+use Rattle.std.specs.Box.{box_value}
+use Rattle.clap.specs.Words.{App, HasMatchesOf, Row, Text, found_of, is_simple, rows_of, subcommand_rows_of, takes}
+use Rattle.clap.specs.Matches.{subcommand_name_of}
+use Rattle.clap.specs.declared.parser.matches.ArgMatches.{ArgMatches}
+use Rattle.clap.specs.declared.parser.matches.ArgMatches.TheViews.{out-ArgMatches, out-SubCommand}
+use Rattle.clap.proofs.OnLiterals.{clap_on_literals}
+use Rattle.pie_options.specs.declared.subcommand.Subcommand.{Subcommand}
+use Rattle.pie_options.specs.declared.subcommand.Subcommand.TheVariants.{Run, Audit, Explain, Migrate, Storm, Params}
+use Rattle.pie_options.specs.Subcommands.{word_of}
+use Rattle.pie_options.specs.Words.{AskFor, Asks, file_in, files_in, options_in, output_in, pie_app, subcommand_in}
+
+-- ---- they are taken, whatever the program's own name is, ask for their subcommand and name no file
+
+run_words-ask : (name : Text) → Asks (codes "run") (name ∷ codes "run" ∷ [])
+unfolding clap_on_literals
+run_words-ask name = record { taken = refl; found = refl }
+
+audit_words-ask : (name : Text) → Asks (codes "audit") (name ∷ codes "audit" ∷ [])
+unfolding clap_on_literals
+audit_words-ask name = record { taken = refl; found = refl }
+
+migrate_words-ask : (name : Text) → Asks (codes "migrate") (name ∷ codes "migrate" ∷ [])
+unfolding clap_on_literals
+migrate_words-ask name = record { taken = refl; found = refl }
+
+run_words-file : (name : Text) → file_in (options_in (name ∷ codes "run" ∷ [])) ≡ None
+unfolding clap_on_literals
+run_words-file name = refl
+
+audit_words-files : (name : Text) → files_in (options_in (name ∷ codes "audit" ∷ [])) ≡ []
+unfolding clap_on_literals
+audit_words-files name = refl
+
+migrate_words-file : (name : Text) → file_in (options_in (name ∷ codes "migrate" ∷ [])) ≡ None
+unfolding clap_on_literals
+migrate_words-file name = refl
+
+run_words-output : (name : Text) → output_in (options_in (name ∷ codes "run" ∷ [])) ≡ None
+unfolding clap_on_literals
+run_words-output name = refl
+
+migrate_words-output : (name : Text) → output_in (options_in (name ∷ codes "migrate" ∷ [])) ≡ None
+unfolding clap_on_literals
+migrate_words-output name = refl
+
+pub run-output : (words : List Text) → AskFor (codes "run") words → output_in (options_in words) ≡ None
+run-output words asks = rw asks.1 (run_words-output asks.0)
+
+pub migrate-output : (words : List Text) → AskFor (codes "migrate") words → output_in (options_in words) ≡ None
+migrate-output words asks = rw asks.1 (migrate_words-output asks.0)
+
+pub run-asks : (words : List Text) → AskFor (codes "run") words → Asks (codes "run") words
+run-asks words asks = rw asks.1 (run_words-ask asks.0)
+
+pub audit-asks : (words : List Text) → AskFor (codes "audit") words → Asks (codes "audit") words
+audit-asks words asks = rw asks.1 (audit_words-ask asks.0)
+
+pub migrate-asks : (words : List Text) → AskFor (codes "migrate") words → Asks (codes "migrate") words
+migrate-asks words asks = rw asks.1 (migrate_words-ask asks.0)
+
+pub run-file : (words : List Text) → AskFor (codes "run") words → file_in (options_in words) ≡ None
+run-file words asks = rw asks.1 (run_words-file asks.0)
+
+pub audit-files : (words : List Text) → AskFor (codes "audit") words → files_in (options_in words) ≡ []
+audit-files words asks = rw asks.1 (audit_words-files asks.0)
+
+pub migrate-file : (words : List Text) → AskFor (codes "migrate") words → file_in (options_in words) ≡ None
+migrate-file words asks = rw asks.1 (migrate_words-file asks.0)
+
+pub asked-taken : (app : App) (subcommand : Text) (words : List Text) → app ≡ pie_app → Asks subcommand words → takes app words ≡ true
+asked-taken app subcommand words is asks = subst (λ (a : App). takes a words ≡ true) (sym is) asks.taken
+
+-- ---- and what its options are given
+
+simple : is_simple pie_app ≡ true
+unfolding clap_on_literals
+simple = refl
+
+pub options-in : (app : App) (words : List Text) (matches : ArgMatches) (rows : List Row) → app ≡ pie_app → HasMatchesOf app words matches
+    → Some rows ≡ option_map (λ (p : Text × List Row). p.1) (subcommand_rows_of matches) → options_in words ≡ rows
+options-in app words matches rows is has met =
+    let found = subst (λ (a : App). HasMatchesOf a words matches) is has simple in
+    sym (ap (λ (o : Option (List Row)). unwrap_or o []) (met ∙ ap (option_map (λ (p : Text × List Row). p.1)) found.1))
+
+-- the name that `clap` tells of a subcommand stands before its options
+first-of : {A : Type 0} (g : A → Text × List Row) (o : Option A) → option_map (λ a. (g a).0) o ≡ option_map (λ (p : Text × List Row). p.0) (option_map g o)
+first-of g None = refl
+first-of g (Some a) = refl
+
+name-rows : (matches : ArgMatches) → subcommand_name_of matches ≡ option_map (λ (p : Text × List Row). p.0) (subcommand_rows_of matches)
+name-rows matches =
+    first-of (λ b. ((out-SubCommand (box_value b)).name.now, rows_of (found_of (out-SubCommand (box_value b)).matches))) (out-ArgMatches matches).subcommand
+
+-- the subcommand that `clap` found is that of the words
+pub subcommand-found : (app : App) (words : List Text) (matches : ArgMatches) (name subcommand : Text) → app ≡ pie_app → HasMatchesOf app words matches
+    → Some name ≡ subcommand_name_of matches → name ≡ subcommand → subcommand_in words ≡ Some subcommand
+subcommand-found app words matches name subcommand is has met same =
+    let found = subst (λ (a : App). HasMatchesOf a words matches) is has simple in
+    sym (met ∙ name-rows matches ∙ ap (option_map (λ (p : Text × List Row). p.0)) found.1) ∙ ap (λ (n : Text). Some n) same
+
+-- ---- no two subcommands are asked for by one word
+abbrev asked_by : Text → Option Subcommand
+asked_by word = if bytes_eq word (codes "run") then Some Run
+    else if bytes_eq word (codes "audit") then Some Audit
+    else if bytes_eq word (codes "explain") then Some Explain
+    else if bytes_eq word (codes "migrate") then Some Migrate
+    else if bytes_eq word (codes "storm") then Some Storm
+    else Some Params
+
+asked-word : (subcommand : Subcommand) → asked_by (word_of subcommand) ≡ Some subcommand
+asked-word Run = refl
+asked-word Audit = refl
+asked-word Explain = refl
+asked-word Migrate = refl
+asked-word Storm = refl
+asked-word Params = refl
+
+pub same-word : (one other : Subcommand) → Some (word_of one) ≡ Some (word_of other) → one ≡ other
+same-word one other same =
+    let told : Some one ≡ Some other = sym (asked-word one) ∙ ap (option_and_then asked_by) same ∙ asked-word other in
+    cc

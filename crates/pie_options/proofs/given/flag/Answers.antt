@@ -1,0 +1,15 @@
+use Rattle.std.proofs.Common.{◌∙◌, ℕ, List, Option, codes, false, ap}
+use Rattle.std.specs.Option.{option_map_or}
+use Rattle.std.specs.Str.{bytes_eq}
+use Rattle.std.specs.Str.Parse.{ParsesBool}
+use Rattle.clap.specs.Words.{found_of, one_text}
+use Rattle.clap.proofs.WalkLemmas.{one_text-rows}
+use Rattle.pie_options.proofs.GivenFacts.{flag-given}
+use Rattle.pie_options.proofs.given.flag.Goals as goal
+
+pub returns : goal.returns
+returns c =
+    let found = found_of c.args.options.now in
+    let name = c.args.name.now in
+    c.unwrap_or.ensures ∙ flag-given ParsesBool (λ text read gives. gives) (one_text found name) c.get_one.result c.get_one.ensures.none c.get_one.ensures.value
+    ∙ ap (λ (given : Option (List ℕ)). option_map_or (λ text. bytes_eq text (codes "true")) given false) (one_text-rows found name)

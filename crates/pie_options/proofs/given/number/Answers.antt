@@ -1,0 +1,15 @@
+use Rattle.std.proofs.Common.{◌∙◌, ℕ, List, Option, ap}
+use Rattle.std.specs.Prelude.{option_and_then}
+use Rattle.std.specs.Str.Parse.{ExplainsUnsignedError, HasUnsignedDigitsIfOk, ParsesUnsigned}
+use Rattle.clap.specs.Words.{found_of, one_text}
+use Rattle.clap.proofs.WalkLemmas.{one_text-rows}
+use Rattle.pie_options.specs.Words.{number_of}
+use Rattle.pie_options.proofs.GivenFacts.{number-given}
+use Rattle.pie_options.proofs.given.number.Goals as goal
+
+pub returns : goal.returns
+returns c =
+    let found = found_of c.args.options.now in
+    let name = c.args.name.now in
+    number-given (λ bs r. ParsesUnsigned 64 10 bs r × ExplainsUnsignedError 10 bs r × HasUnsignedDigitsIfOk bs r) (λ text read gives. gives.0) (one_text found name) c.get_one.result
+    c.get_one.ensures.none c.get_one.ensures.value ∙ ap (λ (given : Option (List ℕ)). option_and_then number_of given) (one_text-rows found name)

@@ -1,0 +1,140 @@
+-- The command line: what `pie` takes, which words ask for which subcommand, and what they give its options.
+use Rattle.std.specs.Prelude.{ℕ, ◌≡◌, ◌-◌, ◌^◌, List, [], ◌∷◌, Bool, true, false, Option, Some, None, option_and_then, option_map, unwrap_or, codes, if◌then◌else◌, max, min}
+use Rattle.std.specs.Option.{option_map_or}
+use Rattle.std.specs.Str.{bytes_eq}
+use Rattle.std.specs.Str.Parse.{digits_value, without_leading_plus}
+use Rattle.clap.specs.ValueTests.{accepts}
+use Rattle.clap.specs.Words.{App, Row, Rule, Text, all_of, first_of, new_app, new_rule, one_of, subcommand_of, takes, with_rule, with_subcommand}
+use Rattle.clap.specs.declared.builder.action.ArgAction.TheVariants.{Append, SetTrue}
+use Rattle.clap.specs.declared.builder.value_parser.ValueParser.TheVariants.{Unsigned}
+
+-- `pie`, which has a version and wants a subcommand
+abbrev pub pie_alone : App
+pie_alone = record (new_app (codes "pie")) { top = record (new_app (codes "pie")).top { has_version = true; subcommand_required = true } }
+
+-- an option whose value is a number in a range
+abbrev pub number_rule : Text → ℕ → ℕ → Rule
+number_rule name least most = record (new_rule name) { long = Some name; value_names = 1; parser = Some (Unsigned least most) }
+
+-- an option with no value
+abbrev pub flag_rule : Text → Rule
+flag_rule name = record (new_rule name) { long = Some name; action = Some SetTrue }
+
+-- an option whose value is a text
+abbrev pub text_rule : Text → Rule
+text_rule name = record (new_rule name) { long = Some name; value_names = 1 }
+
+-- the option that asks to be told how far reading has come
+abbrev pub progress_rule : Rule
+progress_rule = flag_rule (codes "progress")
+
+-- the file to write in place of standard output
+abbrev pub output_rule : Rule
+output_rule = record (new_rule (codes "output")) { long = Some (codes "output"); short = Some 111; value_names = 1 }
+
+-- a file, which may be named
+abbrev pub file_rule : Rule
+file_rule = record (new_rule (codes "file")) { value_names = 1 }
+
+-- files, of which any number may be named
+abbrev pub files_rule : Rule
+files_rule = record (new_rule (codes "file")) { value_names = 1; action = Some Append }
+
+-- the subcommands `run`, `audit` and `migrate`
+abbrev pub run_app : App
+run_app = with_rule (with_rule (with_rule (with_rule (new_app (codes "run")) (flag_rule (codes "count"))) progress_rule) output_rule) file_rule
+
+abbrev pub audit_app : App
+audit_app = with_rule (with_rule (new_app (codes "audit")) progress_rule) files_rule
+
+abbrev pub migrate_app : App
+migrate_app = with_rule (with_rule (with_rule (new_app (codes "migrate")) progress_rule) output_rule) file_rule
+
+-- the subcommand `explain`: five options that choose events, two for their moments, three for what is told of them, one for progress, and two files
+abbrev pub choosing_app : App
+choosing_app = with_rule (with_rule (with_rule (with_rule (with_rule (new_app (codes "explain")) (number_rule (codes "event") 1 (2 ^ 64 - 1)))
+    (number_rule (codes "tag") 0 (2 ^ 64 - 1))) (flag_rule (codes "lost"))) (flag_rule (codes "marked"))) (flag_rule (codes "all"))
+
+abbrev pub timed_app : App
+timed_app = with_rule (with_rule choosing_app (text_rule (codes "from"))) (text_rule (codes "to"))
+
+abbrev pub explain_app : App
+explain_app = with_rule (with_rule (with_rule (with_rule (with_rule (with_rule timed_app (flag_rule (codes "summary"))) (text_rule (codes "every"))) (flag_rule (codes "csv"))) progress_rule) output_rule) file_rule
+
+-- the subcommand `params`: four texts with units, two gains, and what `tc` has or hasn't
+abbrev pub params_app : App
+params_app = with_rule (with_rule (with_rule (with_rule (with_rule (with_rule (with_rule (with_rule (with_rule (new_app (codes "params")) (text_rule (codes "rate")))
+    (text_rule (codes "target"))) (text_rule (codes "tupdate"))) (text_rule (codes "limit"))) (number_rule (codes "alpha") 0 32)) (number_rule (codes "beta") 0 32))
+    (flag_rule (codes "ecn"))) (flag_rule (codes "bytemode"))) (flag_rule (codes "dq_rate_estimator"))
+
+-- the subcommand `storm`, whose options are four numbers, and one that asks for counts
+abbrev pub storm_app : App
+storm_app = with_rule (with_rule (with_rule (with_rule (with_rule (new_app (codes "storm")) (number_rule (codes "senders") 2 8))
+    (number_rule (codes "packets") 1 10_000)) (number_rule (codes "seed") 0 (2 ^ 64 - 1))) (number_rule (codes "load") 50 200)) (flag_rule (codes "count"))
+
+-- .. `pie` with its subcommands
+abbrev pub pie_app : App
+pie_app = with_subcommand (with_subcommand (with_subcommand (with_subcommand (with_subcommand (with_subcommand pie_alone run_app.top) audit_app.top) explain_app.top) migrate_app.top)
+    storm_app.top) params_app.top
+
+-- ---- subcommands
+
+-- the words are the program's own name, whatever it is, and this subcommand's
+abbrev pub AskFor : Text → List Text → Type 0
+AskFor subcommand words = (name : Text) × (words ≡ name ∷ subcommand ∷ [])
+
+-- the subcommand that `clap` finds in any words
+abbrev pub subcommand_in : List Text → Option Text
+subcommand_in words = option_map (λ p. p.0) (subcommand_of pie_app words)
+
+-- the words ask for this subcommand, with any options: they are no request for help, and `clap` refuses them for want of memory alone
+pub record Asks (subcommand : Text) (words : List Text) : Type 0 where
+  pub taken : takes pie_app words ≡ true
+  pub found : subcommand_in words ≡ Some subcommand
+
+-- ---- options
+
+-- what the words give the options of their subcommand
+abbrev pub options_in : List Text → List Row
+options_in words = unwrap_or (option_map (λ p. p.1) (subcommand_of pie_app words)) []
+
+-- the number below 2^64 that a text writes in decimal digits
+abbrev pub number_of : Text → Option ℕ
+number_of text = if accepts false (Unsigned 0 (2 ^ 64 - 1)) text then Some (digits_value 10 (without_leading_plus text)) else None
+
+-- the number that an option is given
+abbrev pub number_given : Text → List Row → Option ℕ
+number_given name options = option_and_then number_of (one_of name options)
+
+-- an option with no value is there
+abbrev pub flag_given : Text → List Row → Bool
+flag_given name options = option_map_or (λ text. bytes_eq text (codes "true")) (one_of name options) false
+
+-- the number that an option is given, and without it another; moved into its range, though `clap` refuses words that give one out of it
+abbrev pub number_or : Text → ℕ → ℕ → ℕ → List Row → ℕ
+number_or name least most unnamed options = max least (min (unwrap_or (number_given name options) unnamed) most)
+
+-- the file that the words of a subcommand name, where it takes one
+abbrev pub file_in : List Row → Option Text
+file_in options = first_of (codes "file") options
+
+-- the files that they name, where it takes any number
+abbrev pub files_in : List Row → List Text
+files_in options = unwrap_or (all_of (codes "file") options) []
+
+-- the file that is to be made, where the options name one
+abbrev pub output_in : List Row → Option Text
+output_in options = first_of (codes "output") options
+
+-- the four numbers of `pie storm`
+abbrev pub senders_in : List Row → ℕ
+senders_in options = number_or (codes "senders") 2 8 2 options
+
+abbrev pub packets_in : List Row → ℕ
+packets_in options = number_or (codes "packets") 1 10_000 100 options
+
+abbrev pub seed_in : List Row → ℕ
+seed_in options = number_or (codes "seed") 0 (2 ^ 64 - 1) 1 options
+
+abbrev pub load_in : List Row → ℕ
+load_in options = number_or (codes "load") 50 200 100 options

@@ -1,0 +1,33 @@
+//! What the words give the options of a subcommand.
+ghost use Rattle.std.specs.Prelude.{◌≡◌, ◌≤◌};
+ghost use Rattle.clap.specs.Words.{found_of, rows_of};
+ghost use Rattle.pie_options.specs.Words.{flag_given, number_given, number_or};
+
+use clap::ArgMatches;
+
+/// The number that an option is given.
+pub fn number(options: &ArgMatches<'_>, name: &str) -> Option<u64>
+    ensures { result ≡ number_given name.now (rows_of (found_of options.now)) }
+{
+    options.get_one::<u64>(name)
+}
+
+/// The number that an option is given, or else this one. `clap` refuses words that give one out of this range.
+pub fn number_or(options: &ArgMatches<'_>, name: &str, least: u64, most: u64, unnamed: u64) -> u64
+    requires { least ≤ most }
+    ensures given { result ≡ number_or name.now least most unnamed (rows_of (found_of options.now)) }
+    ensures least { least ≤ result }
+    ensures most { result ≤ most }
+{
+    number(options, name)
+        .unwrap_or(unnamed)
+        .min(most)
+        .max(least)
+}
+
+/// Whether an option with no value is there.
+pub fn flag(options: &ArgMatches<'_>, name: &str) -> bool
+    ensures { result ≡ flag_given name.now (rows_of (found_of options.now)) }
+{
+    options.get_one::<bool>(name).unwrap_or(false)
+}

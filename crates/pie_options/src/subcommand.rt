@@ -1,0 +1,37 @@
+//! The subcommands of `pie`.
+ghost use Rattle.std.specs.Prelude.{◌≡◌, IfSome};
+ghost use Rattle.pie_options.specs.Subcommands.{word_of};
+
+/// What `pie` is asked to do.
+#[derive(Clone, Copy)]
+pub enum Subcommand {
+    /// Run a trace.
+    Run,
+    /// Audit histories.
+    Audit,
+    /// Explain a history.
+    Explain,
+    /// Write a history in version two.
+    Migrate,
+    /// Make a storm.
+    Storm,
+    /// Write parameters as a record.
+    Params,
+}
+
+impl Subcommand {
+    /// The subcommand that a word asks for.
+    pub fn named(word: &str) -> Option<Subcommand>
+        ensures { IfSome result (λ subcommand. word.now ≡ word_of subcommand) }
+    {
+        match word {
+            "run" => Some(Subcommand::Run),
+            "audit" => Some(Subcommand::Audit),
+            "explain" => Some(Subcommand::Explain),
+            "migrate" => Some(Subcommand::Migrate),
+            "storm" => Some(Subcommand::Storm),
+            "params" => Some(Subcommand::Params),
+            _ => None,
+        }
+    }
+}

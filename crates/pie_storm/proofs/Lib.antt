@@ -1,0 +1,2 @@
+mod PlanFacts
+mod StormFacts

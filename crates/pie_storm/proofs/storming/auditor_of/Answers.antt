@@ -1,0 +1,18 @@
+use Rattle.std.proofs.Common.{◌≡◌, ◌<◌, ◌+◌, ℕ, List, [], ◌∷◌, ◌++◌, length, get_or, take, map, ap, sym, ◌∙◌, add-one}
+use Rattle.std.proofs.Math.Seq.{take-suc}
+use Rattle.std.proofs.lemmas.List.{map-append}
+use Rattle.pie_book.specs.declared.command.Event.{Event}
+use Rattle.pie_record.specs.declared.history.Line.TheVariants.{Made}
+use Rattle.pie_storm.proofs.storming.auditor_of.Goals as goal
+
+-- the lines of the events so far, and of one more
+one-more : (events : List Event) (i : ℕ) (event : Event) → event ≡ get_or events i event → i < length events
+    → map Made (take (i + 1) events) ≡ map Made (take i events) ++ Made event ∷ []
+one-more events i event is within =
+    rw (add-one i, take-suc events i event within)
+    (map-append Made (take i events) (get_or events i event ∷ []) ∙ ap (λ (x : Event). map Made (take i events) ++ Made x ∷ []) (sym is))
+
+pub loop-event-preserved : goal.loop-event-preserved
+loop-event-preserved c =
+    rw (one-more c.args.events.now c.loop-event.event-index c.event-item.result c.event-item.is c.loop-event-test.true)
+    (c.feed.ensures.audits c.args.opening.now (map Made (take c.loop-event.event-index c.args.events.now)) c.loop-event.invariant)

@@ -1,0 +1,2 @@
+pub mod StormHistory
+pub mod StormPlan

@@ -1,0 +1,129 @@
+//! A storm is made by its plan, and its events are audited and written as a history.
+ghost use Rattle.std.specs.Prelude.{◌≡◌, ◌≤◌, IfOk, OnOk, map};
+ghost use Rattle.pie_book.specs.Decision.{IsLegal};
+ghost use Rattle.pie_record.specs.declared.history.Line.TheVariants.{Made};
+ghost use Rattle.pie_audit.specs.Auditor.{Audits};
+ghost use Rattle.pie_link.specs.Plans.{opening_of};
+ghost use Rattle.pie_link.specs.Storms.{IsStorm};
+ghost use Rattle.pie_storm.specs.StormHistory.{WritesHistory};
+ghost use Rattle.pie_storm.specs.StormPlan.{IsStormPlan};
+
+use crate::pace::Pace;
+use crate::plan::storm_plan;
+use pie_audit::{Auditor, Finding};
+use pie_book::{Choices, Event, Mode, OpenRefusal, Opening, Profile};
+use pie_link::{Plan, StormEnd, StormFault, storm};
+use pie_trace::{Line, TraceFault, write_history};
+use std::alloc::Global;
+use std::io::Write;
+use std::marker::Sync;
+use std::sync::Wait;
+use std::thread::Threads;
+
+/// A storm that was made (this project's own).
+#[derive(Drop)]
+pub struct MadeStorm {
+    /// What its callers did.
+    pub plan: Plan,
+    /// What the link recorded.
+    pub end: StormEnd,
+}
+
+/// Makes the storm of so many senders, packets of each, this seed and this load (`storm_plan`), under threads of the runtime.
+///
+/// # Errors
+///
+/// `Memory` where there was none for the plan, and what `storm` of pie_link answers.
+pub fn make_storm<H: Threads + Wait + Sync>(
+    rt: &H,
+    alloc: Global,
+    senders: u16,
+    packets: u32,
+    seed: u64,
+    load: u64,
+) -> Result<MadeStorm, StormFault>
+    requires some { 2 ≤ senders }
+    requires senders { senders ≤ 8 }
+    requires one { 1 ≤ packets }
+    requires packets { packets ≤ 10_000 }
+    requires load { load ≤ 200 }
+    ensures planned { IfOk result (λ made. IsStormPlan senders packets seed load made.plan) }
+    ensures legal { IfOk result (λ made. IsLegal (opening_of made.plan) made.end.events.items) }
+    ensures made { IfOk result (λ made. IsStorm made.plan made.end.events.items made.end.too_soon made.end.too_many) }
+{
+    let plan = match storm_plan(alloc, senders, packets, seed, load) {
+        Ok(plan) => plan,
+        Err(_) => return Err(StormFault::Memory),
+    };
+    match run_plan(rt, alloc, &plan) {
+        Ok(end) => Ok(MadeStorm { plan, end }),
+        Err(why) => Err(why),
+    }
+}
+
+/// Runs a plan at the storm's pace.
+fn run_plan<H: Threads + Wait + Sync>(
+    rt: &H,
+    alloc: Global,
+    plan: &Plan,
+) -> Result<StormEnd, StormFault>
+    ensures legal { IfOk result (λ end. IsLegal (opening_of plan.now) end.events.items) }
+    ensures made { IfOk result (λ end. IsStorm plan.now end.events.items end.too_soon end.too_many) }
+{
+    let pace = Pace::new(plan);
+    storm(rt, alloc, plan, &pace)
+}
+
+/// What the book of a storm is opened with.
+fn opening_of(plan: &Plan) -> Opening
+    ensures { result ≡ opening_of plan.now }
+{
+    Opening {
+        moment: plan.moment,
+        limits: plan.limits,
+        params: plan.params,
+        choices: Choices {
+            mode: Mode::Bounded,
+            profile: Profile::One,
+        },
+    }
+}
+
+/// Audits these events, which a storm of this plan left, and writes their history.
+///
+/// # Errors
+///
+/// `Memory` or `Write`, where memory or the writer fails.
+pub fn write_storm<W: Write>(
+    alloc: Global,
+    plan: &Plan,
+    events: &[Event],
+    output: &mut W,
+) -> Result<(), TraceFault>
+    requires legal { IsLegal (opening_of plan.now) events.now }
+    requires limits { plan.now.limits.events ≡ plan.now.limits.tail }
+    ensures { OnOk result (WritesHistory plan.now events.now (W.contents output.old) (W.contents output.new)) }
+{
+    let opening = opening_of(plan);
+    let auditor = match auditor_of(alloc, &opening, events) {
+        Ok(auditor) => auditor,
+        Err(_) => return Err(TraceFault::Memory),
+    };
+    match auditor.finish() {
+        Finding::Clean { .. } => {}
+        Finding::Differs { .. } => unreachable!(),
+    }
+    write_history(alloc, output, &opening, events)
+}
+
+/// An auditor that has decided each of these events again. The limits of a storm's plan are in their ranges, so only memory can
+/// be wanting.
+fn auditor_of(alloc: Global, opening: &Opening, events: &[Event]) -> Result<Auditor, OpenRefusal>
+    ensures { IfOk result (λ auditor. Audits opening.now auditor (map Made events.now)) }
+{
+    let mut auditor = Auditor::open(alloc, opening)?;
+    for event in events {
+        auditor.feed(&Line::Made(*event));
+    }
+    Ok(auditor)
+}

@@ -15,6 +15,7 @@ pub mod fault;
 pub mod moment;
 mod record;
 pub mod report;
+mod row;
 mod text;
 pub mod units;
 pub mod which;

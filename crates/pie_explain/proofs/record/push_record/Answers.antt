@@ -1,8 +1,11 @@
-use Rattle.std.specs.Prelude.{string_bytes}
-use Rattle.pie_explain.proofs.RecordFacts.{record-written}
+use Rattle.std.proofs.Common.{◌∙◌, rules}
+use Rattle.pie_explain.proofs.RecordFacts.{record-row}
 use Rattle.pie_explain.proofs.record.push_record.Goals as goal
 
 pub returns : goal.returns
 returns c =
-    record-written c.push_rest.result c.args.all.now (string_bytes c.args.page.now) (string_bytes c.push_first.new.page) (string_bytes c.push_more.new.page) (string_bytes c.push_rest.new.page)
-    c.in_ok-push_first.ensures c.in_ok-push_more.ensures c.push_rest.ensures
+    let row =
+    c.as_str.ensures
+    ∙ record-row c.args.all.now c.new-row.result c.put_active.new.row c.put_held.new.row c.put_more.new.row c.put_met.new.row c.put_packet.new.row c.put_head.new.row c.new-row.ensures
+    c.put_active.ensures.text c.put_held.ensures.text c.put_more.ensures.text c.put_met.ensures.text (rw c.packet_of.ensures at c.put_packet.ensures.text) c.put_head.ensures in
+    rw (← row) (search rules)

@@ -1,5 +1,6 @@
--- A record is put together from its end.
+-- A record is put together from three texts.
 use Rattle.std.proofs.Common.{◌≡◌, ℕ, List, [], ◌∷◌, ◌++◌, refl, sym, ap, ◌∙◌, append_assoc, codes}
+use Rattle.std.specs.Prelude.{Result, Ok, Err, OnOk}
 use Rattle.pie_explain.specs.declared.explanation.Explained.{Explained}
 use Rattle.pie_explain.specs.Record.{active_field, head_fields, held_fields, line_of, met_fields, more_fields, onto, packet_fields, record_of}
 use Rattle.pie_explain.specs.Which.{packet_of}
@@ -11,10 +12,30 @@ line-onto (f ∷ []) last = append_assoc f (codes ",") (last ++ codes "\n")
 line-onto (f ∷ (g ∷ fs)) last =
     ap (λ (l : List ℕ). f ++ codes "," ++ l) (line-onto (g ∷ fs) last) ∙ append_assoc f (codes ",") (onto (g ∷ fs) (last ++ codes "\n"))
 
-pub record-row : (all : Explained) (end active held more met packet row : List ℕ) → end ≡ codes "\n" → active ≡ active_field all.after.active ++ end
-    → held ≡ onto (held_fields all.after all.delay) active → more ≡ onto (more_fields all.told) held → met ≡ onto (met_fields all.told) more
-    → packet ≡ onto (packet_fields (packet_of all.told.event)) met → row ≡ onto (head_fields all.told) packet → row ≡ line_of (record_of all)
-record-row all end active held more met packet row end-is active-is held-is more-is met-is packet-is row-is =
-    let fields : List (List ℕ) =
-    head_fields all.told ++ packet_fields (packet_of all.told.event) ++ met_fields all.told ++ more_fields all.told ++ held_fields all.after all.delay in
-    rw (row-is, packet-is, met-is, more-is, held-is, active-is, end-is) (sym (line-onto fields (active_field all.after.active)))
+-- fields before a text are those before its front, and then its rest
+pub onto-append : (fields : List (List ℕ)) (front rest : List ℕ) → onto fields front ++ rest ≡ onto fields (front ++ rest)
+onto-append [] front rest = refl
+onto-append (f ∷ fs) front rest = append_assoc f (44 ∷ onto fs front) rest ∙ ap (λ (l : List ℕ). f ++ (44 ∷ l)) (onto-append fs front rest)
+
+-- a record's fields up to the numbers after the event
+abbrev pub front_of : Explained → List (List ℕ)
+front_of all = head_fields all.told ++ packet_fields (packet_of all.told.event) ++ met_fields all.told ++ more_fields all.told
+
+pub record-is : (all : Explained) (old : List ℕ)
+    → ((old ++ onto (front_of all) []) ++ onto (held_fields all.after all.delay) []) ++ (active_field all.after.active ++ codes "\n") ≡ old ++ line_of (record_of all)
+record-is all old =
+    let held : List (List ℕ) = held_fields all.after all.delay in
+    let last : List ℕ = active_field all.after.active ++ codes "\n" in
+    append_assoc (old ++ onto (front_of all) []) (onto held []) last ∙ append_assoc old (onto (front_of all) []) (onto held [] ++ last)
+    ∙ ap (λ (l : List ℕ). old ++ l)
+    (ap (λ (l : List ℕ). onto (front_of all) [] ++ l) (onto-append held [] last) ∙ onto-append (front_of all) [] (onto held last)
+    ∙ sym (line-onto (front_of all ++ held) (active_field all.after.active)))
+
+-- where the three were written, the record was
+pub record-written : {A E : Type 0} (result : Result A E) (all : Explained) (old with_front with_held new : List ℕ) → with_front ≡ old ++ onto (front_of all) []
+    → with_held ≡ with_front ++ onto (held_fields all.after all.delay) [] → OnOk result (new ≡ with_held ++ (active_field all.after.active ++ codes "\n"))
+    → OnOk result (new ≡ old ++ line_of (record_of all))
+record-written (Err why) all old with_front with_held new front-is held-is is = tt
+record-written (Ok done) all old with_front with_held new front-is held-is is =
+    let last : List ℕ = active_field all.after.active ++ codes "\n" in
+    is ∙ ap (λ (l : List ℕ). l ++ last) (held-is ∙ ap (λ (l : List ℕ). l ++ onto (held_fields all.after all.delay) []) front-is) ∙ record-is all old

@@ -12,6 +12,7 @@ pub mod choice;
 pub mod explainer;
 pub mod explanation;
 pub mod fault;
+mod held;
 pub mod moment;
 mod record;
 pub mod report;

@@ -6,3 +6,4 @@ pub mod MomentFacts
 pub mod RecordFacts
 pub mod WordFacts
 pub mod ReportFacts
+pub mod RowFacts

@@ -1,6 +1,6 @@
 -- Digits of a text, one more at a time, and the number that they write.
 use Rattle.std.proofs.Common.{◌≡◌, ◌+◌, ◌*◌, ◌-◌, ◌<◌, ◌≤◌, arith, ℕ, List, [], ◌∷◌, ◌++◌, length, drop, slice_index, true, false, refl, sym, ap, ◌∙◌}
-use Rattle.std.specs.Prelude.{Bool, min, nat_le}
+use Rattle.std.specs.Prelude.{min}
 use Rattle.std.specs.Char.{is_ascii_digit}
 use Rattle.std.proofs.lemmas.List.{drop_all, drop_more}
 use Rattle.pie_explain.specs.Moment.{digit_count, moment_at, number_after}

@@ -9,6 +9,7 @@ use Rattle.pie_book.specs.declared.command.Command.{Command}
 use Rattle.pie_book.specs.declared.command.Command.TheVariants.{Arrive, Depart, Update, Reset, SetParams}
 use Rattle.pie_book.specs.declared.command.Answer.{Answer}
 use Rattle.pie_book.specs.declared.command.Answer.TheVariants.{Enqueued, Marked, DroppedEarly, DroppedBytes, DroppedPackets, Empty, Left, Updated, Done}
+use Rattle.pie_book.specs.declared.registers.Registers.{Registers}
 use Rattle.pie_book.specs.Deed.{handed_in}
 use Rattle.pie_record.specs.declared.words.Kind.TheVariants as kind
 use Rattle.pie_record.specs.declared.words.Said.TheVariants as said
@@ -134,22 +135,15 @@ line_of (field ∷ (next ∷ fields)) = field ++ codes "," ++ line_of (next ∷ 
 
 -- ---- its parts, as they are written
 
--- each field with a comma after it
-abbrev pub with_commas : List (List ℕ) → List ℕ
-with_commas [] = []
-with_commas (field ∷ fields) = field ++ codes "," ++ with_commas fields
+-- these fields, each with a comma after it, before the end of a line
+abbrev pub onto : List (List ℕ) → List ℕ → List ℕ
+onto [] end = end
+onto (field ∷ fields) end = field ++ (44 ∷ onto fields end)
 
-abbrev pub head : Explanation → List ℕ
-head told = with_commas (head_fields told)
+-- what a controller holds
+abbrev pub held_fields : Registers → ℕ → List (List ℕ)
+held_fields held delay =
+    decimal held.bytes ∷ decimal held.packets ∷ decimal delay ∷ decimal held.prob ∷ decimal held.accu ∷ decimal held.burst ∷ []
 
-abbrev pub packet_fields : Option Packet → List ℕ
-packet_fields packet = with_commas (tag_field packet ∷ size_field packet ∷ [])
-
-abbrev pub met : Explanation → List ℕ
-met told = with_commas (met_fields told)
-
-abbrev pub more : Explanation → List ℕ
-more told = with_commas (more_fields told)
-
-abbrev pub rest : Explained → List ℕ
-rest all = line_of (after_fields all)
+abbrev pub packet_fields : Option Packet → List (List ℕ)
+packet_fields packet = tag_field packet ∷ size_field packet ∷ []

@@ -6,7 +6,7 @@ ghost use Rattle.pie_explain.specs.Report.{Grows};
 
 use crate::explainer::Form;
 use crate::explanation::Explained;
-use crate::record::{HEADER, push_record};
+use crate::record::{HEADER, RecordWriter};
 use crate::text::push_text;
 use std::alloc::AllocError;
 
@@ -59,17 +59,22 @@ fn push_header(page: &mut String, form: Form) -> Result<(), AllocError>
 
 /// Writes an explanation onto the page.
 #[tactic(auto, unfolding(crate::specs::Output::said_of))]
-fn push_said(page: &mut String, form: Form, told: &Explained) -> Result<(), AllocError>
+fn push_said(
+    page: &mut String,
+    records: &mut RecordWriter,
+    form: Form,
+    told: &Explained,
+) -> Result<(), AllocError>
     ensures { OnOk result (string_bytes page.new ≡ string_bytes page.old ++ said_of form told.now) }
 {
     match form {
         Form::Text => push_text(page, told),
-        Form::Csv => push_record(page, told),
+        Form::Csv => records.push(page, told),
     }
 }
 
 impl Report for Form {
-    type State = ();
+    type State = RecordWriter;
 
     ghost use Rattle.std.specs.Prelude.{⊤};
     ghost use Rattle.pie_explain.specs.Output.{pages};
@@ -80,15 +85,21 @@ impl Report for Form {
 
     ghost whole = { pages };
 
-    fn begin(&self, page: &mut String) -> Result<(), AllocError> {
-        push_header(page, *self)
+    fn begin(&self, page: &mut String) -> Result<RecordWriter, AllocError> {
+        push_header(page, *self)?;
+        Ok(RecordWriter::new())
     }
 
-    fn tell(&self, state: &mut (), told: &Explained, page: &mut String) -> Result<(), AllocError> {
-        push_said(page, *self, told)
+    fn tell(
+        &self,
+        state: &mut RecordWriter,
+        told: &Explained,
+        page: &mut String,
+    ) -> Result<(), AllocError> {
+        push_said(page, state, *self, told)
     }
 
-    fn end(&self, state: &(), page: &mut String) -> Result<(), AllocError> {
+    fn end(&self, state: &RecordWriter, page: &mut String) -> Result<(), AllocError> {
         Ok(())
     }
 }

@@ -1,6 +1,5 @@
 use Rattle.std.proofs.Common.{◌∙◌, sym}
 use Rattle.std.specs.Prelude.{Err, string_bytes}
-use Rattle.std.specs.Io.KnownBytes.{append_known}
 use Rattle.pie_audit.specs.Finding.{finding}
 use Rattle.pie_explain.specs.declared.fault.ExplainFault.TheVariants.{Trace}
 use Rattle.pie_explain.proofs.EndFacts.{fault-promises, heard-promises, promises-answers, promises-audited, promises-writes, same-answered}

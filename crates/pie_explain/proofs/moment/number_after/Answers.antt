@@ -1,4 +1,4 @@
-use Rattle.std.proofs.Common.{◌≡◌, ◌∙◌, ◌≤◌, ◌-◌, ◌^◌, arith, length, slice_index}
+use Rattle.std.proofs.Common.{◌∙◌, ◌≤◌, arith, length}
 use Rattle.pie_explain.proofs.MomentFacts.{number-end, number-more}
 use Rattle.pie_explain.proofs.moment.number_after.Goals as goal
 

@@ -34,11 +34,6 @@ fn updated() -> Answer {
     }
 }
 
-// Whether this is why an update was refused as too soon.
-fn is_too_soon(why: Refusal) -> bool {
-    why == Refusal::TooSoon { due: 15_000_000 }
-}
-
 // Whether the registers show one packet of 100 bytes after one event.
 fn shows_one(link: &Link, caller: &mut Caller) -> bool
     requires own { caller.old.lock ≡ link.now }
@@ -62,10 +57,10 @@ fn first_calls(link: &Link, caller: &mut Caller) -> bool
     );
     let shown = shows_one(link, caller);
     let left = is_tried(link.try_depart(caller, 20), Answer::Left(packet(1)), 2);
-    let soon = match link.try_update(caller, 20) {
-        Err(Tried::Refused(why)) => is_too_soon(why),
-        _ => false,
-    };
+    let soon = matches!(
+        link.try_update(caller, 20),
+        Err(Tried::Refused(Refusal::TooSoon { due: 15_000_000 }))
+    );
     let made = is_tried(link.try_update(caller, 15_000_000), updated(), 3);
     arrived && shown && left && soon && made
 }
@@ -125,10 +120,10 @@ fn first_waiting_calls<R: Wait>(rt: &R, link: &Link, caller: &mut Caller) -> boo
     );
     let shown = link.registers(rt, caller);
     let left = is_told(link.depart(rt, caller, 20), Answer::Left(packet(1)), 2);
-    let soon = match link.update(rt, caller, 20) {
-        Err(why) => is_too_soon(why),
-        Ok(_) => false,
-    };
+    let soon = matches!(
+        link.update(rt, caller, 20),
+        Err(Refusal::TooSoon { due: 15_000_000 })
+    );
     let made = is_told(link.update(rt, caller, 15_000_000), updated(), 3);
     arrived && shown.answer.bytes == 100 && shown.number == 1 && left && soon && made
 }
@@ -202,10 +197,10 @@ fn fills_and_folds(link: &Link, caller: &mut Caller) -> bool
     requires own { caller.old.lock ≡ link.now }
 {
     let two = arrives(link, caller, 1) && arrives(link, caller, 2);
-    let full = match link.try_arrive(caller, 3, packet(3), 0) {
-        Err(Tried::Refused(why)) => why == Refusal::HistoryFull,
-        _ => false,
-    };
+    let full = matches!(
+        link.try_arrive(caller, 3, packet(3), 0),
+        Err(Tried::Refused(Refusal::HistoryFull))
+    );
     let few = is_refused(link, caller, 3, 2);
     let first = is_folded(link, caller, 1, 1);
     two && full && few && first && arrives(link, caller, 3)

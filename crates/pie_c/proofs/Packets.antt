@@ -176,21 +176,26 @@ verdict-later s t a b moment h v at held is same = rw (is, held, same, at) refl
 
 -- ---- the state after the other calls
 
-pub reset-state : (s : PieState) (h g : Held) (moment : ℕ) → is_sound s ≡ true → h ≡ held_in s → g ≡ reset h moment → with_registers s g ≡ state_of (reset (held_in s) moment)
+pub reset-state : (s : PieState) (h g : Held) (moment : ℕ) → is_sound s ≡ true → h ≡ held_in s → g ≡ reset h moment
+    → with_registers s g ≡ state_of (reset (held_in s) moment)
 unfolding held_in
 reset-state s h g moment sound held after = rw (after, held) (registers-state s (reset (held_in s) moment) refl (kind-back s sound))
 
-pub changed-state : (s : PieState) (params : PieParams) (raw : RawParams) (h g : Held) (moment : ℕ) → is_sound s ≡ true → h ≡ held_in s → g ≡ changed h raw moment
+pub changed-state : (s : PieState) (params : PieParams) (raw : RawParams) (h g : Held) (moment : ℕ) → is_sound s ≡ true → h ≡ held_in s
+    → g ≡ changed h raw moment
     → with_rate (record s { params = params }) g ≡ state_of (changed (held_in s) (raw_of params) moment)
 unfolding held_in state_of
 changed-state s params raw h g moment sound held after =
-    rw (after, held) (ap (λ (t : PieState). with_rate (record t { params = params }) (changed (held_in s) (raw_of params) moment)) (sym (state-held s sound)))
+    rw (after, held)
+    (ap (λ (t : PieState). with_rate (record t { params = params }) (changed (held_in s) (raw_of params) moment)) (sym (state-held s sound)))
 
-pub opened-state : (s : PieState) (params : PieParams) (raw : RawParams) (g : Held) (moment number profile : ℕ) (kind : Profile) → ((profile == 1) || (profile == 2)) ≡ true
+pub opened-state : (s : PieState) (params : PieParams) (raw : RawParams) (g : Held) (moment number profile : ℕ) (kind : Profile)
+    → ((profile == 1) || (profile == 2)) ≡ true
     → number ≡ profile → kind ≡ profile_of number → raw ≡ raw_of params → g ≡ opened kind raw moment
     → with_registers (record s { params = params; profile = number }) g ≡ state_of (opened (profile_of profile) (raw_of params) moment)
 opened-state s params raw g moment number profile kind known same of is after =
-    rw (after, of, is, same) (registers-state (record s { params = params; profile = profile }) (opened (profile_of profile) (raw_of params) moment) refl (by (profile == 2) refl))
+    rw (after, of, is, same)
+    (registers-state (record s { params = params; profile = profile }) (opened (profile_of profile) (raw_of params) moment) refl (by (profile == 2) refl))
   where
     by : (two : Bool) → (profile == 2) ≡ two → profile_number (if two then Two else One) ≡ profile
     by true is = grind (arith, nat_tests)

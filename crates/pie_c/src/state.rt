@@ -76,7 +76,7 @@ impl PieState {
         self.active = u64::from(held.active);
     }
 
-    /// What a departure changes: the moment and the estimate of the departure rate.
+    /// What a departure changes, and new parameters beside themselves: the moment and the estimate of the departure rate.
     #[inline(always)]
     pub(crate) fn keep_departed(&mut self, held: &RawController)
         ensures { self.new ≡ with_rate self.old (held_by held.now) }

@@ -3,7 +3,7 @@ use Rattle.std.proofs.Common.{◌≡◌, ◌≤◌, ℕ, true, false, arith}
 use Rattle.std.specs.Prelude.{None, nat_le, nat_lt}
 use Rattle.std.proofs.lemmas.Bool.Decides.{nat_tests}
 use Rattle.pie_params.specs.declared.raw.RawParams.{RawParams}
-use Rattle.pie_params.specs.Range.{IsInRange, first_bad, is_dq_threshold}
+use Rattle.pie_params.specs.Range.{IsInRange, first_bad}
 
 pub leb : (a b : ℕ) → nat_le a b ≡ true → a ≤ b
 leb a b e = grind (arith, nat_tests)

@@ -19,7 +19,8 @@ unfolding are_in_range
 returns-clause-sound c sound =
     let a = c.args in
     let good : are_in_range a.params.now ≡ true = search rules in
-    stays-sound a.state.now _ (Change (raw_of a.params.now) a.moment) _ sound (returns-clause-after c) (λ free. (omega arith, params-from a.params.now good))
+    stays-sound a.state.now _ (Change (raw_of a.params.now) a.moment) _ sound (returns-clause-after c)
+    (λ free. (omega arith, params-from a.params.now good))
 
 pub returns-clause-shows : goal.returns-clause-shows
 returns-clause-shows c opened events free =

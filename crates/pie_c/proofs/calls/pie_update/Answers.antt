@@ -27,17 +27,21 @@ update-delay-requires-clause-sound c = rw c.raw-held.ensures (held-sound c.args.
 pub made-requires-2 : goal.made-requires-2
 made-requires-2 c =
     let a = c.args in
-    stays_sound _ _ (c.update-delay.ensures.after ∙ ap (λ (h : Held). updated h a.queued a.moment) c.raw-held.ensures) (Sound_call (held_in a.state.now) (held-sound a.state.now (search rules)) (Update a.queued a.moment) (omega arith))
+    stays_sound _ _ (c.update-delay.ensures.after ∙ ap (λ (h : Held). updated h a.queued a.moment) c.raw-held.ensures)
+    (Sound_call (held_in a.state.now) (held-sound a.state.now (search rules)) (Update a.queued a.moment) (omega arith))
 
 pub returns-clause-after : goal.returns-clause-after
 unfolding update_refusal
 returns-clause-after c = search rules
 
 pub returns-clause-sound : goal.returns-clause-sound
-returns-clause-sound c sound = let a = c.args in stays-sound a.state.now _ (Update a.queued a.moment) (update_refusal a.state.now a.queued a.moment) sound (returns-clause-after c) (λ free. omega arith)
+returns-clause-sound c sound =
+    let a = c.args in
+    stays-sound a.state.now _ (Update a.queued a.moment) (update_refusal a.state.now a.queued a.moment) sound (returns-clause-after c) (λ free. omega arith)
 
 pub returns-clause-shows : goal.returns-clause-shows
 returns-clause-shows c opened events free =
     let a = c.args in
     let sound : is_sound a.state.now ≡ true = search rules in
-    shows-call a.state.now _ (Update a.queued a.moment) (update_refusal a.state.now a.queued a.moment) sound (returns-clause-after c) opened events free
+    shows-call a.state.now _ (Update a.queued a.moment)
+    (update_refusal a.state.now a.queued a.moment) sound (returns-clause-after c) opened events free

@@ -17,7 +17,8 @@ lost-chosen : (name : Text) → choice_of (options_in (name ∷ codes "explain" 
 unfolding clap_on_literals
 lost-chosen name = refl
 
-event-chosen : (name : Text) → choice_of (options_in (name ∷ codes "explain" ∷ codes "--csv" ∷ codes "--event" ∷ codes "10" ∷ [])) ≡ Some (at_all_moments (Number 10))
+event-chosen : (name : Text) → choice_of (options_in (name ∷ codes "explain" ∷ codes "--csv" ∷ codes "--event" ∷ codes "10" ∷ []))
+    ≡ Some (at_all_moments (Number 10))
 unfolding clap_on_literals
 event-chosen name = refl
 

@@ -13,7 +13,8 @@ use Rattle.pie_explain.specs.Output.{output}
 use Rattle.pie.specs.Choice.{choice_of, tale_of}
 use Rattle.pie.specs.ExplainEnds.{EndsExplain, WritesOrFails, answer_status, explain_ends}
 
-explain_ends-failed : (choice : Option Choice) (tale : List Explained → List ℕ) (text : List ℕ) (status : ℕ) (before now : Option (List ℕ)) → status ≡ 1 → now ≡ before
+explain_ends-failed : (choice : Option Choice) (tale : List Explained → List ℕ) (text : List ℕ) (status : ℕ) (before now : Option (List ℕ))
+    → status ≡ 1 → now ≡ before
     → explain_ends choice tale text status before now
 explain_ends-failed None tale text status before now one same = (one, same)
 explain_ends-failed (Some choice) tale text status before now one same = inl one
@@ -21,7 +22,8 @@ explain_ends-failed (Some choice) tale text status before now one same = inl one
 pub EndsExplain-failed : (options : List Row) (known : Option (List ℕ)) (status : ℕ) (before now : Option (List ℕ)) → status ≡ 1 → now ≡ before
     → IfSome known (λ text. EndsExplain options text status before now)
 EndsExplain-failed options None status before now one same = tt
-EndsExplain-failed options (Some text) status before now one same = explain_ends-failed (choice_of options) (tale_of options) text status before now one same
+EndsExplain-failed options (Some text) status before now one same = explain_ends-failed (choice_of options) (tale_of options) text status before now
+    one same
 
 -- what `explain` answered and wrote; where a device or memory failed, it said so, and the status is 1
 explained-so : (text : List ℕ) (status : ℕ) (before now : Option (List ℕ)) (given told : Result ℕ ExplainFault) → status ≡ answer_status given
@@ -33,7 +35,8 @@ explained-so text status before now (Err (fault.NoEvent event events)) told is a
 explained-so text status before now (Err (fault.NoTag tag)) told is answers writes = inl is
 explained-so text status before now (Err fault.NoneWithin) told is answers writes = inl is
 
-pub EndsExplain-told : (choice : Choice) (tale : List Explained → List ℕ) (known : Option (List ℕ)) (status : ℕ) (before now : Option (List ℕ)) (given : Result ℕ ExplainFault) → status ≡ answer_status given
+pub EndsExplain-told : (choice : Choice) (tale : List Explained → List ℕ) (known : Option (List ℕ)) (status : ℕ) (before now : Option (List ℕ))
+    (given : Result ℕ ExplainFault) → status ≡ answer_status given
     → IfSome known (λ text. is_told given → given ≡ answer choice (records_of text))
     → IfSome known (λ text. is_told given → Appends before now (output tale choice (records_of text)))
     → IfSome known (λ text. explain_ends (Some choice) tale text status before now)

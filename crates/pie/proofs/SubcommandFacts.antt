@@ -17,17 +17,21 @@ use Rattle.pie_files.proofs.EndFacts.{EndsAudits-failed, EndsMigrate-failed, End
 use Rattle.pie.proofs.ExplainFacts.{EndsExplain-failed}
 
 -- a subcommand that never began has failed, and wrote nothing
-pub EndsAs-failed : {M : Type 0} (contents : M → Option (List ℕ)) (makes : Text → M → Type 0) (subcommand : Subcommand) (options : List Row) (input : Option (List ℕ)) (files : Text → Option (List ℕ)) (before now : Option (List ℕ)) → now ≡ before
+pub EndsAs-failed : {M : Type 0} (contents : M → Option (List ℕ)) (makes : Text → M → Type 0) (subcommand : Subcommand) (options : List Row)
+    (input : Option (List ℕ)) (files : Text → Option (List ℕ)) (before now : Option (List ℕ)) → now ≡ before
     → EndsAs contents makes subcommand options input files Failed before now
 EndsAs-failed contents makes Run options input files before now same =
-    ends-failed contents makes (output_in options) (λ end before now. IfSome (text_given input files (file_in options)) (λ text. EndsRun text end before now)) before now same
+    ends-failed contents makes (output_in options) (λ end before now. IfSome (text_given input files (file_in options))
+    (λ text. EndsRun text end before now)) before now same
     (EndsRun-failed (text_given input files (file_in options)) before now same)
 EndsAs-failed contents makes Audit options input files before now same = EndsAudits-failed input files (files_in options) before now same
 EndsAs-failed contents makes Explain options input files before now same =
-    ends-failed contents makes (output_in options) (λ end before now. IfSome (text_given input files (file_in options)) (λ text. EndsExplain options text (status_of end) before now)) before now same
+    ends-failed contents makes (output_in options) (λ end before now. IfSome (text_given input files (file_in options))
+    (λ text. EndsExplain options text (status_of end) before now)) before now same
     (EndsExplain-failed options (text_given input files (file_in options)) 1 before now refl same)
 EndsAs-failed contents makes Migrate options input files before now same =
-    ends-failed contents makes (output_in options) (λ end before now. IfSome (text_given input files (file_in options)) (λ text. EndsMigrate text end before now)) before now same
+    ends-failed contents makes (output_in options) (λ end before now. IfSome (text_given input files (file_in options))
+    (λ text. EndsMigrate text end before now)) before now same
     (EndsMigrate-failed (text_given input files (file_in options)) before now same)
 EndsAs-failed contents makes Storm options input files before now same = inl refl
 EndsAs-failed contents makes Params options input files before now same = inl refl

@@ -62,7 +62,8 @@ chosen _ _ _ _ _ _ = None
 
 -- the events that these options choose
 abbrev pub which_of : List Row → Option Which
-which_of options = chosen (is_summary options) (number_given (codes "event") options) (number_given (codes "tag") options) (flag_given (codes "lost") options)
+which_of options = chosen (is_summary options) (number_given (codes "event") options) (number_given (codes "tag") options)
+    (flag_given (codes "lost") options)
     (flag_given (codes "marked") options) (flag_given (codes "all") options)
 
 -- a period lasts some time

@@ -10,4 +10,5 @@ use Rattle.pie_storm.specs.StormPlan.{IsStormPlan}
 -- the writer failed
 abbrev pub EndsStorm : List Row → ℕ → Option (List ℕ) → Option (List ℕ) → Type 0
 EndsStorm options status before now =
-    (status ≡ 1) ⊎ ((status ≡ 0) × ((plan : Plan) × IsStormPlan (senders_in options) (packets_in options) (seed_in options) (load_in options) plan × WritesStorm plan before now))
+    (status ≡ 1) ⊎ ((status ≡ 0) × ((plan : Plan) × IsStormPlan (senders_in options) (packets_in options) (seed_in options) (load_in options) plan
+    × WritesStorm plan before now))

@@ -71,7 +71,8 @@ pub fn command<H: Threads + Wait + Sync + NamedFiles + Screen, R: Read + Drop, W
     errors: &mut E,
 ) -> End
     ensures status { status_of result ≤ 2 }
-    ensures differs { result ≡ End.Differs → (subcommand_in (map string_bytes words.now) ≡ Some (codes "audit")) ⊎ (subcommand_in (map string_bytes words.now) ≡ Some (codes "explain")) }
+    ensures differs { result ≡ End.Differs → (subcommand_in (map string_bytes words.now) ≡ Some (codes "audit"))
+        ⊎ (subcommand_in (map string_bytes words.now) ≡ Some (codes "explain")) }
     ensures runs { AskFor (codes "run") (map string_bytes words.now)
         → IfSome (R.remaining input) (λ text. EndsRun text result (W.contents output.old) (W.contents output.new)) }
     ensures audits { AskFor (codes "audit") (map string_bytes words.now)
@@ -80,16 +81,20 @@ pub fn command<H: Threads + Wait + Sync + NamedFiles + Screen, R: Read + Drop, W
         → IfSome (R.remaining input) (λ text. EndsMigrate text result (W.contents output.old) (W.contents output.new)) }
     ensures runs_file { Asks (codes "run") (map string_bytes words.now)
         → EndsIn H.Made.contents (H.makes rt.now) (output_in (options_in (map string_bytes words.now)))
-        (λ end before now. IfSome (text_given (R.remaining input) (H.holds rt.now) (file_in (options_in (map string_bytes words.now)))) (λ text. EndsRun text end before now)) result (W.contents output.old) (W.contents output.new) }
-    ensures audits_files { Asks (codes "audit") (map string_bytes words.now) → (name : Text) (names : List Text) → files_in (options_in (map string_bytes words.now)) ≡ name ∷ names
+        (λ end before now. IfSome (text_given (R.remaining input) (H.holds rt.now) (file_in (options_in (map string_bytes words.now))))
+        (λ text. EndsRun text end before now)) result (W.contents output.old) (W.contents output.new) }
+    ensures audits_files { Asks (codes "audit") (map string_bytes words.now) → (name : Text) (names : List Text)
+        → files_in (options_in (map string_bytes words.now)) ≡ name ∷ names
         → EndsFiles (R.remaining input) (H.holds rt.now) (name ∷ names) result (W.contents output.old) (W.contents output.new) }
     ensures migrates_file { Asks (codes "migrate") (map string_bytes words.now)
         → EndsIn H.Made.contents (H.makes rt.now) (output_in (options_in (map string_bytes words.now)))
-        (λ end before now. IfSome (text_given (R.remaining input) (H.holds rt.now) (file_in (options_in (map string_bytes words.now)))) (λ text. EndsMigrate text end before now)) result (W.contents output.old) (W.contents output.new) }
+        (λ end before now. IfSome (text_given (R.remaining input) (H.holds rt.now) (file_in (options_in (map string_bytes words.now))))
+        (λ text. EndsMigrate text end before now)) result (W.contents output.old) (W.contents output.new) }
     ensures explains { Asks (codes "explain") (map string_bytes words.now)
         → EndsIn H.Made.contents (H.makes rt.now) (output_in (options_in (map string_bytes words.now)))
         (λ end before now. IfSome (text_given (R.remaining input) (H.holds rt.now) (file_in (options_in (map string_bytes words.now))))
-        (λ text. EndsExplain (options_in (map string_bytes words.now)) text (status_of end) before now)) result (W.contents output.old) (W.contents output.new) }
+        (λ text. EndsExplain (options_in (map string_bytes words.now)) text (status_of end) before now)) result (W.contents output.old)
+        (W.contents output.new) }
     ensures storms { Asks (codes "storm") (map string_bytes words.now)
         → EndsStorm (options_in (map string_bytes words.now)) (status_of result) (W.contents output.old) (W.contents output.new) }
     ensures params { Asks (codes "params") (map string_bytes words.now)
@@ -108,9 +113,11 @@ fn answer<H: Threads + Wait + Sync + NamedFiles + Screen, R: Read + Drop, W: Wri
     errors: &mut E,
 ) -> End
     ensures status { status_of result ≤ 2 }
-    ensures differs { result ≡ End.Differs → (subcommand_in (map string_bytes words.now) ≡ Some (codes "audit")) ⊎ (subcommand_in (map string_bytes words.now) ≡ Some (codes "explain")) }
+    ensures differs { result ≡ End.Differs → (subcommand_in (map string_bytes words.now) ≡ Some (codes "audit"))
+        ⊎ (subcommand_in (map string_bytes words.now) ≡ Some (codes "explain")) }
     ensures ends { (subcommand : Subcommand) → Asks (word_of subcommand) (map string_bytes words.now)
-        → EndsAs H.Made.contents (H.makes rt.now) subcommand (options_in (map string_bytes words.now)) (R.remaining input) (H.holds rt.now) result (W.contents output.old) (W.contents output.new) }
+        → EndsAs H.Made.contents (H.makes rt.now) subcommand (options_in (map string_bytes words.now)) (R.remaining input) (H.holds rt.now) result
+        (W.contents output.old) (W.contents output.new) }
 {
     let options = match options(alloc) {
         Ok(options) => options,
@@ -141,7 +148,8 @@ fn perform<H: Threads + Wait + Sync + NamedFiles + Screen, R: Read + Drop, W: Wr
 ) -> End
     ensures status { status_of result ≤ 2 }
     ensures differs { result ≡ End.Differs → (subcommand ≡ Subcommand.Audit) ⊎ (subcommand ≡ Subcommand.Explain) }
-    ensures ends { EndsAs H.Made.contents (H.makes rt.now) subcommand (rows_of (found_of options.now)) (R.remaining input) (H.holds rt.now) result (W.contents output.old) (W.contents output.new) }
+    ensures ends { EndsAs H.Made.contents (H.makes rt.now) subcommand (rows_of (found_of options.now)) (R.remaining input) (H.holds rt.now) result
+        (W.contents output.old) (W.contents output.new) }
 {
     match subcommand {
         Subcommand::Audit => audit_given(rt, alloc, options, input, output, errors),

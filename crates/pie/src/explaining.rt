@@ -218,7 +218,8 @@ fn explain_input<H: Clock, R: Read + Drop, W: Write, E: Write>(
     errors: &mut E,
 ) -> u8
     ensures status { result ≤ 2 }
-    ensures explains { IfSome (R.remaining input) (λ text. EndsExplain (rows_of (found_of options.now)) text result (W.contents output.old) (W.contents output.new)) }
+    ensures explains { IfSome (R.remaining input) (λ text. EndsExplain (rows_of (found_of options.now)) text result (W.contents output.old)
+        (W.contents output.new)) }
 {
     let Some(choice) = choice_of(options, errors) else {
         return FAULT;

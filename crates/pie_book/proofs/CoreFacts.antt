@@ -1,11 +1,13 @@
 -- What a core holds, where it shows a history, is what looking back over the history gives; and it shows the history with one event more
 -- after each command.
-use Rattle.std.proofs.Common.{◌≡◌, ◌≤◌, ◌<◌, ◌+◌, ℕ, List, [], ◌∷◌, ◌++◌, map, length, drop, Bool, true, false, refl, ap, ◌∙◌, sym, arith, length-append, max, None, Some, All, if◌then◌else◌}
+use Rattle.std.proofs.Common.{◌≡◌, ◌≤◌, ◌<◌, ◌+◌, ℕ, List, [], ◌∷◌, ◌++◌, map, length, drop, Bool, true, false, refl, ap, ◌∙◌, sym, arith}
+use Rattle.std.proofs.Common.{length-append, max, None, Some, All, if◌then◌else◌}
 use Rattle.std.specs.Option.{is_some, option_to_list}
 use Rattle.std.proofs.lemmas.List.{append-nil, append_assoc, map-append}
 use Rattle.std.proofs.lemmas.List.Elements.{All-append, All-cons, All-head, All-nil, All-tail}
 use Rattle.std.proofs.lemmas.List.Sums.{sum_by-append}
-use Rattle.pie_book.specs.Types.{Packet, Waiting, One, Arrival, Verdict, Held, Command, Arrive, Depart, Update, Reset, SetParams, Answer, Enqueued, Event, Opening, Stats, Registers}
+use Rattle.pie_book.specs.Types.{Packet, Waiting, One, Arrival, Verdict, Held, Command, Arrive, Depart, Update, Reset, SetParams, Answer, Enqueued}
+use Rattle.pie_book.specs.Types.{Event, Opening, Stats, Registers}
 use Rattle.pie_queue.specs.Queue.{bytes_of}
 use Rattle.pie_controller.specs.declared.verdict.Verdict.TheVariants as verdict
 use Rattle.pie_controller.specs.Calls.{after_call, shown_by}
@@ -63,7 +65,8 @@ answer-fits h (oldest ∷ others) packets (Depart moment) = refl
 answer-fits h waiting packets _ = refl
 
 -- what holds of each place of a history holds of the place between these events
-pub at_place : (P : Place Event → Type 0) (before : List Event) (event : Event) (rest : List Event) → All P (places (before ++ event ∷ rest)) → P (place_of before event)
+pub at_place : (P : Place Event → Type 0) (before : List Event) (event : Event) (rest : List Event) → All P (places (before ++ event ∷ rest))
+    → P (place_of before event)
 unfolding places
 at_place P [] event rest all = All-head P (place_of [] event) (map (after event) (places rest)) all
 at_place P (first ∷ before) event rest all =
@@ -81,7 +84,8 @@ unfolding departed_count
 none-departed = refl
 
 -- in a legal history no more packets have departed than were queued
-pub departed-of-legal : (opening : Opening) (history : List Event) → IsLegal opening history → departed_count history ≤ length (admitted opening history)
+pub departed-of-legal : (opening : Opening) (history : List Event) → IsLegal opening history
+    → departed_count history ≤ length (admitted opening history)
 departed-of-legal opening history legal = go [] history (let none = none-departed in omega arith) legal
   where
     go : (before rest : List Event) → departed_count before ≤ length (admitted opening before) → IsLegal opening (before ++ rest)
@@ -153,13 +157,15 @@ module _ (opening : Opening) (core : CoreView) (history : List Event) (shows : S
   next-decided command = rw (held-is, shows.waiting, shows.packets) refl
 
   pub cause-is : (moment : ℕ) (packet : Packet) (word : ℕ)
-      → Some (cause core.held (arrival_of core.waiting core.packets packet word) (length core.waiting)) ≡ cause_after opening history (Arrive moment packet word)
+      → Some (cause core.held (arrival_of core.waiting core.packets packet word) (length core.waiting))
+      ≡ cause_after opening history (Arrive moment packet word)
   cause-is moment packet word = rw (held-is, shows.waiting, shows.packets) refl
 
 -- ---- with no event
 
 -- a core with no event and no packet whose controller holds what it opens with
-pub Shows-opened : (opening : Opening) (core : CoreView) → core.packets ≡ opening.limits.packets → core.events ≡ opening.limits.events → core.held ≡ opened_by opening
+pub Shows-opened : (opening : Opening) (core : CoreView) → core.packets ≡ opening.limits.packets → core.events ≡ opening.limits.events
+    → core.held ≡ opened_by opening
     → core.count ≡ 0 → core.waiting ≡ [] → core.stats ≡ no_stats → Shows opening core []
 unfolding places admitted departed_count effective_moment greatest waiting_after shown stats_after largest_queue largest_delay waited
 Shows-opened opening core packets events held count waiting stats = record {
@@ -181,21 +187,26 @@ bytes-more waiting one = let sum = sum_by-append (λ (w : Waiting). w.packet.siz
 
 -- an arrival as the controller is shown it
 arrival-shown : (packet : Packet) (now : ℕ) (waiting : List Waiting) (moment : ℕ) (v : Verdict)
-    → event_shown (arrival_deed packet (answer_of v)) (bytes_of waiting) (bytes_of (waiting_next waiting now (arrival_deed packet (answer_of v)))) moment
+    → event_shown (arrival_deed packet (answer_of v)) (bytes_of waiting) (bytes_of (waiting_next waiting now (arrival_deed packet (answer_of v))))
+    moment
     ≡ Arrived v (bytes_of waiting) (bytes_with v (bytes_of waiting) packet.size) moment
-arrival-shown packet now waiting moment verdict.Enqueued = ap (λ (n : ℕ). Arrived verdict.Enqueued (bytes_of waiting) n moment) (bytes-more waiting (record { packet = packet; since = now }))
-arrival-shown packet now waiting moment verdict.Marked = ap (λ (n : ℕ). Arrived verdict.Marked (bytes_of waiting) n moment) (bytes-more waiting (record { packet = with_ce packet; since = now }))
+arrival-shown packet now waiting moment verdict.Enqueued = ap (λ (n : ℕ). Arrived verdict.Enqueued (bytes_of waiting) n moment)
+    (bytes-more waiting (record { packet = packet; since = now }))
+arrival-shown packet now waiting moment verdict.Marked = ap (λ (n : ℕ). Arrived verdict.Marked (bytes_of waiting) n moment)
+    (bytes-more waiting (record { packet = with_ce packet; since = now }))
 arrival-shown packet now waiting moment v = ap (λ (w : List Waiting). Arrived v (bytes_of waiting) (bytes_of w) moment) (append-nil waiting)
 
 departure-shown : (now : ℕ) (h : Held) (waiting : List Waiting) (moment : ℕ)
-    → event_shown (departure_deed (answer_to_departure waiting)) (bytes_of waiting) (bytes_of (waiting_next waiting now (departure_deed (answer_to_departure waiting)))) moment
+    → event_shown (departure_deed (answer_to_departure waiting)) (bytes_of waiting)
+    (bytes_of (waiting_next waiting now (departure_deed (answer_to_departure waiting)))) moment
     ≡ shown_by h (departure_call waiting moment)
 departure-shown now h [] moment = refl
 departure-shown now h (oldest ∷ others) moment = refl
 
 -- each command's event is what its call shows the controller
 command-shown : (core : CoreView) (now : ℕ) (command : Command)
-    → event_shown (deed command (answer_in core command)) (bytes_of core.waiting) (bytes_of (waiting_next core.waiting now (deed command (answer_in core command)))) (handed_in command)
+    → event_shown (deed command (answer_in core command)) (bytes_of core.waiting)
+    (bytes_of (waiting_next core.waiting now (deed command (answer_in core command)))) (handed_in command)
     ≡ shown_by core.held (call_in core command)
 command-shown core now (Arrive moment packet word) =
     arrival-shown packet now core.waiting moment (Steps.verdict core.held (arrival_of core.waiting core.packets packet word))
@@ -222,17 +233,20 @@ moment-next core (Depart moment) = by core.waiting
     by (oldest ∷ others) = refl
 moment-next core _ = refl
 
-shown-push : (opening : Opening) (history : List Event) (event : Event) → shown opening (history ++ event ∷ []) ≡ shown opening history ++ shown_at opening (place_of history event) ∷ []
+shown-push : (opening : Opening) (history : List Event) (event : Event)
+    → shown opening (history ++ event ∷ []) ≡ shown opening history ++ shown_at opening (place_of history event) ∷ []
 unfolding shown
 shown-push opening history event =
-    ap (λ (ps : List (Place Event)). map (shown_at opening) ps) (places-push history event) ∙ map-append (shown_at opening) (places history) (place_of history event ∷ [])
+    ap (λ (ps : List (Place Event)). map (shown_at opening) ps) (places-push history event)
+    ∙ map-append (shown_at opening) (places history) (place_of history event ∷ [])
 
 -- a core after a command, by what that did: the same as command by command
 abbrev pub after_event : CoreView → Command → CoreView
 after_event core command =
     let d = deed command (answer_in core command) in
     let now = now_at core.held (handed_in command) in
-    with_event core (after_call core.held (call_in core command)) (waiting_next core.waiting now d) d (Steps.delay_answered core.held (bytes_of core.waiting)) (age_of_oldest now core.waiting)
+    with_event core (after_call core.held (call_in core command)) (waiting_next core.waiting now d) d
+    (Steps.delay_answered core.held (bytes_of core.waiting)) (age_of_oldest now core.waiting)
 
 joined-is : (waiting : List Waiting) (now : ℕ) (packet : Packet) (v : Verdict)
     → waiting ++ option_to_list (admission now (arrival_deed packet (answer_of v))) ≡ waiting_next waiting now (arrival_deed packet (answer_of v))
@@ -251,29 +265,36 @@ after-is core (Arrive moment packet word) =
     let now : ℕ = max core.held.moment moment in
     ap (λ (w : List Waiting). with_event core h w d 0 0) (joined-is core.waiting now packet (Steps.verdict core.held a))
     ∙ ap (λ (s : Stats). record (with_event core h (waiting_next core.waiting now d) d 0 0) { stats = s })
-    (counted-arrival core.stats packet (answer_of (Steps.verdict core.held a)) (Steps.delay_answered core.held (bytes_of core.waiting)) (age_of_oldest now core.waiting))
+    (counted-arrival core.stats packet (answer_of (Steps.verdict core.held a)) (Steps.delay_answered core.held (bytes_of core.waiting))
+    (age_of_oldest now core.waiting))
 after-is core (Depart moment) =
     let h : Held = after_call core.held (departure_call core.waiting moment) in
     let d : Deed = departure_deed (answer_to_departure core.waiting) in
     let now : ℕ = max core.held.moment moment in
     ap (λ (w : List Waiting). with_event core h w d 0 (age_of_oldest now core.waiting)) (left-is core.waiting now)
     ∙ ap (λ (s : Stats). record (with_event core h (waiting_next core.waiting now d) d 0 (age_of_oldest now core.waiting)) { stats = s })
-    (counted-departure core.stats (answer_to_departure core.waiting) (Steps.delay_answered core.held (bytes_of core.waiting)) (age_of_oldest now core.waiting))
+    (counted-departure core.stats (answer_to_departure core.waiting) (Steps.delay_answered core.held (bytes_of core.waiting))
+    (age_of_oldest now core.waiting))
 after-is core (Update moment) =
-    ap (λ (w : List Waiting). with_event core (Steps.updated core.held (bytes_of core.waiting) moment) w updated (Steps.delay_answered core.held (bytes_of core.waiting)) 0)
+    ap (λ (w : List Waiting). with_event core (Steps.updated core.held (bytes_of core.waiting) moment) w updated
+    (Steps.delay_answered core.held (bytes_of core.waiting)) 0)
     (sym (append-nil core.waiting))
-after-is core (Reset moment) = ap (λ (w : List Waiting). with_event core (Steps.reset core.held moment) w was_reset 0 0) (sym (append-nil core.waiting))
-after-is core (SetParams moment params) = ap (λ (w : List Waiting). with_event core (Steps.changed core.held params moment) w (set params) 0 0) (sym (append-nil core.waiting))
+after-is core (Reset moment) = ap (λ (w : List Waiting). with_event core (Steps.reset core.held moment) w was_reset 0 0)
+    (sym (append-nil core.waiting))
+after-is core (SetParams moment params) = ap (λ (w : List Waiting). with_event core (Steps.changed core.held params moment) w (set params) 0 0)
+    (sym (append-nil core.waiting))
 
 module _ (opening : Opening) (core : CoreView) (history : List Event) (shows : Shows opening core history) where
   called : (command : Command) → HasThreshold core command (answer_in core command)
-      → Controller.Shows (opened_of opening) (shown opening history ++ shown_by core.held (call_in core command) ∷ []) (after_call core.held (call_in core command))
+      → Controller.Shows (opened_of opening) (shown opening history ++ shown_by core.held (call_in core command) ∷ [])
+      (after_call core.held (call_in core command))
   called (Arrive moment packet word) small =
       Shows-arrive (opened_of opening) (shown opening history) core.held shows.controller (arrival_of core.waiting core.packets packet word) moment
   called (Depart moment) small = by core.waiting refl
     where
       by : (waiting : List Waiting) → core.waiting ≡ waiting
-          → Controller.Shows (opened_of opening) (shown opening history ++ shown_by core.held (departure_call waiting moment) ∷ []) (after_call core.held (departure_call waiting moment))
+          → Controller.Shows (opened_of opening) (shown opening history ++ shown_by core.held (departure_call waiting moment) ∷ [])
+          (after_call core.held (departure_call waiting moment))
       by [] none = Shows-pass (opened_of opening) (shown opening history) core.held shows.controller moment
       by (oldest ∷ others) waits =
           Shows-depart (opened_of opening) (shown opening history) core.held shows.controller oldest.packet.size (bytes_of others) moment
@@ -288,7 +309,8 @@ module _ (opening : Opening) (core : CoreView) (history : List Event) (shows : S
       let event : Event = event_of caller command (answer_in core command) in
       let d : Deed = deed command (answer_in core command) in
       let now : ℕ = now_at core.held (handed_in command) in
-      let stats_by : Stats → ℕ → ℕ → List Waiting → List Waiting → Stats = λ s delay moment before left. with_queue (counted s d delay (age_of_oldest moment before)) (bytes_of left) in
+      let stats_by : Stats → ℕ → ℕ → List Waiting → List Waiting
+      → Stats = λ s delay moment before left. with_queue (counted s d delay (age_of_oldest moment before)) (bytes_of left) in
       let after : effective_moment opening (history ++ event ∷ []) ≡ now =
       effective_moment-push opening history event ∙ ap (λ (m : ℕ). max m (handed_in command)) (sym shows.moment) in
       let waiting : waiting_after opening (history ++ event ∷ []) ≡ waiting_next core.waiting now d =
@@ -303,7 +325,10 @@ module _ (opening : Opening) (core : CoreView) (history : List Event) (shows : S
         legal = rw (places-push history event)
             (All-append (IsLegalAt opening) (places history) (place_of history event ∷ []) shows.legal
             (All-cons (IsLegalAt opening) (place_of history event) []
-            (record { taken = sym (refusal-is opening core history shows command) ∙ free; answered = next-decided opening core history shows command }) (All-nil (IsLegalAt opening))));
+            (record {
+              taken = sym (refusal-is opening core history shows command) ∙ free;
+              answered = next-decided opening core history shows command;
+            }) (All-nil (IsLegalAt opening))));
         packets = shows.packets;
         events = shows.events;
         count = rw (shows.count, length-append history (event ∷ [])) refl;
@@ -311,12 +336,16 @@ module _ (opening : Opening) (core : CoreView) (history : List Event) (shows : S
         waiting = sym waiting;
         controller = rw (shown-push opening history event, told) (called command small);
         stats = sym (stats_after-push opening history event
-            ∙ ap (λ (s : Stats). stats_by s (delay_answered opening history) (effective_moment opening (history ++ event ∷ [])) (waiting_after opening history) (waiting_after opening (history ++ event ∷ [])))
+            ∙ ap (λ (s : Stats). stats_by s (delay_answered opening history) (effective_moment opening (history ++ event ∷ []))
+            (waiting_after opening history) (waiting_after opening (history ++ event ∷ [])))
             (sym shows.stats)
-            ∙ ap (λ (n : ℕ). stats_by core.stats n (effective_moment opening (history ++ event ∷ [])) (waiting_after opening history) (waiting_after opening (history ++ event ∷ [])))
+            ∙ ap (λ (n : ℕ). stats_by core.stats n (effective_moment opening (history ++ event ∷ [])) (waiting_after opening history)
+            (waiting_after opening (history ++ event ∷ [])))
             (sym (answered-is opening core history shows))
-            ∙ ap (λ (m : ℕ). stats_by core.stats (Steps.delay_answered core.held (bytes_of core.waiting)) m (waiting_after opening history) (waiting_after opening (history ++ event ∷ []))) after
-            ∙ ap (λ (w : List Waiting). stats_by core.stats (Steps.delay_answered core.held (bytes_of core.waiting)) now w (waiting_after opening (history ++ event ∷ []))) (sym shows.waiting)
+            ∙ ap (λ (m : ℕ). stats_by core.stats (Steps.delay_answered core.held (bytes_of core.waiting)) m (waiting_after opening history)
+            (waiting_after opening (history ++ event ∷ []))) after
+            ∙ ap (λ (w : List Waiting). stats_by core.stats (Steps.delay_answered core.held (bytes_of core.waiting)) now w
+            (waiting_after opening (history ++ event ∷ []))) (sym shows.waiting)
             ∙ ap (λ (w : List Waiting). stats_by core.stats (Steps.delay_answered core.held (bytes_of core.waiting)) now core.waiting w) waiting);
       }
 

@@ -3,7 +3,8 @@
 use Rattle.std.specs.Prelude.{ℕ, ◌≡◌, List, [], ◌∷◌, Some, None, true, false, map, ⊤}
 use Rattle.std.proofs.Common.{refl}
 use Rattle.pie_params.specs.Profile.{default_profile}
-use Rattle.pie_book.specs.Types.{RawParams, Packet, Waiting, One, Command, Arrive, Depart, Update, Reset, SetParams, Answer, Enqueued, Marked, DroppedEarly, DroppedBytes, DroppedPackets, Empty, Left, Updated, Done, Event, Mode, Bounded, Opening}
+use Rattle.pie_book.specs.Types.{RawParams, Packet, Waiting, One, Command, Arrive, Depart, Update, Reset, SetParams, Answer, Enqueued, Marked}
+use Rattle.pie_book.specs.Types.{DroppedEarly, DroppedBytes, DroppedPackets, Empty, Left, Updated, Done, Event, Mode, Bounded, Opening}
 use Rattle.pie_queue.specs.declared.ecn.Ecn.TheVariants.{NotEct, Ect0, Ce}
 use Rattle.pie_rate.specs.Departures.{Departure}
 use Rattle.pie_control.specs.Events.{ControlEvent}
@@ -11,8 +12,10 @@ use Rattle.pie_early.specs.Events.{EarlyEvent}
 use Rattle.pie_book.specs.declared.opening.Limits.{Limits}
 use Rattle.pie_book.specs.declared.refusal.OpenRefusal.TheVariants as open_refusal
 use Rattle.pie_book.specs.Opening.{are_in_range, opening_refusal}
-use Rattle.pie_book.specs.Deed.{Deed, deed, fits, handed_in, admission, departure, is_update, queued, marked, dropped_early, dropped_bytes, dropped_packets, departed, found_none, updated, was_reset, set, nothing}
-use Rattle.pie_controller.specs.History.{active_of, arrivals_shown, control_of, delay_noted, departures_of, departures_shown, early_of, held_of, is_active, noted, noted_after, now_of, params_of, updates_shown}
+use Rattle.pie_book.specs.Deed.{Deed, deed, fits, handed_in, admission, departure, is_update, queued, marked, dropped_early, dropped_bytes}
+use Rattle.pie_book.specs.Deed.{dropped_packets, departed, found_none, updated, was_reset, set, nothing}
+use Rattle.pie_controller.specs.History.{active_of, arrivals_shown, control_of, delay_noted, departures_of, departures_shown, early_of, held_of}
+use Rattle.pie_controller.specs.History.{is_active, noted, noted_after, now_of, params_of, updates_shown}
 use Rattle.pie_controller.specs.Places.{Place, places, up_to, greatest, last_or}
 use Rattle.pie_rate.specs.Average.{average, samples}
 use Rattle.pie_rate.specs.Cycles.{cycles, begun, first_position, first_opening, first_closing, first_cycle, cycles_from}
@@ -95,11 +98,13 @@ arrivals = refl
 departures : map (deed (Depart 1)) (Left (packet 7 60) ∷ Empty ∷ []) ≡ departed (packet 7 60) ∷ found_none ∷ []
 departures = refl
 
-others : (deed (Update 1) (Updated 2 3 4) ≡ updated) × (deed (Reset 1) Done ≡ was_reset) × (deed (SetParams 1 default_profile) Done ≡ set default_profile)
+others : (deed (Update 1) (Updated 2 3 4) ≡ updated) × (deed (Reset 1) Done ≡ was_reset)
+    × (deed (SetParams 1 default_profile) Done ≡ set default_profile)
 others = (refl, refl, refl)
 
 -- an answer that the command cannot have: of an arrival and a departure such an event did nothing
-misfits : (map (deed (Arrive 1 (packet 7 60) 0)) (Empty ∷ Left (packet 7 60) ∷ Updated 2 3 4 ∷ Done ∷ []) ≡ nothing ∷ nothing ∷ nothing ∷ nothing ∷ [])
+misfits : (map (deed (Arrive 1 (packet 7 60) 0)) (Empty ∷ Left (packet 7 60) ∷ Updated 2 3 4 ∷ Done ∷ [])
+    ≡ nothing ∷ nothing ∷ nothing ∷ nothing ∷ [])
     × (map (deed (Depart 1)) (Enqueued ∷ Marked ∷ DroppedEarly ∷ Updated 2 3 4 ∷ Done ∷ []) ≡ nothing ∷ nothing ∷ nothing ∷ nothing ∷ nothing ∷ [])
 misfits = (refl, refl)
 
@@ -115,16 +120,19 @@ fitting : (map (fits (Arrive 1 (packet 7 60) 0)) all_answers ≡ true ∷ true �
 unfolding all_answers
 fitting = (refl, refl, refl, refl, refl)
 
-moments_handed_in : map handed_in (Arrive 1 (packet 7 60) 0 ∷ Depart 2 ∷ Update 3 ∷ Reset 4 ∷ SetParams 5 default_profile ∷ []) ≡ 1 ∷ 2 ∷ 3 ∷ 4 ∷ 5 ∷ []
+moments_handed_in : map handed_in (Arrive 1 (packet 7 60) 0 ∷ Depart 2 ∷ Update 3 ∷ Reset 4 ∷ SetParams 5 default_profile ∷ [])
+    ≡ 1 ∷ 2 ∷ 3 ∷ 4 ∷ 5 ∷ []
 moments_handed_in = refl
 
 abbrev all_deeds : List Deed
-all_deeds = queued (packet 7 60) ∷ marked (capable 7 60) ∷ dropped_early ∷ dropped_bytes ∷ dropped_packets ∷ departed (packet 7 60) ∷ found_none ∷ updated ∷ was_reset
+all_deeds = queued (packet 7 60) ∷ marked (capable 7 60) ∷ dropped_early ∷ dropped_bytes ∷ dropped_packets ∷ departed (packet 7 60) ∷ found_none
+    ∷ updated ∷ was_reset
     ∷ set default_profile ∷ nothing ∷ []
 
 -- a marked packet waits with CE
 admissions : map (admission 9) all_deeds
-    ≡ Some (waits (packet 7 60) 9) ∷ Some (waits (record { tag = 7; size = 60; ecn = Ce }) 9) ∷ None ∷ None ∷ None ∷ None ∷ None ∷ None ∷ None ∷ None ∷ None ∷ []
+    ≡ Some (waits (packet 7 60) 9) ∷ Some (waits (record { tag = 7; size = 60; ecn = Ce }) 9) ∷ None ∷ None ∷ None ∷ None ∷ None ∷ None ∷ None ∷ None
+    ∷ None ∷ []
 admissions = refl
 
 departing : map departure all_deeds ≡ None ∷ None ∷ None ∷ None ∷ None ∷ Some (packet 7 60) ∷ None ∷ None ∷ None ∷ None ∷ None ∷ []
@@ -190,7 +198,8 @@ falling-waiting = refl
 -- the first packet in is the first out; what was dropped never waits, and what was marked waits with CE
 
 abbrev mixed : List Event
-mixed = event 1 (Arrive 1 (packet 1 100) 0) Enqueued ∷ event 1 (Arrive 2 (capable 2 200) 0) Marked ∷ event 1 (Arrive 3 (packet 3 300) 0) DroppedPackets
+mixed = event 1 (Arrive 1 (packet 1 100) 0) Enqueued ∷ event 1 (Arrive 2 (capable 2 200) 0) Marked
+    ∷ event 1 (Arrive 3 (packet 3 300) 0) DroppedPackets
     ∷ event 1 (Arrive 3 (packet 4 300) 0) DroppedEarly ∷ event 2 (Depart 4) (Left (packet 1 100)) ∷ event 1 (Arrive 5 (packet 5 400) 0) Enqueued ∷ []
 
 mixed-waiting : waiting_after (opened 2 16 100) mixed ≡ waits (record { tag = 2; size = 200; ecn = Ce }) 2 ∷ waits (packet 5 400) 5 ∷ []

@@ -6,7 +6,8 @@ use Rattle.pie_queue.specs.declared.ecn.Ecn.TheVariants.{Ce}
 use Rattle.pie_control.specs.Delay.{delay_of}
 use Rattle.pie_book.specs.Types.{One, Arrive, Depart, Update, Enqueued, Marked, Empty, Left, Updated, Event, Bounded, Rolling, Opening, Stats}
 use Rattle.pie_book.specs.declared.refusal.Refusal.TheVariants.{Size, TooSoon}
-use Rattle.pie_book.specs.Deed.{Deed, deed_of, queued, marked, dropped_early, dropped_bytes, dropped_packets, departed, found_none, updated, was_reset, set, nothing}
+use Rattle.pie_book.specs.Deed.{Deed, deed_of, queued, marked, dropped_early, dropped_bytes, dropped_packets, departed, found_none, updated}
+use Rattle.pie_book.specs.Deed.{was_reset, set, nothing}
 use Rattle.pie_queue.specs.Queue.{bytes_of}
 use Rattle.pie_controller.specs.Places.{Place, places}
 use Rattle.pie_controller.specs.Steps.{delay_in, no_estimate}
@@ -15,14 +16,18 @@ use Rattle.pie_book.specs.Statistics.{stats_after, no_stats}
 use Rattle.pie_book.specs.Decision.{IsLegal, IsLegalAt, decision, refusal_by_rule}
 use Rattle.pie_book.specs.Core.{CoreView, Shows, registers_of, refusal_of, counted, with_queue}
 use Rattle.pie_book.specs.Book.{BookView, Tells, last_events, without_last, tail_with}
-use Rattle.pie_book.proofs.Examples.{limits, opened, opened_with, packet, waits, event, place, three, arrival, departure_of_it, late_departure, worked}
-use Rattle.pie_book.proofs.ExamplesMarks.{no_burst, some_burst, opening, two_departed, first_update, updated_thrice, mark, change, restart, twelve, fourteen, parts, tallied}
+use Rattle.pie_book.proofs.Examples.{limits, opened, opened_with, packet, waits, event, place, three, arrival, departure_of_it, late_departure}
+use Rattle.pie_book.proofs.Examples.{worked}
+use Rattle.pie_book.proofs.ExamplesMarks.{no_burst, some_burst, opening, two_departed, first_update, updated_thrice, mark, change, restart, twelve}
+use Rattle.pie_book.proofs.ExamplesMarks.{fourteen, parts, tallied}
 
 -- at each place the command is taken and has its answer
-all-legal : (o : Opening) (ps : List (Place Event)) → map (λ (p : Place Event). refusal_by_rule o p.before p.event.command) ps ≡ map (λ (p : Place Event). None) ps
+all-legal : (o : Opening) (ps : List (Place Event)) → map (λ (p : Place Event). refusal_by_rule o p.before p.event.command) ps
+    ≡ map (λ (p : Place Event). None) ps
     → map (λ (p : Place Event). p.event.answer) ps ≡ map (λ (p : Place Event). decision o p.before p.event.command) ps → All (IsLegalAt o) ps
 all-legal o [] taken answered = All-nil (IsLegalAt o)
-all-legal o (p ∷ ps) taken answered = All-cons (IsLegalAt o) p ps (record { taken = cc; answered = cc }) (all-legal o ps (ap (drop 1) taken) (ap (drop 1) answered))
+all-legal o (p ∷ ps) taken answered = All-cons (IsLegalAt o) p ps (record { taken = cc; answered = cc })
+    (all-legal o ps (ap (drop 1) taken) (ap (drop 1) answered))
 
 fourteen-legal : IsLegal opening fourteen
 unfolding worked
@@ -72,7 +77,8 @@ core_at_twelve = record {
     control = parts 903954174169 2000000 0 1001002;
     accu = 903954174169;
   };
-  waiting = waits (packet 3 1024) 0 ∷ waits (packet 4 1024) 0 ∷ waits (record { tag = 5; size = 500; ecn = Ce }) 1001003 ∷ waits (packet 7 500) 1001003 ∷ [];
+  waiting = waits (packet 3 1024) 0 ∷ waits (packet 4 1024) 0 ∷ waits (record { tag = 5; size = 500; ecn = Ce }) 1001003
+      ∷ waits (packet 7 500) 1001003 ∷ [];
   stats = tallied 0 0;
 }
 
@@ -131,12 +137,14 @@ cores-registers : (registers_of core_at_twelve ≡ registers_after opening twelv
 unfolding worked
 cores-registers = (refl, refl)
 
-cores-delay : (delay_in core_at_twelve.held (bytes_of core_at_twelve.waiting) ≡ 2976562) × (delay_in core_at_fourteen.held (bytes_of core_at_fourteen.waiting) ≡ 0)
+cores-delay : (delay_in core_at_twelve.held (bytes_of core_at_twelve.waiting) ≡ 2976562)
+    × (delay_in core_at_fourteen.held (bytes_of core_at_fourteen.waiting) ≡ 0)
 unfolding delay_of
 cores-delay = (refl, refl)
 
 -- the next update is due at 1001003
-cores-refusal : map (λ moment. refusal_of (record core_at_twelve { held = record core_at_twelve.held { moment = moment } }) (Update 0)) (1001002 ∷ 1001003 ∷ []) ≡ Some (TooSoon 1001003) ∷ None ∷ []
+cores-refusal : map (λ moment. refusal_of (record core_at_twelve { held = record core_at_twelve.held { moment = moment } }) (Update 0))
+    (1001002 ∷ 1001003 ∷ []) ≡ Some (TooSoon 1001003) ∷ None ∷ []
 cores-refusal = refl
 
 -- after a fold of twelve a book tells the same fourteen events, with the last two in its tail
@@ -158,7 +166,8 @@ fronts : (without_last 0 three ≡ three) × (without_last 2 three ≡ arrival �
 fronts = (refl, refl, refl)
 
 -- one event more: a full tail of a rolling book lets its oldest go, and there is no other difference between the two
-tails_with_one : (tail_with (opened_with Rolling (limits 4 2 100) no_burst) (arrival ∷ departure_of_it ∷ []) late_departure ≡ departure_of_it ∷ late_departure ∷ [])
+tails_with_one : (tail_with (opened_with Rolling (limits 4 2 100) no_burst) (arrival ∷ departure_of_it ∷ []) late_departure
+    ≡ departure_of_it ∷ late_departure ∷ [])
     × (tail_with (opened_with Rolling (limits 4 3 100) no_burst) (arrival ∷ departure_of_it ∷ []) late_departure ≡ three)
     × (tail_with (opened_with Bounded (limits 4 3 100) no_burst) (arrival ∷ departure_of_it ∷ []) late_departure ≡ three)
     × (tail_with (opened_with Rolling (limits 4 1 100) no_burst) (arrival ∷ []) late_departure ≡ late_departure ∷ [])
@@ -170,11 +179,13 @@ counted-mark : with_queue (counted (stats_after opening updated_thrice) (deed_of
 unfolding worked
 counted-mark = refl
 
-counted-update : with_queue (counted (stats_after opening two_departed) (deed_of first_update) 2000000 0) 2048 ≡ stats_after opening (two_departed ++ first_update ∷ [])
+counted-update : with_queue (counted (stats_after opening two_departed) (deed_of first_update) 2000000 0) 2048
+    ≡ stats_after opening (two_departed ++ first_update ∷ [])
 unfolding worked
 counted-update = refl
 
-counted-departure : with_queue (counted (stats_after opening (take 5 fourteen)) (departed (packet 2 1024)) 0 1001000) 2048 ≡ stats_after opening two_departed
+counted-departure : with_queue (counted (stats_after opening (take 5 fourteen)) (departed (packet 2 1024)) 0 1001000) 2048
+    ≡ stats_after opening two_departed
 unfolding worked
 counted-departure = refl
 

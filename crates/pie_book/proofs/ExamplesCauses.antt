@@ -4,7 +4,8 @@ use Rattle.pie_params.specs.Profile.{default_profile}
 use Rattle.pie_queue.specs.declared.ecn.Ecn.{Ecn}
 use Rattle.pie_queue.specs.declared.ecn.Ecn.TheVariants.{NotEct, Ect0, Ce}
 use Rattle.pie_controller.specs.declared.cause.Cause.{Cause}
-use Rattle.pie_controller.specs.declared.cause.Cause.TheVariants.{NoRoomInBytes, NoRoomInPackets, Inactive, BurstAllowed, LowDelay, ShortQueue, NoProbability, LittleAccumulated, PickedBySum, PickedByWord, WordNotBelow}
+use Rattle.pie_controller.specs.declared.cause.Cause.TheVariants.{NoRoomInBytes, NoRoomInPackets, Inactive, BurstAllowed, LowDelay, ShortQueue}
+use Rattle.pie_controller.specs.declared.cause.Cause.TheVariants.{NoProbability, LittleAccumulated, PickedBySum, PickedByWord, WordNotBelow}
 use Rattle.pie_controller.specs.declared.cause.Fate.TheVariants.{Marked, NotCapable, NotBelow}
 use Rattle.pie_book.specs.Types.{Two, Arrive, Depart, Update, Reset, SetParams, Event, Bounded, Opening}
 use Rattle.pie_book.specs.declared.command.Answer.TheVariants as answer
@@ -102,7 +103,8 @@ unfolding worked
 marks_and_drops = (refl, refl, refl, refl)
 
 -- what is no arrival has no such cause
-no_arrivals : map (cause_after opening two_departed) (Depart 1 ∷ Update 1 ∷ Reset 1 ∷ SetParams 1 default_profile ∷ []) ≡ None ∷ None ∷ None ∷ None ∷ []
+no_arrivals : map (cause_after opening two_departed) (Depart 1 ∷ Update 1 ∷ Reset 1 ∷ SetParams 1 default_profile ∷ [])
+    ≡ None ∷ None ∷ None ∷ None ∷ []
 no_arrivals = refl
 
 -- in profile two a controller that no arrival turned on

@@ -1,7 +1,8 @@
 -- The definitions on worked histories: each theorem computes. Marks, drops and a lone enqueue: three updates raise the
 -- probability, and three packets meet it.
 use Rattle.std.proofs.Common.{refl, ℕ, ◌≡◌, List, [], ◌∷◌, ◌++◌, Some, None, Bool, true, false, map}
-use Rattle.pie_book.specs.Types.{RawParams, Arrive, Depart, Update, Reset, SetParams, Enqueued, Marked, DroppedEarly, Left, Updated, Done, Event, Bounded, Opening, Stats, Registers}
+use Rattle.pie_book.specs.Types.{RawParams, Arrive, Depart, Update, Reset, SetParams, Enqueued, Marked, DroppedEarly, Left, Updated, Done, Event}
+use Rattle.pie_book.specs.Types.{Bounded, Opening, Stats, Registers}
 use Rattle.pie_queue.specs.declared.ecn.Ecn.TheVariants.{Ce}
 use Rattle.pie_rate.specs.Departures.{departure}
 use Rattle.pie_rate.specs.Average.{average}
@@ -32,7 +33,8 @@ opening = opened_with Bounded (limits 8 32 100) no_burst
 abbrev pub two_departed : List Event
 two_departed =
     event 1 (Arrive 0 (packet 1 1024) 0) Enqueued ∷ event 1 (Arrive 0 (packet 2 1024) 0) Enqueued ∷ event 1 (Arrive 0 (packet 3 1024) 0) Enqueued
-    ∷ event 1 (Arrive 0 (packet 4 1024) 0) Enqueued ∷ event 3 (Depart 1000) (Left (packet 1 1024)) ∷ event 3 (Depart 1001000) (Left (packet 2 1024)) ∷ []
+    ∷ event 1 (Arrive 0 (packet 4 1024) 0) Enqueued ∷ event 3 (Depart 1000) (Left (packet 1 1024)) ∷ event 3 (Depart 1001000) (Left (packet 2 1024))
+    ∷ []
 
 -- then three updates
 abbrev pub first_update : Event
@@ -109,7 +111,8 @@ unfolding worked
 the_early_events = refl
 
 -- the mark and the drop each leave nothing accumulated, the lone enqueue its probability, and the reset nothing
-the_accumulated : map (accu_after opening) ((updated_thrice ++ mark ∷ []) ∷ twelve ∷ thirteen ∷ fourteen ∷ []) ≡ 0 ∷ 903954174169 ∷ 903954174169 ∷ 0 ∷ []
+the_accumulated : map (accu_after opening) ((updated_thrice ++ mark ∷ []) ∷ twelve ∷ thirteen ∷ fourteen ∷ [])
+    ≡ 0 ∷ 903954174169 ∷ 903954174169 ∷ 0 ∷ []
 unfolding worked
 the_accumulated = refl
 

@@ -1,14 +1,16 @@
 -- The definitions on worked histories: each theorem computes. Refusals, and runs of steps with folds.
 use Rattle.std.proofs.Common.{Bool, refl, ℕ, ◌≡◌, List, [], ◌∷◌, ◌++◌, Some, None, Ok, Err, true, false, map}
 use Rattle.pie_params.specs.Profile.{default_profile}
-use Rattle.pie_book.specs.Types.{RawParams, One, Held, Command, Arrive, Depart, Update, Reset, SetParams, Answer, Enqueued, DroppedBytes, DroppedPackets, Empty, Left, Updated, Done, Event, Rolling, Opening, Refusal}
+use Rattle.pie_book.specs.Types.{RawParams, One, Held, Command, Arrive, Depart, Update, Reset, SetParams, Answer, Enqueued, DroppedBytes}
+use Rattle.pie_book.specs.Types.{DroppedPackets, Empty, Left, Updated, Done, Event, Rolling, Opening, Refusal}
 use Rattle.pie_early.specs.Events.{cleared}
 use Rattle.pie_book.specs.declared.refusal.Refusal.TheVariants.{Moment, Size, TooSoon, Exhausted, HistoryFull}
 use Rattle.pie_book.specs.declared.refusal.FoldRefusal.TheVariants.{TooMany}
 use Rattle.pie_controller.specs.Steps as Steps
 use Rattle.pie_book.specs.Estimates.{parts_after}
 use Rattle.pie_book.specs.Decision.{answer_by, refusal_by_rule, refusal_after}
-use Rattle.pie_book.specs.Run.{Step, asked, folded, Outcome, was_asked, was_folded, outcomes, progress_after, start, without_folds, answers, before_full}
+use Rattle.pie_book.specs.Run.{Step, asked, folded, Outcome, was_asked, was_folded, outcomes, progress_after, start, without_folds, answers}
+use Rattle.pie_book.specs.Run.{before_full}
 use Rattle.pie_book.proofs.Examples.{early_events, limits, opened, opened_with, nine, packet, waits, event, three, worked}
 
 abbrev pub rolling : ℕ → ℕ → ℕ → Opening
@@ -33,7 +35,8 @@ unfolding worked
 sizes = refl
 
 -- an update is due 15 milliseconds after the opening, by the effective moment and its own
-dues : (map (λ moment. refusal_by_rule (opened 4 16 100) three (Update moment)) (0 ∷ 14999999 ∷ 15000000 ∷ []) ≡ Some (TooSoon 15000000) ∷ Some (TooSoon 15000000) ∷ None ∷ [])
+dues : (map (λ moment. refusal_by_rule (opened 4 16 100) three (Update moment)) (0 ∷ 14999999 ∷ 15000000 ∷ [])
+    ≡ Some (TooSoon 15000000) ∷ Some (TooSoon 15000000) ∷ None ∷ [])
     × (refusal_by_rule (opened 4 16 100) (event 1 (Depart 15000000) Empty ∷ []) (Update 1) ≡ None)
 unfolding worked
 dues = (refl, refl)
@@ -53,7 +56,8 @@ order = (refl, refl, refl, refl, refl, refl, refl, refl)
 -- verdicts by the queue alone: beside a packet of 65535 bytes, 196609 more meet the limit exactly; in a ring of one packet there is no place
 -- for them
 abbrev holding : Bool → ℕ → ℕ → Held
-holding active prob burst = record (Steps.opened One default_profile 0) { active = active; control = record { prob = prob; old_delay = 0; burst = burst; last = 0 } }
+holding active prob burst = record (Steps.opened One default_profile 0)
+    { active = active; control = record { prob = prob; old_delay = 0; burst = burst; last = 0 } }
 
 abbrev beside_one : Held → ℕ → ℕ → Answer
 beside_one h packets size = answer_by h (waits (packet 1 65535) 0 ∷ []) packets (Arrive 0 (packet 2 size) 0)
@@ -80,7 +84,8 @@ abbrev no : Refusal → Outcome
 no why = was_asked (Err why)
 
 -- one arrival and two departures, the second of an empty queue
-three-answers : outcomes (opened 4 16 100) start (arrives 10 7 1500 ∷ departs 25 ∷ departs 30 ∷ []) ≡ ok Enqueued ∷ ok (Left (packet 7 1500)) ∷ ok Empty ∷ []
+three-answers : outcomes (opened 4 16 100) start (arrives 10 7 1500 ∷ departs 25 ∷ departs 30 ∷ [])
+    ≡ ok Enqueued ∷ ok (Left (packet 7 1500)) ∷ ok Empty ∷ []
 unfolding worked
 three-answers = refl
 
@@ -92,7 +97,8 @@ four_large = arrives 0 1 65535 ∷ arrives 0 2 65535 ∷ arrives 0 3 65535 ∷ a
 abbrev four_enqueued : List Outcome
 four_enqueued = ok Enqueued ∷ ok Enqueued ∷ ok Enqueued ∷ ok Enqueued ∷ []
 
-full_ring : outcomes (opened 4 16 100) start (four_large ++ arrives 0 5 5 ∷ arrives 0 6 4 ∷ []) ≡ four_enqueued ++ ok DroppedBytes ∷ ok DroppedPackets ∷ []
+full_ring : outcomes (opened 4 16 100) start (four_large ++ arrives 0 5 5 ∷ arrives 0 6 4 ∷ [])
+    ≡ four_enqueued ++ ok DroppedBytes ∷ ok DroppedPackets ∷ []
 unfolding worked
 full_ring = refl
 
@@ -103,7 +109,8 @@ unfolding worked
 exact_limit = refl
 
 -- a refused update leaves no trace, and an accepted one with an empty queue has no delay
-an_update : outcomes (opened 4 16 100) start (departs 9 ∷ departs 5 ∷ asked 2 (Update 14999999) ∷ asked 2 (Update 15000000) ∷ departs 1152921504606846976 ∷ [])
+an_update : outcomes (opened 4 16 100) start (departs 9 ∷ departs 5 ∷ asked 2 (Update 14999999) ∷ asked 2 (Update 15000000)
+    ∷ departs 1152921504606846976 ∷ [])
     ≡ ok Empty ∷ ok Empty ∷ no (TooSoon 15000000) ∷ ok (Updated 0 0 150000000) ∷ no Moment ∷ []
 unfolding worked
 an_update = refl
@@ -123,7 +130,8 @@ changed-answers : progress_after from_five start (asked 1 (SetParams 7 lower_lim
 unfolding worked
 changed-answers = refl
 
-changed-parts : (parts_after from_five (event 1 (SetParams 7 lower_limit) Done ∷ []) ≡ record { prob = 0; old_delay = 0; burst = 150000000; last = 5 })
+changed-parts : (parts_after from_five (event 1 (SetParams 7 lower_limit) Done ∷ [])
+    ≡ record { prob = 0; old_delay = 0; burst = 150000000; last = 5 })
     × (parts_after from_five changed ≡ record { prob = 0; old_delay = 0; burst = 20; last = 5 })
 unfolding worked
 changed-parts = (refl, refl)
@@ -183,7 +191,8 @@ unfolding worked
 refused_moment = refl
 
 -- the steps without their folds, and the answers to them: up to the first that says that the tail is full, they are those of a run with no fold
-unfolded : (without_folds (arrives 1 1 100 ∷ folded 1 ∷ departs 2 ∷ folded 0 ∷ []) ≡ record { caller = 1; command = Arrive 1 (packet 1 100) 0 } ∷ record { caller = 1; command = Depart 2 } ∷ [])
+unfolded : (without_folds (arrives 1 1 100 ∷ folded 1 ∷ departs 2 ∷ folded 0 ∷ [])
+    ≡ record { caller = 1; command = Arrive 1 (packet 1 100) 0 } ∷ record { caller = 1; command = Depart 2 } ∷ [])
     × (without_folds (folded 1 ∷ folded 2 ∷ []) ≡ [])
 unfolding without_folds
 unfolded = (refl, refl)
@@ -201,5 +210,6 @@ unfolding worked
 fold_in_time = (refl, refl, refl)
 
 -- two answers stand before the first that says so; with none that does, all of them do
-counted_before_full : (before_full (Ok Enqueued ∷ Ok Enqueued ∷ Err HistoryFull ∷ Ok Empty ∷ []) ≡ 2) × (before_full (Err Moment ∷ Err Size ∷ Err (TooSoon 9) ∷ Err Exhausted ∷ Ok Done ∷ []) ≡ 5)
+counted_before_full : (before_full (Ok Enqueued ∷ Ok Enqueued ∷ Err HistoryFull ∷ Ok Empty ∷ []) ≡ 2)
+    × (before_full (Err Moment ∷ Err Size ∷ Err (TooSoon 9) ∷ Err Exhausted ∷ Ok Done ∷ []) ≡ 5)
 counted_before_full = (refl, refl)

@@ -1,5 +1,6 @@
 -- What one more event at the end of a history does to the moment and the packets that wait.
-use Rattle.std.proofs.Common.{◌≡◌, ◌≤◌, ◌<◌, ◌+◌, ℕ, List, [], ◌∷◌, ◌++◌, map, length, drop, Bool, true, false, cond, refl, ap, ◌∙◌, arith, length-append, max}
+use Rattle.std.proofs.Common.{◌≡◌, ◌≤◌, ◌<◌, ◌+◌, ℕ, List, [], ◌∷◌, ◌++◌, map, length, drop, Bool, true, false, cond, refl, ap, ◌∙◌, arith}
+use Rattle.std.proofs.Common.{length-append, max}
 use Rattle.std.specs.Option.{option_to_list, is_some}
 use Rattle.std.specs.List.{filter_map}
 use Rattle.std.proofs.lemmas.List.{map-append, append-nil, drop-append-le, drop-drop, length-drop}
@@ -24,7 +25,8 @@ pub admitted-push : (opening : Opening) (history : List Event) (event : Event) �
 unfolding admitted
 admitted-push opening history event =
     from_places-push (admitted_at opening) history event
-    ∙ ap (λ now. filter_map (admitted_at opening) (places history) ++ option_to_list (admission now (deed_of event))) (effective_moment-push opening history event)
+    ∙ ap (λ now. filter_map (admitted_at opening) (places history) ++ option_to_list (admission now (deed_of event)))
+    (effective_moment-push opening history event)
 
 -- how many departed, after one more event
 pub departed_count-push : (history : List Event) (event : Event)
@@ -44,7 +46,8 @@ pub waiting_after-push : (opening : Opening) (history : List Event) (event : Eve
 unfolding waiting_after
 waiting_after-push opening history event fewer =
     rw (admitted-push opening history event, departed_count-push history event)
-    (by_deed (deed_of event) (departed_count history) (admitted opening history) (max (effective_moment opening history) (handed_in event.command)) fewer)
+    (by_deed (deed_of event) (departed_count history) (admitted opening history) (max (effective_moment opening history) (handed_in event.command))
+    fewer)
   where
     more : (n : ℕ) (entries : List Waiting) (new : List Waiting) → n ≤ length entries → drop (n + 0) (entries ++ new) ≡ drop n entries ++ new
     more n entries new within = let none : n + 0 ≡ n = omega arith in rw none (drop-append-le n entries new within)
@@ -61,13 +64,17 @@ pub departed-push : (opening : Opening) (history : List Event) (event : Event) �
 unfolding waiting_after
 departed-push opening history event fewer waits =
     rw (admitted-push opening history event, departed_count-push history event)
-    (let some = length-append (admitted opening history) (option_to_list (admission (max (effective_moment opening history) (handed_in event.command)) (deed_of event))) in
+    (let some = length-append (admitted opening history) (option_to_list
+    (admission (max (effective_moment opening history) (handed_in event.command)) (deed_of event))) in
     by (is_some (departure (deed_of event))) waits some)
   where
     by : (b : Bool) → (b ≡ true → 0 < length (drop (departed_count history) (admitted opening history)))
-        → length (admitted opening history ++ option_to_list (admission (max (effective_moment opening history) (handed_in event.command)) (deed_of event)))
-        ≡ length (admitted opening history) + length (option_to_list (admission (max (effective_moment opening history) (handed_in event.command)) (deed_of event)))
+        → length (admitted opening history ++ option_to_list (admission (max (effective_moment opening history) (handed_in event.command))
+        (deed_of event)))
+        ≡ length (admitted opening history) + length (option_to_list
+        (admission (max (effective_moment opening history) (handed_in event.command)) (deed_of event)))
         → departed_count history + cond b 1 0
-        ≤ length (admitted opening history ++ option_to_list (admission (max (effective_moment opening history) (handed_in event.command)) (deed_of event)))
+        ≤ length (admitted opening history ++ option_to_list (admission (max (effective_moment opening history) (handed_in event.command))
+        (deed_of event)))
     by true some more = let least = some refl in let fewer = length-drop (departed_count history) (admitted opening history) in omega (arith, more)
     by false some more = omega (arith, more)

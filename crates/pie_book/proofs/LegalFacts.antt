@@ -41,7 +41,8 @@ params-arrived h a moment = by (Steps.turns_on h (bytes_with (Steps.verdict h a)
     by true = refl
     by false = refl
 
-good-next : (core : CoreView) (command : Command) → first_bad core.held.params ≡ None → CommandFits command → first_bad (after_call core.held (call_in core command)).params ≡ None
+good-next : (core : CoreView) (command : Command) → first_bad core.held.params ≡ None → CommandFits command
+    → first_bad (after_call core.held (call_in core command)).params ≡ None
 good-next core (Arrive moment packet word) good fit = rw (params-arrived core.held (arrival_of core.waiting core.packets packet word) moment) good
 good-next core (Depart moment) good fit = by core.waiting
   where
@@ -63,25 +64,30 @@ pub record IsRun (P : List Event → CoreView → Type 0) (opening : Opening) (h
 
 -- what is so stays so at each command that is taken
 abbrev pub Stays : (List Event → CoreView → Type 0) → Opening → Type 0
-Stays P opening = (core : CoreView) (history : List Event) (event : Event) → Shows opening core history → P history core → CommandFits event.command → refusal_of core event.command ≡ None
+Stays P opening = (core : CoreView) (history : List Event) (event : Event) → Shows opening core history → P history core → CommandFits event.command
+    → refusal_of core event.command ≡ None
     → P (history ++ event ∷ []) (closed (after_event core event.command))
 
 module _ (P : List Event → CoreView → Type 0) (opening : Opening) (stays : Stays P opening) where
-  run-next : (history : List Event) (event : Event) → IsRun P opening history → IsLegalAt opening (place_of history event) → CommandFits event.command → IsRun P opening (history ++ event ∷ [])
+  run-next : (history : List Event) (event : Event) → IsRun P opening history → IsLegalAt opening (place_of history event)
+      → CommandFits event.command → IsRun P opening (history ++ event ∷ [])
   run-next history event run here fit =
       let core = run.core in
       let free = refusal-is opening core history run.shows event.command ∙ here.taken in
       let same : event_of event.caller event.command (answer_in core event.command) ≡ event =
-      ap (λ (answer : Answer). event_of event.caller event.command answer) (next-decided opening core history run.shows event.command ∙ sym here.answered) in
+      ap (λ (answer : Answer). event_of event.caller event.command answer)
+      (next-decided opening core history run.shows event.command ∙ sym here.answered) in
       record {
         core = closed (after_event core event.command);
         shows = subst (λ (e : Event). Shows opening (closed (after_event core event.command)) (history ++ e ∷ [])) same
-            (event-shows opening core history run.shows event.caller event.command (λ packet moment is left. (threshold-holds core.held.params run.good).1) free);
+            (event-shows opening core history run.shows event.caller event.command
+            (λ packet moment is left. (threshold-holds core.held.params run.good).1) free);
         good = good-next core event.command run.good fit;
         holds = stays core history event run.shows run.holds fit free;
       }
 
-  run-all : (before rest : List Event) → IsRun P opening before → IsLegal opening (before ++ rest) → All (λ event. CommandFits event.command) rest → IsRun P opening (before ++ rest)
+  run-all : (before rest : List Event) → IsRun P opening before → IsLegal opening (before ++ rest) → All (λ event. CommandFits event.command) rest
+      → IsRun P opening (before ++ rest)
   run-all before [] run legal fit = rw (append-nil before) run
   run-all before (event ∷ rest) run legal fit =
       let here = at_place (IsLegalAt opening) before event rest legal in
@@ -89,5 +95,7 @@ module _ (P : List Event → CoreView → Type 0) (opening : Opening) (stays : S
       let joined : before ++ event ∷ [] ++ rest ≡ before ++ (event ∷ rest) = append_assoc before (event ∷ []) rest in
       rw (← joined) (run-all (before ++ event ∷ []) rest next (rw (← joined) at legal) (All-tail (λ e. CommandFits e.command) event rest fit))
 
-  pub run_of : (history : List Event) → P [] (first_core opening) → first_bad opening.params ≡ None → IsLegal opening history → All (λ event. CommandFits event.command) history → IsRun P opening history
-  run_of history first good legal fit = run-all [] history (record { core = first_core opening; shows = first-shows opening; good = good; holds = first }) legal fit
+  pub run_of : (history : List Event) → P [] (first_core opening) → first_bad opening.params ≡ None → IsLegal opening history
+      → All (λ event. CommandFits event.command) history → IsRun P opening history
+  run_of history first good legal fit = run-all [] history (record
+      { core = first_core opening; shows = first-shows opening; good = good; holds = first }) legal fit

@@ -1,11 +1,13 @@
 -- Folds change no answer: up to the first that says that the tail is full, the answers of a run are those that the rules give
 -- its commands, whatever was folded.
-use Rattle.std.proofs.Common.{◌≡◌, ◌≤◌, ◌+◌, ◌==◌, ℕ, List, [], ◌∷◌, ◌++◌, Bool, true, false, cond, take, refl, sym, ap, ◌∙◌, arith, one-add, min, not, Option, Some, None, Result, Ok, Err}
+use Rattle.std.proofs.Common.{◌≡◌, ◌≤◌, ◌+◌, ◌==◌, ℕ, List, [], ◌∷◌, ◌++◌, Bool, true, false, cond, take, refl, sym, ap, ◌∙◌, arith, one-add, min}
+use Rattle.std.proofs.Common.{not, Option, Some, None, Result, Ok, Err}
 use Rattle.std.specs.List.{filter_map}
 use Rattle.std.proofs.lemmas.List.{take-take}
 use Rattle.pie_book.specs.Types.{Command, Answer, Event, Mode, Bounded, Rolling, Opening, Refusal}
 use Rattle.pie_book.specs.Decision.{decision, refusal_by_rule, or_full, is_refused_full}
-use Rattle.pie_book.specs.Run.{Step, asked, folded, Progress, Asked, event_of, refused_or, recorded, held_after_fold, outcomes, answer_of, answers, without_folds, is_full, before_full, AreSameUntilFull}
+use Rattle.pie_book.specs.Run.{Step, asked, folded, Progress, Asked, event_of, refused_or, recorded, held_after_fold, outcomes, answer_of, answers}
+use Rattle.pie_book.specs.Run.{without_folds, is_full, before_full, AreSameUntilFull}
 
 abbrev Given : Type 0
 Given = Result Answer Refusal
@@ -42,7 +44,8 @@ rolls Rolling full is = refl
 rolling-asked : (opening : Opening) (history : List Event) (held caller : ℕ) (command : Command) (steps : List Step)
     → ((history : List Event) (held : ℕ) → given_from opening (at history held) steps ≡ all_ruled opening history (without_folds steps))
     → (why : Option Refusal) (full : Bool) (answer : Answer) → full ≡ false
-    → refused_or (or_full why full) answer ∷ given_from opening (recorded opening (at history held) caller command (refused_or (or_full why full) answer)) steps
+    → refused_or (or_full why full) answer ∷ given_from opening
+    (recorded opening (at history held) caller command (refused_or (or_full why full) answer)) steps
     ≡ refused_or why answer ∷ all_ruled opening (extended history caller command (refused_or why answer)) (without_folds steps)
 rolling-asked opening history held caller command steps later (Some why) full answer is = ap (◌∷◌ (Err why)) (later history held)
 rolling-asked opening history held caller command steps later None true answer is = cc
@@ -64,7 +67,8 @@ same-cons : (first : Given) (some other : List Given) → take (before_full some
     → take (before_full (first ∷ some)) (first ∷ some) ≡ take (before_full (first ∷ some)) (first ∷ other)
 same-cons first some other same = by (is_full first)
   where
-    by : (full : Bool) → take (cond (not full) (1 + before_full some) 0) (first ∷ some) ≡ take (cond (not full) (1 + before_full some) 0) (first ∷ other)
+    by : (full : Bool) → take (cond (not full) (1 + before_full some) 0) (first ∷ some)
+        ≡ take (cond (not full) (1 + before_full some) 0) (first ∷ other)
     by true = refl
     by false = rw one-add (ap (◌∷◌ first) same)
 
@@ -74,9 +78,11 @@ until_full-asked : (opening : Opening) (history : List Event) (held caller : ℕ
     → take (before_full (given_from opening (at history held) steps)) (given_from opening (at history held) steps)
     ≡ take (before_full (given_from opening (at history held) steps)) (all_ruled opening history (without_folds steps)))
     → (why : Option Refusal) (full : Bool) (answer : Answer)
-    → let given = refused_or (or_full why full) answer ∷ given_from opening (recorded opening (at history held) caller command (refused_or (or_full why full) answer)) steps in
+    → let given = refused_or (or_full why full) answer ∷ given_from opening
+    (recorded opening (at history held) caller command (refused_or (or_full why full) answer)) steps in
     take (before_full given) given
-    ≡ take (before_full given) (refused_or why answer ∷ all_ruled opening (extended history caller command (refused_or why answer)) (without_folds steps))
+    ≡ take (before_full given) (refused_or why answer ∷ all_ruled opening (extended history caller command (refused_or why answer))
+    (without_folds steps))
 until_full-asked opening history held caller command steps later (Some why) full answer = same-cons (Err why) _ _ (later history held)
 until_full-asked opening history held caller command steps later None true answer = refl
 until_full-asked opening history held caller command steps later None false answer = same-cons (Ok answer) _ _ (later _ _)

@@ -1,5 +1,6 @@
 -- What one more event at the end of a history does to the statistics.
-use Rattle.std.proofs.Common.{◌≡◌, ℕ, ◌+◌, List, [], ◌∷◌, ◌++◌, map, Bool, true, false, cond, refl, ap, ◌∙◌, arith, max, Option, Some, None, if◌then◌else◌, sum_by}
+use Rattle.std.proofs.Common.{◌≡◌, ℕ, ◌+◌, List, [], ◌∷◌, ◌++◌, map, Bool, true, false, cond, refl, ap, ◌∙◌, arith, max, Option, Some, None}
+use Rattle.std.proofs.Common.{if◌then◌else◌, sum_by}
 use Rattle.std.specs.Option.{is_some, option_map_or}
 use Rattle.std.specs.List.{filter_map}
 use Rattle.std.proofs.lemmas.List.{map-append}
@@ -8,7 +9,9 @@ use Rattle.pie_book.specs.Types.{Packet, Answer, Enqueued, Left, Event, Opening,
 use Rattle.pie_book.specs.Deed.{Deed, deed_of, departure, is_arrival, is_update, sets_params, arrival_deed, departure_deed}
 use Rattle.pie_book.specs.History.{effective_moment, waiting_after, bytes_after}
 use Rattle.pie_book.specs.Estimates.{delay_answered}
-use Rattle.pie_book.specs.Statistics.{count_of, is_queued, is_marked, is_dropped_early, is_dropped_bytes, is_dropped_packets, is_departure, is_found_none, is_reset, bytes_departed, age_of_oldest, wait_at, delay_at, largest_queue, largest_delay, waited, stats_after}
+use Rattle.pie_book.specs.Statistics.{count_of, is_queued, is_marked, is_dropped_early, is_dropped_bytes, is_dropped_packets, is_departure}
+use Rattle.pie_book.specs.Statistics.{is_found_none, is_reset, bytes_departed, age_of_oldest, wait_at, delay_at, largest_queue, largest_delay, waited}
+use Rattle.pie_book.specs.Statistics.{stats_after}
 use Rattle.pie_book.specs.Core.{counted, with_queue}
 use Rattle.pie_controller.specs.Places.{Place, places, up_to, greatest}
 use Rattle.pie_controller.proofs.Places.{place_of, places-push, from_places-push, greatest-push, greatest-push_option}
@@ -55,13 +58,15 @@ largest_delay-push opening history event =
 
 waited-push : (opening : Opening) (history : List Event) (event : Event)
     → waited opening (history ++ event ∷ [])
-    ≡ (if is_departure (deed_of event) then waited opening history + age_of_oldest (effective_moment opening (history ++ event ∷ [])) (waiting_after opening history)
+    ≡ (if is_departure (deed_of event) then waited opening history + age_of_oldest (effective_moment opening (history ++ event ∷ []))
+    (waiting_after opening history)
     else waited opening history)
 unfolding waited
 waited-push opening history event =
     ap (λ xs. sum_by (wait_at opening) xs) (places-push history event)
     ∙ sum_by_push (wait_at opening) (places history) (place_of history event)
-    ∙ more_of (is_departure (deed_of event)) (sum_by (wait_at opening) (places history)) (age_of_oldest (effective_moment opening (history ++ event ∷ [])) (waiting_after opening history))
+    ∙ more_of (is_departure (deed_of event)) (sum_by (wait_at opening) (places history))
+    (age_of_oldest (effective_moment opening (history ++ event ∷ [])) (waiting_after opening history))
 
 -- the statistics after one more event
 pub stats_after-push : (opening : Opening) (history : List Event) (event : Event)

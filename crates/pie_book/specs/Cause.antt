@@ -11,5 +11,6 @@ use Rattle.pie_book.specs.Estimates.{held_after}
 -- what decides a command after a history, where it is an arrival
 abbrev pub cause_after : Opening → List Event → Command → Option Cause
 cause_after opening history (Arrive moment packet word) =
-    Some (cause (held_after opening history) (arrival_of (waiting_after opening history) opening.limits.packets packet word) (length (waiting_after opening history)))
+    Some (cause (held_after opening history) (arrival_of (waiting_after opening history) opening.limits.packets packet word)
+    (length (waiting_after opening history)))
 cause_after opening history _ = None

@@ -5,7 +5,8 @@ use Rattle.pie_controller.specs.declared.verdict.Verdict.TheVariants as verdict
 use Rattle.pie_controller.specs.Events.{ControllerEvent, Opened, Arrived, Departed, Passed, Updated, Reset, Changed}
 use Rattle.pie_controller.specs.Places.{Place, places, up_to}
 use Rattle.pie_book.specs.Types.{Event, Opening}
-use Rattle.pie_book.specs.Deed.{Deed, deed_of, handed_in, queued, marked, dropped_early, dropped_bytes, dropped_packets, departed, found_none, updated, was_reset, set, nothing}
+use Rattle.pie_book.specs.Deed.{Deed, deed_of, handed_in, queued, marked, dropped_early, dropped_bytes, dropped_packets, departed, found_none}
+use Rattle.pie_book.specs.Deed.{updated, was_reset, set, nothing}
 use Rattle.pie_book.specs.History.{bytes_after}
 
 -- what the controller was opened with
@@ -28,7 +29,8 @@ event_shown (set params) before after moment = Changed params moment
 event_shown nothing before after moment = Passed moment
 
 abbrev pub shown_at : Opening → Place Event → ControllerEvent
-shown_at opening place = event_shown (deed_of place.event) (bytes_after opening place.before) (bytes_after opening (up_to place)) (handed_in place.event.command)
+shown_at opening place = event_shown (deed_of place.event) (bytes_after opening place.before) (bytes_after opening (up_to place))
+    (handed_in place.event.command)
 
 unfoldable pub shown : Opening → List Event → List ControllerEvent
 shown opening history = map (shown_at opening) (places history)

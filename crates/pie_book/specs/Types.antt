@@ -10,7 +10,8 @@ pub use Rattle.pie_controller.specs.Held.{Held}
 pub use Rattle.pie_book.specs.declared.command.Command.{Command}
 pub use Rattle.pie_book.specs.declared.command.Command.TheVariants.{Arrive, Depart, Update, Reset, SetParams}
 pub use Rattle.pie_book.specs.declared.command.Answer.{Answer}
-pub use Rattle.pie_book.specs.declared.command.Answer.TheVariants.{Enqueued, Marked, DroppedEarly, DroppedBytes, DroppedPackets, Empty, Left, Updated, Done}
+pub use Rattle.pie_book.specs.declared.command.Answer.TheVariants.{Enqueued, Marked, DroppedEarly, DroppedBytes, DroppedPackets, Empty, Left, Updated}
+pub use Rattle.pie_book.specs.declared.command.Answer.TheVariants.{Done}
 pub use Rattle.pie_book.specs.declared.command.Event.{Event}
 pub use Rattle.pie_book.specs.declared.opening.Mode.{Mode}
 pub use Rattle.pie_book.specs.declared.opening.Mode.TheVariants.{Bounded, Rolling}

@@ -23,8 +23,10 @@ pub fn parts_decide_as_a_core()
     ensures opens { (opening : Opening) → IsOpening opening (opened_by opening) }
     ensures steps { (opening : Opening) (core : CoreView) (history : List Event) → Shows opening core history
         → (caller : ℕ) (command : Command) → first_bad core.held.params ≡ None → refusal_of core command ≡ None
-        → IsStep opening history caller command (answer_by core.held core.waiting core.packets command) (after_call core.held (call_of core.waiting core.packets command)) }
-    ensures too_soon { (core : CoreView) (moment : ℕ) → is_too_soon core.held.moment (due_of core.held.params core.held.control) (Update moment) ≡ nat_lt (now_at core.held moment) (due core.held) }
+        → IsStep opening history caller command (answer_by core.held core.waiting core.packets command)
+        (after_call core.held (call_of core.waiting core.packets command)) }
+    ensures too_soon { (core : CoreView) (moment : ℕ) → is_too_soon core.held.moment (due_of core.held.params core.held.control) (Update moment)
+        ≡ nat_lt (now_at core.held moment) (due core.held) }
 {}
 
 /// A whole run: a controller beside a queue that was opened as a legal history was, and made the calls of that history one after
@@ -33,7 +35,9 @@ pub fn parts_decide_as_a_core()
 /// It does nothing: its contract is the law.
 #[tactic(auto, using(crate::proofs::BesideFacts::run_beside))]
 pub fn runs_decide_as_a_core()
-    ensures { (opening : Opening) (history : List Event) (command : Command) → first_bad opening.params ≡ None → IsLegal opening history → All (λ event. CommandFits event.command) history
+    ensures { (opening : Opening) (history : List Event) (command : Command) → first_bad opening.params ≡ None → IsLegal opening history
+        → All (λ event. CommandFits event.command) history
         → refusal_by_rule opening history command ≡ None
-        → answer_by (held_after_calls opening history) (waiting_after opening history) opening.limits.packets command ≡ decision opening history command }
+        → answer_by (held_after_calls opening history) (waiting_after opening history) opening.limits.packets command
+        ≡ decision opening history command }
 {}

@@ -54,7 +54,10 @@ impl Core {
         requires size { IsSize packet.size }
         requires room { is_queued verdict ≡ true → (length self.old.waiting == self.old.packets) ≡ false }
         requires bytes { is_queued verdict ≡ true → bytes_of self.old.waiting + packet.size ≤ 2 ^ 30 }
-        ensures { self.new ≡ record self.old { waiting = self.old.waiting ++ option_to_list (admission now (arrival_deed packet (answer_of verdict))) } }
+        ensures { self.new ≡ record self.old {
+          waiting = self.old.waiting ++ option_to_list (admission now
+              (arrival_deed packet (answer_of verdict)));
+        } }
     {
         match verdict {
             Verdict::Enqueued => {

@@ -33,5 +33,6 @@ pub fn profile_one_is_always_active()
 /// It does nothing: its contract is the law, for a caller that speaks of a book which is not in hand.
 #[tactic(auto, using(crate::proofs::CoreFacts::registers_is))]
 pub fn registers_look_back()
-    ensures { (opening : Opening) (core : CoreView) (history : List Event) → Shows opening core history → registers_of core ≡ registers_after opening history }
+    ensures { (opening : Opening) (core : CoreView) (history : List Event) → Shows opening core history
+        → registers_of core ≡ registers_after opening history }
 {}

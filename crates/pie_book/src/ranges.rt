@@ -17,14 +17,19 @@ ghost use Rattle.pie_book.specs.Statistics.{stats_after};
 #[tactic(auto, using(crate::proofs::RangeLaws::params_are_held, crate::proofs::RangeLaws::registers_are_held, crate::proofs::RangeLaws::stats_are_held, crate::proofs::RangeLaws::answers_are_held, crate::proofs::RangeLaws::answers_are_of_their_kind, crate::proofs::RangeLaws::legal_at_first, crate::proofs::RangeLaws::legal_with_one_more))]
 pub fn all_numbers_are_held()
     ensures params { (params : RawParams) → first_bad params ≡ None → ParamsFit params }
-    ensures registers { (opening : Opening) (history : List Event) → opening_refusal opening.limits opening.moment ≡ None → ParamsFit opening.params → IsLegal opening history
+    ensures registers { (opening : Opening) (history : List Event) → opening_refusal opening.limits opening.moment ≡ None → ParamsFit opening.params
+        → IsLegal opening history
         → All (λ event. CommandFits event.command) history → RegistersFit (registers_after opening history) }
-    ensures stats { (opening : Opening) (history : List Event) → opening_refusal opening.limits opening.moment ≡ None → ParamsFit opening.params → IsLegal opening history
+    ensures stats { (opening : Opening) (history : List Event) → opening_refusal opening.limits opening.moment ≡ None → ParamsFit opening.params
+        → IsLegal opening history
         → All (λ event. CommandFits event.command) history → StatsFit (stats_after opening history) }
-    ensures answers { (opening : Opening) (history : List Event) (command : Command) → opening_refusal opening.limits opening.moment ≡ None → ParamsFit opening.params → IsLegal opening history
-        → All (λ event. CommandFits event.command) history → refusal_by_rule opening history command ≡ None → AnswerFits (decision opening history command) }
+    ensures answers { (opening : Opening) (history : List Event) (command : Command) → opening_refusal opening.limits opening.moment ≡ None
+        → ParamsFit opening.params → IsLegal opening history
+        → All (λ event. CommandFits event.command) history → refusal_by_rule opening history command ≡ None
+        → AnswerFits (decision opening history command) }
     ensures kinds { (opening : Opening) (history : List Event) (command : Command) → fits command (decision opening history command) ≡ true }
     ensures legal_at_first { (opening : Opening) → IsLegal opening [] }
-    ensures legal_with_one_more { (opening : Opening) (history : List Event) (caller : ℕ) (command : Command) → IsLegal opening history → refusal_by_rule opening history command ≡ None
+    ensures legal_with_one_more { (opening : Opening) (history : List Event) (caller : ℕ) (command : Command) → IsLegal opening history
+        → refusal_by_rule opening history command ≡ None
         → IsLegal opening (history ++ event_of caller command (decision opening history command) ∷ []) }
 {}

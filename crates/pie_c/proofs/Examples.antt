@@ -8,7 +8,8 @@ use Rattle.pie_c.specs.declared.state.PieState.{PieState}
 use Rattle.pie_controller.specs.declared.profile.Profile.TheVariants.{One}
 use Rattle.pie_controller.specs.Held.{Held}
 use Rattle.pie_controller.specs.Steps.{accu_left, arrived, capped, departed, opened, updated, verdict}
-use Rattle.pie_c.specs.Calls.{arrival_of, arrival_refusal, departure_refusal, moment_refusal, opening_refusal, reset_refusal, state_refusal, update_refusal, verdict_number}
+use Rattle.pie_c.specs.Calls.{arrival_of, arrival_refusal, departure_refusal, moment_refusal, opening_refusal, reset_refusal, state_refusal}
+use Rattle.pie_c.specs.Calls.{update_refusal, verdict_number}
 use Rattle.pie_c.specs.Params.{raw_of}
 use Rattle.pie_c.specs.State.{are_in_range, held_in, is_activity_sound, is_control_sound, is_rate_sound, is_sound, state_of, with_arrival, with_rate}
 
@@ -33,14 +34,18 @@ start = state_of (opened One (raw_of defaults) 0)
 abbrev busy : ℕ → Held
 busy accu = record (opened One (raw_of defaults) 0) { control = record { prob = 10 ^ 11; old_delay = 15_000_000; burst = 0; last = 0 }; accu = accu }
 
-sound-states : (is_sound start ≡ true) × (is_sound (record start { last = 1 }) ≡ false) × (is_sound (record start { measuring = 2 }) ≡ false) × (is_sound (record start { measuring = 1; cycle_count = 16383 }) ≡ true)
-    × (is_sound (record start { measuring = 1; cycle_count = 16384 }) ≡ false) × (is_sound (record start { params = record defaults { dq_threshold = 3000 } }) ≡ false)
-    × (is_sound (record start { active = 0 }) ≡ false) × (is_sound (record start { profile = 2; active = 0 }) ≡ true) × (is_sound (record start { profile = 2; active = 2 }) ≡ false) × (is_sound (record start { profile = 3 }) ≡ false)
+sound-states : (is_sound start ≡ true) × (is_sound (record start { last = 1 }) ≡ false) × (is_sound (record start { measuring = 2 }) ≡ false)
+    × (is_sound (record start { measuring = 1; cycle_count = 16383 }) ≡ true)
+    × (is_sound (record start { measuring = 1; cycle_count = 16384 }) ≡ false)
+    × (is_sound (record start { params = record defaults { dq_threshold = 3000 } }) ≡ false)
+    × (is_sound (record start { active = 0 }) ≡ false) × (is_sound (record start { profile = 2; active = 0 }) ≡ true)
+    × (is_sound (record start { profile = 2; active = 2 }) ≡ false) × (is_sound (record start { profile = 3 }) ≡ false)
 unfolding state_of is_sound are_in_range is_control_sound is_rate_sound is_activity_sound
 sound-states = (refl, refl, refl, refl, refl, refl, refl, refl, refl, refl)
 
 -- a state is refused by any field, and by the calls for each packet by none
-state_refusals : (state_refusal start ≡ 0) × (state_refusal (record start { accu = 8_500_000_000_000 }) ≡ 110) × (reset_refusal (record start { accu = 8_500_000_000_000 }) 0 ≡ 110)
+state_refusals : (state_refusal start ≡ 0) × (state_refusal (record start { accu = 8_500_000_000_000 }) ≡ 110)
+    × (reset_refusal (record start { accu = 8_500_000_000_000 }) 0 ≡ 110)
     × (reset_refusal start (2 ^ 60) ≡ 101) × (moment_refusal (2 ^ 60) ≡ 101) × (departure_refusal 65536 0 0 ≡ 102)
 unfolding state_of reset_refusal moment_refusal departure_refusal is_sound are_in_range is_control_sound is_rate_sound is_activity_sound
 state_refusals = (refl, refl, refl, refl, refl, refl)
@@ -49,23 +54,27 @@ state_refusals = (refl, refl, refl, refl, refl, refl)
 abbrev odd : PieState
 odd = record start { params = record defaults { dq_threshold = 2 ^ 17 }; measuring = 1; cycle_start = 7; cycle_count = 65535; profile = 9 }
 
-odd_states : (with_rate odd (departed (capped (held_in odd)) 1 0 8) ≡ record odd { moment = 8; average = 1; measuring = 0; cycle_start = 0; cycle_count = 0 })
+odd_states : (with_rate odd (departed (capped (held_in odd)) 1 0 8)
+    ≡ record odd { moment = 8; average = 1; measuring = 0; cycle_start = 0; cycle_count = 0 })
     × (with_arrival odd (arrived (held_in odd) (arrival_of 0 1500 1 0 0) 8) ≡ record odd { moment = 8 })
 unfolding held_in state_of verdict accu_left is_considered is_picked
 odd_states = (refl, refl)
 
 -- the first thing that is out of its range is named
-refusals : (arrival_refusal (2 ^ 30 + 1) 0 4 (2 ^ 60) ≡ 101) × (arrival_refusal (2 ^ 30 + 1) 0 4 0 ≡ 102) × (arrival_refusal (2 ^ 30 + 1) 65535 4 0 ≡ 111)
+refusals : (arrival_refusal (2 ^ 30 + 1) 0 4 (2 ^ 60) ≡ 101) × (arrival_refusal (2 ^ 30 + 1) 0 4 0 ≡ 102)
+    × (arrival_refusal (2 ^ 30 + 1) 65535 4 0 ≡ 111)
     × (arrival_refusal (2 ^ 30 + 1) 1 3 0 ≡ 112) × (arrival_refusal (2 ^ 30) 1 3 (2 ^ 60 - 1) ≡ 0)
 unfolding arrival_refusal
 refusals = (refl, refl, refl, refl, refl)
 
 -- a profile is looked at last
-openings : (opening_refusal (record defaults { target = 1 }) (2 ^ 60) 3 ≡ 107) × (opening_refusal defaults (2 ^ 60) 3 ≡ 101) × (opening_refusal defaults 0 3 ≡ 113) × (opening_refusal defaults 0 0 ≡ 113) × (opening_refusal defaults 0 2 ≡ 0)
+openings : (opening_refusal (record defaults { target = 1 }) (2 ^ 60) 3 ≡ 107) × (opening_refusal defaults (2 ^ 60) 3 ≡ 101)
+    × (opening_refusal defaults 0 3 ≡ 113) × (opening_refusal defaults 0 0 ≡ 113) × (opening_refusal defaults 0 2 ≡ 0)
 unfolding opening_refusal are_in_range
 openings = (refl, refl, refl, refl, refl)
 
-too_soon : (update_refusal start 0 14_999_999 ≡ 103) × (update_refusal start 0 15_000_000 ≡ 0) × (update_refusal (record start { moment = 15_000_000 }) 0 3 ≡ 0)
+too_soon : (update_refusal start 0 14_999_999 ≡ 103) × (update_refusal start 0 15_000_000 ≡ 0)
+    × (update_refusal (record start { moment = 15_000_000 }) 0 3 ≡ 0)
 unfolding state_of held_in update_refusal is_sound are_in_range is_control_sound is_rate_sound is_activity_sound
 too_soon = (refl, refl, refl)
 
@@ -78,11 +87,13 @@ unfolding verdict is_considered is_picked
 tail_drops = (refl, refl, refl)
 
 -- the ninth considered arrival by the least and by the greatest word, and the 85th
-early_drops : (said 800_000_000_000 3000 1500 1 0 ≡ 2) × (said 800_000_000_000 3000 1500 1 (2 ^ 64 - 1) ≡ 0) × (said 8_400_000_000_000 3000 1500 1 (2 ^ 64 - 1) ≡ 2)
+early_drops : (said 800_000_000_000 3000 1500 1 0 ≡ 2) × (said 800_000_000_000 3000 1500 1 (2 ^ 64 - 1) ≡ 0)
+    × (said 8_400_000_000_000 3000 1500 1 (2 ^ 64 - 1) ≡ 2)
 unfolding verdict is_considered is_picked
 early_drops = (refl, refl, refl)
 
-accumulates : ((arrived (busy 5) (arrival_of 3000 1500 1 2 0) 7).accu ≡ 100_000_000_005) × ((arrived (busy 5) (arrival_of 2048 1500 1 2 0) 7).accu ≡ 5) × ((arrived (busy 5) (arrival_of 3000 1500 0 2 0) 7).accu ≡ 0)
+accumulates : ((arrived (busy 5) (arrival_of 3000 1500 1 2 0) 7).accu ≡ 100_000_000_005)
+    × ((arrived (busy 5) (arrival_of 2048 1500 1 2 0) 7).accu ≡ 5) × ((arrived (busy 5) (arrival_of 3000 1500 0 2 0) 7).accu ≡ 0)
 unfolding verdict accu_left is_considered is_picked
 accumulates = (refl, refl, refl)
 
@@ -90,7 +101,8 @@ accumulates = (refl, refl, refl)
 abbrev after_two : Held
 after_two = departed (departed (opened One (raw_of defaults) 0) 1500 20000 1000) 16384 16384 12_001_000
 
-rates : ((state_of after_two).average ≡ 12_000_000) × ((state_of after_two).measuring ≡ 1) × ((state_of (departed after_two 16384 0 32_001_000)).average ≡ 14_000_000) × ((state_of (departed after_two 16384 0 32_001_000)).cycle_start ≡ 0)
+rates : ((state_of after_two).average ≡ 12_000_000) × ((state_of after_two).measuring ≡ 1)
+    × ((state_of (departed after_two 16384 0 32_001_000)).average ≡ 14_000_000) × ((state_of (departed after_two 16384 0 32_001_000)).cycle_start ≡ 0)
 unfolding state_of
 rates = (refl, refl, refl, refl)
 

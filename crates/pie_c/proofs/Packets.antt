@@ -1,5 +1,6 @@
 -- What the calls for each packet leave of a sound state is what the controller then holds.
-use Rattle.std.proofs.Common.{◌≡◌, ℕ, ◌+◌, ◌≤◌, ◌<◌, ◌^◌, ◌==◌, ◌&&◌, ◌||◌, not, max, min, if◌then◌else◌, nat_lt, Bool, true, false, List, [], ◌∷◌, ◌++◌, arith, refl, sym, ap, ◌∙◌}
+use Rattle.std.proofs.Common.{◌≡◌, ℕ, ◌+◌, ◌≤◌, ◌<◌, ◌^◌, ◌==◌, ◌&&◌, ◌||◌, not, max, min, if◌then◌else◌, nat_lt, Bool, true, false, List, [], ◌∷◌}
+use Rattle.std.proofs.Common.{◌++◌, arith, refl, sym, ap, ◌∙◌}
 use Rattle.std.proofs.lemmas.Bool.{eqb-true}
 use Rattle.std.proofs.lemmas.Bool.Decides.{nat_tests}
 use Rattle.pie_controller.specs.declared.verdict.Arrival.{Arrival}
@@ -11,7 +12,8 @@ use Rattle.pie_controller.specs.declared.profile.Profile.{Profile}
 use Rattle.pie_controller.specs.declared.profile.Profile.TheVariants.{One, Two}
 use Rattle.pie_controller.specs.Held.{Held}
 use Rattle.pie_controller.specs.History.{Shows}
-use Rattle.pie_controller.specs.Steps.{anew, accu_left, arrived, bytes_with, capped, changed, departed, judged, opened, passed, reset, turns_on, verdict}
+use Rattle.pie_controller.specs.Steps.{anew, accu_left, arrived, bytes_with, capped, changed, departed, judged, opened, passed, reset, turns_on}
+use Rattle.pie_controller.specs.Steps.{verdict}
 use Rattle.pie_controller.proofs.InRange.{threshold-holds}
 use Rattle.pie_controller.proofs.Laws.{Shows_call, moved}
 use Rattle.pie_controller.proofs.Sounds.{Sound_call}
@@ -20,11 +22,13 @@ use Rattle.pie_c.specs.declared.state.PieState.{PieState}
 use Rattle.pie_c.specs.Calls.{arrival_refusal, departure_refusal, if_taken, is_bad_size, kept_if_refused, moment_refusal}
 use Rattle.pie_c.specs.Params.{params_of, raw_of}
 use Rattle.pie_c.specs.State.{held_in, is_sound, last_moment, profile_number, profile_of, state_of, with_arrival, with_rate, with_registers}
-use Rattle.pie_c.proofs.Sound.{held-sound, held-state, kept-arrived, kept-departed, kept-moment, params-from, parts-of, profile-back, state-held, state-sound}
+use Rattle.pie_c.proofs.Sound.{held-sound, held-state, kept-arrived, kept-departed, kept-moment, params-from, parts-of, profile-back, state-held}
+use Rattle.pie_c.proofs.Sound.{state-sound}
 
 -- ---- a call that nothing refuses
 
-pub arrival-taken : (queued size bits moment : ℕ) → moment ≤ last_moment → is_bad_size size ≡ false → bits ≤ 3 → queued ≤ 2 ^ 30 → arrival_refusal queued size bits moment ≡ 0
+pub arrival-taken : (queued size bits moment : ℕ) → moment ≤ last_moment → is_bad_size size ≡ false → bits ≤ 3 → queued ≤ 2 ^ 30
+    → arrival_refusal queued size bits moment ≡ 0
 unfolding arrival_refusal
 arrival-taken queued size bits moment m s b q =
     let early : nat_lt last_moment moment ≡ false = grind (arith, nat_tests) in
@@ -32,7 +36,8 @@ arrival-taken queued size bits moment m s b q =
     let few : nat_lt (2 ^ 30) queued ≡ false = grind (arith, nat_tests) in
     rw (early, s, known, few) refl
 
-pub departure-taken : (size left moment : ℕ) → moment ≤ last_moment → is_bad_size size ≡ false → left ≤ 2 ^ 30 → departure_refusal size left moment ≡ 0
+pub departure-taken : (size left moment : ℕ) → moment ≤ last_moment → is_bad_size size ≡ false → left ≤ 2 ^ 30
+    → departure_refusal size left moment ≡ 0
 unfolding departure_refusal
 departure-taken size left moment m s q =
     let early : nat_lt last_moment moment ≡ false = grind (arith, nat_tests) in
@@ -60,7 +65,8 @@ handed moment rest = by (nat_lt last_moment moment) refl
     by true is free = cc
     by false is free = grind (arith, nat_tests)
 
-module _ (s t : PieState) (call : Call) (refusal : ℕ) (sound : is_sound s ≡ true) (left : t ≡ kept_if_refused refusal s (after_call (held_in s) call)) where
+module _ (s t : PieState) (call : Call) (refusal : ℕ) (sound : is_sound s ≡ true)
+    (left : t ≡ kept_if_refused refusal s (after_call (held_in s) call)) where
   pub stays-sound : (refusal ≡ 0 → IsTaken call) → is_sound t ≡ true
   stays-sound taken = rw left (by (refusal == 0) (λ is. taken (eqb-true refusal 0 is)))
     where
@@ -68,7 +74,8 @@ module _ (s t : PieState) (call : Call) (refusal : ℕ) (sound : is_sound s ≡ 
       by true taken = state-sound _ (Sound_call (held_in s) (held-sound s sound) call (taken refl))
       by false taken = sound
 
-  pub shows-call : (o : Opened) (events : List ControllerEvent) → refusal ≡ 0 → Shows o events (held_in s) → Shows o (events ++ shown_by (held_in s) call ∷ []) (held_in t)
+  pub shows-call : (o : Opened) (events : List ControllerEvent) → refusal ≡ 0 → Shows o events (held_in s)
+      → Shows o (events ++ shown_by (held_in s) call ∷ []) (held_in t)
   shows-call o events free shows =
       rw (left, free) (moved _ _ _ _ (held-state _) (Shows_call o events (held_in s) shows (threshold-held s sound) call))
 
@@ -114,7 +121,8 @@ departed-state s size left moment sound =
     ∙ kept-departed s (departed (held_in s) size left moment) sound refl
 
 -- what a departure leaves of each field
-pub departed-after : (s t : PieState) (size left moment : ℕ) → t ≡ if_taken (departure_refusal size left moment) s (with_rate s (departed (capped (held_in s)) size left moment)) → is_sound s ≡ true
+pub departed-after : (s t : PieState) (size left moment : ℕ)
+    → t ≡ if_taken (departure_refusal size left moment) s (with_rate s (departed (capped (held_in s)) size left moment)) → is_sound s ≡ true
     → t ≡ kept_if_refused (departure_refusal size left moment) s (after_call (held_in s) (Depart size left moment))
 departed-after s t size left moment is sound =
     is ∙ ap (λ (u : PieState). if_taken (departure_refusal size left moment) s u) (departed-state s size left moment sound)
@@ -129,7 +137,8 @@ counted-state s size left moment active measuring few =
 
 -- .. and one that meets no cycle and opens none the moment
 pub unmeasured-state : (s : PieState) (size left moment : ℕ) → s.active ≡ 1 → (s.measuring == 1) ≡ false → left < min s.params.dq_threshold 65536
-    → record s { moment = max s.moment moment; measuring = 0; cycle_start = 0; cycle_count = 0 } ≡ with_rate s (departed (capped (held_in s)) size left moment)
+    → record s { moment = max s.moment moment; measuring = 0; cycle_start = 0; cycle_count = 0 }
+    ≡ with_rate s (departed (capped (held_in s)) size left moment)
 unfolding held_in
 unmeasured-state s size left moment active measuring few =
     let below : nat_lt left (min s.params.dq_threshold 65536) ≡ true = grind (arith, nat_tests) in
@@ -169,7 +178,8 @@ moment-later t a h g held after =
     let most : max t.moment t.moment ≡ t.moment = grind arith in
     ap (λ (k : Held). k.moment) after ∙ arrived-moment h a t.moment ∙ ap (λ (k : Held). max k.moment t.moment) held ∙ most
 
-pub verdict-later : (s t : PieState) (a b : Arrival) (moment : ℕ) (h : Held) (v : Verdict) → t ≡ at_later s moment → h ≡ held_in t → v ≡ verdict h a → a ≡ b
+pub verdict-later : (s t : PieState) (a b : Arrival) (moment : ℕ) (h : Held) (v : Verdict) → t ≡ at_later s moment → h ≡ held_in t → v ≡ verdict h a
+    → a ≡ b
     → v ≡ verdict (held_in s) b
 unfolding held_in verdict
 verdict-later s t a b moment h v at held is same = rw (is, held, same, at) refl
@@ -195,7 +205,8 @@ pub opened-state : (s : PieState) (params : PieParams) (raw : RawParams) (g : He
     → with_registers (record s { params = params; profile = number }) g ≡ state_of (opened (profile_of profile) (raw_of params) moment)
 opened-state s params raw g moment number profile kind known same of is after =
     rw (after, of, is, same)
-    (registers-state (record s { params = params; profile = profile }) (opened (profile_of profile) (raw_of params) moment) refl (by (profile == 2) refl))
+    (registers-state (record s { params = params; profile = profile }) (opened (profile_of profile) (raw_of params) moment) refl
+    (by (profile == 2) refl))
   where
     by : (two : Bool) → (profile == 2) ≡ two → profile_number (if two then Two else One) ≡ profile
     by true is = grind (arith, nat_tests)

@@ -10,7 +10,8 @@ use Rattle.pie_controller.specs.Held.{Held, IsSound, IsWithin}
 use Rattle.pie_c.specs.declared.params.PieParams.{PieParams}
 use Rattle.pie_c.specs.declared.state.PieState.{PieState}
 use Rattle.pie_c.specs.Params.{params_of, raw_of}
-use Rattle.pie_c.specs.State.{are_in_range, begun_in, count_of, flag, flag_of, held_in, is_activity_sound, is_control_sound, is_rate_sound, is_sound, last_moment, profile_number, profile_of, start_of, state_of}
+use Rattle.pie_c.specs.State.{are_in_range, begun_in, count_of, flag, flag_of, held_in, is_activity_sound, is_control_sound, is_rate_sound, is_sound}
+use Rattle.pie_c.specs.State.{last_moment, profile_number, profile_of, start_of, state_of}
 
 -- ---- what a state says of what is held is what is held
 
@@ -29,8 +30,22 @@ begun-is (Some cycle) = refl
 pub held-state : (h : Held) → held_in (state_of h) ≡ h
 unfolding held_in state_of
 held-state h =
-    ap (λ (p : Profile). record { profile = p; params = h.params; moment = h.moment; active = flag h.active == 1; rate = record { average = h.rate.average; begun = begun_in (flag_of h.rate.begun) (start_of h.rate.begun) (count_of h.rate.begun) }; control = h.control; accu = h.accu }) (profile-is h.profile)
-    ∙ ap (λ (a : Bool). record h { active = a; rate = record { average = h.rate.average; begun = begun_in (flag_of h.rate.begun) (start_of h.rate.begun) (count_of h.rate.begun) } }) (active-is h.active)
+    ap (λ (p : Profile). record {
+      profile = p;
+      params = h.params;
+      moment = h.moment;
+      active = flag h.active == 1;
+      rate = record { average = h.rate.average; begun = begun_in (flag_of h.rate.begun) (start_of h.rate.begun) (count_of h.rate.begun) };
+      control = h.control;
+      accu = h.accu;
+    }) (profile-is h.profile)
+    ∙ ap (λ (a : Bool). record h {
+      active = a;
+      rate = record {
+        average = h.rate.average;
+        begun = begun_in (flag_of h.rate.begun) (start_of h.rate.begun) (count_of h.rate.begun);
+      };
+    }) (active-is h.active)
     ∙ ap (λ (o : Option Begun). record h { rate = record { average = h.rate.average; begun = o } }) (begun-is h.rate.begun)
 
 -- ---- sound
@@ -55,7 +70,8 @@ parts-of s h = record {
   activity = grind (arith, nat_tests);
 }
 
-sound-by : (s : PieState) → are_in_range s.params ≡ true → s.moment ≤ last_moment → is_control_sound s ≡ true → s.accu < 8_500_000_000_000 → is_rate_sound s ≡ true → is_activity_sound s ≡ true → is_sound s ≡ true
+sound-by : (s : PieState) → are_in_range s.params ≡ true → s.moment ≤ last_moment → is_control_sound s ≡ true → s.accu < 8_500_000_000_000
+    → is_rate_sound s ≡ true → is_activity_sound s ≡ true → is_sound s ≡ true
 unfolding is_sound
 sound-by s p m c a r b = grind (arith, nat_tests)
 
@@ -79,7 +95,12 @@ record Control (s : PieState) : Type 0 where
 
 control-from : (s : PieState) → is_control_sound s ≡ true → Control s
 unfolding is_control_sound
-control-from s h = record { prob = grind (arith, nat_tests); old_delay = grind (arith, nat_tests); burst = grind (arith, nat_tests); last = grind (arith, nat_tests) }
+control-from s h = record {
+  prob = grind (arith, nat_tests);
+  old_delay = grind (arith, nat_tests);
+  burst = grind (arith, nat_tests);
+  last = grind (arith, nat_tests);
+}
 
 control-to : (s : PieState) → s.prob ≤ 10 ^ 12 → s.old_delay ≤ 2 ^ 40 → s.burst ≤ 10 ^ 12 → s.last ≤ s.moment → is_control_sound s ≡ true
 unfolding is_control_sound
@@ -89,12 +110,14 @@ average-from : (s : PieState) → is_rate_sound s ≡ true → s.average < 2 ^ 6
 unfolding is_rate_sound
 average-from s h = grind (arith, nat_tests)
 
-within-at : (b : Bool) (s : PieState) → (s.measuring == 1) ≡ b → is_rate_sound s ≡ true → IsWithin s.params.dq_threshold s.moment (if b then Some (record { start = s.cycle_start; count = s.cycle_count }) else None)
+within-at : (b : Bool) (s : PieState) → (s.measuring == 1) ≡ b → is_rate_sound s ≡ true
+    → IsWithin s.params.dq_threshold s.moment (if b then Some (record { start = s.cycle_start; count = s.cycle_count }) else None)
 unfolding is_rate_sound
 within-at true s e h = (grind (arith, nat_tests), grind (arith, nat_tests))
 within-at false s e h = tt
 
-rate-to : (s : PieState) (o : Option Begun) → s.average < 2 ^ 60 → s.measuring ≡ flag_of o → s.cycle_start ≡ start_of o → s.cycle_count ≡ count_of o → IsWithin s.params.dq_threshold s.moment o → is_rate_sound s ≡ true
+rate-to : (s : PieState) (o : Option Begun) → s.average < 2 ^ 60 → s.measuring ≡ flag_of o → s.cycle_start ≡ start_of o → s.cycle_count ≡ count_of o
+    → IsWithin s.params.dq_threshold s.moment o → is_rate_sound s ≡ true
 unfolding is_rate_sound
 rate-to t None a f s c w = rw (f, s, c) grind (arith, nat_tests)
 rate-to t (Some cycle) a f s c w = let from = w.0 in let below = w.1 in grind (arith, nat_tests)
@@ -104,7 +127,8 @@ unfolding is_activity_sound
 one-at true s e h one = cc
 one-at false s e h one = grind (arith, nat_tests)
 
-activity-to : (s : PieState) (profile : Profile) (active : Bool) → s.profile ≡ profile_number profile → s.active ≡ flag active → (profile ≡ One → active ≡ true) → is_activity_sound s ≡ true
+activity-to : (s : PieState) (profile : Profile) (active : Bool) → s.profile ≡ profile_number profile → s.active ≡ flag active
+    → (profile ≡ One → active ≡ true) → is_activity_sound s ≡ true
 unfolding is_activity_sound
 activity-to s One active p a always = let on = always refl in rw (p, a, on) refl
 activity-to s Two true p a always = rw (p, a) refl
@@ -153,7 +177,8 @@ record CycleBack (s : PieState) (o : Option Begun) : Type 0 where
   start : start_of o ≡ s.cycle_start
   count : count_of o ≡ s.cycle_count
 
-cycle-back : (b : Bool) (s : PieState) → (s.measuring == 1) ≡ b → is_rate_sound s ≡ true → CycleBack s (if b then Some (record { start = s.cycle_start; count = s.cycle_count }) else None)
+cycle-back : (b : Bool) (s : PieState) → (s.measuring == 1) ≡ b → is_rate_sound s ≡ true
+    → CycleBack s (if b then Some (record { start = s.cycle_start; count = s.cycle_count }) else None)
 unfolding is_rate_sound
 cycle-back true s e h = record { flag = grind (arith, nat_tests); start = refl; count = refl }
 cycle-back false s e h = record { flag = grind (arith, nat_tests); start = grind (arith, nat_tests); count = grind (arith, nat_tests) }
@@ -164,30 +189,70 @@ state-held s sound =
     let parts = parts-of s sound in
     let o : Option Begun = begun_in s.measuring s.cycle_start s.cycle_count in
     let cycle = cycle-back (s.measuring == 1) s refl parts.rate in
-    ap (λ (n : ℕ). record s { measuring = n; cycle_start = start_of o; cycle_count = count_of o; profile = profile_number (profile_of s.profile); active = flag (s.active == 1) }) cycle.flag
-    ∙ ap (λ (n : ℕ). record s { cycle_start = n; cycle_count = count_of o; profile = profile_number (profile_of s.profile); active = flag (s.active == 1) }) cycle.start
+    ap (λ (n : ℕ). record s {
+      measuring = n;
+      cycle_start = start_of o;
+      cycle_count = count_of o;
+      profile = profile_number (profile_of s.profile);
+      active = flag (s.active == 1);
+    }) cycle.flag
+    ∙ ap (λ (n : ℕ). record s {
+      cycle_start = n;
+      cycle_count = count_of o;
+      profile = profile_number (profile_of s.profile);
+      active = flag (s.active == 1);
+    }) cycle.start
     ∙ ap (λ (n : ℕ). record s { cycle_count = n; profile = profile_number (profile_of s.profile); active = flag (s.active == 1) }) cycle.count
     ∙ ap (λ (n : ℕ). record s { profile = n; active = flag (s.active == 1) }) (profile-back (s.profile == 2) s refl parts.activity)
     ∙ ap (λ (n : ℕ). record s { active = n }) (active-back (s.active == 1) s refl parts.activity)
 
-pub kept-moment : (s : PieState) (h : Held) → is_sound s ≡ true → h ≡ record (held_in s) { moment = h.moment } → record s { moment = h.moment } ≡ state_of h
+pub kept-moment : (s : PieState) (h : Held) → is_sound s ≡ true → h ≡ record (held_in s) { moment = h.moment }
+    → record s { moment = h.moment } ≡ state_of h
 unfolding state_of
 kept-moment s h sound is = ap (λ (t : PieState). record t { moment = h.moment }) (sym (state-held s sound)) ∙ sym (ap state_of is)
 
-pub kept-arrived : (s : PieState) (h : Held) → is_sound s ≡ true → h ≡ record (held_in s) { moment = h.moment; accu = h.accu } → record s { moment = h.moment; accu = h.accu } ≡ state_of h
+pub kept-arrived : (s : PieState) (h : Held) → is_sound s ≡ true → h ≡ record (held_in s) { moment = h.moment; accu = h.accu }
+    → record s { moment = h.moment; accu = h.accu } ≡ state_of h
 unfolding state_of
 kept-arrived s h sound is = ap (λ (t : PieState). record t { moment = h.moment; accu = h.accu }) (sym (state-held s sound)) ∙ sym (ap state_of is)
 
 pub kept-departed : (s : PieState) (h : Held) → is_sound s ≡ true → h ≡ record (held_in s) { moment = h.moment; rate = h.rate }
-    → record s { moment = h.moment; average = h.rate.average; measuring = flag_of h.rate.begun; cycle_start = start_of h.rate.begun; cycle_count = count_of h.rate.begun } ≡ state_of h
+    → record s {
+      moment = h.moment;
+      average = h.rate.average;
+      measuring = flag_of h.rate.begun;
+      cycle_start = start_of h.rate.begun;
+      cycle_count = count_of h.rate.begun;
+    } ≡ state_of h
 unfolding state_of
 kept-departed s h sound is =
-    ap (λ (t : PieState). record t { moment = h.moment; average = h.rate.average; measuring = flag_of h.rate.begun; cycle_start = start_of h.rate.begun; cycle_count = count_of h.rate.begun }) (sym (state-held s sound))
+    ap (λ (t : PieState). record t {
+      moment = h.moment;
+      average = h.rate.average;
+      measuring = flag_of h.rate.begun;
+      cycle_start = start_of h.rate.begun;
+      cycle_count = count_of h.rate.begun;
+    }) (sym (state-held s sound))
     ∙ sym (ap state_of is)
 
-pub kept-updated : (s : PieState) (h : Held) → is_sound s ≡ true → h ≡ record (held_in s) { moment = h.moment; active = h.active; control = h.control }
-    → record s { moment = h.moment; prob = h.control.prob; old_delay = h.control.old_delay; burst = h.control.burst; last = h.control.last; active = flag h.active } ≡ state_of h
+pub kept-updated : (s : PieState) (h : Held) → is_sound s ≡ true
+    → h ≡ record (held_in s) { moment = h.moment; active = h.active; control = h.control }
+    → record s {
+      moment = h.moment;
+      prob = h.control.prob;
+      old_delay = h.control.old_delay;
+      burst = h.control.burst;
+      last = h.control.last;
+      active = flag h.active;
+    } ≡ state_of h
 unfolding state_of
 kept-updated s h sound is =
-    ap (λ (t : PieState). record t { moment = h.moment; prob = h.control.prob; old_delay = h.control.old_delay; burst = h.control.burst; last = h.control.last; active = flag h.active }) (sym (state-held s sound))
+    ap (λ (t : PieState). record t {
+      moment = h.moment;
+      prob = h.control.prob;
+      old_delay = h.control.old_delay;
+      burst = h.control.burst;
+      last = h.control.last;
+      active = flag h.active;
+    }) (sym (state-held s sound))
     ∙ sym (ap state_of is)

@@ -8,7 +8,8 @@ ghost use Rattle.pie_controller.specs.History.{Shows};
 ghost use Rattle.pie_controller.specs.Steps.{arrived, capped, departed, verdict};
 ghost use Rattle.pie_c.specs.Params.{raw_of};
 ghost use Rattle.pie_c.specs.State.{held_in, is_sound, with_arrival, with_rate};
-ghost use Rattle.pie_c.specs.Calls.{arrival_of, arrival_refusal, departure_refusal, if_taken, kept_if_refused, moment_refusal, params_refusal, reset_refusal, state_refusal, unless_refused, update_refusal, updated_by, verdict_number};
+ghost use Rattle.pie_c.specs.Calls.{arrival_of, arrival_refusal, departure_refusal, if_taken, kept_if_refused, moment_refusal, params_refusal};
+ghost use Rattle.pie_c.specs.Calls.{reset_refusal, state_refusal, unless_refused, update_refusal, updated_by, verdict_number};
 
 use crate::checked::{ecn, is_bad_size, is_sound, raw};
 use crate::code::{
@@ -41,13 +42,17 @@ pub extern "C" fn pie_arrive(
     word: u64,
     moment: u64,
 ) -> u32
-    ensures answer { result ≡ unless_refused (arrival_refusal queued size bits moment) (verdict_number (verdict (held_in state.old) (arrival_of queued size room bits word))) }
-    ensures fields { state.new ≡ if_taken (arrival_refusal queued size bits moment) state.old (with_arrival state.old (arrived (held_in state.old) (arrival_of queued size room bits word) moment)) }
+    ensures answer { result ≡ unless_refused (arrival_refusal queued size bits moment)
+        (verdict_number (verdict (held_in state.old) (arrival_of queued size room bits word))) }
+    ensures fields { state.new ≡ if_taken (arrival_refusal queued size bits moment) state.old
+        (with_arrival state.old (arrived (held_in state.old) (arrival_of queued size room bits word) moment)) }
 
     // a sound state: it is then what the controller holds, in every field
-    ensures after { is_sound state.old ≡ true → state.new ≡ kept_if_refused (arrival_refusal queued size bits moment) state.old (after_call (held_in state.old) (Arrive (arrival_of queued size room bits word) moment)) }
+    ensures after { is_sound state.old ≡ true → state.new ≡ kept_if_refused (arrival_refusal queued size bits moment) state.old
+        (after_call (held_in state.old) (Arrive (arrival_of queued size room bits word) moment)) }
     ensures sound { is_sound state.old ≡ true → is_sound state.new ≡ true }
-    ensures shows { (opened : Opened) (events : List ControllerEvent) → is_sound state.old ≡ true → arrival_refusal queued size bits moment ≡ 0 → Shows opened events (held_in state.old)
+    ensures shows { (opened : Opened) (events : List ControllerEvent) → is_sound state.old ≡ true → arrival_refusal queued size bits moment ≡ 0
+        → Shows opened events (held_in state.old)
         → Shows opened (events ++ shown_by (held_in state.old) (Arrive (arrival_of queued size room bits word) moment) ∷ []) (held_in state.new) }
 {
     // One number: the other way is then compiled once, and is a jump.
@@ -72,13 +77,17 @@ fn arrive(
     word: u64,
     moment: u64,
 ) -> u32
-    ensures answer { result ≡ unless_refused (arrival_refusal queued size bits moment) (verdict_number (verdict (held_in state.old) (arrival_of queued size room bits word))) }
-    ensures fields { state.new ≡ if_taken (arrival_refusal queued size bits moment) state.old (with_arrival state.old (arrived (held_in state.old) (arrival_of queued size room bits word) moment)) }
+    ensures answer { result ≡ unless_refused (arrival_refusal queued size bits moment)
+        (verdict_number (verdict (held_in state.old) (arrival_of queued size room bits word))) }
+    ensures fields { state.new ≡ if_taken (arrival_refusal queued size bits moment) state.old
+        (with_arrival state.old (arrived (held_in state.old) (arrival_of queued size room bits word) moment)) }
 
     // a sound state: it is then what the controller holds, in every field
-    ensures after { is_sound state.old ≡ true → state.new ≡ kept_if_refused (arrival_refusal queued size bits moment) state.old (after_call (held_in state.old) (Arrive (arrival_of queued size room bits word) moment)) }
+    ensures after { is_sound state.old ≡ true → state.new ≡ kept_if_refused (arrival_refusal queued size bits moment) state.old
+        (after_call (held_in state.old) (Arrive (arrival_of queued size room bits word) moment)) }
     ensures sound { is_sound state.old ≡ true → is_sound state.new ≡ true }
-    ensures shows { (opened : Opened) (events : List ControllerEvent) → is_sound state.old ≡ true → arrival_refusal queued size bits moment ≡ 0 → Shows opened events (held_in state.old)
+    ensures shows { (opened : Opened) (events : List ControllerEvent) → is_sound state.old ≡ true → arrival_refusal queued size bits moment ≡ 0
+        → Shows opened events (held_in state.old)
         → Shows opened (events ++ shown_by (held_in state.old) (Arrive (arrival_of queued size room bits word) moment) ∷ []) (held_in state.new) }
 {
     if moment > MAX_NANOS {
@@ -118,13 +127,17 @@ fn arrive_apart(
     word: u64,
     moment: u64,
 ) -> u32
-    ensures answer { result ≡ unless_refused (arrival_refusal queued size bits moment) (verdict_number (verdict (held_in state.old) (arrival_of queued size room bits word))) }
-    ensures fields { state.new ≡ if_taken (arrival_refusal queued size bits moment) state.old (with_arrival state.old (arrived (held_in state.old) (arrival_of queued size room bits word) moment)) }
+    ensures answer { result ≡ unless_refused (arrival_refusal queued size bits moment)
+        (verdict_number (verdict (held_in state.old) (arrival_of queued size room bits word))) }
+    ensures fields { state.new ≡ if_taken (arrival_refusal queued size bits moment) state.old
+        (with_arrival state.old (arrived (held_in state.old) (arrival_of queued size room bits word) moment)) }
 
     // a sound state: it is then what the controller holds, in every field
-    ensures after { is_sound state.old ≡ true → state.new ≡ kept_if_refused (arrival_refusal queued size bits moment) state.old (after_call (held_in state.old) (Arrive (arrival_of queued size room bits word) moment)) }
+    ensures after { is_sound state.old ≡ true → state.new ≡ kept_if_refused (arrival_refusal queued size bits moment) state.old
+        (after_call (held_in state.old) (Arrive (arrival_of queued size room bits word) moment)) }
     ensures sound { is_sound state.old ≡ true → is_sound state.new ≡ true }
-    ensures shows { (opened : Opened) (events : List ControllerEvent) → is_sound state.old ≡ true → arrival_refusal queued size bits moment ≡ 0 → Shows opened events (held_in state.old)
+    ensures shows { (opened : Opened) (events : List ControllerEvent) → is_sound state.old ≡ true → arrival_refusal queued size bits moment ≡ 0
+        → Shows opened events (held_in state.old)
         → Shows opened (events ++ shown_by (held_in state.old) (Arrive (arrival_of queued size room bits word) moment) ∷ []) (held_in state.new) }
 {
     arrive(state, queued, size, room, bits, word, moment)
@@ -135,12 +148,15 @@ fn arrive_apart(
 #[unsafe(no_mangle)]
 pub extern "C" fn pie_depart(state: &mut PieState, size: u32, left: u64, moment: u64) -> u32
     ensures answer { result ≡ departure_refusal size left moment }
-    ensures fields { state.new ≡ if_taken (departure_refusal size left moment) state.old (with_rate state.old (departed (capped (held_in state.old)) size left moment)) }
+    ensures fields { state.new ≡ if_taken (departure_refusal size left moment) state.old
+        (with_rate state.old (departed (capped (held_in state.old)) size left moment)) }
 
     // a sound state: it is then what the controller holds, in every field
-    ensures after { is_sound state.old ≡ true → state.new ≡ kept_if_refused (departure_refusal size left moment) state.old (after_call (held_in state.old) (Depart size left moment)) }
+    ensures after { is_sound state.old ≡ true → state.new ≡ kept_if_refused (departure_refusal size left moment) state.old
+        (after_call (held_in state.old) (Depart size left moment)) }
     ensures sound { is_sound state.old ≡ true → is_sound state.new ≡ true }
-    ensures shows { (opened : Opened) (events : List ControllerEvent) → is_sound state.old ≡ true → departure_refusal size left moment ≡ 0 → Shows opened events (held_in state.old)
+    ensures shows { (opened : Opened) (events : List ControllerEvent) → is_sound state.old ≡ true → departure_refusal size left moment ≡ 0
+        → Shows opened events (held_in state.old)
         → Shows opened (events ++ shown_by (held_in state.old) (Depart size left moment) ∷ []) (held_in state.new) }
 {
     if depart_counted(state, size, left, moment) {
@@ -175,7 +191,8 @@ fn depart_counted(state: &mut PieState, size: u32, left: u64, moment: u64) -> bo
 #[inline(never)]
 fn depart_otherwise(state: &mut PieState, moment: u64, size: u32, left: u64) -> u32
     ensures answer { result ≡ departure_refusal size left moment }
-    ensures fields { state.new ≡ if_taken (departure_refusal size left moment) state.old (with_rate state.old (departed (capped (held_in state.old)) size left moment)) }
+    ensures fields { state.new ≡ if_taken (departure_refusal size left moment) state.old
+        (with_rate state.old (departed (capped (held_in state.old)) size left moment)) }
 {
     if depart_unmeasured(state, size, left, moment) {
         return DONE;
@@ -207,7 +224,8 @@ fn depart_unmeasured(state: &mut PieState, size: u32, left: u64, moment: u64) ->
 #[tactic(auto, unfolding(crate::specs::Calls::departure_refusal))]
 fn depart(state: &mut PieState, size: u32, left: u64, moment: u64) -> u32
     ensures answer { result ≡ departure_refusal size left moment }
-    ensures fields { state.new ≡ if_taken (departure_refusal size left moment) state.old (with_rate state.old (departed (capped (held_in state.old)) size left moment)) }
+    ensures fields { state.new ≡ if_taken (departure_refusal size left moment) state.old
+        (with_rate state.old (departed (capped (held_in state.old)) size left moment)) }
 {
     if moment > MAX_NANOS {
         return BAD_MOMENT;
@@ -232,9 +250,11 @@ pub extern "C" fn pie_empty(state: &mut PieState, moment: u64) -> u32
     ensures fields { state.new ≡ if_taken (moment_refusal moment) state.old (record state.old { moment = max state.old.moment moment }) }
 
     // a sound state: it is then what the controller holds, in every field
-    ensures after { is_sound state.old ≡ true → state.new ≡ kept_if_refused (moment_refusal moment) state.old (after_call (held_in state.old) (Pass moment)) }
+    ensures after { is_sound state.old ≡ true → state.new ≡ kept_if_refused (moment_refusal moment) state.old
+        (after_call (held_in state.old) (Pass moment)) }
     ensures sound { is_sound state.old ≡ true → is_sound state.new ≡ true }
-    ensures shows { (opened : Opened) (events : List ControllerEvent) → is_sound state.old ≡ true → moment_refusal moment ≡ 0 → Shows opened events (held_in state.old)
+    ensures shows { (opened : Opened) (events : List ControllerEvent) → is_sound state.old ≡ true → moment_refusal moment ≡ 0
+        → Shows opened events (held_in state.old)
         → Shows opened (events ++ shown_by (held_in state.old) (Pass moment) ∷ []) (held_in state.new) }
 {
     if moment > MAX_NANOS {
@@ -253,9 +273,11 @@ pub extern "C" fn pie_empty(state: &mut PieState, moment: u64) -> u32
 #[tactic(auto, unfolding(crate::specs::Calls::update_refusal))]
 pub extern "C" fn pie_update(state: &mut PieState, queued: u64, moment: u64) -> PieUpdated
     ensures answer { result ≡ updated_by state.old queued moment }
-    ensures after { state.new ≡ kept_if_refused (update_refusal state.old queued moment) state.old (after_call (held_in state.old) (Update queued moment)) }
+    ensures after { state.new ≡ kept_if_refused (update_refusal state.old queued moment) state.old
+        (after_call (held_in state.old) (Update queued moment)) }
     ensures sound { is_sound state.old ≡ true → is_sound state.new ≡ true }
-    ensures shows { (opened : Opened) (events : List ControllerEvent) → update_refusal state.old queued moment ≡ 0 → Shows opened events (held_in state.old)
+    ensures shows { (opened : Opened) (events : List ControllerEvent) → update_refusal state.old queued moment ≡ 0
+        → Shows opened events (held_in state.old)
         → Shows opened (events ++ shown_by (held_in state.old) (Update queued moment) ∷ []) (held_in state.new) }
 {
     if !is_sound(state) {
@@ -306,9 +328,11 @@ pub extern "C" fn pie_reset(state: &mut PieState, moment: u64) -> u32
 #[tactic(auto, unfolding(crate::specs::Calls::params_refusal, crate::specs::State::are_in_range))]
 pub extern "C" fn pie_set_params(state: &mut PieState, params: &PieParams, moment: u64) -> u32
     ensures answer { result ≡ params_refusal state.old params.now moment }
-    ensures after { state.new ≡ kept_if_refused (params_refusal state.old params.now moment) state.old (after_call (held_in state.old) (Change (raw_of params.now) moment)) }
+    ensures after { state.new ≡ kept_if_refused (params_refusal state.old params.now moment) state.old
+        (after_call (held_in state.old) (Change (raw_of params.now) moment)) }
     ensures sound { is_sound state.old ≡ true → is_sound state.new ≡ true }
-    ensures shows { (opened : Opened) (events : List ControllerEvent) → params_refusal state.old params.now moment ≡ 0 → Shows opened events (held_in state.old)
+    ensures shows { (opened : Opened) (events : List ControllerEvent) → params_refusal state.old params.now moment ≡ 0
+        → Shows opened events (held_in state.old)
         → Shows opened (events ++ shown_by (held_in state.old) (Change (raw_of params.now) moment) ∷ []) (held_in state.new) }
 {
     if !is_sound(state) {

@@ -111,7 +111,8 @@ impl PieState {
     #[inline(always)]
     pub(crate) fn keep_updated(&mut self, held: &RawController)
         requires sound { is_sound self.old ≡ true }
-        requires same { held_by held.now ≡ record (held_in self.old) { moment = held.now.moment; active = held.now.active; control = parts_of held.now.control } }
+        requires same { held_by held.now ≡ record (held_in self.old)
+            { moment = held.now.moment; active = held.now.active; control = parts_of held.now.control } }
         ensures { self.new ≡ state_of (held_by held.now) }
     {
         self.moment = held.moment;
@@ -122,7 +123,12 @@ impl PieState {
     /// The control law's registers.
     #[inline(always)]
     fn keep_control(&mut self, held: &RawController)
-        ensures { self.new ≡ record self.old { prob = held.now.control.prob; old_delay = held.now.control.old_delay; burst = held.now.control.burst; last = held.now.control.last } }
+        ensures { self.new ≡ record self.old {
+          prob = held.now.control.prob;
+          old_delay = held.now.control.old_delay;
+          burst = held.now.control.burst;
+          last = held.now.control.last;
+        } }
     {
         self.prob = held.control.prob;
         self.old_delay = held.control.old_delay;

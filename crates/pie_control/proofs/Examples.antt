@@ -44,7 +44,8 @@ rises : (next_of 0 30_000_000 0 ≡ 19_226_074) × (next_of 19_226_074 30_000_00
 unfolding next_of next raw_step tuning_divisor tuned_step decayed
 rises = (refl, refl)
 
-capped_from_a_tenth : (next_of 100_000_000_000 60_000_000 15_000_000 ≡ 120_000_000_000) × (next_of 99_999_999_999 60_000_000 15_000_000 ≡ 130_937_499_999)
+capped_from_a_tenth : (next_of 100_000_000_000 60_000_000 15_000_000 ≡ 120_000_000_000)
+    × (next_of 99_999_999_999 60_000_000 15_000_000 ≡ 130_937_499_999)
 unfolding next_of next raw_step tuning_divisor tuned_step decayed
 capped_from_a_tenth = (refl, refl)
 
@@ -55,9 +56,11 @@ decays = (refl, refl)
 -- two updates, a reset, and one more
 some_events : List ControlEvent
 some_events =
-    update_at default_profile 30_000_000 5 ∷ update_at default_profile 30_000_000 6 ∷ reset default_profile ∷ update_at default_profile 40_000_000 7 ∷ []
+    update_at default_profile 30_000_000 5 ∷ update_at default_profile 30_000_000 6 ∷ reset default_profile ∷ update_at default_profile 40_000_000 7
+    ∷ []
 
-after_two : (probability (update_at default_profile 30_000_000 5 ∷ update_at default_profile 30_000_000 6 ∷ []) ≡ next_of (next_of 0 30_000_000 0) 30_000_000 30_000_000)
+after_two : (probability (update_at default_profile 30_000_000 5 ∷ update_at default_profile 30_000_000 6 ∷ [])
+    ≡ next_of (next_of 0 30_000_000 0) 30_000_000 30_000_000)
 unfolding probability next_of
 after_two = refl
 
@@ -76,7 +79,8 @@ load moment = update_at default_profile 30_000_000 moment
 ten_updates : List ControlEvent
 ten_updates = load 1 ∷ load 2 ∷ load 3 ∷ load 4 ∷ load 5 ∷ load 6 ∷ load 7 ∷ load 8 ∷ load 9 ∷ load 10 ∷ []
 
-bursts : (burst_allowance default_profile (load 1 ∷ []) ≡ 135_000_000) × (burst_allowance default_profile ten_updates ≡ 0) × (burst_allowance default_profile (load 0 ∷ ten_updates) ≡ 0)
+bursts : (burst_allowance default_profile (load 1 ∷ []) ≡ 135_000_000) × (burst_allowance default_profile ten_updates ≡ 0)
+    × (burst_allowance default_profile (load 0 ∷ ten_updates) ≡ 0)
 unfolding load ten_updates burst_allowance granted_burst next raw_step tuning_divisor tuned_step decayed
 bursts = (refl, refl, refl)
 
@@ -88,11 +92,13 @@ smaller = record default_profile { max_burst = 40_000_000 }
 calm : ControlEvent
 calm = update_at smaller 1_000_000 3
 
-refills : (burst_allowance default_profile (load 1 ∷ reset default_profile ∷ load 2 ∷ []) ≡ 135_000_000) × (burst_allowance default_profile (reset default_profile ∷ calm ∷ []) ≡ 40_000_000)
+refills : (burst_allowance default_profile (load 1 ∷ reset default_profile ∷ load 2 ∷ []) ≡ 135_000_000)
+    × (burst_allowance default_profile (reset default_profile ∷ calm ∷ []) ≡ 40_000_000)
 unfolding load calm smaller burst_allowance granted_burst next raw_step tuning_divisor tuned_step decayed
 refills = (refl, refl)
 
-grants : (granted_burst default_profile (load 1 ∷ calm ∷ []) ≡ 150_000_000) × (granted_burst default_profile (calm ∷ load 1 ∷ []) ≡ 40_000_000) × (burst_allowance default_profile (calm ∷ load 1 ∷ []) ≡ 25_000_000)
+grants : (granted_burst default_profile (load 1 ∷ calm ∷ []) ≡ 150_000_000) × (granted_burst default_profile (calm ∷ load 1 ∷ []) ≡ 40_000_000)
+    × (burst_allowance default_profile (calm ∷ load 1 ∷ []) ≡ 25_000_000)
 unfolding load calm smaller burst_allowance granted_burst next raw_step tuning_divisor tuned_step decayed
 grants = (refl, refl, refl)
 
@@ -102,7 +108,8 @@ with_idle_updates = load 1 ∷ idled 2 ∷ reset default_profile ∷ idled 3 ∷
 
 idle : (probability with_idle_updates ≡ next_of 0 30_000_000 0) × (last_delay with_idle_updates ≡ 30_000_000)
     × (burst_allowance default_profile with_idle_updates ≡ 135_000_000) × (last_moment 0 with_idle_updates ≡ 9) × (last_moment 5 (idled 3 ∷ []) ≡ 3)
-unfolding load with_idle_updates next_of probability last_delay last_moment burst_allowance granted_burst next raw_step tuning_divisor tuned_step decayed
+unfolding load with_idle_updates next_of probability last_delay last_moment burst_allowance granted_burst next raw_step tuning_divisor tuned_step
+    decayed
 idle = (refl, refl, refl, refl, refl)
 
 -- with no weight on the delay's change the probability stays 0 below the target, and an update is calm exactly where both delays

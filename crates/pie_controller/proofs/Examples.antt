@@ -13,7 +13,8 @@ use Rattle.pie_early.specs.Decision.{is_considered, is_picked}
 use Rattle.pie_early.specs.History.{accumulated}
 use Rattle.pie_controller.specs.declared.verdict.Verdict.TheVariants.{DroppedBytes, DroppedPackets}
 use Rattle.pie_controller.specs.Calls.{Arrive, Call, Depart, Restart, Update, after_call, shown_by}
-use Rattle.pie_controller.specs.History.{active_of, arrivals_shown, control_of, delay_noted, departures_of, departures_shown, early_of, held_of, is_active, noted, noted_after, now_of, params_of, updates_shown}
+use Rattle.pie_controller.specs.History.{active_of, arrivals_shown, control_of, delay_noted, departures_of, departures_shown, early_of, held_of}
+use Rattle.pie_controller.specs.History.{is_active, noted, noted_after, now_of, params_of, updates_shown}
 use Rattle.pie_controller.specs.Places.{greatest, last_or, places}
 use Rattle.pie_controller.specs.Steps.{accu_left, delay_answered, due, opened, verdict}
 
@@ -50,7 +51,8 @@ abbrev packet : ℕ → ℕ → Bool → Arrival
 packet queued size full = record { queued = queued; is_full = full; size = size; ecn = NotEct; word = 0 }
 
 -- it opens inactive, and two packets leave it so; a departure then is not measured
-opens-inactive : (opened Two small 0 ≡ held 0 0 0 5 0 0 None false) × (after_call (held 0 0 0 5 0 0 None false) (Arrive (packet 1024 1024 false) 0) ≡ held 0 0 0 5 0 0 None false)
+opens-inactive : (opened Two small 0 ≡ held 0 0 0 5 0 0 None false)
+    × (after_call (held 0 0 0 5 0 0 None false) (Arrive (packet 1024 1024 false) 0) ≡ held 0 0 0 5 0 0 None false)
     × (after_call (held 0 0 0 5 0 0 None false) (Depart 1024 1024 1) ≡ held 1 0 0 5 0 0 None false)
 unfolding verdict accu_left is_considered is_picked
 opens-inactive = (refl, refl, refl)
@@ -77,7 +79,8 @@ unfolding delay_of next raw_step tuning_divisor tuned_step decayed
 turns-off = (refl, refl, refl, refl)
 
 -- a tail drop turns it on as well, by the bytes that wait without that packet; bytes are looked at before the ring
-turns-on-by-a-tail-drop : (verdict (held 1 0 0 5 1 0 None false) (packet 3072 65535 true) ≡ DroppedBytes) × (verdict (held 1 0 0 5 1 0 None false) (packet 3072 1 true) ≡ DroppedPackets)
+turns-on-by-a-tail-drop : (verdict (held 1 0 0 5 1 0 None false) (packet 3072 65535 true) ≡ DroppedBytes)
+    × (verdict (held 1 0 0 5 1 0 None false) (packet 3072 1 true) ≡ DroppedPackets)
     × (after_call (held 1 0 0 5 1 0 None false) (Arrive (packet 3072 65535 false) 1) ≡ held 1 0 0 5 1 0 None true)
     × (after_call (held 1 0 0 5 1 0 None false) (Arrive (packet 2999 65535 false) 1) ≡ held 1 0 0 5 1 0 None false)
 unfolding verdict accu_left is_considered is_picked
@@ -97,11 +100,14 @@ abbrev run : List Call → List ControllerEvent
 run calls = shown (opened Two small 0) calls
 
 abbrev first_calls : List Call
-first_calls = Arrive (packet 1024 1024 false) 0 ∷ Depart 1024 1024 1 ∷ Arrive (packet 2048 1024 false) 1 ∷ Depart 1024 2048 2 ∷ Depart 1024 1024 1002 ∷ Update 1024 1002 ∷ []
+first_calls = Arrive (packet 1024 1024 false) 0 ∷ Depart 1024 1024 1 ∷ Arrive (packet 2048 1024 false) 1 ∷ Depart 1024 2048 2 ∷ Depart 1024 1024 1002
+    ∷ Update 1024 1002 ∷ []
 
 looks-back : (held_of start (run first_calls) ≡ held 1002 414_208 1000 4 1002 1000 (begun_at 1002) true)
     × (held_of start (run (first_calls ++ Restart 1003 ∷ Update 1024 1004 ∷ Update 1024 1005 ∷ [])) ≡ held 1005 0 0 5 1005 0 None false)
-unfolding held_of now_of params_of active_of departures_shown updates_shown arrivals_shown departures_of delay_noted control_of early_of is_active noted noted_after places greatest last_or
-    verdict accu_left is_considered is_picked accumulated average samples begun cycles cycles_from first_position first_opening first_closing first_cycle delay_of
+unfolding held_of now_of params_of active_of departures_shown updates_shown arrivals_shown departures_of delay_noted control_of early_of is_active
+    noted noted_after places greatest last_or
+    verdict accu_left is_considered is_picked accumulated average samples begun cycles cycles_from first_position first_opening first_closing
+    first_cycle delay_of
     probability last_delay last_moment granted_burst burst_allowance next raw_step tuning_divisor tuned_step decayed
 looks-back = (refl, refl)

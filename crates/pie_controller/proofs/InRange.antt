@@ -26,4 +26,5 @@ in-range params e = record {
 
 -- the bounds of the threshold
 pub threshold-holds : (params : RawParams) → first_bad params ≡ None → (1024 ≤ params.dq_threshold) × (params.dq_threshold ≤ 65536)
-threshold-holds params e = let r = in-range params e in let power = r.dq_threshold in (grind (arith, nat_tests, power), grind (arith, nat_tests, power))
+threshold-holds params e = let r = in-range params e in let power = r.dq_threshold in
+    (grind (arith, nat_tests, power), grind (arith, nat_tests, power))

@@ -14,10 +14,14 @@ use Rattle.pie_early.specs.History as Early
 use Rattle.pie_early.proofs.Laws.{shows-clear}
 use Rattle.pie_controller.specs.Calls.{Arrive, Call, Change, Depart, Pass, Restart, Update, after_call, shown_by}
 use Rattle.pie_controller.specs.Events.{ControllerEvent, Opened, Arrived, Departed, Passed, Updated, Reset, Changed, moment_of, params_set}
-use Rattle.pie_controller.specs.History.{Shows, active_of, change_by, considered_where, updates_shown, control_of, control_shown, delay_noted, departures_shown, departures_of, arrivals_shown, early_of, early_shown, estimate_of, held_of, is_calm_noted, now_of, noted, noted_after, params_of, parts_of, verdict_shown}
+use Rattle.pie_controller.specs.History.{Shows, active_of, change_by, considered_where, updates_shown, control_of, control_shown, delay_noted}
+use Rattle.pie_controller.specs.History.{departures_shown, departures_of, arrivals_shown, early_of, early_shown, estimate_of, held_of, is_calm_noted}
+use Rattle.pie_controller.specs.History.{now_of, noted, noted_after, params_of, parts_of, verdict_shown}
 use Rattle.pie_controller.specs.Places.{greatest, last_or, places}
-use Rattle.pie_controller.specs.Steps.{accu_left, anew, bytes_with, control_updated, delay_in, is_calm, judged, now_at, opened, renewed, stays_active, turns_on, verdict}
-use Rattle.pie_controller.proofs.Looks.{active-empty, active-push, active_next, control-push, departures-push, early-push, events-noted, moment-push, one_is_active, params-push, turned_on}
+use Rattle.pie_controller.specs.Steps.{accu_left, anew, bytes_with, control_updated, delay_in, is_calm, judged, now_at, opened, renewed, stays_active}
+use Rattle.pie_controller.specs.Steps.{turns_on, verdict}
+use Rattle.pie_controller.proofs.Looks.{active-empty, active-push, active_next, control-push, departures-push, early-push, events-noted, moment-push}
+use Rattle.pie_controller.proofs.Looks.{one_is_active, params-push, turned_on}
 use Rattle.pie_controller.proofs.Parts.{early-step, nothing-shown, rate-step}
 
 -- ---- activity
@@ -39,7 +43,8 @@ active-update Two true false always = refl
 
 -- ---- with no event
 
-control-opened : (params : RawParams) (start : ℕ) → Control.Shows params start [] (record { prob = 0; old_delay = 0; burst = params.max_burst; last = start })
+control-opened : (params : RawParams) (start : ℕ) → Control.Shows params start []
+    (record { prob = 0; old_delay = 0; burst = params.max_burst; last = start })
 unfolding Control.probability Control.last_delay Control.last_moment Control.granted_burst Control.burst_allowance
 control-opened params start = record { prob = refl; old_delay = refl; burst = omega arith; last = refl }
 
@@ -47,7 +52,8 @@ early-opened : Early.Shows [] 0
 unfolding Early.accumulated
 early-opened = record { accu = refl }
 
-pub Shows_opened : (profile : Profile) (params : RawParams) (moment : ℕ) → Shows (record { profile = profile; params = params; moment = moment }) [] (opened profile params moment)
+pub Shows_opened : (profile : Profile) (params : RawParams) (moment : ℕ)
+    → Shows (record { profile = profile; params = params; moment = moment }) [] (opened profile params moment)
 unfolding now_of params_of departures_shown departures_of updates_shown control_of arrivals_shown early_of noted noted_after places greatest last_or
 Shows_opened profile params moment =
     let start : Opened = record { profile = profile; params = params; moment = moment } in
@@ -73,11 +79,44 @@ held-by : (h : Held) (profile : Profile) (params : RawParams) (moment : ℕ) (ac
     → h.profile ≡ profile → h.params ≡ params → h.moment ≡ moment → h.active ≡ active → h.rate ≡ rate → h.control ≡ control → h.accu ≡ accu
     → h ≡ record { profile = profile; params = params; moment = moment; active = active; rate = rate; control = control; accu = accu }
 held-by h profile params moment active rate control accu p q m a r c e =
-    ap (λ (x : Profile). record { profile = x; params = h.params; moment = h.moment; active = h.active; rate = h.rate; control = h.control; accu = h.accu }) p
-    ∙ ap (λ (x : RawParams). record { profile = profile; params = x; moment = h.moment; active = h.active; rate = h.rate; control = h.control; accu = h.accu }) q
-    ∙ ap (λ (x : ℕ). record { profile = profile; params = params; moment = x; active = h.active; rate = h.rate; control = h.control; accu = h.accu }) m
-    ∙ ap (λ (x : Bool). record { profile = profile; params = params; moment = moment; active = x; rate = h.rate; control = h.control; accu = h.accu }) a
-    ∙ ap (λ (x : Estimate). record { profile = profile; params = params; moment = moment; active = active; rate = x; control = h.control; accu = h.accu }) r
+    ap (λ (x : Profile). record {
+      profile = x;
+      params = h.params;
+      moment = h.moment;
+      active = h.active;
+      rate = h.rate;
+      control = h.control;
+      accu = h.accu;
+    }) p
+    ∙ ap (λ (x : RawParams). record {
+      profile = profile;
+      params = x;
+      moment = h.moment;
+      active = h.active;
+      rate = h.rate;
+      control = h.control;
+      accu = h.accu;
+    }) q
+    ∙ ap (λ (x : ℕ). record { profile = profile; params = params; moment = x; active = h.active; rate = h.rate; control = h.control; accu = h.accu })
+    m
+    ∙ ap (λ (x : Bool). record {
+      profile = profile;
+      params = params;
+      moment = moment;
+      active = x;
+      rate = h.rate;
+      control = h.control;
+      accu = h.accu;
+    }) a
+    ∙ ap (λ (x : Estimate). record {
+      profile = profile;
+      params = params;
+      moment = moment;
+      active = active;
+      rate = x;
+      control = h.control;
+      accu = h.accu;
+    }) r
     ∙ ap (λ (x : Parts). record { profile = profile; params = params; moment = moment; active = active; rate = rate; control = x; accu = h.accu }) c
     ∙ ap (λ (x : ℕ). record { profile = profile; params = params; moment = moment; active = active; rate = rate; control = control; accu = x }) e
 
@@ -90,7 +129,8 @@ moved o events held new e shows = subst (λ (h : Held). Shows o events h) (sym e
 module _ (o : Opened) (events : List ControllerEvent) (h : Held) (shows : Shows o events h) where
   pub held_is : h ≡ held_of o events
   unfolding held_of
-  held_is = held-by h o.profile (params_of o events) (now_of o events) (active_of o events) (estimate_of (params_of o events).dq_threshold (departures_shown o events))
+  held_is = held-by h o.profile (params_of o events) (now_of o events) (active_of o events)
+      (estimate_of (params_of o events).dq_threshold (departures_shown o events))
       (parts_of o (updates_shown o events)) (Early.accumulated (arrivals_shown o events))
       shows.profile shows.params shows.moment shows.active (rate-is (params_of o events).dq_threshold (departures_shown o events) h.rate shows.rate)
       (parts-is o (updates_shown o events) h.control shows.control) shows.early.accu
@@ -120,11 +160,13 @@ module _ (o : Opened) (events : List ControllerEvent) (h : Held) (shows : Shows 
 
   -- an event that shows a part nothing
   control-same : (event : ControllerEvent)
-      → control_shown event (active_of o events) (turned_on o events event) (params_of o events) (delay_noted o (noted o events)) (now_of o (events ++ event ∷ [])) ≡ None
+      → control_shown event (active_of o events) (turned_on o events event) (params_of o events) (delay_noted o (noted o events))
+      (now_of o (events ++ event ∷ [])) ≡ None
       → Control.Shows o.params o.moment (updates_shown o (events ++ event ∷ [])) h.control
   control-same event none = rw (control-push o events event, none, append-nil (updates_shown o events)) shows.control
 
-  early-same : (event : ControllerEvent) → early_shown event (active_of o events) (turned_on o events event) (params_of o events) (parts_of o (updates_shown o events)) ≡ None
+  early-same : (event : ControllerEvent) → early_shown event (active_of o events) (turned_on o events event) (params_of o events)
+      (parts_of o (updates_shown o events)) ≡ None
       → Early.Shows (arrivals_shown o (events ++ event ∷ [])) h.accu
   early-same event none = rw (early-push o events event, none, append-nil (arrivals_shown o events)) shows.early
 
@@ -141,7 +183,8 @@ module _ (o : Opened) (events : List ControllerEvent) (h : Held) (shows : Shows 
         early = early-same event refl;
       }
 
-  pub Shows-depart : (size left moment : ℕ) → h.params.dq_threshold ≤ 65536 → Shows o (events ++ Departed size left moment ∷ []) (after_call h (Depart size left moment))
+  pub Shows-depart : (size left moment : ℕ) → h.params.dq_threshold ≤ 65536
+      → Shows o (events ++ Departed size left moment ∷ []) (after_call h (Depart size left moment))
   Shows-depart size left moment small =
       let event : ControllerEvent = Departed size left moment in
       record {
@@ -160,7 +203,8 @@ module _ (o : Opened) (events : List ControllerEvent) (h : Held) (shows : Shows 
       held : Rate.Shows h.params.dq_threshold (departures_shown o events) h.rate
       held = rw shows.params shows.rate
 
-      by : (active : Bool) → Rate.Shows h.params.dq_threshold (departures_shown o events ++ option_to_list (if active then Some (departure size left now) else None))
+      by : (active : Bool) → Rate.Shows h.params.dq_threshold (departures_shown o events
+          ++ option_to_list (if active then Some (departure size left now) else None))
           (if active then after_departure h.params.dq_threshold h.rate (departure size left now) else h.rate)
       by true = rate-step h.params.dq_threshold (departures_shown o events) h.rate (departure size left now) small held
       by false = rw (append-nil (departures_shown o events)) held
@@ -175,7 +219,8 @@ module _ (o : Opened) (events : List ControllerEvent) (h : Held) (shows : Shows 
         active = sym (active-update h.profile h.active (is_calm h queued) held_always)
             ∙ ap (λ (p : Profile). active_next p h.active (if h.active then (if is_calm h queued then Some false else None) else None)) shows.profile
             ∙ ap (λ (a : Bool). active_next o.profile a (if a then (if is_calm h queued then Some false else None) else None)) shows.active
-            ∙ ap (λ (c : Bool). active_next o.profile (active_of o events) (if active_of o events then (if c then Some false else None) else None)) (sym (calm-is queued))
+            ∙ ap (λ (c : Bool). active_next o.profile (active_of o events) (if active_of o events then (if c then Some false else None) else None))
+            (sym (calm-is queued))
             ∙ sym (active-push o events event);
         rate = rw (departures-push o events event, append-nil (departures_shown o events), ← params-is event refl, shows.params) shows.rate;
         control = rw (control-push o events event, delay-is queued, ← now-is event, ← shows.params, ← shows.active) (by h.active);
@@ -188,9 +233,11 @@ module _ (o : Opened) (events : List ControllerEvent) (h : Held) (shows : Shows 
       held_always : h.profile ≡ One → h.active ≡ true
       held_always one = shows.active ∙ always (sym shows.profile ∙ one)
 
-      by : (active : Bool) → Control.Shows o.params o.moment (updates_shown o events ++ (if active then update_at h.params (delay_in h queued) now else idled now) ∷ [])
+      by : (active : Bool) → Control.Shows o.params o.moment (updates_shown o events
+          ++ (if active then update_at h.params (delay_in h queued) now else idled now) ∷ [])
           (if active then control_updated h.params h.control (delay_in h queued) now else record h.control { last = now })
-      by true = Shows-updated o.params o.moment (updates_shown o events) h.params (delay_in h queued) now h.control (control_updated h.params h.control (delay_in h queued) now) shows.control refl refl refl refl
+      by true = Shows-updated o.params o.moment (updates_shown o events) h.params (delay_in h queued) now h.control
+          (control_updated h.params h.control (delay_in h queued) now) shows.control refl refl refl refl
       by false = Shows-idled o.params o.moment (updates_shown o events) now h.control (record h.control { last = now }) shows.control refl
 
   pub Shows-reset-call : (moment : ℕ) → Shows o (events ++ Reset moment ∷ []) (after_call h (Restart moment))
@@ -203,7 +250,8 @@ module _ (o : Opened) (events : List ControllerEvent) (h : Held) (shows : Shows 
         active = active-is event refl;
         rate = rw (departures-push o events event) (nothing-shown (params_of o (events ++ event ∷ [])).dq_threshold);
         control = rw (control-push o events event, ← shows.params)
-            (Shows-reset o.params o.moment (updates_shown o events) h.params h.control (renewed h.params h.control) shows.control refl refl refl refl);
+            (Shows-reset o.params o.moment (updates_shown o events) h.params h.control (renewed h.params h.control) shows.control refl refl refl
+            refl);
         early = rw (early-push o events event) (shows-clear (arrivals_shown o events) h.accu shows.early);
       }
 
@@ -235,11 +283,15 @@ module _ (o : Opened) (events : List ControllerEvent) (h : Held) (shows : Shows 
       on-is : turned_on o events (Arrived (verdict h a) a.queued left moment) ≡ turns_on h left
       on-is = rw (← shows.active, ← shows.params) refl
 
-      early : Early.Shows (arrivals_shown o events ++ verdict_shown (verdict h a) (considered_where h.active h.params (parts_of o (updates_shown o events)) a.queued) (parts_of o (updates_shown o events)).prob ∷ []) (accu_left h a)
-      early = subst (λ (p : Parts). Early.Shows (arrivals_shown o events ++ verdict_shown (verdict h a) (considered_where h.active h.params p a.queued) p.prob ∷ []) (accu_left h a))
+      early : Early.Shows (arrivals_shown o events ++ verdict_shown (verdict h a)
+          (considered_where h.active h.params (parts_of o (updates_shown o events)) a.queued) (parts_of o (updates_shown o events)).prob
+          ∷ []) (accu_left h a)
+      early = subst (λ (p : Parts). Early.Shows (arrivals_shown o events
+          ++ verdict_shown (verdict h a) (considered_where h.active h.params p a.queued) p.prob ∷ []) (accu_left h a))
           (parts-is o (updates_shown o events) h.control shows.control) (early-step h a (arrivals_shown o events) shows.early)
 
-      by : (on : Bool) → turns_on h left ≡ on → Shows o (events ++ Arrived (verdict h a) a.queued left moment ∷ []) (if on then record (anew (judged h a moment)) { active = true } else judged h a moment)
+      by : (on : Bool) → turns_on h left ≡ on → Shows o (events ++ Arrived (verdict h a) a.queued left moment ∷ [])
+          (if on then record (anew (judged h a moment)) { active = true } else judged h a moment)
       by true is = record {
         profile = shows.profile;
         params = params-is event refl;
@@ -247,7 +299,8 @@ module _ (o : Opened) (events : List ControllerEvent) (h : Held) (shows : Shows 
         active = sym (rw (active-push o events event, on-is, is) (active-on o.profile (active_of o events)));
         rate = rw (departures-push o events event, on-is, is) (nothing-shown (params_of o (events ++ event ∷ [])).dq_threshold);
         control = rw (control-push o events event, on-is, is, ← shows.params)
-            (Shows-reset o.params o.moment (updates_shown o events) h.params h.control (renewed h.params h.control) shows.control refl refl refl refl);
+            (Shows-reset o.params o.moment (updates_shown o events) h.params h.control (renewed h.params h.control) shows.control refl refl refl
+            refl);
         early = rw (early-push o events event, on-is, is) (shows-clear (arrivals_shown o events) h.accu shows.early);
       }
       by false is = record {
@@ -255,7 +308,8 @@ module _ (o : Opened) (events : List ControllerEvent) (h : Held) (shows : Shows 
         params = params-is event refl;
         moment = now-is event;
         active = active-is event (rw (on-is, is) refl);
-        rate = rw (departures-push o events event, on-is, is, append-nil (departures_shown o events), ← params-is event refl, shows.params) shows.rate;
+        rate = rw (departures-push o events event, on-is, is, append-nil (departures_shown o events), ← params-is event refl, shows.params)
+            shows.rate;
         control = control-same event (rw (on-is, is) refl);
         early = rw (early-push o events event, on-is, is, ← shows.active, ← shows.params) early;
       }

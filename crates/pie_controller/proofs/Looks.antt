@@ -6,7 +6,10 @@ use Rattle.std.specs.List.{filter_map, after_last}
 use Rattle.std.proofs.lemmas.List.{append-nil, append_assoc, map-append}
 use Rattle.pie_controller.specs.Types.{RawParams, Departure, ControlEvent, EarlyEvent, Profile, One, Two}
 use Rattle.pie_controller.specs.Events.{ControllerEvent, Opened, moment_of, params_set}
-use Rattle.pie_controller.specs.History.{Noted, active_of, change_at, change_by, clears_rate, clears_rate_at, control_at, updates_shown, control_of, control_shown, delay_noted, departure_at, departure_shown, departures_shown, departures_of, early_at, arrivals_shown, early_of, early_shown, events_of, is_active, is_active_in, is_calm_noted, now_of, note, noted, noted_after, params_of, parts_of, turns_on_at, turns_on_by}
+use Rattle.pie_controller.specs.History.{Noted, active_of, change_at, change_by, clears_rate, clears_rate_at, control_at, updates_shown, control_of}
+use Rattle.pie_controller.specs.History.{control_shown, delay_noted, departure_at, departure_shown, departures_shown, departures_of, early_at}
+use Rattle.pie_controller.specs.History.{arrivals_shown, early_of, early_shown, events_of, is_active, is_active_in, is_calm_noted, now_of, note}
+use Rattle.pie_controller.specs.History.{noted, noted_after, params_of, parts_of, turns_on_at, turns_on_by}
 use Rattle.pie_controller.specs.Places.{Place, last_or, places}
 use Rattle.pie_controller.specs.Steps.{opens_active}
 use Rattle.pie_early.proofs.Laws.{after_last-push_no, after_last-push_yes}
@@ -31,14 +34,16 @@ unfolding params_of
 params-push opened events event =
     ap (λ (xs : List RawParams). last_or opened.params xs) (filter_map-push params_set events event) ∙ by (params_set event)
   where
-    by : (new : Option RawParams) → last_or opened.params (filter_map params_set events ++ option_to_list new) ≡ params_next (last_or opened.params (filter_map params_set events)) new
+    by : (new : Option RawParams) → last_or opened.params (filter_map params_set events ++ option_to_list new)
+        ≡ params_next (last_or opened.params (filter_map params_set events)) new
     by None = ap (λ (xs : List RawParams). last_or opened.params xs) (append-nil (filter_map params_set events))
     by (Some new) = last_or-push opened.params (filter_map params_set events) new
 
 -- ---- notes
 
 noted_after-push : (opened : Opened) (earlier : List Noted) (events : List ControllerEvent) (event : ControllerEvent)
-    → noted_after opened earlier (events ++ event ∷ []) ≡ noted_after opened earlier events ++ note opened (noted_after opened earlier events) event ∷ []
+    → noted_after opened earlier (events ++ event ∷ []) ≡ noted_after opened earlier events ++ note opened (noted_after opened earlier events) event
+    ∷ []
 unfolding noted_after
 noted_after-push opened earlier [] event = refl
 noted_after-push opened earlier (first ∷ events) event = noted_after-push opened (earlier ++ note opened earlier first ∷ []) events event
@@ -48,7 +53,8 @@ noted-push : (opened : Opened) (events : List ControllerEvent) (event : Controll
 unfolding noted
 noted-push opened events event = noted_after-push opened [] events event
 
-events-noted_after : (opened : Opened) (earlier : List Noted) (events : List ControllerEvent) → events_of (noted_after opened earlier events) ≡ events_of earlier ++ events
+events-noted_after : (opened : Opened) (earlier : List Noted) (events : List ControllerEvent)
+    → events_of (noted_after opened earlier events) ≡ events_of earlier ++ events
 unfolding noted_after
 events-noted_after opened earlier [] = sym (append-nil (events_of earlier))
 events-noted_after opened earlier (first ∷ events) =
@@ -69,7 +75,8 @@ last_place opened events event = place_of (noted opened events) (note opened (no
 abbrev pub turned_on : Opened → List ControllerEvent → ControllerEvent → Bool
 turned_on opened events event = turns_on_by event (active_of opened events) (params_of opened events)
 
-turned_on-is : (opened : Opened) (events : List ControllerEvent) (event : ControllerEvent) → turns_on_at opened (last_place opened events event) ≡ turned_on opened events event
+turned_on-is : (opened : Opened) (events : List ControllerEvent) (event : ControllerEvent)
+    → turns_on_at opened (last_place opened events event) ≡ turned_on opened events event
 unfolding active_of
 turned_on-is opened events event = rw (events-noted opened events) refl
 
@@ -83,15 +90,18 @@ active_next Two active (Some new) = new
 
 pub active-push : (opened : Opened) (events : List ControllerEvent) (event : ControllerEvent)
     → active_of opened (events ++ event ∷ [])
-    ≡ active_next opened.profile (active_of opened events) (change_by event (active_of opened events) (turned_on opened events event) (is_calm_noted opened (noted opened events)))
+    ≡ active_next opened.profile (active_of opened events) (change_by event (active_of opened events) (turned_on opened events event)
+    (is_calm_noted opened (noted opened events)))
 unfolding active_of is_active
 active-push opened events event =
     ap (λ (n : List Noted). is_active_in opened.profile opened n) (noted-push opened events event)
     ∙ by opened.profile
     ∙ ap (λ (on : Bool). active_next opened.profile (is_active_in opened.profile opened (noted opened events))
-    (change_by event (is_active_in opened.profile opened (noted opened events)) on (is_calm_noted opened (noted opened events)))) (turned_on-is opened events event)
+    (change_by event (is_active_in opened.profile opened (noted opened events)) on (is_calm_noted opened (noted opened events))))
+    (turned_on-is opened events event)
   where
-    with_change : (changes : List Bool) (change : Option Bool) → last_or false (changes ++ option_to_list change) ≡ active_next Two (last_or false changes) change
+    with_change : (changes : List Bool) (change : Option Bool)
+        → last_or false (changes ++ option_to_list change) ≡ active_next Two (last_or false changes) change
     with_change changes None = ap (λ (xs : List Bool). last_or false xs) (append-nil changes)
     with_change changes (Some new) = last_or-push false changes new
 
@@ -99,7 +109,8 @@ active-push opened events event =
         ≡ active_next profile (is_active_in profile opened (noted opened events)) (change_at opened (last_place opened events event))
     by One = refl
     by Two =
-        ap (λ (xs : List Bool). last_or false xs) (from_places-push (change_at opened) (noted opened events) (note opened (noted opened events) event))
+        ap (λ (xs : List Bool). last_or false xs) (from_places-push (change_at opened) (noted opened events)
+        (note opened (noted opened events) event))
         ∙ with_change (filter_map (change_at opened) (places (noted opened events))) (change_at opened (last_place opened events event))
 
 -- in profile one the controller is always active
@@ -125,29 +136,36 @@ departures_next event active on departures now =
 
 pub departures-push : (opened : Opened) (events : List ControllerEvent) (event : ControllerEvent)
     → departures_shown opened (events ++ event ∷ [])
-    ≡ departures_next event (active_of opened events) (turned_on opened events event) (departures_shown opened events) (now_of opened (events ++ event ∷ []))
+    ≡ departures_next event (active_of opened events) (turned_on opened events event) (departures_shown opened events)
+    (now_of opened (events ++ event ∷ []))
 unfolding departures_shown departures_of active_of
 departures-push opened events event =
     ap (λ (n : List Noted). filter_map (departure_at opened) (after_last (clears_rate_at opened) (places n))) (noted-push opened events event)
-    ∙ ap (λ xs. filter_map (departure_at opened) (after_last (clears_rate_at opened) xs)) (places-push (noted opened events) (note opened (noted opened events) event))
+    ∙ ap (λ xs. filter_map (departure_at opened) (after_last (clears_rate_at opened) xs))
+    (places-push (noted opened events) (note opened (noted opened events) event))
     ∙ by (clears_rate event (turned_on opened events event)) (ap (clears_rate event) (turned_on-is opened events event))
   where
-    shown : departure_at opened (last_place opened events event) ≡ departure_shown event (is_active opened (noted opened events)) (now_of opened (events ++ event ∷ []))
+    shown : departure_at opened (last_place opened events event)
+        ≡ departure_shown event (is_active opened (noted opened events)) (now_of opened (events ++ event ∷ []))
     shown = rw (events-noted opened events) refl
 
     by : (b : Bool) → clears_rate_at opened (last_place opened events event) ≡ b
         → filter_map (departure_at opened) (after_last (clears_rate_at opened) (places (noted opened events) ++ last_place opened events event ∷ []))
         ≡ (if b then [] else (filter_map (departure_at opened) (after_last (clears_rate_at opened) (places (noted opened events)))
         ++ option_to_list (departure_shown event (is_active opened (noted opened events)) (now_of opened (events ++ event ∷ [])))))
-    by true e = ap (λ xs. filter_map (departure_at opened) xs) (after_last-push_yes (clears_rate_at opened) (places (noted opened events)) (last_place opened events event) e)
+    by true e = ap (λ xs. filter_map (departure_at opened) xs)
+        (after_last-push_yes (clears_rate_at opened) (places (noted opened events)) (last_place opened events event) e)
     by false e =
-        ap (λ xs. filter_map (departure_at opened) xs) (after_last-push_no (clears_rate_at opened) (places (noted opened events)) (last_place opened events event) e)
+        ap (λ xs. filter_map (departure_at opened) xs) (after_last-push_no (clears_rate_at opened) (places (noted opened events))
+        (last_place opened events event) e)
         ∙ filter_map-push (departure_at opened) (after_last (clears_rate_at opened) (places (noted opened events))) (last_place opened events event)
-        ∙ ap (λ (d : Option Departure). filter_map (departure_at opened) (after_last (clears_rate_at opened) (places (noted opened events))) ++ option_to_list d) shown
+        ∙ ap (λ (d : Option Departure). filter_map (departure_at opened) (after_last (clears_rate_at opened) (places (noted opened events)))
+        ++ option_to_list d) shown
 
 pub control-push : (opened : Opened) (events : List ControllerEvent) (event : ControllerEvent)
     → updates_shown opened (events ++ event ∷ [])
-    ≡ updates_shown opened events ++ option_to_list (control_shown event (active_of opened events) (turned_on opened events event) (params_of opened events)
+    ≡ updates_shown opened events ++ option_to_list (control_shown event (active_of opened events) (turned_on opened events event)
+    (params_of opened events)
     (delay_noted opened (noted opened events)) (now_of opened (events ++ event ∷ [])))
 unfolding updates_shown control_of active_of
 control-push opened events event =
@@ -162,7 +180,8 @@ control-push opened events event =
 
 pub early-push : (opened : Opened) (events : List ControllerEvent) (event : ControllerEvent)
     → arrivals_shown opened (events ++ event ∷ [])
-    ≡ arrivals_shown opened events ++ option_to_list (early_shown event (active_of opened events) (turned_on opened events event) (params_of opened events) (parts_of opened (updates_shown opened events)))
+    ≡ arrivals_shown opened events ++ option_to_list (early_shown event (active_of opened events) (turned_on opened events event)
+    (params_of opened events) (parts_of opened (updates_shown opened events)))
 unfolding arrivals_shown early_of updates_shown active_of
 early-push opened events event =
     ap (λ (n : List Noted). filter_map (early_at opened) (places n)) (noted-push opened events event)
@@ -170,5 +189,6 @@ early-push opened events event =
     ∙ ap (λ (e : Option EarlyEvent). filter_map (early_at opened) (places (noted opened events)) ++ option_to_list e) shown
   where
     shown : early_at opened (last_place opened events event)
-        ≡ early_shown event (is_active opened (noted opened events)) (turned_on opened events event) (params_of opened events) (parts_of opened (control_of opened (noted opened events)))
+        ≡ early_shown event (is_active opened (noted opened events)) (turned_on opened events event) (params_of opened events)
+        (parts_of opened (control_of opened (noted opened events)))
     shown = rw (turned_on-is opened events event, events-noted opened events) refl

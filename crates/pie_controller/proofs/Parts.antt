@@ -33,7 +33,8 @@ unfolding verdict accu_left
 early-step h a events shown = by (nat_lt h.params.limit_bytes (a.queued + a.size)) a.is_full h.active
   where
     by : (over full active : Bool)
-        → Early.Shows (events ++ verdict_shown (if over then DroppedBytes else if full then DroppedPackets else chosen (if active then choice_of h.params h.control a.queued a.ecn a.word h.accu else Enqueue))
+        → Early.Shows (events ++ verdict_shown (if over then DroppedBytes else if full then DroppedPackets else chosen
+        (if active then choice_of h.params h.control a.queued a.ecn a.word h.accu else Enqueue))
         (active && is_considered h.params h.control a.queued) h.control.prob ∷ [])
         (if over then 0 else if full then 0 else if active then accu_after h.params h.control a.queued a.word h.accu else h.accu)
     by true full active = shows-clear events h.accu shown
@@ -53,10 +54,12 @@ opened-same t ds d = by (nat_lt d.bytes_left t) refl
     by false enough = rw (le-leb t d.bytes_left (ltb d.bytes_left t enough)) refl
 
 -- after one more departure
-pub rate-step : (t : ℕ) (ds : List Departure) (e : Estimate) (d : Departure) → t ≤ 65536 → Rate.Shows t ds e → Rate.Shows t (ds ++ d ∷ []) (after_departure t e d)
+pub rate-step : (t : ℕ) (ds : List Departure) (e : Estimate) (d : Departure) → t ≤ 65536 → Rate.Shows t ds e
+    → Rate.Shows t (ds ++ d ∷ []) (after_departure t e d)
 rate-step t ds e d small shown = by e.begun refl
   where
-    cycle-by : (cycle : Begun) → e.begun ≡ Some cycle → (b : Bool) → nat_lt (cycle.count + d.size) t ≡ b → Rate.Shows t (ds ++ d ∷ []) (step_from t e.average d (Some cycle))
+    cycle-by : (cycle : Begun) → e.begun ≡ Some cycle → (b : Bool) → nat_lt (cycle.count + d.size) t ≡ b
+        → Rate.Shows t (ds ++ d ∷ []) (step_from t e.average d (Some cycle))
     cycle-by cycle is true less = rw less (counts t ds d e cycle is (ltb-true (cycle.count + d.size) t less) shown)
     cycle-by cycle is false full = rw (full, opened-same t ds d) (closes t ds d e cycle small is (ltb (cycle.count + d.size) t full) shown)
 

@@ -30,14 +30,16 @@ filter_map-push h xs x = filter_map-append h xs (x ∷ []) ∙ ap (λ ys. filter
 -- what a filter over the places keeps with one more event
 pub from_places-push : {E Y : Type 0} (h : Place E → Option Y) (history : List E) (event : E)
     → filter_map h (places (history ++ event ∷ [])) ≡ filter_map h (places history) ++ option_to_list (h (place_of history event))
-from_places-push h history event = ap (λ xs. filter_map h xs) (places-push history event) ∙ filter_map-push h (places history) (place_of history event)
+from_places-push h history event = ap (λ xs. filter_map h xs) (places-push history event)
+    ∙ filter_map-push h (places history) (place_of history event)
 
 pub greatest-push : (xs : List ℕ) (y : ℕ) → greatest (xs ++ y ∷ []) ≡ max (greatest xs) y
 unfolding greatest
 greatest-push [] y = omega arith
 greatest-push (x ∷ xs) y = let more = greatest-push xs y in omega arith
 
-pub greatest-push_option : (xs : List ℕ) (b : Bool) (y : ℕ) → greatest (xs ++ option_to_list (if b then Some y else None)) ≡ (if b then max (greatest xs) y else greatest xs)
+pub greatest-push_option : (xs : List ℕ) (b : Bool) (y : ℕ)
+    → greatest (xs ++ option_to_list (if b then Some y else None)) ≡ (if b then max (greatest xs) y else greatest xs)
 greatest-push_option xs true y = greatest-push xs y
 greatest-push_option xs false y = ap greatest (append-nil xs)
 

@@ -1,5 +1,6 @@
 -- What a controller holds stays sound at each call.
-use Rattle.std.proofs.Common.{◌≡◌, ◌≤◌, ◌<◌, ◌+◌, ◌-◌, ◌^◌, ◌==◌, ◌&&◌, ℕ, ℤ, pos, negsuc, ◌+ℤ◌, Bool, true, false, refl, ap, subst, sym, arith, if◌then◌else◌}
+use Rattle.std.proofs.Common.{◌≡◌, ◌≤◌, ◌<◌, ◌+◌, ◌-◌, ◌^◌, ◌==◌, ◌&&◌, ℕ, ℤ, pos, negsuc, ◌+ℤ◌, Bool, true, false, refl, ap, subst, sym, arith}
+use Rattle.std.proofs.Common.{if◌then◌else◌}
 use Rattle.std.specs.Prelude.{max, nat_lt, Option, Some, None}
 use Rattle.std.proofs.lemmas.Bool.Decides.{nat_tests}
 use Rattle.pie_fixed.specs.Fixed.{bounded_of}
@@ -14,7 +15,8 @@ use Rattle.pie_early.specs.Decision.{accu_after}
 use Rattle.pie_early.proofs.Arrivals.{accu_below}
 use Rattle.pie_controller.specs.Calls.{Arrive, Call, Change, Depart, IsTaken, Pass, Restart, Update, after_call}
 use Rattle.pie_controller.specs.Held.{Held, IsSound, IsWithin}
-use Rattle.pie_controller.specs.Steps.{accu_left, anew, bytes_with, control_after, control_updated, delay_in, is_calm, judged, no_estimate, now_at, opened, opens_active, renewed, stays_active, turns_on, verdict}
+use Rattle.pie_controller.specs.Steps.{accu_left, anew, bytes_with, control_after, control_updated, delay_in, is_calm, judged, no_estimate, now_at}
+use Rattle.pie_controller.specs.Steps.{opened, opens_active, renewed, stays_active, turns_on, verdict}
 use Rattle.pie_controller.proofs.InRange.{in-range, threshold-holds}
 
 -- ---- the accumulated probability
@@ -34,10 +36,12 @@ accu-small h a small =
 
 -- ---- the departure rate
 
-weighted : (t sample average : ℕ) → t ≤ 65536 → sample ≤ 1152921504606846975 → average ≤ 1152921504606846975 → averaged t average sample ≤ 1152921504606846975
+weighted : (t sample average : ℕ) → t ≤ 65536 → sample ≤ 1152921504606846975 → average ≤ 1152921504606846975
+    → averaged t average sample ≤ 1152921504606846975
 weighted t sample average small s a = grind arith
 
-sampled : (b : Bool) (t sample average : ℕ) → t ≤ 65536 → sample < 2 ^ 60 → average < 2 ^ 60 → (if b then sample else averaged t average sample) < 2 ^ 60
+sampled : (b : Bool) (t sample average : ℕ) → t ≤ 65536 → sample < 2 ^ 60 → average < 2 ^ 60
+    → (if b then sample else averaged t average sample) < 2 ^ 60
 sampled true t sample average small s a = s
 sampled false t sample average small s a = let w = weighted t sample average small (omega (arith, s)) (omega (arith, a)) in omega (arith, w)
 
@@ -53,14 +57,19 @@ record RateHolds (threshold now : ℕ) (e : Estimate) : Type 0 where
   average : e.average < 2 ^ 60
   cycle : IsWithin threshold now e.begun
 
-step-holds : (threshold average size left now : ℕ) (begun : Option Begun) → 0 < threshold → threshold ≤ 65536 → now < 2 ^ 60 → average < 2 ^ 60 → IsWithin threshold now begun
+step-holds : (threshold average size left now : ℕ) (begun : Option Begun) → 0 < threshold → threshold ≤ 65536 → now < 2 ^ 60 → average < 2 ^ 60
+    → IsWithin threshold now begun
     → RateHolds threshold now (step_from threshold average (departure size left now) begun)
-step-holds threshold average size left now None some small within a w = record { average = a; cycle = opened-within (nat_lt left threshold) threshold now some }
+step-holds threshold average size left now None some small within a w = record
+    { average = a; cycle = opened-within (nat_lt left threshold) threshold now some }
 step-holds threshold average size left now (Some cycle) some small within a w = by (nat_lt (cycle.count + size) threshold) refl
   where
     by : (b : Bool) → nat_lt (cycle.count + size) threshold ≡ b
         → RateHolds threshold now (if b then record { average = average; begun = Some (record { start = cycle.start; count = cycle.count + size }) }
-        else record { average = with_sample threshold average (max 1 (now - cycle.start)); begun = if nat_lt left threshold then None else Some (record { start = now; count = 0 }) })
+        else record {
+          average = with_sample threshold average (max 1 (now - cycle.start));
+          begun = if nat_lt left threshold then None else Some (record { start = now; count = 0 });
+        })
     by true less = record { average = a; cycle = (w.0, grind (arith, nat_tests)) }
     by false full = record {
       average = sampled (average == 0) threshold (max 1 (now - cycle.start)) average small (omega arith) a;
@@ -97,7 +106,8 @@ stays-in-one Two active calm one on = cc
 
 -- ---- each call
 
-pub Sound_opened : (profile : Profile) (params : RawParams) (moment : ℕ) → first_bad params ≡ None → moment < 2 ^ 60 → IsSound (opened profile params moment)
+pub Sound_opened : (profile : Profile) (params : RawParams) (moment : ℕ) → first_bad params ≡ None → moment < 2 ^ 60
+    → IsSound (opened profile params moment)
 Sound_opened profile params moment good within = record {
   params = good;
   moment = within;
@@ -136,7 +146,8 @@ module _ (h : Held) (sound : IsSound h) where
   registers = record { prob = sound.prob; old_delay = sound.old_delay; burst = sound.burst; last = sound.last }
 
   -- the same with other parts
-  Sound-with : (active : Bool) (rate : Estimate) (control : Parts) (accu : ℕ) → (h.profile ≡ One → active ≡ true) → RateHolds h.params.dq_threshold h.moment rate
+  Sound-with : (active : Bool) (rate : Estimate) (control : Parts) (accu : ℕ) → (h.profile ≡ One → active ≡ true)
+      → RateHolds h.params.dq_threshold h.moment rate
       → PartsHold h.moment control → accu < 8_500_000_000_000 → IsSound (record h { active = active; rate = rate; control = control; accu = accu })
   Sound-with active rate control accu always rated held small = record {
     params = sound.params;
@@ -165,7 +176,8 @@ arrive-sound h sound a moment within = by (turns_on h (bytes_with (verdict h a) 
     here : IsSound (judged h a moment)
     here =
         let old : Held = record h { moment = now_at h moment } in
-        Sound-with old passed h.active h.rate h.control (accu_left h a) sound.active (measured old passed) (registers old passed) (accu-small h a sound.accu)
+        Sound-with old passed h.active h.rate h.control (accu_left h a) sound.active (measured old passed) (registers old passed)
+        (accu-small h a sound.accu)
 
     by : (on : Bool) → IsSound (if on then record (anew (judged h a moment)) { active = true } else judged h a moment)
     by true = Sound-anew (judged h a moment) here true (λ one. refl)
@@ -183,12 +195,17 @@ depart-sound h sound size left moment within = by h.active
     passed : IsSound (record h { moment = now_at h moment })
     passed = Sound-pass h sound moment within
 
-    by : (active : Bool) → IsSound (record h { moment = now_at h moment; rate = if active then after_departure h.params.dq_threshold h.rate (departure size left (now_at h moment)) else h.rate })
+    by : (active : Bool) → IsSound (record h {
+      moment = now_at h moment;
+      rate = if active then after_departure h.params.dq_threshold h.rate (departure size left (now_at h moment)) else h.rate;
+    })
     by true =
         let threshold = threshold-holds h.params sound.params in
         let least = threshold.0 in
-        let step = step-holds h.params.dq_threshold h.rate.average size left (now_at h moment) h.rate.begun (omega arith) threshold.1 passed.moment sound.average passed.cycle in
-        Sound-with here passed h.active (after_departure h.params.dq_threshold h.rate (departure size left (now_at h moment))) h.control h.accu sound.active step (registers here passed) sound.accu
+        let step = step-holds h.params.dq_threshold h.rate.average size left (now_at h moment) h.rate.begun (omega arith) threshold.1 passed.moment
+        sound.average passed.cycle in
+        Sound-with here passed h.active (after_departure h.params.dq_threshold h.rate (departure size left (now_at h moment))) h.control h.accu
+        sound.active step (registers here passed) sound.accu
     by false = passed
 
 update-sound : (h : Held) → IsSound h → (queued moment : ℕ) → moment < 2 ^ 60 → IsSound (after_call h (Update queued moment))
@@ -202,7 +219,8 @@ update-sound h sound queued moment within =
     passed : IsSound (record h { moment = now_at h moment })
     passed = Sound-pass h sound moment within
 
-    by : (active : Bool) → PartsHold (now_at h moment) (if active then control_updated h.params h.control (delay_in h queued) (now_at h moment) else record h.control { last = now_at h moment })
+    by : (active : Bool) → PartsHold (now_at h moment) (if active then control_updated h.params h.control (delay_in h queued)
+        (now_at h moment) else record h.control { last = now_at h moment })
     by true = record {
       prob = next-hold h.params h.control.prob (delay_in h queued) h.control.old_delay;
       old_delay = delay-hold queued h.rate.average h.params.dq_threshold;
@@ -213,7 +231,8 @@ update-sound h sound queued moment within =
     }
     by false = record { prob = sound.prob; old_delay = sound.old_delay; burst = sound.burst; last = omega arith }
 
-change-sound : (h : Held) → IsSound h → (params : RawParams) (moment : ℕ) → moment < 2 ^ 60 → first_bad params ≡ None → IsSound (after_call h (Change params moment))
+change-sound : (h : Held) → IsSound h → (params : RawParams) (moment : ℕ) → moment < 2 ^ 60 → first_bad params ≡ None
+    → IsSound (after_call h (Change params moment))
 change-sound h sound params moment within good =
     let passed : IsSound (record h { moment = now_at h moment }) = Sound-pass h sound moment within in
     record {

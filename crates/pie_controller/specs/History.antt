@@ -98,7 +98,8 @@ control_shown event active turned_on params delay now = None
 
 abbrev pub control_at : Opened → Place Noted → Option ControlEvent
 control_at opened place =
-    control_shown place.event.event place.event.active (turns_on_at opened place) (params_at opened place) (delay_noted opened place.before) (moment_at opened place)
+    control_shown place.event.event place.event.active (turns_on_at opened place) (params_at opened place) (delay_noted opened place.before)
+    (moment_at opened place)
 
 -- the updates and resets
 unfoldable pub control_of : Opened → List Noted → List ControlEvent
@@ -136,7 +137,8 @@ early_shown event active turned_on params parts = None
 
 abbrev pub early_at : Opened → Place Noted → Option EarlyEvent
 early_at opened place =
-    early_shown place.event.event place.event.active (turns_on_at opened place) (params_at opened place) (parts_of opened (control_of opened place.before))
+    early_shown place.event.event place.event.active (turns_on_at opened place) (params_at opened place)
+    (parts_of opened (control_of opened place.before))
 
 -- the arrivals, and what clears the accumulated probability besides
 unfoldable pub early_of : Opened → List Noted → List EarlyEvent
@@ -194,7 +196,10 @@ arrivals_shown opened events = early_of opened (noted opened events)
 
 -- the estimate of the departure rate by these departures
 abbrev pub estimate_of : ℕ → List Departure → Estimate
-estimate_of threshold departures = record { average = average threshold departures; begun = option_map (begun_at departures) (begun threshold departures) }
+estimate_of threshold departures = record {
+  average = average threshold departures;
+  begun = option_map (begun_at departures) (begun threshold departures);
+}
 
 -- what a controller holds that was shown these events
 unfoldable pub held_of : Opened → List ControllerEvent → Held

@@ -4,7 +4,8 @@ ghost use Rattle.pie_controller.specs.Calls.{Arrive, Change, Depart, Pass, Resta
 ghost use Rattle.pie_controller.specs.Events.{ControllerEvent, Opened};
 ghost use Rattle.pie_controller.specs.Held.{IsSound, held_by};
 ghost use Rattle.pie_controller.specs.History.{Shows};
-ghost use Rattle.pie_controller.specs.Steps.{arrived, changed, delay_answered, delay_in, departed, due, is_queued, opened, passed, reset, updated, verdict};
+ghost use Rattle.pie_controller.specs.Steps.{arrived, changed, delay_answered, delay_in, departed, due, is_queued, opened, passed, reset, updated};
+ghost use Rattle.pie_controller.specs.Steps.{verdict};
 
 use crate::{Arrival, Profile, RawController, Verdict};
 use pie_control::Control;

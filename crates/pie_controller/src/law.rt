@@ -13,7 +13,8 @@ ghost use Rattle.pie_controller.specs.Steps.{opened};
 ///
 /// It does nothing: its contract is the law.
 pub fn calls_keep_it_sound()
-    ensures opens { (profile : Profile) (params : RawParams) (moment : ℕ) → first_bad params ≡ None → moment < 2 ^ 60 → IsSound (opened profile params moment) }
+    ensures opens { (profile : Profile) (params : RawParams) (moment : ℕ) → first_bad params ≡ None → moment < 2 ^ 60
+        → IsSound (opened profile params moment) }
     ensures calls { (held : Held) → IsSound held → (call : Call) → IsTaken call → IsSound (after_call held call) }
 {}
 
@@ -22,7 +23,8 @@ pub fn calls_keep_it_sound()
 ///
 /// It does nothing: its contract is the law, for a caller who has no controller in hand.
 pub fn calls_look_back()
-    ensures opens { (profile : Profile) (params : RawParams) (moment : ℕ) → Shows (record { profile = profile; params = params; moment = moment }) [] (opened profile params moment) }
+    ensures opens { (profile : Profile) (params : RawParams) (moment : ℕ)
+        → Shows (record { profile = profile; params = params; moment = moment }) [] (opened profile params moment) }
     ensures calls { (opened : Opened) (events : List ControllerEvent) (held : Held) → Shows opened events held → held.params.dq_threshold ≤ 65536
         → (call : Call) → Shows opened (events ++ shown_by held call ∷ []) (after_call held call) }
     ensures look_back { (opened : Opened) (events : List ControllerEvent) (held : Held) → Shows opened events held → held ≡ held_of opened events }

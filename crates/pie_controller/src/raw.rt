@@ -2,7 +2,8 @@
 ghost use Rattle.std.specs.Prelude.{◌≡◌, ◌+◌, ◌^◌, ◌<◌, ◌≤◌, SomeIff, max, min, true, false};
 ghost use Rattle.pie_controller.specs.Cause.{cause, considered_cause, early_cause, fate_of, verdict_of};
 ghost use Rattle.pie_controller.specs.Held.{IsSound, held_by};
-ghost use Rattle.pie_controller.specs.Steps.{accu_left, anew, arrived, capped, changed, delay_answered, delay_in, departed, due, is_queued, opened, reset, updated, verdict};
+ghost use Rattle.pie_controller.specs.Steps.{accu_left, anew, arrived, capped, changed, delay_answered, delay_in, departed, due, is_queued, opened};
+ghost use Rattle.pie_controller.specs.Steps.{reset, updated, verdict};
 
 use crate::verdict::wakes;
 use crate::{Arrival, Cause, Controller, Fate, Profile, Verdict};

@@ -24,10 +24,12 @@ module _ (params : RawParams) (control : Parts) (bytes word held : ℕ) where
   picked_now = is_picked control.prob (held + control.prob) word
 
   -- it is 0 after a picked arrival, and else grown
-  pub accu-picked : is_considered params control bytes ≡ true → is_picked control.prob (held + control.prob) word ≡ true → 0 ≡ accu_after params control bytes word held
+  pub accu-picked : is_considered params control bytes ≡ true → is_picked control.prob (held + control.prob) word ≡ true
+      → 0 ≡ accu_after params control bytes word held
   accu-picked e g = by (control.prob == 0)
     where
-      by : (z : Bool) → 0 ≡ (if not (is_considered params control bytes) then held else if z || is_picked control.prob (held + control.prob) word then 0 else held + control.prob)
+      by : (z : Bool) → 0 ≡ (if not (is_considered params control bytes) then held else if z || is_picked control.prob
+          (held + control.prob) word then 0 else held + control.prob)
       by true = rw e refl
       by false = rw (e, g) refl
 
@@ -51,15 +53,18 @@ module _ (params : RawParams) (control : Parts) (bytes word held : ℕ) where
   -- what is shown with the arrival at the end
   shows_by : (events : List EarlyEvent) (ecn : Ecn) (b z p : Bool) → is_considered params control bytes ≡ b → (control.prob == 0) ≡ z
       → is_picked control.prob (held + control.prob) word ≡ p → Shows events held
-      → Shows (events ++ arrival (is_considered params control bytes) control.prob (choice_of params control bytes ecn word held) ∷ []) (accu_after params control bytes word held)
+      → Shows (events ++ arrival (is_considered params control bytes) control.prob (choice_of params control bytes ecn word held) ∷ [])
+      (accu_after params control bytes word held)
   shows_by events ecn false z p e f g shown = rw e (shows-unconsidered events held shown false control.prob refl)
   shows_by events ecn true true p e f g shown =
       let zero = zero_is control.prob f in
       rw (e, f, picked_zero_at control.prob (held + control.prob) word zero) (shows-zero events held shown true control.prob refl zero)
   shows_by events ecn true false true e f g shown =
-      rw (e, f, g) (shows-pick events held shown true control.prob (picked_choice params control.prob ecn) (is_pick-picked_choice params control.prob ecn))
+      rw (e, f, g) (shows-pick events held shown true control.prob (picked_choice params control.prob ecn)
+      (is_pick-picked_choice params control.prob ecn))
   shows_by events ecn true false false e f g shown = rw (e, f, g) (shows-grown events held shown true control.prob refl (some_is control.prob f))
 
   pub shows_arrival : (events : List EarlyEvent) (ecn : Ecn) → Shows events held
-      → Shows (events ++ arrival (is_considered params control bytes) control.prob (choice_of params control bytes ecn word held) ∷ []) (accu_after params control bytes word held)
+      → Shows (events ++ arrival (is_considered params control bytes) control.prob (choice_of params control bytes ecn word held) ∷ [])
+      (accu_after params control bytes word held)
   shows_arrival events ecn shown = shows_by events ecn considered (control.prob == 0) picked_now refl refl refl shown

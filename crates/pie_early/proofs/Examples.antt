@@ -37,17 +37,20 @@ abbrev after : ℕ → ℕ → Choice
 after n word = choice_of default_profile (control (10 ^ 11) 15000000) 3000 NotEct word (accumulated (queued n))
 
 -- the greatest word picks none before the 85th, where the accumulated probability is exactly 8.5, and the least word none while it is below 0.85
-choices : (map (λ n. after n (2 ^ 64 - 1)) (1 ∷ 83 ∷ 84 ∷ []) ≡ Enqueue ∷ Enqueue ∷ Drop ∷ []) × (map (λ n. after n 0) (7 ∷ 8 ∷ []) ≡ Enqueue ∷ Drop ∷ [])
+choices : (map (λ n. after n (2 ^ 64 - 1)) (1 ∷ 83 ∷ 84 ∷ []) ≡ Enqueue ∷ Enqueue ∷ Drop ∷ [])
+    × (map (λ n. after n 0) (7 ∷ 8 ∷ []) ≡ Enqueue ∷ Drop ∷ [])
 unfolding accumulated is_considered is_picked
 choices = (refl, refl)
 
 -- a packet whose endpoints understand a mark is dropped at the marking threshold, and marked below it
-marks : map (λ prob. choice_of default_profile (control prob 15000000) 3000 Ect0 0 (accumulated (queued 8))) ((10 ^ 11) ∷ (10 ^ 11 - 1) ∷ []) ≡ Drop ∷ Mark ∷ []
+marks : map (λ prob. choice_of default_profile (control prob 15000000) 3000 Ect0 0 (accumulated (queued 8))) ((10 ^ 11) ∷ (10 ^ 11 - 1) ∷ [])
+    ≡ Drop ∷ Mark ∷ []
 unfolding accumulated is_considered is_picked
 marks = refl
 
 -- a pick, a clear and an arrival considered at probability 0 each leave nothing accumulated; one that isn't considered changes nothing
-accumulations : map (λ events. accumulated (queued 8 ++ events)) ([] ∷ (arrival true (10 ^ 11) Mark ∷ []) ∷ (arrival true (10 ^ 11) Drop ∷ queued 2) ∷ (cleared ∷ queued 1)
+accumulations : map (λ events. accumulated (queued 8 ++ events))
+    ([] ∷ (arrival true (10 ^ 11) Mark ∷ []) ∷ (arrival true (10 ^ 11) Drop ∷ queued 2) ∷ (cleared ∷ queued 1)
     ∷ (arrival true 0 Enqueue ∷ []) ∷ (arrival false (10 ^ 11) Enqueue ∷ []) ∷ [])
     ≡ 800_000_000_000 ∷ 0 ∷ 200_000_000_000 ∷ 100_000_000_000 ∷ 0 ∷ 800_000_000_000 ∷ []
 unfolding accumulated
@@ -63,7 +66,9 @@ considerations = (refl, refl, refl, refl)
 
 -- the accumulated probability after an arrival that isn't considered, one that is queued, one that is
 -- picked, and one that is considered at probability 0
-accus : (accu_after default_profile (control (10 ^ 11) 15000000) 2048 0 5 ≡ 5) × (accu_after default_profile (control (10 ^ 11) 15000000) 3000 0 5 ≡ 100_000_000_005)
-    × (accu_after default_profile (control (10 ^ 11) 15000000) 3000 0 750_000_000_000 ≡ 0) × (accu_after default_profile (control 0 15000000) 3000 0 5 ≡ 0)
+accus : (accu_after default_profile (control (10 ^ 11) 15000000) 2048 0 5 ≡ 5)
+    × (accu_after default_profile (control (10 ^ 11) 15000000) 3000 0 5 ≡ 100_000_000_005)
+    × (accu_after default_profile (control (10 ^ 11) 15000000) 3000 0 750_000_000_000 ≡ 0)
+    × (accu_after default_profile (control 0 15000000) 3000 0 5 ≡ 0)
 unfolding is_considered is_picked
 accus = (refl, refl, refl, refl)

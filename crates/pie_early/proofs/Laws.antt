@@ -1,5 +1,6 @@
 -- How the accumulated probability changes when one more event joins the list at its end.
-use Rattle.std.proofs.Common.{◌≡◌, ℕ, zero, suc, ◌+◌, ◌-◌, ◌*◌, ◌<◌, Bool, true, false, cond, not, List, [], ◌∷◌, ◌++◌, length, drop, filter, replicate, refl, sym, ap, ◌∙◌, arith, zero-add, add-one, append_assoc, add-zero, ◌&&◌, eqb}
+use Rattle.std.proofs.Common.{◌≡◌, ℕ, zero, suc, ◌+◌, ◌-◌, ◌*◌, ◌<◌, Bool, true, false, cond, not, List, [], ◌∷◌, ◌++◌, length, drop, filter}
+use Rattle.std.proofs.Common.{replicate, refl, sym, ap, ◌∙◌, arith, zero-add, add-one, append_assoc, add-zero, ◌&&◌, eqb}
 use Rattle.std.specs.Prelude.{sum_by}
 use Rattle.std.specs.List.{after_last, suffix_len}
 use Rattle.std.proofs.lemmas.List.{drop-append-le, drop_all, length_push, reverse-append, replicate_more}
@@ -18,15 +19,18 @@ suffix_len-push p xs x = rw reverse-append refl
 -- nothing stands after the last, where it passes
 pub after_last-push_yes : {X : Type 0} (p : X → Bool) (xs : List X) (x : X) → p x ≡ true → after_last p (xs ++ x ∷ []) ≡ []
 after_last-push_yes p xs x e =
-    let none : suffix_len (λ y. not (p y)) (xs ++ x ∷ []) ≡ 0 = suffix_len-push (λ y. not (p y)) xs x ∙ ap (λ b. cond (not b) (1 + suffix_len (λ y. not (p y)) xs) 0) e in
+    let none : suffix_len (λ y. not (p y)) (xs ++ x ∷ []) ≡ 0 = suffix_len-push (λ y. not (p y)) xs x
+    ∙ ap (λ b. cond (not b) (1 + suffix_len (λ y. not (p y)) xs) 0) e in
     drop_all _ (xs ++ x ∷ []) (omega arith)
 
 -- .. and else it joins those that stand after the last that does
 pub after_last-push_no : {X : Type 0} (p : X → Bool) (xs : List X) (x : X) → p x ≡ false → after_last p (xs ++ x ∷ []) ≡ after_last p xs ++ x ∷ []
 after_last-push_no p xs x e =
-    let one : suffix_len (λ y. not (p y)) (xs ++ x ∷ []) ≡ 1 + suffix_len (λ y. not (p y)) xs = suffix_len-push (λ y. not (p y)) xs x ∙ ap (λ b. cond (not b) (1 + suffix_len (λ y. not (p y)) xs) 0) e in
+    let one : suffix_len (λ y. not (p y)) (xs ++ x ∷ []) ≡ 1 + suffix_len (λ y. not (p y)) xs = suffix_len-push (λ y. not (p y)) xs x
+    ∙ ap (λ b. cond (not b) (1 + suffix_len (λ y. not (p y)) xs) 0) e in
     let bound = suffix_len-le-length (λ y. not (p y)) xs in
-    let at : length (xs ++ x ∷ []) - suffix_len (λ y. not (p y)) (xs ++ x ∷ []) ≡ length xs - suffix_len (λ y. not (p y)) xs = omega (arith, length_push xs x) in
+    let at : length (xs ++ x ∷ []) - suffix_len (λ y. not (p y)) (xs ++ x ∷ [])
+    ≡ length xs - suffix_len (λ y. not (p y)) xs = omega (arith, length_push xs x) in
     ap (λ n. drop n (xs ++ x ∷ [])) at ∙ drop-append-le _ xs (x ∷ []) (omega arith)
 
 pub accumulated-clearing : (events : List EarlyEvent) (event : EarlyEvent) → is_clearing event ≡ true → accumulated (events ++ event ∷ []) ≡ 0
@@ -44,7 +48,8 @@ accumulated-push events event e =
     let kept = filter is_considered_arrival (after_last is_clearing events) in
     rw (after_last-push_no is_clearing events event e, filter-append)
     (sum_by-append prob_of (filter is_considered_arrival (after_last is_clearing events)) (filter is_considered_arrival (event ∷ []))
-    ∙ ap (λ n. sum_by prob_of (filter is_considered_arrival (after_last is_clearing events)) + n) (considered_sum event (is_considered_arrival event)))
+    ∙ ap (λ n. sum_by prob_of (filter is_considered_arrival (after_last is_clearing events)) + n)
+    (considered_sum event (is_considered_arrival event)))
 
 -- after a clearing event and n more arrivals, considered at one probability and queued, it is n
 -- times that
@@ -54,8 +59,10 @@ accumulated-run before clearing zero prob e some = accumulated-clearing before c
 accumulated-run before clearing (suc n) prob e some =
     let y : EarlyEvent = arrival true prob Enqueue in
     let quiet : is_clearing (arrival true prob Enqueue) ≡ false = ne_eqb prob 0 (λ z. omega arith) in
-    let more : before ++ clearing ∷ replicate (suc n) (arrival true prob Enqueue) ≡ (before ++ clearing ∷ replicate n (arrival true prob Enqueue)) ++ arrival true prob Enqueue ∷ []
-    = ap (λ xs. before ++ clearing ∷ xs) (ap (λ k. replicate k (arrival true prob Enqueue)) (sym (add-one n)) ∙ sym (replicate_more n (arrival true prob Enqueue)))
+    let more : before ++ clearing ∷ replicate (suc n) (arrival true prob Enqueue)
+    ≡ (before ++ clearing ∷ replicate n (arrival true prob Enqueue)) ++ arrival true prob Enqueue ∷ []
+    = ap (λ xs. before ++ clearing ∷ xs) (ap (λ k. replicate k (arrival true prob Enqueue)) (sym (add-one n))
+    ∙ sym (replicate_more n (arrival true prob Enqueue)))
     ∙ sym (append_assoc before (clearing ∷ replicate n (arrival true prob Enqueue)) (arrival true prob Enqueue ∷ [])) in
     rw more (accumulated-push (before ++ clearing ∷ replicate n (arrival true prob Enqueue)) (arrival true prob Enqueue) quiet
     ∙ ap (λ k. k + prob) (accumulated-run before clearing n prob e some) ∙ omega arith)
@@ -73,10 +80,14 @@ module _ (events : List EarlyEvent) (held : ℕ) (shown : Shows events held) whe
   pub shows-zero : (considered : Bool) (prob : ℕ) → considered ≡ true → prob ≡ 0 → Shows (events ++ arrival considered prob Enqueue ∷ []) 0
   shows-zero considered prob e z = rw (e, z) (record { accu = sym (accumulated-clearing events (arrival true 0 Enqueue) refl) })
 
-  pub shows-grown : (considered : Bool) (prob : ℕ) → considered ≡ true → 0 < prob → Shows (events ++ arrival considered prob Enqueue ∷ []) (held + prob)
+  pub shows-grown : (considered : Bool) (prob : ℕ) → considered ≡ true → 0 < prob
+      → Shows (events ++ arrival considered prob Enqueue ∷ []) (held + prob)
   shows-grown considered prob e some = rw e (record {
     accu = ap (λ k. k + prob) shown.accu ∙ sym (accumulated-push events (arrival true prob Enqueue) (ne_eqb prob 0 (λ z. omega arith)));
   })
 
   pub shows-pick : (considered : Bool) (prob : ℕ) (choice : Choice) → is_pick choice ≡ true → Shows (events ++ arrival considered prob choice ∷ []) 0
-  shows-pick considered prob choice e = record { accu = sym (accumulated-clearing events (arrival considered prob choice) (or_left (is_pick choice) (considered && eqb prob 0) e)) }
+  shows-pick considered prob choice e = record {
+    accu = sym (accumulated-clearing events (arrival considered prob choice)
+        (or_left (is_pick choice) (considered && eqb prob 0) e));
+  }

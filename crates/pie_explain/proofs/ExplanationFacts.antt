@@ -46,7 +46,8 @@ pub moment-is : (opening : Opening) (history : List Event) (event : Event) (befo
 moment-is opening history event before now before-is now-is = now-is ∙ rw (before-is, moment-registers opening history) refl
 
 -- the parts of an explanation make it
-pub explanation-is : (opening : Opening) (history : List Event) (number : ℕ) (event : Event) (set_by : Option ℕ) (now : ℕ) (before : Registers) (delay : ℕ) (cause : Option Cause) (waited updates : ℕ)
+pub explanation-is : (opening : Opening) (history : List Event) (number : ℕ) (event : Event) (set_by : Option ℕ) (now : ℕ) (before : Registers)
+    (delay : ℕ) (cause : Option Cause) (waited updates : ℕ)
     → before ≡ registers_after opening history → delay ≡ delay_after opening history → cause ≡ cause_after opening history event.command
     → now ≡ moment_of opening history event → waited ≡ wait_of (deed_of event) now (waiting_after opening history)
     → updates ≡ count_of is_update history

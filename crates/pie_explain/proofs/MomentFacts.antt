@@ -11,7 +11,8 @@ pub count-stop : (text : List ℕ) (i : ℕ) → i < length text → is_ascii_di
 unfolding digit_count
 count-stop text i within other = rw (drop_more text i 0 within, other) refl
 
-pub count-more : (text : List ℕ) (i : ℕ) → i < length text → is_ascii_digit (slice_index text i) ≡ true → digit_count (drop i text) ≡ 1 + digit_count (drop (i + 1) text)
+pub count-more : (text : List ℕ) (i : ℕ) → i < length text → is_ascii_digit (slice_index text i) ≡ true
+    → digit_count (drop i text) ≡ 1 + digit_count (drop (i + 1) text)
 unfolding digit_count
 count-more text i within digit = rw (drop_more text i 0 within, digit) refl
 

@@ -22,7 +22,8 @@ abbrev pub front_of : Explained → List (List ℕ)
 front_of all = head_fields all.told ++ packet_fields (packet_of all.told.event) ++ met_fields all.told ++ more_fields all.told
 
 pub record-is : (all : Explained) (old : List ℕ)
-    → ((old ++ onto (front_of all) []) ++ onto (held_fields all.after all.delay) []) ++ (active_field all.after.active ++ codes "\n") ≡ old ++ line_of (record_of all)
+    → ((old ++ onto (front_of all) []) ++ onto (held_fields all.after all.delay) []) ++ (active_field all.after.active ++ codes "\n")
+    ≡ old ++ line_of (record_of all)
 record-is all old =
     let held : List (List ℕ) = held_fields all.after all.delay in
     let last : List ℕ = active_field all.after.active ++ codes "\n" in
@@ -32,8 +33,10 @@ record-is all old =
     ∙ sym (line-onto (front_of all ++ held) (active_field all.after.active)))
 
 -- where the three were written, the record was
-pub record-written : {A E : Type 0} (result : Result A E) (all : Explained) (old with_front with_held new : List ℕ) → with_front ≡ old ++ onto (front_of all) []
-    → with_held ≡ with_front ++ onto (held_fields all.after all.delay) [] → OnOk result (new ≡ with_held ++ (active_field all.after.active ++ codes "\n"))
+pub record-written : {A E : Type 0} (result : Result A E) (all : Explained) (old with_front with_held new : List ℕ)
+    → with_front ≡ old ++ onto (front_of all) []
+    → with_held ≡ with_front ++ onto (held_fields all.after all.delay) []
+    → OnOk result (new ≡ with_held ++ (active_field all.after.active ++ codes "\n"))
     → OnOk result (new ≡ old ++ line_of (record_of all))
 record-written (Err why) all old with_front with_held new front-is held-is is = tt
 record-written (Ok done) all old with_front with_held new front-is held-is is =

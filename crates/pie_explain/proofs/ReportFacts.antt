@@ -11,11 +11,13 @@ use Rattle.pie_explain.proofs.LineFacts.{said-none, said-push}
 pub pages-none : (form : Form) → pages form [] ≡ header form
 pages-none form = ap (λ (text : List ℕ). header form ++ text) (said-none form) ∙ append-nil (header form)
 
-pub pages-begun : {E : Type 0} (result : Result (Unit {0}) E) (form : Form) (old now : List ℕ) → OnOk result (now ≡ old ++ header form) → OnOk result (now ≡ old ++ pages form [])
+pub pages-begun : {E : Type 0} (result : Result (Unit {0}) E) (form : Form) (old now : List ℕ) → OnOk result (now ≡ old ++ header form)
+    → OnOk result (now ≡ old ++ pages form [])
 pages-begun (Err why) form old now is = tt
 pages-begun (Ok done) form old now is = is ∙ ap (λ (text : List ℕ). old ++ text) (sym (pages-none form))
 
-pub pages-told : {E : Type 0} (result : Result (Unit {0}) E) (form : Form) (all : List Explained) (told : Explained) (old now : List ℕ) → OnOk result (now ≡ old ++ said_of form told)
+pub pages-told : {E : Type 0} (result : Result (Unit {0}) E) (form : Form) (all : List Explained) (told : Explained) (old now : List ℕ)
+    → OnOk result (now ≡ old ++ said_of form told)
     → OnOk result (⊤ × Grows (pages form all) (pages form (all ++ told ∷ [])) old now)
 pages-told (Err why) form all told old now is = tt
 pages-told (Ok done) form all told old now is = (
@@ -23,7 +25,8 @@ pages-told (Ok done) form all told old now is = (
   record {
     more = said_of form told;
     grown = is;
-    turned = ap (λ (text : List ℕ). header form ++ text) (said-push form all told) ∙ sym (append_assoc (header form) (said form all) (said_of form told));
+    turned = ap (λ (text : List ℕ). header form ++ text) (said-push form all told)
+        ∙ sym (append_assoc (header form) (said form all) (said_of form told));
   },
 )
 

@@ -71,26 +71,32 @@ IsAsAudited audited (Err NoneWithin) = (events : ℕ) × (audited ≡ Ok (Clean 
 -- ---- how far explaining has come
 
 -- these lines were looked at: where none differs, what set the probability is known, and how many events were explained
-pub record Follows (opening : Opening) (choice : Choice) (lines : List Line) (auditor : AuditorView) (set_by : Option ℕ) (explained : ℕ) : Type 0 where
+pub record Follows (opening : Opening) (choice : Choice) (lines : List Line) (auditor : AuditorView) (set_by : Option ℕ)
+    (explained : ℕ) : Type 0 where
   pub audits : Audits opening auditor lines
   pub setter : auditor.differs ≡ None → set_by ≡ setter_after opening lines
   pub counted : auditor.differs ≡ None → explained ≡ length (explanations opening choice lines)
   pub few : auditor.differs ≡ None → explained ≤ event_count lines
 
 -- .. and these were shown their chosen events, of which the tale joined what was there before
-pub record Explains (opening : Opening) (choice : Choice) (tale : List Explained → List ℕ) (shows : List Explained → Type 0) (lines : List Line) (auditor : AuditorView) (set_by : Option ℕ) (explained : ℕ) (before now : Option (List ℕ)) : Type 0 where
+pub record Explains (opening : Opening) (choice : Choice) (tale : List Explained → List ℕ) (shows : List Explained → Type 0) (lines : List Line)
+    (auditor : AuditorView) (set_by : Option ℕ) (explained : ℕ) (before now : Option (List ℕ)) : Type 0 where
   pub follows : Follows opening choice lines auditor set_by explained
   pub shown : shows (explanations opening choice lines)
   pub written : Appends before now (tale (explanations opening choice lines))
 
 -- all these lines were explained, and no fault is after them; or the fault after them was met, unless a device or memory failed
-abbrev pub Heard : Opening → Choice → (List Explained → List ℕ) → (List Explained → Type 0) → Coming → Result (Unit {0}) TraceFault → AuditorView → Option ℕ → ℕ → Option (List ℕ) → Option (List ℕ) → Type 0
-Heard opening choice tale shows coming (Ok done) auditor set_by explained before now = Explains opening choice tale shows coming.lines auditor set_by explained before now × (coming.fault ≡ None)
+abbrev pub Heard : Opening → Choice → (List Explained → List ℕ) → (List Explained → Type 0) → Coming → Result (Unit {0}) TraceFault → AuditorView
+    → Option ℕ → ℕ → Option (List ℕ) → Option (List ℕ) → Type 0
+Heard opening choice tale shows coming (Ok done) auditor set_by explained before now = Explains opening choice tale shows coming.lines auditor set_by
+    explained before now × (coming.fault ≡ None)
 Heard opening choice tale shows coming (Err why) auditor set_by explained before now =
-    is_device why ≡ false → (coming.fault ≡ Some why) × shows (explanations opening choice coming.lines) × Appends before now (tale (explanations opening choice coming.lines))
+    is_device why ≡ false → (coming.fault ≡ Some why) × shows (explanations opening choice coming.lines)
+    × Appends before now (tale (explanations opening choice coming.lines))
 
 -- where explaining stands among all lines: some are left, and the others were explained
-pub record ExplainAt (opening : Opening) (choice : Choice) (tale : List Explained → List ℕ) (shows : List Explained → Type 0) (all : Coming) (lines : LinesView) (auditor : AuditorView) (set_by : Option ℕ) (explained : ℕ) (before now : Option (List ℕ)) : Type 0 where
+pub record ExplainAt (opening : Opening) (choice : Choice) (tale : List Explained → List ℕ) (shows : List Explained → Type 0) (all : Coming)
+    (lines : LinesView) (auditor : AuditorView) (set_by : Option ℕ) (explained : ℕ) (before now : Option (List ℕ)) : Type 0 where
   pub seen : List Line
   pub left : List Line
   pub split : all.lines ≡ seen ++ left

@@ -93,7 +93,8 @@ told_if false told = None
 -- what there is to say of a line after these lines: it tells an event, which has the next number and is chosen
 abbrev pub told_after : Opening → Choice → List Line → Option ℕ → Line → Option Explanation
 told_after opening choice lines set_by (Made event) =
-    told_if (picks choice (event_count lines + 1) (moment_of opening (events_of lines) event) event) (explanation opening (events_of lines) (event_count lines + 1) event set_by)
+    told_if (picks choice (event_count lines + 1) (moment_of opening (events_of lines) event) event)
+    (explanation opening (events_of lines) (event_count lines + 1) event set_by)
 told_after opening choice lines set_by Unmakeable = None
 told_after opening choice lines set_by Note = None
 
@@ -109,7 +110,8 @@ told_unless_differs opening lines told = told_unless (first_difference opening l
 abbrev pub told_at : Opening → Choice → LinePlace → Option Explained
 told_at opening choice place =
     option_map (with_after opening (events_of (place.before ++ place.line ∷ [])))
-    (told_unless_differs opening (place.before ++ place.line ∷ []) (told_after opening choice place.before (setter_after opening place.before) place.line))
+    (told_unless_differs opening (place.before ++ place.line ∷ [])
+    (told_after opening choice place.before (setter_after opening place.before) place.line))
 
 -- what there is to say of the chosen events of these lines, in their order
 unfoldable pub explanations : Opening → Choice → List Line → List Explained

@@ -16,7 +16,8 @@ use Rattle.pie_explain.specs.Words.{words}
 -- the names of the fields of a record
 abbrev pub field_names : List (List ℕ)
 field_names =
-    codes "number" ∷ codes "kind" ∷ codes "caller" ∷ codes "moment" ∷ codes "effective_moment" ∷ codes "tag" ∷ codes "size" ∷ codes "verdict" ∷ codes "cause"
+    codes "number" ∷ codes "kind" ∷ codes "caller" ∷ codes "moment" ∷ codes "effective_moment" ∷ codes "tag" ∷ codes "size" ∷ codes "verdict"
+    ∷ codes "cause"
     ∷ codes "bytes" ∷ codes "packets" ∷ codes "delay" ∷ codes "probability" ∷ codes "accumulated_probability" ∷ codes "burst_allowance"
     ∷ codes "ecn" ∷ codes "word" ∷ codes "waited" ∷ codes "active" ∷ codes "set_by"
     ∷ codes "bytes_after" ∷ codes "packets_after" ∷ codes "delay_after" ∷ codes "probability_after" ∷ codes "accumulated_probability_after"

@@ -3,12 +3,14 @@ use Rattle.std.specs.Prelude.{ℕ, Bool, true, false, List, [], ◌∷◌, ◌++
 use Rattle.std.specs.Fmt.{decimal}
 use Rattle.pie_queue.specs.declared.packet.Packet.{Packet}
 use Rattle.pie_controller.specs.declared.cause.Cause.{Cause}
-use Rattle.pie_controller.specs.declared.cause.Cause.TheVariants.{NoRoomInBytes, NoRoomInPackets, Inactive, BurstAllowed, LowDelay, ShortQueue, NoProbability, LittleAccumulated, PickedBySum, PickedByWord, WordNotBelow}
+use Rattle.pie_controller.specs.declared.cause.Cause.TheVariants.{NoRoomInBytes, NoRoomInPackets, Inactive, BurstAllowed, LowDelay, ShortQueue}
+use Rattle.pie_controller.specs.declared.cause.Cause.TheVariants.{NoProbability, LittleAccumulated, PickedBySum, PickedByWord, WordNotBelow}
 use Rattle.pie_controller.specs.declared.cause.Fate.TheVariants as fate
 use Rattle.pie_book.specs.declared.command.Command.{Command}
 use Rattle.pie_book.specs.declared.command.Command.TheVariants.{Arrive, Depart, Update, Reset, SetParams}
 use Rattle.pie_book.specs.declared.command.Answer.{Answer}
-use Rattle.pie_book.specs.declared.command.Answer.TheVariants.{Enqueued, Marked, DroppedEarly, DroppedBytes, DroppedPackets, Empty, Left, Updated, Done}
+use Rattle.pie_book.specs.declared.command.Answer.TheVariants.{Enqueued, Marked, DroppedEarly, DroppedBytes, DroppedPackets, Empty, Left, Updated}
+use Rattle.pie_book.specs.declared.command.Answer.TheVariants.{Done}
 use Rattle.pie_book.specs.declared.registers.Registers.{Registers}
 use Rattle.pie_book.specs.Deed.{handed_in}
 use Rattle.pie_record.specs.declared.words.Kind.TheVariants as kind
@@ -118,13 +120,15 @@ more_fields told =
 -- the numbers after it
 abbrev pub after_fields : Explained → List (List ℕ)
 after_fields all =
-    decimal all.after.bytes ∷ decimal all.after.packets ∷ decimal all.delay ∷ decimal all.after.prob ∷ decimal all.after.accu ∷ decimal all.after.burst
+    decimal all.after.bytes ∷ decimal all.after.packets ∷ decimal all.delay ∷ decimal all.after.prob ∷ decimal all.after.accu
+    ∷ decimal all.after.burst
     ∷ active_field all.after.active ∷ []
 
 -- the twenty-seven fields
 abbrev pub record_of : Explained → List (List ℕ)
 record_of all =
-    head_fields all.told ++ (tag_field (packet_of all.told.event) ∷ size_field (packet_of all.told.event) ∷ []) ++ met_fields all.told ++ more_fields all.told
+    head_fields all.told ++ (tag_field (packet_of all.told.event) ∷ size_field (packet_of all.told.event) ∷ []) ++ met_fields all.told
+    ++ more_fields all.told
     ++ after_fields all
 
 -- these fields as a line of CSV: none of them has a comma, a quote or a line's end in it

@@ -1,11 +1,13 @@
 -- An explanation in words, of some lines: what the event did, what decided it, and the numbers that it met.
-use Rattle.std.specs.Prelude.{ℕ, ◌+◌, ◌-◌, ◌*◌, ◌/◌, ◌%◌, ◌^◌, ◌==◌, Bool, true, false, if◌then◌else◌, min, max, List, [], ◌∷◌, ◌++◌, length, replicate, Option, Some, None, codes}
+use Rattle.std.specs.Prelude.{ℕ, ◌+◌, ◌-◌, ◌*◌, ◌/◌, ◌%◌, ◌^◌, ◌==◌, Bool, true, false, if◌then◌else◌, min, max, List, [], ◌∷◌, ◌++◌, length}
+use Rattle.std.specs.Prelude.{replicate, Option, Some, None, codes}
 use Rattle.std.specs.Fmt.{decimal}
 use Rattle.pie_queue.specs.declared.ecn.Ecn.{Ecn}
 use Rattle.pie_queue.specs.declared.ecn.Ecn.TheVariants.{NotEct, Ect1, Ect0, Ce}
 use Rattle.pie_queue.specs.declared.packet.Packet.{Packet}
 use Rattle.pie_controller.specs.declared.cause.Cause.{Cause}
-use Rattle.pie_controller.specs.declared.cause.Cause.TheVariants.{NoRoomInBytes, NoRoomInPackets, Inactive, BurstAllowed, LowDelay, ShortQueue, NoProbability, LittleAccumulated, PickedBySum, PickedByWord, WordNotBelow}
+use Rattle.pie_controller.specs.declared.cause.Cause.TheVariants.{NoRoomInBytes, NoRoomInPackets, Inactive, BurstAllowed, LowDelay, ShortQueue}
+use Rattle.pie_controller.specs.declared.cause.Cause.TheVariants.{NoProbability, LittleAccumulated, PickedBySum, PickedByWord, WordNotBelow}
 use Rattle.pie_controller.specs.declared.cause.Fate.{Fate}
 use Rattle.pie_controller.specs.declared.cause.Fate.TheVariants as fate
 use Rattle.pie_book.specs.declared.command.Command.{Command}
@@ -44,7 +46,8 @@ share count all =
 -- a random word as a part of 2^64, in per cent
 unfoldable pub word_text : ℕ → List ℕ
 word_text word =
-    joined (decimal (word * 10 ^ 6 / 2 ^ 64 / 10 ^ 4) ∷ codes "." ∷ with_zeros 4 (word * 10 ^ 6 / 2 ^ 64 % 10 ^ 4) ∷ codes " % (" ∷ decimal word ∷ codes ")" ∷ [])
+    joined (decimal (word * 10 ^ 6 / 2 ^ 64 / 10 ^ 4) ∷ codes "." ∷ with_zeros 4 (word * 10 ^ 6 / 2 ^ 64 % 10 ^ 4) ∷ codes " % (" ∷ decimal word
+    ∷ codes ")" ∷ [])
 
 -- ---- what an event did
 
@@ -67,7 +70,8 @@ verdict_text _ = codes "-"
 -- the beginning of the first line of an event about a packet
 unfoldable pub packet_words : ℕ → Packet → List ℕ
 packet_words number packet =
-    joined (codes "event " ∷ decimal number ∷ codes ": packet " ∷ decimal packet.tag ∷ codes ", " ∷ decimal packet.size ∷ codes " bytes, " ∷ ecn_name packet.ecn ∷ codes ": " ∷ [])
+    joined (codes "event " ∷ decimal number ∷ codes ": packet " ∷ decimal packet.tag ∷ codes ", " ∷ decimal packet.size ∷ codes " bytes, "
+    ∷ ecn_name packet.ecn ∷ codes ": " ∷ [])
 
 unfoldable pub departure_words : ℕ → Answer → ℕ → List ℕ
 departure_words number (Left packet) waited = joined (packet_words number packet ∷ codes "left\n  it had waited " ∷ millis waited ∷ codes "\n" ∷ [])
@@ -76,9 +80,11 @@ departure_words number _ waited = joined (codes "event " ∷ decimal number ∷ 
 -- an update while the controller is active takes a delay and makes a probability; while it is turned off it does neither
 unfoldable pub update_words : ℕ → Bool → Answer → List ℕ
 update_words number false answer =
-    joined (codes "event " ∷ decimal number ∷ codes ": an update\n  the controller is turned off: the update takes no delay, and makes no probability\n" ∷ [])
+    joined (codes "event " ∷ decimal number
+    ∷ codes ": an update\n  the controller is turned off: the update takes no delay, and makes no probability\n" ∷ [])
 update_words number true (Updated delay prob burst) =
-    joined (codes "event " ∷ decimal number ∷ codes ": an update\n  it took a delay of " ∷ millis delay ∷ codes ", and made the probability " ∷ per_cent prob
+    joined (codes "event " ∷ decimal number ∷ codes ": an update\n  it took a delay of " ∷ millis delay ∷ codes ", and made the probability "
+    ∷ per_cent prob
     ∷ codes "\n  and the burst allowance " ∷ millis burst ∷ codes "\n" ∷ [])
 update_words number true _ = joined (codes "event " ∷ decimal number ∷ codes ": an update\n" ∷ [])
 
@@ -97,7 +103,8 @@ when_words moment caller = joined (codes "  at " ∷ millis moment ∷ codes ", 
 
 -- why a picked packet was marked or dropped
 unfoldable pub picked_words : Fate → List ℕ
-picked_words (fate.Marked threshold) = joined (codes "  marked: its endpoints understand a mark, and the probability is below " ∷ per_cent threshold ∷ codes "\n" ∷ [])
+picked_words (fate.Marked threshold) = joined (codes "  marked: its endpoints understand a mark, and the probability is below " ∷ per_cent threshold
+    ∷ codes "\n" ∷ [])
 picked_words fate.NotCapable = codes "  dropped: its endpoints do not understand a mark\n"
 picked_words (fate.NotBelow threshold) = joined (codes "  dropped, not marked: the probability is not below " ∷ per_cent threshold ∷ codes "\n" ∷ [])
 
@@ -108,19 +115,23 @@ sum_words accu prob = joined (codes "  the accumulated probability, with this on
 -- how the random word compares with the probability
 unfoldable pub compared_words : ℕ → ℕ → List ℕ → List ℕ → List ℕ
 compared_words word prob outcome compares =
-    joined (codes "\n  " ∷ outcome ∷ codes ": its random word, " ∷ word_text word ∷ codes ", " ∷ compares ∷ codes " the probability, " ∷ per_cent prob ∷ codes "\n" ∷ [])
+    joined (codes "\n  " ∷ outcome ∷ codes ": its random word, " ∷ word_text word ∷ codes ", " ∷ compares ∷ codes " the probability, "
+    ∷ per_cent prob ∷ codes "\n" ∷ [])
 
 -- at a probability above 0
 unfoldable pub considered_words : Cause → List ℕ
 considered_words (LittleAccumulated accu prob) = joined (sum_words accu prob ∷ codes ", below 85 %\n" ∷ [])
 considered_words (PickedBySum accu prob picked) = joined (sum_words accu prob ∷ codes ", at least 850 %\n" ∷ picked_words picked ∷ [])
-considered_words (PickedByWord accu prob word picked) = joined (sum_words accu prob ∷ compared_words word prob (codes "picked") (codes "is below") ∷ picked_words picked ∷ [])
-considered_words (WordNotBelow accu prob word) = joined (sum_words accu prob ∷ compared_words word prob (codes "not picked") (codes "is not below") ∷ [])
+considered_words (PickedByWord accu prob word picked) = joined
+    (sum_words accu prob ∷ compared_words word prob (codes "picked") (codes "is below") ∷ picked_words picked ∷ [])
+considered_words (WordNotBelow accu prob word) = joined (sum_words accu prob ∷ compared_words word prob (codes "not picked") (codes "is not below")
+    ∷ [])
 considered_words _ = codes ""
 
 unfoldable pub cause_words : Cause → List ℕ
 cause_words (NoRoomInBytes bytes size limit) =
-    joined (codes "  the queue holds " ∷ decimal bytes ∷ codes " bytes: with " ∷ decimal size ∷ codes " more it would be above its limit of " ∷ decimal limit ∷ codes "\n" ∷ [])
+    joined (codes "  the queue holds " ∷ decimal bytes ∷ codes " bytes: with " ∷ decimal size ∷ codes " more it would be above its limit of "
+    ∷ decimal limit ∷ codes "\n" ∷ [])
 cause_words (NoRoomInPackets packets) = joined (codes "  the ring is full: it holds " ∷ decimal packets ∷ codes " packets\n" ∷ [])
 cause_words Inactive = codes "  the controller is turned off\n"
 cause_words (BurstAllowed burst) = joined (codes "  a burst is allowed: " ∷ millis burst ∷ codes " are left of it\n" ∷ [])
@@ -128,7 +139,8 @@ cause_words (LowDelay old_delay target prob) =
     joined (codes "  the old delay, " ∷ millis old_delay ∷ codes ", is below half the target of " ∷ millis target
     ∷ codes ",\n  and the probability, " ∷ per_cent prob ∷ codes ", below 20 %\n" ∷ [])
 cause_words (ShortQueue bytes two_packets) =
-    joined (codes "  the queue is short: " ∷ decimal bytes ∷ codes " bytes, at most two mean packets (" ∷ decimal two_packets ∷ codes " bytes)\n" ∷ [])
+    joined (codes "  the queue is short: " ∷ decimal bytes ∷ codes " bytes, at most two mean packets (" ∷ decimal two_packets ∷ codes " bytes)\n"
+    ∷ [])
 cause_words NoProbability = codes "  the probability is 0\n"
 cause_words cause = considered_words cause
 
@@ -158,14 +170,16 @@ setter_words (Some event) before = joined (codes "  probability " ∷ per_cent b
 
 unfoldable pub queue_words : ℕ → ℕ → ℕ → List ℕ
 queue_words packets bytes delay =
-    joined (codes "  before it: " ∷ decimal packets ∷ codes " packets, " ∷ decimal bytes ∷ codes " bytes, a delay of " ∷ millis delay ∷ codes "\n" ∷ [])
+    joined (codes "  before it: " ∷ decimal packets ∷ codes " packets, " ∷ decimal bytes ∷ codes " bytes, a delay of " ∷ millis delay ∷ codes "\n"
+    ∷ [])
 
 unfoldable pub burst_words : ℕ → List ℕ
 burst_words burst = joined (codes " burst allowance " ∷ millis burst ∷ codes "\n" ∷ [])
 
 unfoldable pub before_words : Explanation → List ℕ
 before_words told =
-    joined (queue_words told.before.packets told.before.bytes told.delay ∷ setter_words told.set_by told.before ∷ last_words told.updates told.before.last
+    joined (queue_words told.before.packets told.before.bytes told.delay ∷ setter_words told.set_by told.before
+    ∷ last_words told.updates told.before.last
     ∷ burst_words told.before.burst ∷ [])
 
 -- ---- the whole

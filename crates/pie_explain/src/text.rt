@@ -1,6 +1,8 @@
 //! An explanation in words, of four to eight lines.
 ghost use Rattle.std.specs.Prelude.{◌≡◌, ◌++◌, OnOk, string_bytes};
-ghost use Rattle.pie_explain.specs.Words.{before_words, burst_words, cause_words, compared_words, considered_words, deed_words, departure_words, ecn_name, last_words, verdict_text, packet_words, picked_words, queue_words, reason_words, setter_words, sum_words, turned_words, update_words, when_words, words};
+ghost use Rattle.pie_explain.specs.Words.{before_words, burst_words, cause_words, compared_words, considered_words, deed_words, departure_words};
+ghost use Rattle.pie_explain.specs.Words.{ecn_name, last_words, verdict_text, packet_words, picked_words, queue_words, reason_words, setter_words};
+ghost use Rattle.pie_explain.specs.Words.{sum_words, turned_words, update_words, when_words, words};
 
 use crate::explanation::{Explained, Explanation};
 use crate::units::{Millis, PerCent, Word};

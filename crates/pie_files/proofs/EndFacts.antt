@@ -70,7 +70,8 @@ migrate-answers found count history (Ok events) before now ends faults writes = 
 migrate-answers found count history (Err why) before now ends faults writes = λ told. (faults told, writes told)
 
 pub EndsMigrate-told : (known : Option (List ℕ)) (given : Result ℕ TraceFault) (before now : Option (List ℕ))
-    → IfSome known (λ text. IfOk given (λ events. (history_fault (2 ^ 32) (records_of text) ≡ None) × (events ≡ history_events (2 ^ 32) (records_of text))))
+    → IfSome known (λ text. IfOk given (λ events. (history_fault (2 ^ 32) (records_of text) ≡ None)
+    × (events ≡ history_events (2 ^ 32) (records_of text))))
     → IfSome known (λ text. IfErr given (λ why. is_device why ≡ false → history_fault (2 ^ 32) (records_of text) ≡ Some why))
     → IfSome known (λ text. IsTold given → Appends before now (migrated_text (2 ^ 32) (records_of text)))
     → IfSome known (λ text. EndsMigrate text (end_of given) before now)
@@ -111,6 +112,7 @@ EndsAudit-faulted (Some text) why before faults = (faults, inl refl)
 
 -- ---- of files
 
-pub EndsAudits-failed : (input : Option (List ℕ)) (files : Text → Option (List ℕ)) (names : List Text) (before now : Option (List ℕ)) → now ≡ before → EndsAudits input files names Failed before now
+pub EndsAudits-failed : (input : Option (List ℕ)) (files : Text → Option (List ℕ)) (names : List Text) (before now : Option (List ℕ)) → now ≡ before
+    → EndsAudits input files names Failed before now
 EndsAudits-failed input files [] before now same = EndsAudit-failed input before now same
 EndsAudits-failed input files (name ∷ names) before now same = inr (inl (refl, same))

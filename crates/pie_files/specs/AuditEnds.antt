@@ -51,7 +51,8 @@ worst false true = Differs
 worst false false = Done
 
 -- each of these files was looked at in turn, and the line of each finding was written
-pub record AuditsFiles (input : Option (List ℕ)) (files : Text → Option (List ℕ)) (names : List Text) (unfound different : Bool) (before now : Option (List ℕ)) : Type 0 where
+pub record AuditsFiles (input : Option (List ℕ)) (files : Text → Option (List ℕ)) (names : List Text) (unfound different : Bool)
+    (before now : Option (List ℕ)) : Type 0 where
   pub told : List Told
   pub in_order : map (λ t. t.0) told ≡ names
   pub found : All (IsFound input files) told
@@ -62,7 +63,8 @@ pub record AuditsFiles (input : Option (List ℕ)) (files : Text → Option (Lis
 -- .. and the end is the worst of all; or a line could not be written; or memory was wanting, and nothing was written
 abbrev pub EndsFiles : Option (List ℕ) → (Text → Option (List ℕ)) → List Text → End → Option (List ℕ) → Option (List ℕ) → Type 0
 EndsFiles input files names end before now =
-    (end ≡ Fault trace_fault.Write) ⊎ ((end ≡ Failed) × (now ≡ before)) ⊎ ((unfound : Bool) × (different : Bool) × (end ≡ worst unfound different) × AuditsFiles input files names unfound different before now)
+    (end ≡ Fault trace_fault.Write) ⊎ ((end ≡ Failed) × (now ≡ before))
+    ⊎ ((unfound : Bool) × (different : Bool) × (end ≡ worst unfound different) × AuditsFiles input files names unfound different before now)
 
 -- with no file it is the audit of the reader that is handed in
 abbrev pub EndsAudits : Option (List ℕ) → (Text → Option (List ℕ)) → List Text → End → Option (List ℕ) → Option (List ℕ) → Type 0

@@ -78,7 +78,8 @@ fn finding_named<H: NamedFiles + Clock, R: Read + Drop, E: Write>(
     input: &mut Option<R>,
     errors: &mut E,
 ) -> Option<Finding>
-    ensures finds { IfSome result (λ found. (known : Option (List ℕ)) × ReadsNamed R.remaining input.old (H.holds rt.now) name.now known × IfSome known (λ text. text_finding (records_of text) ≡ Ok found)) }
+    ensures finds { IfSome result (λ found. (known : Option (List ℕ)) × ReadsNamed R.remaining input.old (H.holds rt.now) name.now known
+        × IfSome known (λ text. text_finding (records_of text) ≡ Ok found)) }
     ensures input { (input.new ≡ input.old) ⊎ (input.new ≡ None) }
 {
     match reader_named(rt, name, input, errors) {
@@ -108,7 +109,8 @@ fn audit_named<H: NamedFiles + Clock, R: Read + Drop, W: Write, E: Write>(
     output: &mut W,
     errors: &mut E,
 ) -> io::Result<Option<Finding>>
-    ensures finds { IfOk result (λ told. IfSome told (λ found. (known : Option (List ℕ)) × ReadsNamed R.remaining input.old (H.holds rt.now) name.now known × IfSome known (λ text. text_finding (records_of text) ≡ Ok found))) }
+    ensures finds { IfOk result (λ told. IfSome told (λ found. (known : Option (List ℕ))
+        × ReadsNamed R.remaining input.old (H.holds rt.now) name.now known × IfSome known (λ text. text_finding (records_of text) ≡ Ok found))) }
     ensures written { IfOk result (λ told. Appends (W.contents output.old) (W.contents output.new) (line_of name.now told)) }
     ensures input { (input.new ≡ input.old) ⊎ (input.new ≡ None) }
 {
@@ -165,7 +167,8 @@ fn audit_files<H: NamedFiles + Clock, R: Read + Drop, W: Write, E: Write>(
     output: &mut W,
     errors: &mut E,
 ) -> End
-    ensures { EndsFiles (R.remaining input) (H.holds rt.now) (map (λ name. name.now) names.now) result (W.contents output.old) (W.contents output.new) }
+    ensures { EndsFiles (R.remaining input) (H.holds rt.now) (map (λ name. name.now) names.now) result (W.contents output.old)
+        (W.contents output.new) }
 {
     let mut given = Some(input);
     let mut unfound = false;
@@ -192,7 +195,8 @@ fn audit_any<H: NamedFiles + Clock, R: Read + Drop, W: Write, E: Write>(
     output: &mut W,
     errors: &mut E,
 ) -> End
-    ensures { EndsAudits (R.remaining input) (H.holds rt.now) (map (λ name. name.now) names.now) result (W.contents output.old) (W.contents output.new) }
+    ensures { EndsAudits (R.remaining input) (H.holds rt.now) (map (λ name. name.now) names.now) result (W.contents output.old)
+        (W.contents output.new) }
 {
     if names.is_empty() {
         return audit_input(rt, alloc, is_shown, input, output, errors);
@@ -209,7 +213,8 @@ pub fn audit_given<H: NamedFiles + Screen, R: Read + Drop, W: Write, E: Write>(
     output: &mut W,
     errors: &mut E,
 ) -> End
-    ensures { EndsAudits (R.remaining input) (H.holds rt.now) (files_in (rows_of (found_of options.now))) result (W.contents output.old) (W.contents output.new) }
+    ensures { EndsAudits (R.remaining input) (H.holds rt.now) (files_in (rows_of (found_of options.now))) result (W.contents output.old)
+        (W.contents output.new) }
 {
     let is_shown = shows_progress(rt, options, false);
     match options.get_strs("file") {

@@ -67,7 +67,8 @@ pub(crate) fn reader_named<H: NamedFiles, R: Read + Drop, E: Write>(
     input: &mut Option<R>,
     errors: &mut E,
 ) -> Option<Either<R, H::File>>
-    ensures reads { IfSome result (λ reader. ReadsNamed R.remaining input.old (H.holds rt.now) name.now (either R.remaining H.File.remaining reader)) }
+    ensures reads { IfSome result (λ reader. ReadsNamed R.remaining input.old (H.holds rt.now) name.now
+        (either R.remaining H.File.remaining reader)) }
     ensures input { (input.new ≡ input.old) ⊎ (input.new ≡ None) }
 {
     if name == "-" {
@@ -95,7 +96,8 @@ pub fn reader_of<H: NamedFiles, R: Read + Drop, E: Write>(
     input: R,
     errors: &mut E,
 ) -> Option<Either<R, H::File>>
-    ensures { IfSome result (λ reader. either R.remaining H.File.remaining reader ≡ text_given (R.remaining input) (H.holds rt.now) (file_in (rows_of (found_of options.now)))) }
+    ensures { IfSome result (λ reader. either R.remaining H.File.remaining reader
+        ≡ text_given (R.remaining input) (H.holds rt.now) (file_in (rows_of (found_of options.now)))) }
 {
     match options.get_str("file") {
         Some(name) => {

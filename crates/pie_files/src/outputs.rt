@@ -68,7 +68,8 @@ pub fn migrate_to<H: NamedFiles + Screen, R: Read + Drop, W: Write, E: Write>(
 ) -> End
     ensures status { status_of result ≤ 1 }
     ensures migrates { EndsIn H.Made.contents (H.makes rt.now) (output_in (rows_of (found_of options.now)))
-        (λ end before now. IfSome (R.remaining reader) (λ text. EndsMigrate text end before now)) result (W.contents output.old) (W.contents output.new) }
+        (λ end before now. IfSome (R.remaining reader) (λ text. EndsMigrate text end before now)) result (W.contents output.old)
+        (W.contents output.new) }
 {
     match options.get_str("output") {
         None => {

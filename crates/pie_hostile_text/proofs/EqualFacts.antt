@@ -17,7 +17,8 @@ last false y z e = let wrong : false ≡ true = e in cc
 
 pub event-answer : (a b : Event) → (event_eq.ghosts).eq a b ≡ true → a.answer ≡ b.answer
 event-answer a b e =
-    answer-same a.answer b.answer (last (a.caller == b.caller) ((command_eq.ghosts).eq a.command b.command) ((answer_eq.ghosts).eq a.answer b.answer) e)
+    answer-same a.answer b.answer (last (a.caller == b.caller) ((command_eq.ghosts).eq a.command b.command) ((answer_eq.ghosts).eq a.answer b.answer)
+    e)
 
 -- an event is its parts
 pub event-same : (a b : Event) → a.caller ≡ b.caller → a.command ≡ b.command → a.answer ≡ b.answer → a ≡ b

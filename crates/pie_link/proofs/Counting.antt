@@ -1,5 +1,6 @@
 -- A storm's history has no more events than there are commands, and so no caller was cut short.
-use Rattle.std.proofs.Common.{◌≡◌, ℕ, zero, suc, ◌+◌, ◌-◌, ◌<◌, ◌≤◌, ◌⊎◌, nat_le, nat_lt, ◌==◌, Bool, true, false, cond, List, [], ◌∷◌, ◌++◌, Option, Some, None, Vec, min, map, take, length, length-append, refl, ap, sym, ◌∙◌, subst, inl, inr, ⊎_elim, arith, eq-eqb}
+use Rattle.std.proofs.Common.{◌≡◌, ℕ, zero, suc, ◌+◌, ◌-◌, ◌<◌, ◌≤◌, ◌⊎◌, nat_le, nat_lt, ◌==◌, Bool, true, false, cond, List, [], ◌∷◌, ◌++◌, Option}
+use Rattle.std.proofs.Common.{Some, None, Vec, min, map, take, length, length-append, refl, ap, sym, ◌∙◌, subst, inl, inr, ⊎_elim, arith, eq-eqb}
 use Rattle.std.specs.Prelude.{if◌then◌else◌}
 use Rattle.std.specs.List.{All}
 use Rattle.std.specs.declared.alloc.Global.{Global}
@@ -30,7 +31,8 @@ use Rattle.pie_link.specs.declared.entry.Entry.TheVariants.{Made, Folded}
 use Rattle.pie_link.specs.Entries.{entries_of, events_in, handed_out, handed_to, number_of, tail_in}
 use Rattle.pie_link.proofs.EntryLists.{all-events}
 use Rattle.pie_link.proofs.Planning.{of_either}
-use Rattle.pie_link.specs.Storms.{events_of, caller_of, commands_in, folder, is_number, AreFolded, AreMade, CameOf, AllCameOf, IsMade, IsStorm, NoneElseFolds}
+use Rattle.pie_link.specs.Storms.{events_of, caller_of, commands_in, folder, is_number, AreFolded, AreMade, CameOf, AllCameOf, IsMade, IsStorm}
+use Rattle.pie_link.specs.Storms.{NoneElseFolds}
 
 -- the sum of f over the numbers below n
 abbrev pub total : (ℕ → ℕ) → ℕ → ℕ
@@ -41,7 +43,8 @@ size_cond : {A : Type 0} (b : Bool) (x : A) (xs : List A) → length (cond b (x 
 size_cond true x xs = omega arith
 size_cond false x xs = omega arith
 
-one_of_both : (u a b : Bool) → (u ≡ true → (a ≡ true) ⊎ (b ≡ true)) → (a ≡ true → (u ≡ true) × (b ≡ false)) → (b ≡ true → u ≡ true) → ◌≡◌ {A = ℕ} (cond u 1 0) (cond a 1 0 + cond b 1 0)
+one_of_both : (u a b : Bool) → (u ≡ true → (a ≡ true) ⊎ (b ≡ true)) → (a ≡ true → (u ≡ true) × (b ≡ false)) → (b ≡ true → u ≡ true)
+    → ◌≡◌ {A = ℕ} (cond u 1 0) (cond a 1 0 + cond b 1 0)
 one_of_both true true true h k l = absurd (cc ((k refl).1))
 one_of_both true true false h k l = refl
 one_of_both true false true h k l = refl
@@ -55,7 +58,11 @@ one_of n c = one_of_both (is_within 0 (n + 1) c) (is_within 0 n c) (is_within n 
     (λ yes. dite (ℕ_discrete c n)
     (λ same. inr (within n (n + 1) c (omega (arith, same)) (omega (arith, same))))
     (λ other. inl (within 0 n c (omega arith) (omega (arith, within_high 0 (n + 1) c yes, other)))))
-    (λ yes. let below = within_high 0 n c yes in (within 0 (n + 1) c (omega arith) (omega (arith, below)), not_within n (n + 1) c (λ both. omega (arith, both.0, below))))
+    (λ yes. let below = within_high 0 n c yes in (
+      within 0 (n + 1) c (omega arith) (omega (arith, below)),
+      not_within n (n + 1) c
+          (λ both. omega (arith, both.0, below)),
+    ))
     (λ yes. within 0 (n + 1) c (omega arith) (within_high n (n + 1) c yes))
 
 own_split : (n : ℕ) (xs : List Event) → length (own caller_of 0 (n + 1) xs) ≡ length (own caller_of 0 n xs) + length (events_of n xs)
@@ -69,13 +76,15 @@ own_split n (e ∷ xs) =
 own_none : (xs : List Event) → length (own caller_of 0 0 xs) ≡ 0
 own_none [] = refl
 own_none (e ∷ xs) =
-    subst (λ (b : Bool). length (cond b (e ∷ own caller_of 0 0 xs) (own caller_of 0 0 xs)) ≡ 0) (sym (not_within 0 0 e.caller (λ both. omega (arith, both.1)))) (own_none xs)
+    subst (λ (b : Bool). length (cond b (e ∷ own caller_of 0 0 xs) (own caller_of 0 0 xs)) ≡ 0)
+    (sym (not_within 0 0 e.caller (λ both. omega (arith, both.1)))) (own_none xs)
 
 own_all : (n : ℕ) (xs : List Event) → All (λ (e : Event). e.caller < n) xs → length (own caller_of 0 n xs) ≡ length xs
 own_all n [] all = refl
 own_all n (e ∷ xs) all =
     let yes = within 0 n e.caller (omega arith) (All-head (λ (x : Event). x.caller < n) e xs all) in
-    subst (λ (b : Bool). length (cond b (e ∷ own caller_of 0 n xs) (own caller_of 0 n xs)) ≡ suc (length xs)) (sym yes) (ap suc (own_all n xs (All-tail (λ (x : Event). x.caller < n) e xs all)))
+    subst (λ (b : Bool). length (cond b (e ∷ own caller_of 0 n xs) (own caller_of 0 n xs)) ≡ suc (length xs)) (sym yes)
+    (ap suc (own_all n xs (All-tail (λ (x : Event). x.caller < n) e xs all)))
 
 total_of_events : (xs : List Event) (n : ℕ) → total (λ c. length (events_of c xs)) n ≡ length (own caller_of 0 n xs)
 total_of_events xs zero = sym (own_none xs)
@@ -139,9 +148,12 @@ no_more plan =
     let e2 : suc (suc n) ≡ n + 2 = omega arith in
     let e3 : suc (suc (suc n)) ≡ n + 3 = omega arith in
     let e4 : suc (suc (suc (suc n))) ≡ n + 4 = omega arith in
-    let one : length (commands_of plan (suc n)) ≡ length plan.departs.items = ap at e1 ∙ ap size (after_senders plan 1 (omega arith)) ∙ length-map plan.departs.items Depart in
-    let two : length (commands_of plan (suc (suc n))) ≡ length plan.updates.items = ap at e2 ∙ ap size (after_senders plan 2 (omega arith)) ∙ length-map plan.updates.items Update in
-    let three : length (commands_of plan (suc (suc (suc n)))) ≡ length plan.changes.items = ap at e3 ∙ ap size (after_senders plan 3 (omega arith)) ∙ length-map plan.changes.items change in
+    let one : length (commands_of plan (suc n)) ≡ length plan.departs.items = ap at e1 ∙ ap size (after_senders plan 1 (omega arith))
+    ∙ length-map plan.departs.items Depart in
+    let two : length (commands_of plan (suc (suc n))) ≡ length plan.updates.items = ap at e2 ∙ ap size (after_senders plan 2 (omega arith))
+    ∙ length-map plan.updates.items Update in
+    let three : length (commands_of plan (suc (suc (suc n)))) ≡ length plan.changes.items = ap at e3 ∙ ap size (after_senders plan 3 (omega arith))
+    ∙ length-map plan.changes.items change in
     let four : length (commands_of plan (suc (suc (suc (suc n))))) ≡ 0 = ap at e4 ∙ ap size (after_senders plan 4 (omega arith)) in
     omega (arith, of_senders plan n (omega arith), sent_total plan.arrivals.items n, one, two, three, four)
 
@@ -157,7 +169,8 @@ made_fits opening caller h earlier (command ∷ commands) later passed (inr m) =
 abbrev pub AllMade : Opening → Plan → ℕ → List Event → ℕ → Type 0
 AllMade opening plan zero h passed = passed ≡ 0
 AllMade opening plan (suc n) h passed =
-    (others : ℕ) × (its : ℕ) × (passed ≡ others + its) × AllMade opening plan n h others × AreMade opening n h [] (commands_of plan n) (events_of n h) its
+    (others : ℕ) × (its : ℕ) × (passed ≡ others + its) × AllMade opening plan n h others
+    × AreMade opening n h [] (commands_of plan n) (events_of n h) its
 
 -- the book was full after a beginning of the history
 record WasFull (opening : Opening) (h : List Event) : Type 0 where
@@ -165,12 +178,14 @@ record WasFull (opening : Opening) (h : List Event) : Type 0 where
   begins : IsPrefix before h
   full : min opening.limits.tail opening.limits.events ≤ length before
 
-came_fits : (opening : Opening) (caller : ℕ) (commands : List Command) (h : List Event) (passed : ℕ) → CameOf opening caller commands h passed → length (events_of caller h) ≤ length commands
+came_fits : (opening : Opening) (caller : ℕ) (commands : List Command) (h : List Event) (passed : ℕ) → CameOf opening caller commands h passed
+    → length (events_of caller h) ≤ length commands
 unfolding CameOf
 came_fits opening caller commands h passed (inl m) = made_fits opening caller h [] commands (events_of caller h) passed m
 came_fits opening caller commands h passed (inr cut) = omega (arith, cut.fewer)
 
-all_fit : (opening : Opening) (plan : Plan) (n : ℕ) (h : List Event) (passed : ℕ) → AllCameOf opening plan n h passed → total (λ c. length (events_of c h)) n ≤ commands_below plan n
+all_fit : (opening : Opening) (plan : Plan) (n : ℕ) (h : List Event) (passed : ℕ) → AllCameOf opening plan n h passed
+    → total (λ c. length (events_of c h)) n ≤ commands_below plan n
 unfolding AllCameOf
 all_fit opening plan zero h passed all = omega arith
 all_fit opening plan (suc n) h passed all =
@@ -205,12 +220,18 @@ pub all_made : (plan : Plan) (h : List Event) (passed : ℕ) → IsSound plan �
 all_made plan h passed sound below all =
     ⊎_elim (λ made. made)
     (λ short.
-    let size : length short.0.before ≤ length h = omega (arith, ap (λ (l : List Event). length l) short.0.begins.1, length-append short.0.before short.0.begins.0) in
+    let size : length short.0.before ≤ length h = omega (
+      arith,
+      ap (λ (l : List Event). length l) short.0.begins.1,
+      length-append short.0.before
+          short.0.begins.0,
+    ) in
     absurd (omega (arith, short.1, short.0.full, size, counted h (callers_of_plan plan) below, no_more plan, sound.tail, sound.events)))
     (made_or_full (opening_of plan) plan (callers_of_plan plan) h passed all)
 
 -- a command that is no update is never too soon
-chain : (a b d : Bool) (due : ℕ) → ◌≡◌ {A = Option Refusal} (cond a (Some refusal.Moment) (cond b (Some refusal.Size) (cond d (Some refusal.Exhausted) None))) (Some (refusal.TooSoon due)) → ⊥
+chain : (a b d : Bool) (due : ℕ) → ◌≡◌ {A = Option Refusal}
+    (cond a (Some refusal.Moment) (cond b (Some refusal.Size) (cond d (Some refusal.Exhausted) None))) (Some (refusal.TooSoon due)) → ⊥
 chain true b d due e = cc e
 chain false true d due e = cc e
 chain false false true due e = cc e
@@ -223,12 +244,14 @@ no_update_of : {A : Type 0} (xs : List A) (f : A → Command) → ((x : A) → I
 no_update_of [] f calm = All-nil IsNoUpdate
 no_update_of (x ∷ xs) f calm = All-cons IsNoUpdate (f x) (map f xs) (calm x) (no_update_of xs f calm)
 
-never_too_soon : (opening : Opening) (h : List Event) (command : Command) (due : ℕ) → IsNoUpdate command → refusal_by_rule opening h command ≡ Some (refusal.TooSoon due) → ⊥
+never_too_soon : (opening : Opening) (h : List Event) (command : Command) (due : ℕ) → IsNoUpdate command
+    → refusal_by_rule opening h command ≡ Some (refusal.TooSoon due) → ⊥
 never_too_soon opening h command due calm e =
     let on_time = calm (effective_moment opening h) (due_after opening h) in
     chain (nat_lt last_moment (handed_in command)) (has_bad_size command) (length h == opening.limits.events) due (rw on_time at e)
 
-made_whole : (opening : Opening) (caller : ℕ) (h earlier : List Event) (commands : List Command) (later : List Event) (passed : ℕ) → All IsNoUpdate commands
+made_whole : (opening : Opening) (caller : ℕ) (h earlier : List Event) (commands : List Command) (later : List Event) (passed : ℕ)
+    → All IsNoUpdate commands
     → AreMade opening caller h earlier commands later passed → (commands_in later ≡ commands) × (passed ≡ 0)
 made_whole opening caller h earlier [] later passed calm m = (ap commands_in m.0, m.1)
 made_whole opening caller h earlier (command ∷ commands) later passed calm (inl m) =
@@ -267,7 +290,8 @@ made_below opening plan (suc n) caller h passed below all =
     (λ other. made_below opening plan n caller h all.0 (omega (arith, other)) all.3)
 
 -- the callers before that of the updates were never too soon
-none_before : (opening : Opening) (plan : Plan) (n : ℕ) (h : List Event) (passed : ℕ) → n ≤ senders plan + 2 → AllMade opening plan n h passed → passed ≡ 0
+none_before : (opening : Opening) (plan : Plan) (n : ℕ) (h : List Event) (passed : ℕ) → n ≤ senders plan + 2 → AllMade opening plan n h passed
+    → passed ≡ 0
 none_before opening plan zero h passed few all = all
 none_before opening plan (suc n) h passed few all =
     let its = (made_whole opening n h [] (commands_of plan n) (events_of n h) all.1 (no_updates plan n (λ is. omega (arith, is, few))) all.4).1 in
@@ -275,7 +299,8 @@ none_before opening plan (suc n) h passed few all =
 
 none_of : (opening : Opening) (plan : Plan) (caller : ℕ) (h : List Event) (its : ℕ) → (caller ≡ senders plan + 2 → ⊥)
     → AreMade opening caller h [] (commands_of plan caller) (events_of caller h) its → its ≡ 0
-none_of opening plan caller h its other m = (made_whole opening caller h [] (commands_of plan caller) (events_of caller h) its (no_updates plan caller other) m).1
+none_of opening plan caller h its other m = (made_whole opening caller h [] (commands_of plan caller) (events_of caller h) its
+    (no_updates plan caller other) m).1
 
 -- all that were too soon are the updates
 updates_made : (opening : Opening) (plan : Plan) (h : List Event) (passed : ℕ) → AllMade opening plan (callers_of_plan plan) h passed
@@ -294,7 +319,8 @@ updates_made opening plan h passed all =
     subst (λ (c : ℕ). AreMade opening c h [] (commands_of plan c) (events_of c h) passed) second
     (subst (λ (t : ℕ). AreMade opening (suc (suc n)) h [] (commands_of plan (suc (suc n))) (events_of (suc (suc n)) h) t) is up.4)
 
-whole_of : (opening : Opening) (plan : Plan) (caller : ℕ) (h : List Event) (passed : ℕ) → (caller ≡ senders plan + 2 → ⊥) → caller < callers_of_plan plan
+whole_of : (opening : Opening) (plan : Plan) (caller : ℕ) (h : List Event) (passed : ℕ) → (caller ≡ senders plan + 2 → ⊥)
+    → caller < callers_of_plan plan
     → AllMade opening plan (callers_of_plan plan) h passed → commands_in (events_of caller h) ≡ commands_of plan caller
 whole_of opening plan caller h passed other below all =
     let m = made_below opening plan (callers_of_plan plan) caller h passed below all in
@@ -308,7 +334,8 @@ events_past : (n caller : ℕ) (xs : List Event) → n ≤ caller → All (λ (e
 events_past n caller [] past all = refl
 events_past n caller (e ∷ xs) past all =
     let below = All-head (λ (x : Event). x.caller < n) e xs all in
-    subst (λ (b : Bool). cond b (e ∷ events_of caller xs) (events_of caller xs) ≡ []) (sym (not_within caller (caller + 1) e.caller (λ both. omega (arith, both.0, below, past))))
+    subst (λ (b : Bool). cond b (e ∷ events_of caller xs) (events_of caller xs) ≡ [])
+    (sym (not_within caller (caller + 1) e.caller (λ both. omega (arith, both.0, below, past))))
     (events_past n caller xs past (All-tail (λ (x : Event). x.caller < n) e xs all))
 
 -- ---- the folds of a storm
@@ -327,7 +354,8 @@ only_by : (number n : ℕ) (h : List Entry) → ((caller : ℕ) → caller < n �
 only_by number n [] none below = All-nil (OnlyBy number)
 only_by number n (Made event ∷ h) none below =
     All-cons (OnlyBy number) (Made event) h tt
-    (only_by number n h (λ caller less other. rest_of (is_within caller (caller + 1) event.caller) (Made event) (entries_of caller h) (none caller less other))
+    (only_by number n h (λ caller less other. rest_of (is_within caller (caller + 1) event.caller) (Made event) (entries_of caller h)
+    (none caller less other))
     (All-tail (λ (e : Entry). number_of e < n) (Made event) h below))
 only_by number n (Folded who k ∷ h) none below =
     All-cons (OnlyBy number) (Folded who k) h
@@ -338,14 +366,16 @@ only_by number n (Folded who k ∷ h) none below =
     let made = none who (All-head (λ (e : Entry). number_of e < n) (Folded who k) h below) other in
     absurd (All-head IsMade (Folded who k) (entries_of who h)
     (subst (λ (b : Bool). All IsMade (cond b (Folded who k ∷ entries_of who h) (entries_of who h))) yes made))))
-    (only_by number n h (λ caller less other. rest_of (is_within caller (caller + 1) who) (Folded who k) (entries_of caller h) (none caller less other))
+    (only_by number n h (λ caller less other. rest_of (is_within caller (caller + 1) who) (Folded who k) (entries_of caller h)
+    (none caller less other))
     (All-tail (λ (e : Entry). number_of e < n) (Folded who k) h below))
 
 -- where one caller alone folds, what is handed to it is all that is handed out
 handed_by_one : (opening : Opening) (number : ℕ) (before h : List Entry) → All (OnlyBy number) h
     → handed_to (is_number number) opening before h ≡ handed_to (λ caller. true) opening before h
 handed_by_one opening number before [] by = refl
-handed_by_one opening number before (Made event ∷ h) by = handed_by_one opening number (before ++ Made event ∷ []) h (All-tail (OnlyBy number) (Made event) h by)
+handed_by_one opening number before (Made event ∷ h) by = handed_by_one opening number (before ++ Made event ∷ []) h
+    (All-tail (OnlyBy number) (Made event) h by)
 handed_by_one opening number before (Folded who k ∷ h) by =
     let is : is_number number who ≡ true = eq-eqb who number (All-head (OnlyBy number) (Folded who k) h by) in
     let later = handed_by_one opening number (before ++ Folded who k ∷ []) h (All-tail (OnlyBy number) (Folded who k) h by) in
@@ -361,7 +391,8 @@ entries_past : (n caller : ℕ) (xs : List Entry) → n ≤ caller → All (λ (
 entries_past n caller [] past all = refl
 entries_past n caller (e ∷ xs) past all =
     let below = All-head (λ (x : Entry). number_of x < n) e xs all in
-    subst (λ (b : Bool). cond b (e ∷ entries_of caller xs) (entries_of caller xs) ≡ []) (sym (not_within caller (caller + 1) (number_of e) (λ both. omega (arith, both.0, below, past))))
+    subst (λ (b : Bool). cond b (e ∷ entries_of caller xs) (entries_of caller xs) ≡ [])
+    (sym (not_within caller (caller + 1) (number_of e) (λ both. omega (arith, both.0, below, past))))
     (entries_past n caller xs past (All-tail (λ (x : Entry). number_of x < n) e xs all))
 
 by_size : {A : Type 0} (k n : ℕ) (b : Bool) → nat_lt k n ≡ b → (k < n → A) → (n ≤ k → A) → A
@@ -388,20 +419,24 @@ is_storm plan entries passed many sound below_all came folds none =
     let h = events_in entries in
     let below = all-events (callers_of_plan plan) entries below_all in
     let all = all_made plan h passed sound below came in
-    let whole : (caller : ℕ) → (caller ≡ senders plan + 2 → ⊥) → caller < callers_of_plan plan → commands_in (events_of caller h) ≡ commands_of plan caller =
+    let whole : (caller : ℕ) → (caller ≡ senders plan + 2 → ⊥) → caller < callers_of_plan plan
+    → commands_in (events_of caller h) ≡ commands_of plan caller =
     λ caller other few. whole_of opening plan caller h passed other few all in record {
       arrivals = λ sender some. whole (sender + 1) (λ is. omega (arith, is, some)) (omega (arith, some)) ∙ of_sender plan sender some;
       departures = whole (n + 1) (λ is. omega (arith, is)) (omega arith) ∙ after_senders plan 1 (omega arith);
       changes = whole (n + 3) (λ is. omega (arith, is)) (omega arith) ∙ after_senders plan 3 (omega arith);
-      updates = subst (λ (cs : List Command). AreMade opening (n + 2) h [] cs (events_of (n + 2) h) passed) (after_senders plan 2 (omega arith)) (updates_made opening plan h passed all);
+      updates = subst (λ (cs : List Command). AreMade opening (n + 2) h [] cs (events_of (n + 2) h) passed) (after_senders plan 2 (omega arith))
+          (updates_made opening plan h passed all);
       history = entries;
       of_history = refl;
       folds = folds;
       no_other_folds = none_past plan entries below_all none;
       no_others = λ caller out. ⊎_elim
-          (λ starter. empty_of_commands (events_of caller h) (subst (λ (c : ℕ). commands_in (events_of c h) ≡ []) (sym starter) (whole 0 (λ is. omega (arith, is)) (omega arith))))
+          (λ starter. empty_of_commands (events_of caller h) (subst (λ (c : ℕ). commands_in (events_of c h) ≡ []) (sym starter)
+          (whole 0 (λ is. omega (arith, is)) (omega arith))))
           (λ past. dite (ℕ_discrete caller (n + 4))
-          (λ folder. empty_of_commands (events_of caller h) (subst (λ (c : ℕ). commands_in (events_of c h) ≡ []) (sym folder) (whole (n + 4) (λ is. omega (arith, is)) (omega arith) ∙ after_senders plan 4 (omega arith))))
+          (λ folder. empty_of_commands (events_of caller h) (subst (λ (c : ℕ). commands_in (events_of c h) ≡ []) (sym folder)
+          (whole (n + 4) (λ is. omega (arith, is)) (omega arith) ∙ after_senders plan 4 (omega arith))))
           (λ other. events_past (callers_of_plan plan) caller h (omega (arith, past, other)) below))
           out;
     }

@@ -1,5 +1,6 @@
 -- What the folding worker of a storm carries from fold to fold.
-use Rattle.std.proofs.Common.{◌≡◌, ◌≢◌, ℕ, suc, ◌+◌, ◌<◌, ◌==◌, Bool, true, false, cond, List, [], ◌∷◌, ◌++◌, Some, Ok, Err, Vec, Result, take, drop, length, slice_get, refl, ap, sym, ◌∙◌, subst, inl, inr, arith, append_assoc, length-append, eq-eqb}
+use Rattle.std.proofs.Common.{◌≡◌, ◌≢◌, ℕ, suc, ◌+◌, ◌<◌, ◌==◌, Bool, true, false, cond, List, [], ◌∷◌, ◌++◌, Some, Ok, Err, Vec, Result, take, drop}
+use Rattle.std.proofs.Common.{length, slice_get, refl, ap, sym, ◌∙◌, subst, inl, inr, arith, append_assoc, length-append, eq-eqb}
 use Rattle.std.specs.Prelude.{if◌then◌else◌}
 use Rattle.std.specs.declared.alloc.Global.{Global}
 use Rattle.std.specs.List.{All}
@@ -27,7 +28,8 @@ use Rattle.pie_link.specs.declared.told.Told.{Told}
 use Rattle.pie_link.specs.Commands.{Answers, IsTaken, IsRefused}
 use Rattle.pie_link.specs.Entries.{entries_of, events_in, handed_to, number_of, tail_in}
 use Rattle.pie_link.specs.Folds.{Folds, IsFoldMade, IsFoldRefused}
-use Rattle.pie_link.specs.Storms.{AreFolded, AreFoldedAt, FoldsGo, FoldsGoAt, HasNoneAt, IsMade, OnlyMadeAt, WasTooMany, WereHanded, events_of, fold_of, is_number, refused_by}
+use Rattle.pie_link.specs.Storms.{AreFolded, AreFoldedAt, FoldsGo, FoldsGoAt, HasNoneAt, IsMade, OnlyMadeAt, WasTooMany, WereHanded, events_of}
+use Rattle.pie_link.specs.Storms.{fold_of, is_number, refused_by}
 use Rattle.pie_link.specs.Views.{LinkView, CallerView}
 use Rattle.pie_link.proofs.EntryLists.{events-append, events-go_on, handed-append}
 use Rattle.pie_link.proofs.Working.{drop_next}
@@ -39,23 +41,32 @@ cond_true true x y e = refl
 cond_true false x y e = absurd (cc e)
 
 -- a caller's own entry is one more of its entries
-own_entry : (caller : ℕ) (g : List Entry) (entry : Entry) → number_of entry ≡ caller → entries_of caller (g ++ entry ∷ []) ≡ entries_of caller g ++ entry ∷ []
+own_entry : (caller : ℕ) (g : List Entry) (entry : Entry) → number_of entry ≡ caller
+    → entries_of caller (g ++ entry ∷ []) ≡ entries_of caller g ++ entry ∷ []
 own_entry caller g entry e =
-    let yes : is_within caller (caller + 1) (number_of entry) ≡ true = within caller (caller + 1) (number_of entry) (omega (arith, e)) (omega (arith, e)) in
+    let yes : is_within caller (caller + 1) (number_of entry) ≡ true = within caller (caller + 1) (number_of entry) (omega (arith, e))
+    (omega (arith, e)) in
     filter-append (λ (x : Entry). is_within caller (caller + 1) (number_of x)) g (entry ∷ [])
     ∙ ap (λ w. entries_of caller g ++ w) (cond_true (is_within caller (caller + 1) (number_of entry)) (entry ∷ []) [] yes)
 
 -- what goes on from the front of a caller with one number has no more entries of it
-pub own_same : (caller : CallerView) (history : List Entry) → caller.limit ≡ caller.first + 1 → GoesOn number_of caller.first caller.limit caller.front history
+pub own_same : (caller : CallerView) (history : List Entry) → caller.limit ≡ caller.first + 1
+    → GoesOn number_of caller.first caller.limit caller.front history
     → IsPrefix caller.front history × (entries_of caller.first history ≡ entries_of caller.first caller.front)
-own_same caller history one on = (on.0, subst (λ (limit : ℕ). own number_of caller.first limit history ≡ own number_of caller.first limit caller.front) one on.1)
+own_same caller history one on = (
+  on.0,
+  subst (λ (limit : ℕ). own number_of caller.first limit history
+      ≡ own number_of caller.first limit caller.front) one on.1,
+)
 
 -- .. and no more events of it
-events_same : (caller : CallerView) (history : List Entry) → caller.limit ≡ caller.first + 1 → GoesOn number_of caller.first caller.limit caller.front history
+events_same : (caller : CallerView) (history : List Entry) → caller.limit ≡ caller.first + 1
+    → GoesOn number_of caller.first caller.limit caller.front history
     → events_of caller.first (events_in history) ≡ events_of caller.first (events_in caller.front)
 events_same caller history one on =
     let events = events-go_on caller.first caller.limit caller.front history on in
-    subst (λ (limit : ℕ). own (λ (e : Event). e.caller) caller.first limit (events_in history) ≡ own (λ (e : Event). e.caller) caller.first limit (events_in caller.front)) one events.1
+    subst (λ (limit : ℕ). own (λ (e : Event). e.caller) caller.first limit (events_in history)
+    ≡ own (λ (e : Event). e.caller) caller.first limit (events_in caller.front)) one events.1
 
 -- ---- what was handed to a caller
 
@@ -71,7 +82,8 @@ handed_more : (opening : Opening) (caller : ℕ) (g : List Entry) (n : ℕ)
 handed_more opening caller g n =
     handed-append (is_number caller) opening [] g (fold_of caller n ∷ [])
     ∙ ap (λ (es : List Event). handed_to (is_number caller) opening [] g ++ es)
-    (append-nil (if is_number caller caller then take n (tail_in opening g) else []) ∙ if_true (is_number caller caller) (take n (tail_in opening g)) [] (itself caller))
+    (append-nil (if is_number caller caller then take n (tail_in opening g) else [])
+    ∙ if_true (is_number caller caller) (take n (tail_in opening g)) [] (itself caller))
 
 cond_nil : {A : Type 0} (b : Bool) (x : A) (xs : List A) → cond b (x ∷ xs) xs ≡ [] → (b ≡ false) × (xs ≡ [])
 cond_nil true x xs e = absurd (cc e)
@@ -81,13 +93,16 @@ other_number : (caller other : ℕ) → is_within caller (caller + 1) other ≡ 
 other_number caller other out = grind (arith, nat_tests, out)
 
 -- where the caller has no more entries nothing more is handed to it
-handed_none : (opening : Opening) (caller : ℕ) (before xs : List Entry) → entries_of caller xs ≡ [] → handed_to (is_number caller) opening before xs ≡ []
+handed_none : (opening : Opening) (caller : ℕ) (before xs : List Entry) → entries_of caller xs ≡ []
+    → handed_to (is_number caller) opening before xs ≡ []
 handed_none opening caller before [] none = refl
 handed_none opening caller before (Made event ∷ xs) none =
-    handed_none opening caller (before ++ Made event ∷ []) xs (cond_nil (is_within caller (caller + 1) event.caller) (Made event) (entries_of caller xs) none).1
+    handed_none opening caller (before ++ Made event ∷ []) xs (cond_nil (is_within caller (caller + 1) event.caller) (Made event)
+    (entries_of caller xs) none).1
 handed_none opening caller before (Folded other n ∷ xs) none =
     let c = cond_nil (is_within caller (caller + 1) other) (Folded other n) (entries_of caller xs) none in
-    ap (λ (b : Bool). (if b then take n (tail_in opening before) else []) ++ handed_to (is_number caller) opening (before ++ Folded other n ∷ []) xs) (other_number caller other c.0)
+    ap (λ (b : Bool). (if b then take n (tail_in opening before) else []) ++ handed_to (is_number caller) opening (before ++ Folded other n ∷ []) xs)
+    (other_number caller other c.0)
     ∙ handed_none opening caller (before ++ Folded other n ∷ []) xs c.1
 
 none_of_length : {A : Type 0} (xs : List A) → length xs ≡ 0 → xs ≡ []
@@ -98,7 +113,8 @@ handed_same : (opening : Opening) (caller : ℕ) (g h : List Entry) → IsPrefix
     → handed_to (is_number caller) opening [] h ≡ handed_to (is_number caller) opening [] g
 handed_same opening caller g h begins same =
     let rest = begins.0 in
-    let parts : entries_of caller (g ++ rest) ≡ entries_of caller g ++ entries_of caller rest = filter-append (λ (x : Entry). is_within caller (caller + 1) (number_of x)) g rest in
+    let parts : entries_of caller (g ++ rest) ≡ entries_of caller g
+    ++ entries_of caller rest = filter-append (λ (x : Entry). is_within caller (caller + 1) (number_of x)) g rest in
     let sizes : length (entries_of caller g) + length (entries_of caller rest) ≡ length (entries_of caller g) =
     sym (length-append (entries_of caller g) (entries_of caller rest))
     ∙ ap (λ (l : List Entry). length l) (sym parts ∙ (ap (λ (l : List Entry). entries_of caller l) begins.1 ∙ same)) in
@@ -118,7 +134,8 @@ folds_start link caller well folds events front too_many new no_events none open
   λ history begins later n made.
       let sum : n ≡ too_many + n = omega (arith, none) in
       subst (λ (t : ℕ). AreFolded opening caller history [] folds (entries_of caller front ++ later) t) sum
-      (subst (λ (h : List Entry). AreFolded opening caller history (entries_of caller h) folds later n → AreFolded opening caller history [] folds (entries_of caller h ++ later) n)
+      (subst (λ (h : List Entry). AreFolded opening caller history (entries_of caller h) folds later n
+      → AreFolded opening caller history [] folds (entries_of caller h ++ later) n)
       (sym new) (λ m. m) made),
 )
 
@@ -129,14 +146,17 @@ go_folded : (opening : Opening) (caller : ℕ) (folds : List ℕ) (k n : ℕ) (f
 unfolding FoldsGo
 go_folded opening caller folds k n front g too_many go at begins same history goes_on later i made =
     let fold = fold_of caller n in
-    let after : entries_of caller (g ++ fold ∷ []) ≡ entries_of caller front ++ fold ∷ [] = own_entry caller g fold refl ∙ ap (λ w. w ++ fold ∷ []) same in
+    let after : entries_of caller (g ++ fold ∷ []) ≡ entries_of caller front ++ fold ∷ [] = own_entry caller g fold refl
+    ∙ ap (λ w. w ++ fold ∷ []) same in
     let next = drop_next folds k n at in
     let made' : AreFolded opening caller history (entries_of caller front ++ fold ∷ []) (drop (k + 1) folds) later i =
     subst (λ (es : List Entry). AreFolded opening caller history es (drop (k + 1) folds) later i) after made in
     let here : AreFolded opening caller history (entries_of caller front) (drop k folds) (fold ∷ later) i =
     subst (λ (ns : List ℕ). AreFolded opening caller history (entries_of caller front) ns (fold ∷ later) i) (sym next) (inl (later, refl, made')) in
-    let all = go history (prefix_trans front (g ++ fold ∷ []) history (prefix_trans front g (g ++ fold ∷ []) begins (fold ∷ [], refl)) goes_on) (fold ∷ later) i here in
-    subst (λ (es : List Entry). AreFolded opening caller history [] folds es (too_many + i)) (sym (append_assoc (entries_of caller front) (fold ∷ []) later) ∙ ap (λ w. w ++ later) (sym after)) all
+    let all = go history (prefix_trans front (g ++ fold ∷ []) history (prefix_trans front g (g ++ fold ∷ []) begins (fold ∷ [], refl)) goes_on)
+    (fold ∷ later) i here in
+    subst (λ (es : List Entry). AreFolded opening caller history [] folds es (too_many + i))
+    (sym (append_assoc (entries_of caller front) (fold ∷ []) later) ∙ ap (λ w. w ++ later) (sym after)) all
 
 -- one more fold was of too many events after the history g
 go_passed : (opening : Opening) (caller : ℕ) (folds : List ℕ) (k n : ℕ) (front g : List Entry) (too_many : ℕ)
@@ -145,17 +165,20 @@ go_passed : (opening : Opening) (caller : ℕ) (folds : List ℕ) (k n : ℕ) (f
 unfolding FoldsGo
 go_passed opening caller folds k n front g too_many go at begins same few history goes_on later i made =
     let next = drop_next folds k n at in
-    let passed : WasTooMany opening caller history (entries_of caller front) n = record { before = g; begins = goes_on; has_earlier = same; fewer = few } in
+    let passed : WasTooMany opening caller history (entries_of caller front) n = record
+    { before = g; begins = goes_on; has_earlier = same; fewer = few } in
     let made' : AreFolded opening caller history (entries_of caller front) (drop (k + 1) folds) later i =
     subst (λ (es : List Entry). AreFolded opening caller history es (drop (k + 1) folds) later i) same made in
     let here : AreFolded opening caller history (entries_of caller front) (drop k folds) later (i + 1) =
-    subst (λ (ns : List ℕ). AreFolded opening caller history (entries_of caller front) ns later (i + 1)) (sym next) (inr (passed, (i, refl, made'))) in
+    subst (λ (ns : List ℕ). AreFolded opening caller history (entries_of caller front) ns later (i + 1)) (sym next)
+    (inr (passed, (i, refl, made'))) in
     let all = go history (prefix_trans front g history begins goes_on) later (i + 1) here in
     let sums : too_many + (i + 1) ≡ too_many + 1 + i = omega arith in
     subst (λ (es : List Entry). AreFolded opening caller history [] folds (es ++ later) (too_many + 1 + i)) (sym same)
     (subst (λ (t : ℕ). AreFolded opening caller history [] folds (entries_of caller front ++ later) t) sums all)
 
-pub folds_next : (link : LinkView) (folds : List ℕ) (k n : ℕ) (answer : Result (Told (Vec Event Global)) FoldRefusal) (before after : CallerView) (was well : Type 0)
+pub folds_next : (link : LinkView) (folds : List ℕ) (k n : ℕ) (answer : Result (Told (Vec Event Global)) FoldRefusal) (before after : CallerView)
+    (was well : Type 0)
     (old new : List Event) (old_many new_many : ℕ)
     → before.limit ≡ before.first + 1 → slice_get folds k ≡ Some n → Folds link before n answer after
     → (well → was) → (well → IfOk answer (λ told. new ≡ old ++ told.answer.items)) → OnErr answer (new ≡ old)
@@ -174,9 +197,14 @@ folds_next link folds k n (Ok told) before after was well old new old_many new_m
     more fine ∙ (ap (λ (es : List Event). es ++ told.answer.items) (g.0 ∙ sym (handed_same opening caller before.front f.0 s.0 s.1))
     ∙ (ap (λ (es : List Event). handed_to (is_number caller) opening [] f.0 ++ es) made.folded.oldest ∙ sym (handed_more opening caller f.0 n))) in
     let same : old_many ≡ new_many = omega (arith, many) in
-    subst (λ (front : List Entry). WereHanded opening caller new front × FoldsGo opening caller folds (k + 1) front new_many) (sym (ap (λ (c : CallerView). c.front) made.recorded))
-    (handed, subst (λ (t : ℕ). FoldsGo opening caller folds (k + 1) h t) same (go_folded opening caller folds k n before.front f.0 old_many g.1 at s.0 s.1))
-folds_next link folds k n (Err (TooMany held)) before after was well old new old_many new_many one at answers first more refused paid many go opening from fine =
+    subst (λ (front : List Entry). WereHanded opening caller new front × FoldsGo opening caller folds (k + 1) front new_many)
+    (sym (ap (λ (c : CallerView). c.front) made.recorded)) (
+      handed,
+      subst (λ (t : ℕ). FoldsGo opening caller folds (k + 1) h t) same
+          (go_folded opening caller folds k n before.front f.0 old_many g.1 at s.0 s.1),
+    )
+folds_next link folds k n (Err (TooMany held)) before after was well old new old_many new_many one at answers first more refused paid many go opening
+    from fine =
     let f = answers opening from in
     let r : IsFoldRefused opening before n (TooMany held) after f.0 = f.1 in
     let caller = before.first in
@@ -184,12 +212,18 @@ folds_next link folds k n (Err (TooMany held)) before after was well old new old
     let g = go opening from (first fine) in
     let handed : WereHanded opening caller new f.0 = refused ∙ (g.0 ∙ sym (handed_same opening caller before.front f.0 s.0 s.1)) in
     let few : length (tail_in opening f.0) < n = omega (arith, r.because.0, r.because.1) in
-    subst (λ (front : List Entry). WereHanded opening caller new front × FoldsGo opening caller folds (k + 1) front new_many) (sym (ap (λ (c : CallerView). c.front) r.seen))
-    (handed, subst (λ (t : ℕ). FoldsGo opening caller folds (k + 1) f.0 t) (sym many) (go_passed opening caller folds k n before.front f.0 old_many g.1 at s.0 s.1 few))
-folds_next link folds k n (Err Memory) before after was well old new old_many new_many one at answers first more refused paid many go opening from fine =
+    subst (λ (front : List Entry). WereHanded opening caller new front × FoldsGo opening caller folds (k + 1) front new_many)
+    (sym (ap (λ (c : CallerView). c.front) r.seen)) (
+      handed,
+      subst (λ (t : ℕ). FoldsGo opening caller folds (k + 1) f.0 t) (sym many)
+          (go_passed opening caller folds k n before.front f.0 old_many g.1 at s.0 s.1 few),
+    )
+folds_next link folds k n (Err Memory) before after was well old new old_many new_many one at answers first more refused paid many go opening from
+    fine =
     absurd (paid fine refl)
 
-pub folds_end : (link : LinkView) (caller : ℕ) (well : Type 0) (folds : List ℕ) (k : ℕ) (events : List Event) (front : List Entry) (too_many : ℕ) → k ≡ length folds
+pub folds_end : (link : LinkView) (caller : ℕ) (well : Type 0) (folds : List ℕ) (k : ℕ) (events : List Event) (front : List Entry) (too_many : ℕ)
+    → k ≡ length folds
     → FoldsGoAt link caller well folds k events front too_many → AreFoldedAt link caller well folds events front too_many
 unfolding FoldsGoAt FoldsGo AreFoldedAt
 folds_end link caller well folds k events front too_many end go opening from fine =
@@ -205,7 +239,8 @@ folds_end link caller well folds k events front too_many end go opening from fin
     )
 
 -- what came of folds in a history came of them in one that goes on from there
-made_on : (opening : Opening) (caller : ℕ) (h k : List Entry) → IsPrefix h k → (earlier : List Entry) (folds : List ℕ) (later : List Entry) (too_many : ℕ)
+made_on : (opening : Opening) (caller : ℕ) (h k : List Entry) → IsPrefix h k
+    → (earlier : List Entry) (folds : List ℕ) (later : List Entry) (too_many : ℕ)
     → AreFolded opening caller h earlier folds later too_many → AreFolded opening caller k earlier folds later too_many
 made_on opening caller h k begins earlier [] later too_many m = m
 made_on opening caller h k begins earlier (n ∷ folds) later too_many (inl m) =
@@ -229,7 +264,8 @@ folds_on link caller well folds events front longer too_many begins same made op
 
 -- ---- a caller that makes no folds
 
-pub only_next : (link : LinkView) (command : Command) (answer : Result (Told Answer) Refusal) (before after : CallerView) → before.limit ≡ before.first + 1
+pub only_next : (link : LinkView) (command : Command) (answer : Result (Told Answer) Refusal) (before after : CallerView)
+    → before.limit ≡ before.first + 1
     → Answers link before command answer after → OnlyMadeAt link before.first before.front → OnlyMadeAt link before.first after.front
 unfolding Answers OnlyMadeAt
 only_next link command (Ok told) before after one answers only opening from =
@@ -239,7 +275,8 @@ only_next link command (Ok told) before after one answers only opening from =
     let s = own_same before a.0 one taken.from.goes_on in
     subst (λ (front : List Entry). All IsMade (entries_of before.first front)) (sym (ap (λ (c : CallerView). c.front) taken.recorded))
     (subst (λ (es : List Entry). All IsMade es) (sym (own_entry before.first a.0 (Made event) refl ∙ ap (λ w. w ++ Made event ∷ []) s.1))
-    (All-append IsMade (entries_of before.first before.front) (Made event ∷ []) (only opening from) (All-cons IsMade (Made event) [] tt (All-nil IsMade))))
+    (All-append IsMade (entries_of before.first before.front) (Made event ∷ []) (only opening from)
+    (All-cons IsMade (Made event) [] tt (All-nil IsMade))))
 only_next link command (Err why) before after one answers only opening from =
     let a = answers opening from in
     let refused : IsRefused opening before command why after a.0 = a.1 in
@@ -266,7 +303,8 @@ none_next link n (Ok told) before after one folds none opening from =
 none_next link n (Err why) before after one folds none opening from =
     let f = folds opening from in
     let refused : IsFoldRefused opening before n why after f.0 = f.1 in
-    ap (λ (c : CallerView). events_of before.first (events_in c.front)) refused.seen ∙ (events_same before f.0 one refused.from.goes_on ∙ none opening from)
+    ap (λ (c : CallerView). events_of before.first (events_in c.front)) refused.seen
+    ∙ (events_same before f.0 one refused.from.goes_on ∙ none opening from)
 
 pub none_start : (link : LinkView) (number : ℕ) (front : List Entry) → front ≡ [] → HasNoneAt link number (events_in front)
 unfolding HasNoneAt

@@ -21,7 +21,8 @@ use Rattle.pie_link.specs.declared.entry.Entry.{Entry}
 use Rattle.pie_link.specs.Entries.{number_of, events_in, tail_in, handed_out}
 use Rattle.pie_link.specs.Kept.{KeptView, IsKept}
 use Rattle.pie_link.specs.Views.{LinkView}
-use Rattle.pie_link.specs.Headline.{Informed, BeginsWith, HasCallsOf, informed, callers_at, callers_of, LockKey, LockState, LiesIn, IsOneHistory, KeepsOneHistory}
+use Rattle.pie_link.specs.Headline.{Informed, BeginsWith, HasCallsOf, informed, callers_at, callers_of, LockKey, LockState, LiesIn, IsOneHistory}
+use Rattle.pie_link.specs.Headline.{KeepsOneHistory}
 
 module _ (P : Shown Entry Opening → Type 0) (Q : Informed → Type 0) (follows : (p : Shown Entry Opening) → P p → Q (informed p)) where
   -- what holds of each pass at a seat holds of each of its callers
@@ -32,13 +33,16 @@ module _ (P : Shown Entry Opening → Type 0) (Q : Informed → Type 0) (follows
   at_seat (Meets p q) each = All-cons Q (informed p) (informed q ∷ []) (follows p each.0) (All-cons Q (informed q) [] (follows q each.1) (All-nil Q))
 
   -- .. and so of all callers
-  pub at_all : (seats : List (Place Entry Opening)) → ((seat : ℕ) (view : Place Entry Opening) → get_elem? seats seat ≡ some view → EachPass P view) → All Q (callers_of seats)
+  pub at_all : (seats : List (Place Entry Opening)) → ((seat : ℕ) (view : Place Entry Opening) → get_elem? seats seat ≡ some view → EachPass P view)
+      → All Q (callers_of seats)
   at_all [] each = All-nil Q
-  at_all (seat ∷ seats) each = All-append Q (callers_at seat) (callers_of seats) (at_seat seat (each 0 seat refl)) (at_all seats (λ k view at. each (suc k) view at))
+  at_all (seat ∷ seats) each = All-append Q (callers_at seat) (callers_of seats) (at_seat seat (each 0 seat refl))
+      (at_all seats (λ k view at. each (suc k) view at))
 
 -- what pie_book promises of the registers
 abbrev pub LookBack : Type 0
-LookBack = (opening : Opening) (core : CoreView) (history : List Event) → Shows opening core history → registers_of core ≡ registers_after opening history
+LookBack = (opening : Opening) (core : CoreView) (history : List Event) → Shows opening core history
+    → registers_of core ≡ registers_after opening history
 
 -- what the rule says while the lock is free
 pub while_free : LookBack → (opening : Opening) (numbers : ℕ) (lock : LockState) (history : List Entry)
@@ -63,7 +67,8 @@ while_free look_back opening numbers lock history agreed free =
           calls = at_all (Follows number_of opening numbers history) (HasCallsOf history) (λ p f. f.owned) lock.views agreed.each_follows;
           ends = told.tail;
           tail = subst (λ (o : Opening). book.tail ≡ tail_in o history) opened tells.tail;
-          nothing_lost = subst (λ (o : Opening). o.choices.mode ≡ Bounded → handed_out o history ++ book.tail ≡ events_in history) opened tells.nothing_lost;
+          nothing_lost = subst (λ (o : Opening). o.choices.mode ≡ Bounded → handed_out o history ++ book.tail ≡ events_in history) opened
+              tells.nothing_lost;
           queue = subst (λ (o : Opening). book.running.waiting ≡ waiting_after o (events_in history)) opened told.running.waiting;
           registers = subst (λ (o : Opening). registers_of book.running ≡ registers_after o (events_in history)) opened
               (look_back book.opening book.running (events_in history) told.running);
@@ -82,4 +87,5 @@ unfolding KeepsOneHistory
 keeps_one_history look_back link opening from key is lock rule free =
     let history = rule.1.0 in
     subst (λ (o : Opening). (book : BookView) × LiesIn lock book × ((h : List Entry) × IsOneHistory o book (callers_of lock.views) h)) is.opened
-    (⊎_elim (while_free look_back key.state.value.book.opening key.numbers lock history rule.1.1) (λ held. absurd (omega (arith, held.0, free))) rule.1.2)
+    (⊎_elim (while_free look_back key.state.value.book.opening key.numbers lock history rule.1.1) (λ held. absurd (omega (arith, held.0, free)))
+    rule.1.2)

@@ -1,5 +1,6 @@
 -- What a sound plan says of the commands of its callers.
-use Rattle.std.proofs.Common.{◌≡◌, ℕ, zero, suc, ◌+◌, ◌-◌, ◌==◌, ◌≤◌, nat_le, Bool, true, false, List, [], ◌∷◌, Some, Vec, map, length, slice_get, refl, subst, arith}
+use Rattle.std.proofs.Common.{◌≡◌, ℕ, zero, suc, ◌+◌, ◌-◌, ◌==◌, ◌≤◌, nat_le, Bool, true, false, List, [], ◌∷◌, Some, Vec, map, length, slice_get}
+use Rattle.std.proofs.Common.{refl, subst, arith}
 use Rattle.std.specs.Prelude.{if◌then◌else◌}
 use Rattle.std.specs.List.{All}
 use Rattle.std.specs.declared.alloc.Global.{Global}
@@ -25,9 +26,11 @@ pub all_of : {A B : Type 0} (P : A → Type 0) (Q : B → Type 0) (f : A → B) 
 all_of P Q f [] each a = All-nil Q
 all_of P Q f (x ∷ xs) each a = All-cons Q (f x) (map f xs) (each x (All-head P x xs a)) (all_of P Q f xs each (All-tail P x xs a))
 
-fair_sent : (lists : List (Vec Arrival Global)) (k : ℕ) → All (λ (list : Vec Arrival Global). All IsSoundArrival list.items) lists → All IsFair (sent lists k)
+fair_sent : (lists : List (Vec Arrival Global)) (k : ℕ) → All (λ (list : Vec Arrival Global). All IsSoundArrival list.items) lists
+    → All IsFair (sent lists k)
 fair_sent [] k a = All-nil IsFair
-fair_sent (list ∷ lists) zero a = all_of IsSoundArrival IsFair arrive list.items fair_arrival (All-head (λ (l : Vec Arrival Global). All IsSoundArrival l.items) list lists a)
+fair_sent (list ∷ lists) zero a = all_of IsSoundArrival IsFair arrive list.items fair_arrival
+    (All-head (λ (l : Vec Arrival Global). All IsSoundArrival l.items) list lists a)
 fair_sent (list ∷ lists) (suc k) a = fair_sent lists k (All-tail (λ (l : Vec Arrival Global). All IsSoundArrival l.items) list lists a)
 
 -- each command of a sound plan is fair
@@ -38,7 +41,8 @@ all_fair plan sound caller =
     let F : List Command → Type 0 = All IsFair in
     let departs = all_of IsMoment IsFair Depart plan.departs.items (λ m s. record { moment = s; size = refl }) sound.departs in
     let updates = all_of IsMoment IsFair Update plan.updates.items (λ m s. record { moment = s; size = refl }) sound.updates in
-    let changes = all_of (λ (c : Change). IsMoment c.moment) IsFair change plan.changes.items (λ c s. record { moment = s; size = refl }) sound.changes in
+    let changes = all_of (λ (c : Change). IsMoment c.moment) IsFair change plan.changes.items (λ c s. record { moment = s; size = refl })
+    sound.changes in
     of_either F (caller == 0) _ _ (All-nil IsFair)
     (of_either F (nat_le caller (senders plan)) _ _ (fair_sent plan.arrivals.items (caller - 1) sound.arrivals)
     (of_either F (n == 1) _ _ departs (of_either F (n == 2) _ _ updates (of_either F (n == 3) _ _ changes (All-nil IsFair)))))
@@ -48,7 +52,8 @@ all_at P [] k x a e = absurd (cc e)
 all_at P (y ∷ ys) zero x a e = subst P (cc e) (All-head P y ys a)
 all_at P (y ∷ ys) (suc k) x a e = all_at P ys k x (All-tail P y ys a) e
 
-pub fair_at : (plan : Plan) → IsSound plan → (caller k : ℕ) (command : Command) → slice_get (commands_of plan caller) k ≡ Some command → IsFair command
+pub fair_at : (plan : Plan) → IsSound plan → (caller k : ℕ) (command : Command) → slice_get (commands_of plan caller) k ≡ Some command
+    → IsFair command
 fair_at plan sound caller k command at = all_at IsFair (commands_of plan caller) k command (all_fair plan sound caller) at
 
 sent_fits : (lists : List (Vec Arrival Global)) (k : ℕ) → length (sent lists k) ≤ count_of lists

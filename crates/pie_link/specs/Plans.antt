@@ -1,5 +1,6 @@
 -- What a storm's plan asks of each caller, and which plans are sound.
-use Rattle.std.specs.Prelude.{◌≡◌, ◌+◌, ◌-◌, ◌==◌, ◌≤◌, nat_le, ℕ, false, List, [], ◌∷◌, Option, Some, None, Vec, map, length, All, slice_get, if◌then◌else◌}
+use Rattle.std.specs.Prelude.{◌≡◌, ◌+◌, ◌-◌, ◌==◌, ◌≤◌, nat_le, ℕ, false, List, [], ◌∷◌, Option, Some, None, Vec, map, length, All, slice_get}
+use Rattle.std.specs.Prelude.{if◌then◌else◌}
 use Rattle.std.specs.declared.alloc.Global.{Global}
 use Rattle.pie_book.specs.declared.command.Command.{Command}
 use Rattle.pie_book.specs.declared.command.Command.TheVariants.{Arrive, Depart, Update, SetParams}

@@ -1,6 +1,7 @@
 -- What the callers of a storm did, and how it ends. A history is the list of all events of the link; where folds are spoken of,
 -- it is the list of all its entries.
-use Rattle.std.specs.Prelude.{◌≡◌, ◌==◌, ◌+◌, ◌<◌, ◌≤◌, ◌^◌, ◌⊎◌, ℕ, zero, suc, Bool, All, List, [], ◌∷◌, ◌++◌, Option, Some, None, Result, Ok, Err, min, drop, map, length}
+use Rattle.std.specs.Prelude.{◌≡◌, ◌==◌, ◌+◌, ◌<◌, ◌≤◌, ◌^◌, ◌⊎◌, ℕ, zero, suc, Bool, All, List, [], ◌∷◌, ◌++◌, Option, Some, None, Result, Ok, Err}
+use Rattle.std.specs.Prelude.{min, drop, map, length}
 use mathlib.Core.List.{IsPrefix}
 use Rattle.pie_lock.specs.Own.{own}
 use Rattle.pie_book.specs.declared.command.Command.{Command}
@@ -70,7 +71,8 @@ AllCameOf opening plan (suc n) history passed =
 
 -- what came of a caller's commands at a link, whatever it was opened with, and of those of all callers below n
 unfoldable pub CameAt : LinkView → Plan → ℕ → List Event → ℕ → Type 0
-CameAt link plan caller history passed = (opening : Opening) → link.origin ≡ Some opening → CameOf opening caller (commands_of plan caller) history passed
+CameAt link plan caller history passed = (opening : Opening) → link.origin ≡ Some opening
+    → CameOf opening caller (commands_of plan caller) history passed
 
 unfoldable pub AllCameAt : LinkView → Plan → ℕ → List Event → ℕ → Type 0
 AllCameAt link plan n history passed = (opening : Opening) → link.origin ≡ Some opening → AllCameOf opening plan n history passed
@@ -125,7 +127,8 @@ pub record WasTooMany (opening : Opening) (caller : ℕ) (history earlier : List
 abbrev pub AreFolded : Opening → ℕ → List Entry → List Entry → List ℕ → List Entry → ℕ → Type 0
 AreFolded opening caller history earlier [] later too_many = (later ≡ []) × (too_many ≡ 0)
 AreFolded opening caller history earlier (n ∷ folds) later too_many =
-    ((others : List Entry) × (later ≡ fold_of caller n ∷ others) × AreFolded opening caller history (earlier ++ fold_of caller n ∷ []) folds others too_many)
+    ((others : List Entry) × (later ≡ fold_of caller n ∷ others)
+    × AreFolded opening caller history (earlier ++ fold_of caller n ∷ []) folds others too_many)
     ⊎ (WasTooMany opening caller history earlier n
     × ((fewer : ℕ) × (too_many ≡ fewer + 1) × AreFolded opening caller history earlier folds later fewer))
 
@@ -181,7 +184,8 @@ NoneElseFoldsAt link plan n front = (opening : Opening) → link.origin ≡ Some
 -- a worker made all commands of the caller with this number, of which so many were too soon
 unfoldable pub MadeAll : LinkView → Plan → ℕ → CallerView → ℕ → Type 0
 MadeAll link plan number caller too_soon =
-    (caller.lock ≡ link) × (caller.first ≡ number) × (caller.limit ≡ number + 1) × CameAt link plan number (events_in caller.front) too_soon × (too_soon ≤ 2 ^ 20)
+    (caller.lock ≡ link) × (caller.first ≡ number) × (caller.limit ≡ number + 1) × CameAt link plan number (events_in caller.front) too_soon
+    × (too_soon ≤ 2 ^ 20)
 
 -- and, where it makes them and is well, all folds; any other worker made none
 unfoldable pub MadeFolds : LinkView → Plan → ℕ → Type 0 → List Event → ℕ → List Entry → Type 0

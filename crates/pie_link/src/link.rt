@@ -53,7 +53,8 @@ impl Link {
     ) -> Result<(Link, Caller), LinkRefusal>
         ensures refused { IfErr result (IsRefusedFor (link_refusal limits moment callers)) }
         ensures allowed { OnOk result (link_refusal limits moment callers ≡ None) }
-        ensures opening { IfOk result (λ opened. opened.0.origin ≡ Some (record { moment = moment; limits = limits; params = params; choices = record { mode = Bounded; profile = One } })) }
+        ensures opening { IfOk result (λ opened. opened.0.origin
+            ≡ Some (record { moment = moment; limits = limits; params = params; choices = record { mode = Bounded; profile = One } })) }
         ensures callers { IfOk result (λ opened. opened.0.numbers ≡ callers) }
         ensures caller { IfOk result (λ opened. opened.1 ≡ first_pass opened.0 callers) }
         ensures headline { IfOk result (λ opened. KeepsOneHistory ⟦<LockRule as TableRule<Option<KeptBook>, Place<Entry, Opening>, LockOpening<KeptBook>>>⟧.holds opened.0) }
@@ -82,7 +83,8 @@ impl Link {
     ) -> Result<(Link, Caller), LinkRefusal>
         ensures refused { IfErr result (IsRefusedFor (link_refusal limits moment callers)) }
         ensures allowed { OnOk result (link_refusal limits moment callers ≡ None) }
-        ensures opening { IfOk result (λ opened. opened.0.origin ≡ Some (record { moment = moment; limits = limits; params = params; choices = choices })) }
+        ensures opening { IfOk result (λ opened. opened.0.origin
+            ≡ Some (record { moment = moment; limits = limits; params = params; choices = choices })) }
         ensures callers { IfOk result (λ opened. opened.0.numbers ≡ callers) }
         ensures caller { IfOk result (λ opened. opened.1 ≡ first_pass opened.0 callers) }
         ensures headline { IfOk result (λ opened. KeepsOneHistory ⟦<LockRule as TableRule<Option<KeptBook>, Place<Entry, Opening>, LockOpening<KeptBook>>>⟧.holds opened.0) }

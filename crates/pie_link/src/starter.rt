@@ -35,7 +35,9 @@ struct MakesAll<'a> {
 }
 
 impl<'a> Promise<Work> for MakesAll<'a> {
-    ghost kept_by = { λ p work. MadeAll p.link.now p.plan.now p.caller work.caller work.too_soon × MadeFolds p.link.now p.plan.now p.caller (work.folding.is_short_of_memory ≡ false) work.folding.events.items work.folding.too_many work.caller.front };
+    ghost kept_by = { λ p work. MadeAll p.link.now p.plan.now p.caller work.caller work.too_soon
+        × MadeFolds p.link.now p.plan.now p.caller (work.folding.is_short_of_memory ≡ false) work.folding.events.items work.folding.too_many
+        work.caller.front };
 }
 
 // Lets the callers with these numbers work at once, each but the first in a thread of its own, and gathers them in order. The
@@ -83,7 +85,8 @@ fn work_in<'s, E: 's, R: Threads + Wait + Sync, G: Gate + Sync>(
         move || -> Work
             requires { (last.lock ≡ link.now) × (last.limit ≡ last.first + 1) × (last.front ≡ []) × IsSound plan.now × (planned plan.now ≤ 2 ^ 20) }
             ensures made { MadeAll link.entry.now plan.entry.now last.first result.caller result.too_soon }
-            ensures folds { MadeFolds link.entry.now plan.entry.now last.first (result.folding.is_short_of_memory ≡ false) result.folding.events.items result.folding.too_many result.caller.front }
+            ensures folds { MadeFolds link.entry.now plan.entry.now last.first (result.folding.is_short_of_memory ≡ false)
+                result.folding.events.items result.folding.too_many result.caller.front }
         { make_calls(rt, alloc, link, plan, gate, last) },
     ) else {
         return None;
@@ -117,7 +120,8 @@ fn work_at_once<R: Threads + Wait + Sync, G: Gate + Sync>(
         thread::scope_env(),
         rt,
         |scope| -> Option<Work>
-            requires { IsSync R.row × IsSync G.row × (caller.lock ≡ link.now) × (caller.first ≡ 0) × (caller.front ≡ []) × IsSound plan.now × (planned plan.now ≤ 2 ^ 20) }
+            requires { IsSync R.row × IsSync G.row × (caller.lock ≡ link.now) × (caller.first ≡ 0) × (caller.front ≡ []) × IsSound plan.now
+                × (planned plan.now ≤ 2 ^ 20) }
             ensures stays { IfSome result (λ work. StaysOne caller work.caller) }
             ensures made { IfSome result (λ work. AllCameAt link.entry.now plan.entry.now caller.limit (events_in work.caller.front) work.too_soon) }
             ensures alone { IfSome result (λ work. NoneElseFoldsAt link.entry.now plan.entry.now caller.limit work.caller.front) }
@@ -143,8 +147,10 @@ fn both(link: &Link, work: Work, last: Work) -> Work
         → ((last.caller.first ≡ folder plan → ⊥) → OnlyMadeAt link.now last.caller.first last.caller.front)
         → NoneElseFoldsAt link.now plan result.caller.limit result.caller.front }
     ensures folds { (plan : Plan) → last.caller.first ≡ folder plan
-        → AreFoldedAt link.now (folder plan) (last.folding.is_short_of_memory ≡ false) plan.folds.items last.folding.events.items last.caller.front last.folding.too_many
-        → AreFoldedAt link.now (folder plan) (result.folding.is_short_of_memory ≡ false) plan.folds.items result.folding.events.items result.caller.front result.folding.too_many }
+        → AreFoldedAt link.now (folder plan) (last.folding.is_short_of_memory ≡ false) plan.folds.items last.folding.events.items last.caller.front
+        last.folding.too_many
+        → AreFoldedAt link.now (folder plan) (result.folding.is_short_of_memory ≡ false) plan.folds.items result.folding.events.items
+        result.caller.front result.folding.too_many }
 {
     let mut caller = work.caller;
     let Ok(()) = link.gather(&mut caller, last.caller) else {
@@ -175,8 +181,10 @@ pub fn storm<R: Threads + Wait + Sync, G: Gate + Sync>(
     gate: &G,
 ) -> Result<StormEnd, StormFault>
     ensures bad_plan { (result ≡ Err StormFault.BadPlan) ↔ (IsSound plan.now → ⊥) }
-    ensures refused { IsSound plan.now → (why : LinkRefusal) → link_refusal plan.now.limits plan.now.moment (senders plan.now + 5) ≡ Some why → result ≡ Err (StormFault.Opening why) }
-    ensures opening { (why : LinkRefusal) → result ≡ Err (StormFault.Opening why) → IsRefusedFor (link_refusal plan.now.limits plan.now.moment (senders plan.now + 5)) why }
+    ensures refused { IsSound plan.now → (why : LinkRefusal) → link_refusal plan.now.limits plan.now.moment (senders plan.now + 5) ≡ Some why
+        → result ≡ Err (StormFault.Opening why) }
+    ensures opening { (why : LinkRefusal) → result ≡ Err (StormFault.Opening why)
+        → IsRefusedFor (link_refusal plan.now.limits plan.now.moment (senders plan.now + 5)) why }
     ensures no_gap { result ≢ Err StormFault.Gap }
     ensures legal { IfOk result (λ end. IsLegal (opening_of plan.now) end.events.items) }
     ensures made { IfOk result (λ end. IsStorm plan.now end.events.items end.too_soon end.too_many) }

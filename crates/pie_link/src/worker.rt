@@ -3,7 +3,8 @@ ghost use Rattle.std.specs.Prelude.{◌≡◌, ◌≢◌, ◌+◌, ◌^◌, ◌<
 ghost use Rattle.pie_link.specs.Commands.{Answers};
 ghost use Rattle.pie_link.specs.Entries.{events_in};
 ghost use Rattle.pie_link.specs.Plans.{IsSound, commands_of, planned};
-ghost use Rattle.pie_link.specs.Storms.{AreFoldedAt, CameAt, EachGoes, FoldsGoAt, GoesOrEnds, HasNoneAt, MadeAll, MadeFolds, OnlyMadeAt, added_by, folder, refused_by};
+ghost use Rattle.pie_link.specs.Storms.{AreFoldedAt, CameAt, EachGoes, FoldsGoAt, GoesOrEnds, HasNoneAt, MadeAll, MadeFolds, OnlyMadeAt, added_by};
+ghost use Rattle.pie_link.specs.Storms.{folder, refused_by};
 ghost use Rattle.pie_link.specs.Views.{StaysOne};
 
 use crate::caller::Caller;
@@ -65,7 +66,8 @@ impl Folding {
     fn take_in(&mut self, answer: Result<Told<Vec<Event>>, FoldRefusal>)
         requires room { self.old.too_many < 2 ^ 64 - 1 }
         ensures first { self.new.is_short_of_memory ≡ false → self.old.is_short_of_memory ≡ false }
-        ensures told { self.new.is_short_of_memory ≡ false → IfOk answer (λ told. self.new.events.items ≡ self.old.events.items ++ told.answer.items) }
+        ensures told { self.new.is_short_of_memory ≡ false → IfOk answer
+            (λ told. self.new.events.items ≡ self.old.events.items ++ told.answer.items) }
         ensures refused { OnErr answer (self.new.events.items ≡ self.old.events.items) }
         ensures memory { self.new.is_short_of_memory ≡ false → answer ≢ Err FoldRefusal.Memory }
         ensures too_many { self.new.too_many ≡ self.old.too_many + refused_by answer }
@@ -204,9 +206,12 @@ fn fold_next<R: Wait, G: Gate>(
     requires room { folding.old.too_many ≤ k }
     ensures stays { StaysOne caller.old caller.new }
     ensures few { folding.new.too_many ≤ k + 1 }
-    ensures none { HasNoneAt link.now caller.old.first (events_in caller.old.front) → HasNoneAt link.now caller.old.first (events_in caller.new.front) }
-    ensures folds { FoldsGoAt link.now caller.old.first (folding.old.is_short_of_memory ≡ false) plan.now.folds.items k folding.old.events.items caller.old.front folding.old.too_many
-        → FoldsGoAt link.now caller.old.first (folding.new.is_short_of_memory ≡ false) plan.now.folds.items (k + 1) folding.new.events.items caller.new.front folding.new.too_many }
+    ensures none { HasNoneAt link.now caller.old.first (events_in caller.old.front)
+        → HasNoneAt link.now caller.old.first (events_in caller.new.front) }
+    ensures folds { FoldsGoAt link.now caller.old.first (folding.old.is_short_of_memory ≡ false) plan.now.folds.items k folding.old.events.items
+        caller.old.front folding.old.too_many
+        → FoldsGoAt link.now caller.old.first (folding.new.is_short_of_memory ≡ false) plan.now.folds.items (k + 1) folding.new.events.items
+        caller.new.front folding.new.too_many }
 {
     let number = caller.first();
     gate.before(number, k as u64 + 1);
@@ -233,7 +238,8 @@ fn fold_all<R: Wait, G: Gate>(
     ensures stays { StaysOne caller result.caller }
     ensures made { CameAt link.now plan.now caller.first (events_in result.caller.front) result.too_soon }
     ensures few { result.too_soon ≤ 2 ^ 20 }
-    ensures folds { AreFoldedAt link.now (folder plan.now) (result.folding.is_short_of_memory ≡ false) plan.now.folds.items result.folding.events.items result.caller.front result.folding.too_many }
+    ensures folds { AreFoldedAt link.now (folder plan.now) (result.folding.is_short_of_memory ≡ false) plan.now.folds.items
+        result.folding.events.items result.caller.front result.folding.too_many }
 {
     let mut mine = caller;
     let mut folding = Folding::none(alloc);
@@ -263,7 +269,8 @@ pub(crate) fn make_calls<R: Wait, G: Gate>(
     requires sound { IsSound plan.now }
     requires few { planned plan.now ≤ 2 ^ 20 }
     ensures made { MadeAll link.now plan.now caller.first result.caller result.too_soon }
-    ensures folds { MadeFolds link.now plan.now caller.first (result.folding.is_short_of_memory ≡ false) result.folding.events.items result.folding.too_many result.caller.front }
+    ensures folds { MadeFolds link.now plan.now caller.first (result.folding.is_short_of_memory ≡ false) result.folding.events.items
+        result.folding.too_many result.caller.front }
 {
     if usize::from(caller.first()) == plan.arrivals.len() + 4 {
         fold_all(rt, alloc, link, plan, gate, caller)

@@ -76,9 +76,12 @@ each (suc (suc zero)) view e = subst Fits (some-injective (Waits (pass 2 [])) vi
 each (suc (suc (suc n))) view e = absurd (some-ne-none view (sym e))
 
 number_of_seat : (seat : ℕ) (view : Place CounterEntry (Unit {0})) (n : ℕ) → get_elem? views seat ≡ some view → IsNumberAt view n → n ≡ seat
-number_of_seat zero view n e is = let h : IsNumberAt (Waits (pass 0 (entry 0 5 ∷ []))) n = subst (λ v. IsNumberAt v n) (sym (some-injective (Waits (pass 0 (entry 0 5 ∷ []))) view e)) is in let a = h.0 in let b = h.1 in omega arith
-number_of_seat (suc zero) view n e is = let h : IsNumberAt (Waits (pass 1 history)) n = subst (λ v. IsNumberAt v n) (sym (some-injective (Waits (pass 1 history)) view e)) is in let a = h.0 in let b = h.1 in omega arith
-number_of_seat (suc (suc zero)) view n e is = let h : IsNumberAt (Waits (pass 2 [])) n = subst (λ v. IsNumberAt v n) (sym (some-injective (Waits (pass 2 [])) view e)) is in let a = h.0 in let b = h.1 in omega arith
+number_of_seat zero view n e is = let h : IsNumberAt (Waits (pass 0 (entry 0 5 ∷ []))) n = subst (λ v. IsNumberAt v n)
+    (sym (some-injective (Waits (pass 0 (entry 0 5 ∷ []))) view e)) is in let a = h.0 in let b = h.1 in omega arith
+number_of_seat (suc zero) view n e is = let h : IsNumberAt (Waits (pass 1 history)) n = subst (λ v. IsNumberAt v n)
+    (sym (some-injective (Waits (pass 1 history)) view e)) is in let a = h.0 in let b = h.1 in omega arith
+number_of_seat (suc (suc zero)) view n e is = let h : IsNumberAt (Waits (pass 2 [])) n = subst (λ v. IsNumberAt v n)
+    (sym (some-injective (Waits (pass 2 [])) view e)) is in let a = h.0 in let b = h.1 in omega arith
 number_of_seat (suc (suc (suc m))) view n e is = absurd (some-ne-none view (sym e))
 
 nobody_holds : (seat : ℕ) (p : Shown CounterEntry (Unit {0})) → get_elem? views seat ≡ some (Holds p) → ⊥
@@ -110,7 +113,8 @@ free_is_ruled = (
       each_follows = each;
       apart = λ seat other view w n ne at at' is is'. ne (sym (number_of_seat seat view n at is) ∙ number_of_seat other w n at' is');
       apart_within = one_pass_each;
-      entries_below = All-cons (λ e. number e < 3) (entry 0 5) (entry 1 7 ∷ []) (omega arith) (All-cons (λ e. number e < 3) (entry 1 7) [] (omega arith) (All-nil (λ e. number e < 3)));
+      entries_below = All-cons (λ e. number e < 3) (entry 0 5) (entry 1 7 ∷ []) (omega arith)
+          (All-cons (λ e. number e < 3) (entry 1 7) [] (omega arith) (All-nil (λ e. number e < 3)));
     },
     inl (refl, nobody_holds, (tally, refl, refl, told)),
   ),

@@ -1,5 +1,6 @@
 -- What a pass follows, as its numbers are cut, as the history grows, and as two passes become one.
-use Rattle.std.proofs.Common.{◌≡◌, ℕ, ◌<◌, ◌≤◌, ◌⊎◌, Bool, true, false, cond, min, max, List, [], ◌∷◌, ◌++◌, Option, Some, None, IfSome, length, refl, ◌∙◌, inl, inr, ⊎_elim, arith}
+use Rattle.std.proofs.Common.{◌≡◌, ℕ, ◌<◌, ◌≤◌, ◌⊎◌, Bool, true, false, cond, min, max, List, [], ◌∷◌, ◌++◌, Option, Some, None, IfSome, length, refl}
+use Rattle.std.proofs.Common.{◌∙◌, inl, inr, ⊎_elim, arith}
 use Rattle.std.proofs.Math.Dec.{ltb}
 use Rattle.std.proofs.lemmas.Bool.Decides.{nat_tests}
 use Rattle.std.specs.List.{All}
@@ -30,7 +31,8 @@ module _ {E O : Type 0} (number : E → ℕ) (origin : O) (numbers : ℕ) where
   Fits history p = Follows number origin numbers history p
 
   -- a pass with some of the numbers
-  pub follows_fewer : (history : List E) (p : Shown E O) (first limit : ℕ) → Fits history p → p.first ≤ first → limit ≤ p.limit → first < limit → Fits history (with_numbers p first limit)
+  pub follows_fewer : (history : List E) (p : Shown E O) (first limit : ℕ) → Fits history p → p.first ≤ first → limit ≤ p.limit → first < limit
+      → Fits history (with_numbers p first limit)
   follows_fewer history p first limit f low high some_left =
       let all : E → Bool = λ e. is_within p.first p.limit (number e) in
       let few : E → Bool = λ e. is_within first limit (number e) in
@@ -58,13 +60,16 @@ module _ {E O : Type 0} (number : E → ℕ) (origin : O) (numbers : ℕ) where
     of_origin = f.of_origin;
   }
 
-  nothing_owned : (k : ℕ) (p : Shown E O) (added : Option E) → IfSome added (λ e. number e ≡ k) → (IsNumberOf p k → ⊥) → own number p.first p.limit (option_to_list added) ≡ []
+  nothing_owned : (k : ℕ) (p : Shown E O) (added : Option E) → IfSome added (λ e. number e ≡ k) → (IsNumberOf p k → ⊥)
+      → own number p.first p.limit (option_to_list added) ≡ []
   nothing_owned k p None is not = refl
   nothing_owned k p (Some e) is not =
-      quiet_one (λ x. is_within p.first p.limit (number x)) e (not_within p.first p.limit (number e) (λ t. not (let low = t.0 in let high = t.1 in (omega arith, omega arith))))
+      quiet_one (λ x. is_within p.first p.limit (number x)) e (not_within p.first p.limit (number e)
+      (λ t. not (let low = t.0 in let high = t.1 in (omega arith, omega arith))))
 
   -- the history grows by an entry that is not of the pass
-  pub follows_longer : (history : List E) (k : ℕ) (p : Shown E O) (added : Option E) → IfSome added (λ e. number e ≡ k) → Fits history p → (IsNumberOf p k → ⊥) → Fits (history ++ option_to_list added) p
+  pub follows_longer : (history : List E) (k : ℕ) (p : Shown E O) (added : Option E) → IfSome added (λ e. number e ≡ k) → Fits history p
+      → (IsNumberOf p k → ⊥) → Fits (history ++ option_to_list added) p
   follows_longer history k p added is f not = record {
     shown = prefix_trans p.front history (history ++ option_to_list added) f.shown (option_to_list added, refl);
     owned = same_over_quiet (λ x. is_within p.first p.limit (number x)) history (option_to_list added) (nothing_owned k p added is not) ∙ f.owned;
@@ -74,7 +79,8 @@ module _ {E O : Type 0} (number : E → ℕ) (origin : O) (numbers : ℕ) where
     of_origin = f.of_origin;
   }
 
-  pub each_longer : (history : List E) (k : ℕ) (u : Place E O) (added : Option E) → IfSome added (λ e. number e ≡ k) → EachPass (Follows number origin numbers history) u → (IsNumberAt u k → ⊥)
+  pub each_longer : (history : List E) (k : ℕ) (u : Place E O) (added : Option E) → IfSome added (λ e. number e ≡ k)
+      → EachPass (Follows number origin numbers history) u → (IsNumberAt u k → ⊥)
       → EachPass (Follows number origin numbers (history ++ option_to_list added)) u
   each_longer history k Spent added is f not = tt
   each_longer history k (Waits p) added is f not = follows_longer history k p added is f not
@@ -82,11 +88,13 @@ module _ {E O : Type 0} (number : E → ℕ) (origin : O) (numbers : ℕ) where
   each_longer history k (Meets p q) added is f not =
       (follows_longer history k p added is f.0 (λ h. not (inl h)), follows_longer history k q added is f.1 (λ h. not (inr h)))
 
-  pub below_longer : (history : List E) (k : ℕ) (added : Option E) → IfSome added (λ e. number e ≡ k) → k < numbers → All (λ e. number e < numbers) history
+  pub below_longer : (history : List E) (k : ℕ) (added : Option E) → IfSome added (λ e. number e ≡ k) → k < numbers
+      → All (λ e. number e < numbers) history
       → All (λ e. number e < numbers) (history ++ option_to_list added)
   below_longer history k None is low all = All-append (λ e. number e < numbers) history [] all (All-nil (λ e. number e < numbers))
   below_longer history k (Some e) is low all =
-      All-append (λ x. number x < numbers) history (e ∷ []) all (All-cons (λ x. number x < numbers) e [] (omega arith) (All-nil (λ x. number x < numbers)))
+      All-append (λ x. number x < numbers) history (e ∷ []) all
+      (All-cons (λ x. number x < numbers) e [] (omega arith) (All-nil (λ x. number x < numbers)))
 
   -- the longer of two fronts is a beginning of the history too, and begins with both
   longer_facts : (history : List E) (p q : Shown E O) → Fits history p → Fits history q → (b : Bool) → ltb (length p.front) (length q.front) ≡ b
@@ -100,7 +108,8 @@ module _ {E O : Type 0} (number : E → ℕ) (origin : O) (numbers : ℕ) where
 
   -- two passes with adjacent ranges become one, and each front goes on to the longer
   pub follows_both : (history : List E) (p q : Shown E O) → Fits history p → Fits history q → AreAdjacent p q
-      → Fits history (made_one p q) × GoesOn number p.first p.limit p.front (longer p.front q.front) × GoesOn number q.first q.limit q.front (longer p.front q.front)
+      → Fits history (made_one p q) × GoesOn number p.first p.limit p.front (longer p.front q.front)
+      × GoesOn number q.first q.limit q.front (longer p.front q.front)
   follows_both history p q f g adjacent =
       let l = longer_facts history p q f g (ltb (length p.front) (length q.front)) refl in
       let long : List E = longer p.front q.front in
@@ -113,7 +122,9 @@ module _ {E O : Type 0} (number : E → ℕ) (origin : O) (numbers : ℕ) where
       ⊎_elim
       (λ t. inl (within p.first p.limit (number e) t.0 t.1))
       (λ t. inr (within q.first q.limit (number e) t.0 t.1))
-      (in_either p.first p.limit q.first q.limit (number e) adjacent f.nonempty g.nonempty (within_low (min p.first q.first) (max p.limit q.limit) (number e) h) (within_high (min p.first q.first) (max p.limit q.limit) (number e) h)) in (
+      (in_either p.first p.limit q.first q.limit (number e) adjacent f.nonempty g.nonempty
+      (within_low (min p.first q.first) (max p.limit q.limit) (number e) h)
+      (within_high (min p.first q.first) (max p.limit q.limit) (number e) h)) in (
         record {
           shown = l.0;
           owned = same_either of_p of_q of_both long history l.0 covers mine.1 its.1;

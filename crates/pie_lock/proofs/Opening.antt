@@ -14,7 +14,8 @@ alone v w zero e = (refl, some-injective v w e)
 alone v w (suc n) e = absurd (some-ne-none w (sym e))
 
 module _ {S E O : Type 0} (number : E → ℕ) (origin_of : S → O) (tells : S → List E → Type 0) where
-  pub opens : (first : S) (stored : S) (slots : List (Option S)) (numbers : ℕ) → slots ≡ Some stored ∷ [] → stored ≡ first → tells first [] → numbers ≢ 0
+  pub opens : (first : S) (stored : S) (slots : List (Option S)) (numbers : ℕ) → slots ≡ Some stored ∷ [] → stored ≡ first → tells first []
+      → numbers ≢ 0
       → Ruled number origin_of tells (origin_of first) numbers (opening (0 ∷ []) slots (opened (origin_of first) numbers))
   opens first stored slots numbers only is told some_numbers =
       let origin : O = origin_of first in

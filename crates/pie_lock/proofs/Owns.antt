@@ -1,5 +1,6 @@
 -- What passes a test in a list and in a beginning of it, and with that what a pass owns.
-use Rattle.std.proofs.Common.{◌≡◌, ℕ, ◌<◌, ◌≤◌, ◌⊎◌, Bool, true, false, cond, List, [], ◌∷◌, ◌++◌, length, refl, ap, sym, ◌∙◌, subst, ⊎_elim, arith, append_assoc, length-append}
+use Rattle.std.proofs.Common.{◌≡◌, ℕ, ◌<◌, ◌≤◌, ◌⊎◌, Bool, true, false, cond, List, [], ◌∷◌, ◌++◌, length, refl, ap, sym, ◌∙◌, subst, ⊎_elim, arith}
+use Rattle.std.proofs.Common.{append_assoc, length-append}
 use Rattle.std.proofs.lemmas.List.{append-nil}
 use Rattle.std.proofs.lemmas.List.Elements.{filter-append, All-head, All-tail}
 use Rattle.std.proofs.lemmas.Bool.{false_from_ne_true}
@@ -32,7 +33,8 @@ module _ {E : Type 0} where
   same_over_quiet p front rest e = filter-append p front rest ∙ (ap (λ w. filter p front ++ w) e ∙ append-nil (filter p front))
 
   -- where all that passes the test u passes p or q, and nothing passes these two, nothing passes u
-  pub quiet_either : (p q u : E → Bool) (xs : List E) → ((e : E) → u e ≡ true → (p e ≡ true) ⊎ (q e ≡ true)) → filter p xs ≡ [] → filter q xs ≡ [] → filter u xs ≡ []
+  pub quiet_either : (p q u : E → Bool) (xs : List E) → ((e : E) → u e ≡ true → (p e ≡ true) ⊎ (q e ≡ true)) → filter p xs ≡ [] → filter q xs ≡ []
+      → filter u xs ≡ []
   quiet_either p q u [] covers a b = refl
   quiet_either p q u (x ∷ xs) covers a b =
       let a' = cond_empty (p x) x (filter p xs) a in
@@ -79,7 +81,8 @@ module _ {E : Type 0} where
       absurd (cc (yes, no))
 
   -- where all elements pass and no more of them stand in the whole than in its beginning, this is the whole
-  pub whole_is_front : (p : E → Bool) (front whole : List E) → IsPrefix front whole → All (λ e. p e ≡ true) whole → filter p whole ≡ filter p front → whole ≡ front
+  pub whole_is_front : (p : E → Bool) (front whole : List E) → IsPrefix front whole → All (λ e. p e ≡ true) whole → filter p whole ≡ filter p front
+      → whole ≡ front
   whole_is_front p front whole pre all e =
       let none = quiet_rest p front pre.0 (ap (filter p) pre.1 ∙ e) in
       let each = all_rest (λ x. p x ≡ true) front pre.0 (subst (All (λ x. p x ≡ true)) (sym pre.1) all) in

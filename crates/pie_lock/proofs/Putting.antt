@@ -1,5 +1,6 @@
 -- The store of FREE, by the seat that has the state, keeps the rule.
-use Rattle.std.proofs.Common.{◌≡◌, ℕ, ◌<◌, List, [], ◌∷◌, ◌++◌, Option, Some, IfSome, refl, ap, sym, ◌∙◌, subst, inl, ⊎_elim, arith, length-set, get_or-set_same}
+use Rattle.std.proofs.Common.{◌≡◌, ℕ, ◌<◌, List, [], ◌∷◌, ◌++◌, Option, Some, IfSome, refl, ap, sym, ◌∙◌, subst, inl, ⊎_elim, arith, length-set}
+use Rattle.std.proofs.Common.{get_or-set_same}
 use Rattle.std.specs.List.{All}
 use Rattle.std.specs.Option.{option_to_list}
 use mathlib.Core.Option.{none, some, some-injective}
@@ -52,7 +53,8 @@ module _ {S E O : Type 0} (number : E → ℕ) (origin_of : S → O) (tells : S 
                 (λ j u ne e. subst (λ l. EachPass (Follows number origin numbers l) u) next_is
                 (each_longer number origin numbers history p.first u added mine (agreed.each_follows j u e)
                 (λ h. agreed.apart j id u (Holds p) p.first ne e at h (omega arith, omega arith))))
-                (subst (All (λ e. number e < numbers)) next_is (below_longer number origin numbers history p.first added mine (omega arith) agreed.entries_below)),
+                (subst (All (λ e. number e < numbers)) next_is (below_longer number origin numbers history p.first added mine
+                (omega arith) agreed.entries_below)),
             inl (
               get_or-set_same s.words 0 0 0 (let one = rule.0 in omega arith),
               (λ j q e. ⊎_elim (λ t. let c = t.1 in cc) (λ t. t.0 (held.1.4 j q t.1 ∙ sym (held.1.4 id p at))) (at_set s.views id j w (Holds q) e)),

@@ -34,7 +34,8 @@ module _ {E O : Type 0} where
   pub none_longer : (views : List (Place E O)) (w : Place E O) → NoneHolds views → IsNoHolder w → NoneHolds (views ++ w ∷ [])
   none_longer views w nobody not j q e = ⊎_elim (λ t. nobody j q t) (λ t. not q t.1) (at_end views w (Holds q) j e)
 
-  pub one_set : (history : List E) (views : List (Place E O)) (id : ℕ) (v w : Place E O) → OneHolds history views → get_elem? views id ≡ some v → IsNoHolder v → IsNoHolder w
+  pub one_set : (history : List E) (views : List (Place E O)) (id : ℕ) (v w : Place E O) → OneHolds history views → get_elem? views id ≡ some v
+      → IsNoHolder v → IsNoHolder w
       → OneHolds history (set views id w)
   one_set history views id v w one at old new =
       let ne : one.0 ≢ id = λ h. old one.1 (some-injective v (Holds one.1) (sym at ∙ (ap (get_elem? views) (sym h) ∙ one.2))) in (
@@ -45,7 +46,8 @@ module _ {E O : Type 0} where
         λ j q e. ⊎_elim (λ t. absurd (new q t.1)) (λ t. one.4 j q t.1) (at_set views id j w (Holds q) e),
       )
 
-  pub one_longer : (history : List E) (views : List (Place E O)) (w : Place E O) → OneHolds history views → IsNoHolder w → OneHolds history (views ++ w ∷ [])
+  pub one_longer : (history : List E) (views : List (Place E O)) (w : Place E O) → OneHolds history views → IsNoHolder w
+      → OneHolds history (views ++ w ∷ [])
   one_longer history views w one new = (
     one.0,
     one.1,
@@ -65,7 +67,8 @@ module _ {E O : Type 0} (number : E → ℕ) (origin : O) (numbers : ℕ) where
       → ((j : ℕ) (u : Place E O) → j ≢ id → get_elem? views j ≡ some u → EachPass (Follows number origin numbers next) u)
       → All (λ e. number e < numbers) next → Agreed number origin numbers next (set views id w)
   agreed_set history next views id w agreed mine within apart others below = record {
-    each_follows = λ j u e. ⊎_elim (λ t. subst (EachPass (Follows number origin numbers next)) t.1 mine) (λ t. others j u t.0 t.1) (at_set views id j w u e);
+    each_follows = λ j u e. ⊎_elim (λ t. subst (EachPass (Follows number origin numbers next)) t.1 mine) (λ t. others j u t.0 t.1)
+        (at_set views id j w u e);
     apart = λ i j u x n ne ei ej nu nx.
         ⊎_elim
         (λ t. ⊎_elim
@@ -82,15 +85,19 @@ module _ {E O : Type 0} (number : E → ℕ) (origin : O) (numbers : ℕ) where
   }
 
   -- a seat's view has only numbers that it had, so it is apart from the others as before
-  pub apart_as_before : (history : List E) (views : List (Place E O)) (id : ℕ) (v w : Place E O) → Agreed number origin numbers history views → get_elem? views id ≡ some v
+  pub apart_as_before : (history : List E) (views : List (Place E O)) (id : ℕ) (v w : Place E O) → Agreed number origin numbers history views
+      → get_elem? views id ≡ some v
       → ((n : ℕ) → IsNumberAt w n → IsNumberAt v n) → IsApart views id w
   apart_as_before history views id v w agreed at sub j u n ne ej nw nu = agreed.apart id j v u n (λ h. ne (sym h)) at ej (sub n nw) nu
 
   -- a new seat comes
-  pub agreed_longer : (history : List E) (views : List (Place E O)) (w : Place E O) → Agreed number origin numbers history views → EachPass (Follows number origin numbers history) w → HasNoNumberTwice w
-      → ((j : ℕ) (u : Place E O) (n : ℕ) → get_elem? views j ≡ some u → IsNumberAt w n → IsNumberAt u n → ⊥) → Agreed number origin numbers history (views ++ w ∷ [])
+  pub agreed_longer : (history : List E) (views : List (Place E O)) (w : Place E O) → Agreed number origin numbers history views
+      → EachPass (Follows number origin numbers history) w → HasNoNumberTwice w
+      → ((j : ℕ) (u : Place E O) (n : ℕ) → get_elem? views j ≡ some u → IsNumberAt w n → IsNumberAt u n → ⊥)
+      → Agreed number origin numbers history (views ++ w ∷ [])
   agreed_longer history views w agreed mine within apart = record {
-    each_follows = λ j u e. ⊎_elim (λ t. agreed.each_follows j u t) (λ t. subst (EachPass (Follows number origin numbers history)) t.1 mine) (at_end views w u j e);
+    each_follows = λ j u e. ⊎_elim (λ t. agreed.each_follows j u t) (λ t. subst (EachPass (Follows number origin numbers history)) t.1 mine)
+        (at_end views w u j e);
     apart = λ i j u x n ne ei ej nu nx.
         ⊎_elim
         (λ t. ⊎_elim

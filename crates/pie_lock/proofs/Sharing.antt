@@ -1,5 +1,6 @@
 -- A seat that is split, or takes in another, keeps the rule.
-use Rattle.std.proofs.Common.{◌≡◌, ◌≢◌, ℕ, zero, suc, ◌+◌, ◌-◌, ◌<◌, ◌⊎◌, List, [], ◌∷◌, ◌++◌, Option, get_or, set, refl, ap, sym, ◌∙◌, subst, inl, inr, ⊎_elim, arith}
+use Rattle.std.proofs.Common.{◌≡◌, ◌≢◌, ℕ, zero, suc, ◌+◌, ◌-◌, ◌<◌, ◌⊎◌, List, [], ◌∷◌, ◌++◌, Option, get_or, set, refl, ap, sym, ◌∙◌, subst, inl}
+use Rattle.std.proofs.Common.{inr, ⊎_elim, arith}
 use mathlib.Core.Option.{none, some}
 use lib.ListN.{get_elem?}
 use Rattle.atomic_table.specs.Table.{State, keeps, step, stepped, Splits, Joins, Allows}
@@ -39,7 +40,8 @@ module _ {S E O : Type 0} (number : E → ℕ) (origin_of : S → O) (tells : S 
   Rule s = Ruled number origin_of tells origin numbers s
 
   -- the word and the slot stay, and of the views none that has the state comes or goes
-  same_word : (s : Table) (views : List (Place E O)) (history : List E) → WhileFree number origin_of tells origin numbers history s ⊎ WhileHeld number origin_of tells origin numbers history s
+  same_word : (s : Table) (views : List (Place E O)) (history : List E)
+      → WhileFree number origin_of tells origin numbers history s ⊎ WhileHeld number origin_of tells origin numbers history s
       → (NoneHolds s.views → NoneHolds views) → (OneHolds history s.views → OneHolds history views)
       → WhileFree number origin_of tells origin numbers history (record { words = s.words; homes = s.homes; views = views })
       ⊎ WhileHeld number origin_of tells origin numbers history (record { words = s.words; homes = s.homes; views = views })
@@ -55,27 +57,32 @@ module _ {S E O : Type 0} (number : E → ℕ) (origin_of : S → O) (tells : S 
       let some_left = f.nonempty in
       let views : List (Place E O) = set s.views id left in
       let cut : Agreed number origin numbers history views =
-      agreed_set number origin numbers history history s.views id left agreed (follows_fewer number origin numbers history p p.first (p.limit - 1) f (omega arith) (omega arith) (omega arith)) tt
-      (apart_as_before number origin numbers history s.views id (Waits p) left agreed at (λ n h. let a = h.0 in let b = h.1 in (omega arith, omega arith)))
+      agreed_set number origin numbers history history s.views id left agreed
+      (follows_fewer number origin numbers history p p.first (p.limit - 1) f (omega arith) (omega arith) (omega arith)) tt
+      (apart_as_before number origin numbers history s.views id (Waits p) left agreed at
+      (λ n h. let a = h.0 in let b = h.1 in (omega arith, omega arith)))
       (λ j u ne e. agreed.each_follows j u e) agreed.entries_below in (
         rule.0,
         (
           history,
-          agreed_longer number origin numbers history views right cut (follows_fewer number origin numbers history p (p.limit - 1) p.limit f (omega arith) (omega arith) (omega arith)) tt
+          agreed_longer number origin numbers history views right cut
+              (follows_fewer number origin numbers history p (p.limit - 1) p.limit f (omega arith) (omega arith) (omega arith)) tt
               (λ j u n e nr nu.
               ⊎_elim
               (λ t. let nl : IsNumberAt left n = subst (λ y. IsNumberAt y n) (sym t.1) nu in let a = nl.1 in let b = nr.0 in absurd (omega arith))
               (λ t. let a = nr.0 in let b = nr.1 in agreed.apart j id u (Waits p) n t.0 t.1 at nu (omega arith, omega arith))
               (at_set s.views id j left u e)),
           same_word s (views ++ right ∷ []) history rule.1.2
-              (λ nobody. none_longer views right (none_set s.views id left nobody (waits_not (with_numbers p p.first (p.limit - 1)))) (waits_not (with_numbers p (p.limit - 1) p.limit)))
+              (λ nobody. none_longer views right (none_set s.views id left nobody (waits_not (with_numbers p p.first (p.limit - 1))))
+              (waits_not (with_numbers p (p.limit - 1) p.limit)))
               (λ one. one_longer history views right
               (one_set history s.views id (Waits p) left one at (waits_not p) (waits_not (with_numbers p p.first (p.limit - 1))))
               (waits_not (with_numbers p (p.limit - 1) p.limit))),
         ),
       )
 
-  pub merges_keep : (slots id : ℕ) (p q : Shown E O) → AreAdjacent p q → Allows Rule slots id (Meets p q, []) 0 (λ n. n) (merged number (step slots 0 0 0 none) (Meets p q, []))
+  pub merges_keep : (slots id : ℕ) (p q : Shown E O) → AreAdjacent p q
+      → Allows Rule slots id (Meets p q, []) 0 (λ n. n) (merged number (step slots 0 0 0 none) (Meets p q, []))
   merges_keep slots id p q adjacent s rule sized at wide =
       let history : List E = rule.1.0 in
       let agreed = rule.1.1 in
@@ -115,13 +122,15 @@ module _ {S E O : Type 0} (number : E → ℕ) (origin_of : S → O) (tells : S 
       let views : List (Place E O) = set s.views other spent in
       let swap : set views id both ≡ set (set s.views id both) other spent = set_swap s.views other id spent both ne in
       let left : Agreed number origin numbers history views =
-      agreed_set number origin numbers history history s.views other spent agreed tt tt (λ j u n ne' e h nu. h) (λ j u ne' e. agreed.each_follows j u e) agreed.entries_below in
+      agreed_set number origin numbers history history s.views other spent agreed tt tt (λ j u n ne' e h nu. h)
+      (λ j u ne' e. agreed.each_follows j u e) agreed.entries_below in
       let at' : get_elem? views id ≡ some (Waits p) = set_else s.views other id spent (λ h. ne (sym h)) ∙ at in
       subst (λ l. Rule (record { words = s.words; homes = s.homes; views = l })) swap (
         rule.0,
         (
           history,
-          agreed_set number origin numbers history history views id both left (agreed.each_follows id (Waits p) at, agreed.each_follows other (Waits q) its)
+          agreed_set number origin numbers history history views id both left
+              (agreed.each_follows id (Waits p) at, agreed.each_follows other (Waits q) its)
               (λ n mine theirs. agreed.apart id other (Waits p) (Waits q) n (λ h. ne (sym h)) at its mine theirs)
               (λ j u n ne' e h nu.
               ⊎_elim
@@ -134,6 +143,7 @@ module _ {S E O : Type 0} (number : E → ℕ) (origin_of : S → O) (tells : S 
               (λ j u ne' e. left.each_follows j u e) agreed.entries_below,
           same_word s (set views id both) history rule.1.2
               (λ nobody. none_set views id both (none_set s.views other spent nobody spent_not) (meets_not p q))
-              (λ one. one_set history views id (Waits p) both (one_set history s.views other (Waits q) spent one its (waits_not q) spent_not) at' (waits_not p) (meets_not p q)),
+              (λ one. one_set history views id (Waits p) both (one_set history s.views other (Waits q) spent one its (waits_not q) spent_not) at'
+              (waits_not p) (meets_not p q)),
         ),
       )

@@ -1,5 +1,6 @@
 -- The exchange of FREE for HELD keeps the rule, won or lost.
-use Rattle.std.proofs.Common.{◌≡◌, ◌≢◌, ℕ, ◌==◌, ◌<◌, true, List, [], ◌∷◌, Option, Some, length, get_or, set, refl, ap, sym, ◌∙◌, subst, inr, ⊎_elim, arith, length-set, get_or-set_same}
+use Rattle.std.proofs.Common.{◌≡◌, ◌≢◌, ℕ, ◌==◌, ◌<◌, true, List, [], ◌∷◌, Option, Some, length, get_or, set, refl, ap, sym, ◌∙◌, subst, inr, ⊎_elim}
+use Rattle.std.proofs.Common.{arith, length-set, get_or-set_same}
 use Rattle.std.specs.List.{All}
 use Rattle.std.proofs.lemmas.List.Elements.{All-weaker}
 use mathlib.Core.Logic.{dite}
@@ -32,15 +33,19 @@ module _ {S E O : Type 0} (number : E → ℕ) (origin_of : S → O) (tells : S 
   abbrev Rule : Table → Type 0
   Rule s = Ruled number origin_of tells origin numbers s
 
-  all_numbers : (p : Shown E O) (history : List E) → Follows number origin numbers history p → All (λ e. number e < numbers) history → HasAll p → history ≡ p.front
+  all_numbers : (p : Shown E O) (history : List E) → Follows number origin numbers history p → All (λ e. number e < numbers) history → HasAll p
+      → history ≡ p.front
   all_numbers p history f low all =
       whole_is_front (λ e. is_within p.first p.limit (number e)) p.front history f.shown
-      (All-weaker (λ e. number e < numbers) (λ e. is_within p.first p.limit (number e) ≡ true) (λ e h. let a = all.0 in let b = all.1 in let c = f.of_all in within p.first p.limit (number e) (omega arith) (omega arith)) history low)
+      (All-weaker (λ e. number e < numbers) (λ e. is_within p.first p.limit (number e) ≡ true)
+      (λ e h. let a = all.0 in let b = all.1 in let c = f.of_all in within p.first p.limit (number e) (omega arith) (omega arith)) history low)
       f.owned
 
-  wins : (id : ℕ) (p : Shown E O) (s : Table) (history : List E) → length s.words ≡ 1 → get_elem? s.views id ≡ some (Waits p) → Agreed number origin numbers history s.views
+  wins : (id : ℕ) (p : Shown E O) (s : Table) (history : List E) → length s.words ≡ 1 → get_elem? s.views id ≡ some (Waits p)
+      → Agreed number origin numbers history s.views
       → WhileFree number origin_of tells origin numbers history s
-      → (w : Place E O) × (a : Act (Option S)) × Valid s.homes [] a × Rule (stepped s 0 1 id [] w a) × Won number origin_of tells p (w, carried_after [] a)
+      → (w : Place E O) × (a : Act (Option S)) × Valid s.homes [] a × Rule (stepped s 0 1 id [] w a)
+      × Won number origin_of tells p (w, carried_after [] a)
   wins id p s history one at agreed free =
       let stored = free.2.0 in
       let w : Place E O = Holds (with_front p history) in
@@ -82,7 +87,8 @@ module _ {S E O : Type 0} (number : E → ℕ) (origin_of : S → O) (tells : S 
       )
 
   -- a seat with all numbers leaves none for one that has the state
-  no_other : (id : ℕ) (p : Shown E O) (s : Table) (history : List E) → get_elem? s.views id ≡ some (Waits p) → Agreed number origin numbers history s.views
+  no_other : (id : ℕ) (p : Shown E O) (s : Table) (history : List E) → get_elem? s.views id ≡ some (Waits p)
+      → Agreed number origin numbers history s.views
       → WhileHeld number origin_of tells origin numbers history s → HasAll p → ⊥
   no_other id p s history at agreed held all =
       let holder : ℕ = held.1.0 in
@@ -97,7 +103,8 @@ module _ {S E O : Type 0} (number : E → ℕ) (origin_of : S → O) (tells : S 
       agreed.apart holder id (Holds q) (Waits p) q.first ne there at (omega arith, omega arith) (omega arith, omega arith))
 
   loses : (id : ℕ) (p : Shown E O) (s : Table) → Rule s → get_elem? s.views id ≡ some (Waits p) → (n : ℕ) → get_or s.words 0 0 ≡ n → n ≢ 0
-      → (w : Place E O) × (a : Act (Option S)) × Valid s.homes [] a × Rule (stepped s 0 n id [] w a) × (◌≡◌ {A = Me (Option S) (Place E O)} (w, carried_after [] a) (Waits p, [])) × (HasAll p → ⊥)
+      → (w : Place E O) × (a : Act (Option S)) × Valid s.homes [] a × Rule (stepped s 0 n id [] w a)
+      × (◌≡◌ {A = Me (Option S) (Place E O)} (w, carried_after [] a) (Waits p, [])) × (HasAll p → ⊥)
   loses id p s rule at n is ne =
       let words : set s.words 0 n ≡ s.words = subst (λ (k : ℕ). set s.words 0 k ≡ s.words) is (word_again s.words rule.0) in
       let views : set s.views id (Waits p) ≡ s.views = set_again s.views id (Waits p) at in
@@ -119,7 +126,8 @@ module _ {S E O : Type 0} (number : E → ℕ) (origin_of : S → O) (tells : S 
       × taken number origin_of tells (step slots 0 0 1 none) (Waits p, []) n (w, carried_after [] a) in
       exchanged n 0 1 F
       (λ hit.
-      let won : (w : Place E O) × (a : Act (Option S)) × Valid s.homes [] a × Rule (stepped s 0 1 id [] w a) × Won number origin_of tells p (w, carried_after [] a) =
+      let won : (w : Place E O) × (a : Act (Option S)) × Valid s.homes [] a × Rule (stepped s 0 1 id [] w a)
+      × Won number origin_of tells p (w, carried_after [] a) =
       ⊎_elim (λ free. wins id p s rule.1.0 rule.0 at rule.1.1 free) (λ held. let one = held.0 in absurd (omega arith)) rule.1.2 in
       (won.0, won.1, won.2, won.3, (λ _. won.4, λ ne. absurd (ne hit))))
       (λ miss. let lost = loses id p s rule at n refl miss in (lost.0, lost.1, lost.2, lost.3, (λ e. absurd (miss e), λ _. (lost.4, lost.5))))

@@ -54,7 +54,8 @@ module _ {E O : Type 0} where
   -- seats or of one that joins, and each entry stands under a number that the lock has
   pub record Agreed (number : E → ℕ) (origin : O) (numbers : ℕ) (history : List E) (views : List (Place E O)) : Type 0 where
     pub each_follows : (seat : ℕ) (view : Place E O) → get_elem? views seat ≡ some view → EachPass (Follows number origin numbers history) view
-    pub apart : (seat other : ℕ) (view w : Place E O) (n : ℕ) → seat ≢ other → get_elem? views seat ≡ some view → get_elem? views other ≡ some w → IsNumberAt view n → IsNumberAt w n → ⊥
+    pub apart : (seat other : ℕ) (view w : Place E O) (n : ℕ) → seat ≢ other → get_elem? views seat ≡ some view → get_elem? views other ≡ some w
+        → IsNumberAt view n → IsNumberAt w n → ⊥
     pub apart_within : (seat : ℕ) (view : Place E O) → get_elem? views seat ≡ some view → HasNoNumberTwice view
     pub entries_below : All (λ e. number e < numbers) history
 

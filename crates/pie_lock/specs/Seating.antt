@@ -41,7 +41,8 @@ pub record IsHolding {S E O : Type 0} (first limit : ℕ) (me : Me (Option S) (P
 
 -- the seat has a pass and the slot with this state in it, which has the lock's origin and tells the front with this entry, if there is one;
 -- the entry stands under the pass's first number
-pub record IsLeaving {S E O : Type 0} (number : E → ℕ) (origin_of : S → O) (tells : S → List E → Type 0) (added : Option E) (state : S) (me : Me (Option S) (Place E O)) : Type 0 where
+pub record IsLeaving {S E O : Type 0} (number : E → ℕ) (origin_of : S → O) (tells : S → List E → Type 0) (added : Option E) (state : S)
+    (me : Me (Option S) (Place E O)) : Type 0 where
   pub holds : ◌≡◌ {A = Me (Option S) (Place E O)} me (Holds (pass_at me.0), (0, Some state) ∷ [])
   pub origin : (pass_at me.0).origin ≡ Some (origin_of state)
   pub told : tells state ((pass_at me.0).front ++ option_to_list added)

@@ -43,7 +43,8 @@ impl Counter {
     /// Adds an amount. False exactly where the count or the total would not fit a `u64`, and then nothing is changed.
     pub fn add(&mut self, amount: u64) -> bool
         ensures fits { IsTrue result ↔ ((self.old.count + 1 < 2 ^ 64) × (self.old.total + amount < 2 ^ 64)) }
-        ensures changed { MatchBool result ((self.new.count ≡ self.old.count + 1) × (self.new.total ≡ self.old.total + amount)) (self.new ≡ self.old) }
+        ensures changed { MatchBool result ((self.new.count ≡ self.old.count + 1) × (self.new.total ≡ self.old.total + amount))
+            (self.new ≡ self.old) }
     {
         let Some(count) = self.count.checked_add(1) else {
             return false;

@@ -42,7 +42,8 @@ pub fn try_sell(lock: &RuledLock<Till>, pass: Pass<Till>) -> Result<Pass<Till>, 
     ensures numbers { IfOk result (λ after. (after.first ≡ pass.first) × (after.limit ≡ pass.limit)) }
 
     // the sale comes after all that the pass was shown and what others sold since; a full till has `2^64 - 1` sales
-    ensures sold { IfOk result (λ after. (before : List ℕ) × GoesOn (λ e. e) pass.first pass.limit pass.front before × ((after.front ≡ before ++ pass.first ∷ []) ⊎ ((after.front ≡ before) × (length before ≡ 2 ^ 64 - 1)))) }
+    ensures sold { IfOk result (λ after. (before : List ℕ) × GoesOn (λ e. e) pass.first pass.limit pass.front before
+        × ((after.front ≡ before ++ pass.first ∷ []) ⊎ ((after.front ≡ before) × (length before ≡ 2 ^ 64 - 1)))) }
     ensures busy { IfErr result (λ back. back ≡ pass) }
 {
     let seller = pass.first();

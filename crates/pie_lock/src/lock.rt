@@ -47,7 +47,11 @@ impl<S: Kept> Model for RuledLock<S> {
 
     ghost Value = { LockView S.Origin };
 
-    ghost view = { λ l. record { id = l.table.shared.table_id; origin = Some (S.origin_of l.table.shared.key.state.value); numbers = l.table.shared.key.numbers } };
+    ghost view = { λ l. record {
+      id = l.table.shared.table_id;
+      origin = Some (S.origin_of l.table.shared.key.state.value);
+      numbers = l.table.shared.key.numbers;
+    } };
 
     ghost invariant = { λ l. (l.table.shared.table_id.words ≡ 1) × (l.table.shared.table_id.slots ≡ 1) };
 }
@@ -327,7 +331,8 @@ impl<S: Kept> RuledLock<S> {
     pub fn close(self, pass: Pass<S>) -> Result<S, StillHeld<S>>
         requires own { pass.lock ≡ self }
         ensures origin { IfOk result (λ state. pass.lock.origin ≡ Some (S.origin_of state)) }
-        ensures told { IfOk result (λ state. (history : List S.Entry) × GoesOn S.number_of pass.first pass.limit pass.front history × S.tells state history) }
+        ensures told { IfOk result (λ state. (history : List S.Entry) × GoesOn S.number_of pass.first pass.limit pass.front history
+            × S.tells state history) }
         ensures alone { HoldsAll pass → IsOk result }
         ensures same { HoldsAll pass → IfOk result (λ state. S.tells state pass.front) }
         ensures numbered { HoldsAll pass → IfOk result (λ _. All (λ e. S.number_of e < pass.lock.numbers) pass.front) }

@@ -14,8 +14,10 @@ use Rattle.pie_options.specs.Words.{number_of}
 -- ---- a number
 
 -- the number that was read from what an option was given
-pub number-given : {E : Type 0} (gives : List ℕ → Result ℕ E → Type 0) → ((text : List ℕ) (read : Result ℕ E) → gives text read → ParsesUnsigned 64 10 text read)
-    → (given : Option (List ℕ)) (result : Option ℕ) → (given ≡ None → result ≡ None) → ((text : List ℕ) → given ≡ Some text → ReadsOne gives text result)
+pub number-given : {E : Type 0} (gives : List ℕ → Result ℕ E → Type 0)
+    → ((text : List ℕ) (read : Result ℕ E) → gives text read → ParsesUnsigned 64 10 text read)
+    → (given : Option (List ℕ)) (result : Option ℕ) → (given ≡ None → result ≡ None)
+    → ((text : List ℕ) → given ≡ Some text → ReadsOne gives text result)
     → result ≡ option_and_then number_of given
 number-given gives parses None result none some = none refl
 number-given gives parses (Some text) result none some = go (accepts false (Unsigned 0 (2 ^ 64 - 1)) text) refl result (some text refl)
@@ -23,7 +25,8 @@ number-given gives parses (Some text) result none some = go (accepts false (Unsi
     value : ℕ
     value = digits_value 10 (without_leading_plus text)
 
-    go : (b : Bool) → accepts false (Unsigned 0 (2 ^ 64 - 1)) text ≡ b → (read : Option ℕ) → ReadsOne gives text read → read ≡ (if b then Some value else None)
+    go : (b : Bool) → accepts false (Unsigned 0 (2 ^ 64 - 1)) text ≡ b → (read : Option ℕ) → ReadsOne gives text read
+        → read ≡ (if b then Some value else None)
     go true is (Some n) reads = ap (λ (v : ℕ). Some v) (parses text (Ok n) reads).1
     go true is None reads =
         let numeral = accepts-Accepts false (Unsigned 0 (2 ^ 64 - 1)) text is in
@@ -38,8 +41,10 @@ number-given gives parses (Some text) result none some = go (accepts false (Unsi
 
 -- ---- whether an option with no value is there
 
-pub flag-given : {E : Type 0} (gives : List ℕ → Result Bool E → Type 0) → ((text : List ℕ) (read : Result Bool E) → gives text read → ParsesBool text read)
-    → (given : Option (List ℕ)) (result : Option Bool) → (given ≡ None → result ≡ None) → ((text : List ℕ) → given ≡ Some text → ReadsOne gives text result)
+pub flag-given : {E : Type 0} (gives : List ℕ → Result Bool E → Type 0)
+    → ((text : List ℕ) (read : Result Bool E) → gives text read → ParsesBool text read)
+    → (given : Option (List ℕ)) (result : Option Bool) → (given ≡ None → result ≡ None)
+    → ((text : List ℕ) → given ≡ Some text → ReadsOne gives text result)
     → unwrap_or result false ≡ option_map_or (λ text. bytes_eq text (codes "true")) given false
 flag-given gives parses None result none some = rw (none refl) refl
 flag-given gives parses (Some text) result none some = go (bytes_eq text (codes "true")) refl result (some text refl)

@@ -87,16 +87,19 @@ options-in app words matches rows is has met =
     sym (ap (λ (o : Option (List Row)). unwrap_or o []) (met ∙ ap (option_map (λ (p : Text × List Row). p.1)) found.1))
 
 -- the name that `clap` tells of a subcommand stands before its options
-first-of : {A : Type 0} (g : A → Text × List Row) (o : Option A) → option_map (λ a. (g a).0) o ≡ option_map (λ (p : Text × List Row). p.0) (option_map g o)
+first-of : {A : Type 0} (g : A → Text × List Row) (o : Option A)
+    → option_map (λ a. (g a).0) o ≡ option_map (λ (p : Text × List Row). p.0) (option_map g o)
 first-of g None = refl
 first-of g (Some a) = refl
 
 name-rows : (matches : ArgMatches) → subcommand_name_of matches ≡ option_map (λ (p : Text × List Row). p.0) (subcommand_rows_of matches)
 name-rows matches =
-    first-of (λ b. ((out-SubCommand (box_value b)).name.now, rows_of (found_of (out-SubCommand (box_value b)).matches))) (out-ArgMatches matches).subcommand
+    first-of (λ b. ((out-SubCommand (box_value b)).name.now, rows_of (found_of (out-SubCommand (box_value b)).matches)))
+    (out-ArgMatches matches).subcommand
 
 -- the subcommand that `clap` found is that of the words
-pub subcommand-found : (app : App) (words : List Text) (matches : ArgMatches) (name subcommand : Text) → app ≡ pie_app → HasMatchesOf app words matches
+pub subcommand-found : (app : App) (words : List Text) (matches : ArgMatches) (name subcommand : Text) → app ≡ pie_app
+    → HasMatchesOf app words matches
     → Some name ≡ subcommand_name_of matches → name ≡ subcommand → subcommand_in words ≡ Some subcommand
 subcommand-found app words matches name subcommand is has met same =
     let found = subst (λ (a : App). HasMatchesOf a words matches) is has simple in

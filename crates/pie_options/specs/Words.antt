@@ -1,5 +1,6 @@
 -- The command line: what `pie` takes, which words ask for which subcommand, and what they give its options.
-use Rattle.std.specs.Prelude.{ℕ, ◌≡◌, ◌-◌, ◌^◌, List, [], ◌∷◌, Bool, true, false, Option, Some, None, option_and_then, option_map, unwrap_or, codes, if◌then◌else◌, max, min}
+use Rattle.std.specs.Prelude.{ℕ, ◌≡◌, ◌-◌, ◌^◌, List, [], ◌∷◌, Bool, true, false, Option, Some, None, option_and_then, option_map, unwrap_or, codes}
+use Rattle.std.specs.Prelude.{if◌then◌else◌, max, min}
 use Rattle.std.specs.Option.{option_map_or}
 use Rattle.std.specs.Str.{bytes_eq}
 use Rattle.std.specs.Str.Parse.{digits_value, without_leading_plus}
@@ -59,22 +60,27 @@ abbrev pub timed_app : App
 timed_app = with_rule (with_rule choosing_app (text_rule (codes "from"))) (text_rule (codes "to"))
 
 abbrev pub explain_app : App
-explain_app = with_rule (with_rule (with_rule (with_rule (with_rule (with_rule timed_app (flag_rule (codes "summary"))) (text_rule (codes "every"))) (flag_rule (codes "csv"))) progress_rule) output_rule) file_rule
+explain_app = with_rule (with_rule (with_rule (with_rule (with_rule (with_rule timed_app (flag_rule (codes "summary"))) (text_rule (codes "every")))
+    (flag_rule (codes "csv"))) progress_rule) output_rule) file_rule
 
 -- the subcommand `params`: four texts with units, two gains, and what `tc` has or hasn't
 abbrev pub params_app : App
-params_app = with_rule (with_rule (with_rule (with_rule (with_rule (with_rule (with_rule (with_rule (with_rule (new_app (codes "params")) (text_rule (codes "rate")))
-    (text_rule (codes "target"))) (text_rule (codes "tupdate"))) (text_rule (codes "limit"))) (number_rule (codes "alpha") 0 32)) (number_rule (codes "beta") 0 32))
+params_app = with_rule (with_rule (with_rule (with_rule (with_rule
+    (with_rule (with_rule (with_rule (with_rule (new_app (codes "params")) (text_rule (codes "rate")))
+    (text_rule (codes "target"))) (text_rule (codes "tupdate"))) (text_rule (codes "limit"))) (number_rule (codes "alpha") 0 32))
+    (number_rule (codes "beta") 0 32))
     (flag_rule (codes "ecn"))) (flag_rule (codes "bytemode"))) (flag_rule (codes "dq_rate_estimator"))
 
 -- the subcommand `storm`, whose options are four numbers, and one that asks for counts
 abbrev pub storm_app : App
 storm_app = with_rule (with_rule (with_rule (with_rule (with_rule (new_app (codes "storm")) (number_rule (codes "senders") 2 8))
-    (number_rule (codes "packets") 1 10_000)) (number_rule (codes "seed") 0 (2 ^ 64 - 1))) (number_rule (codes "load") 50 200)) (flag_rule (codes "count"))
+    (number_rule (codes "packets") 1 10_000)) (number_rule (codes "seed") 0 (2 ^ 64 - 1))) (number_rule (codes "load") 50 200))
+    (flag_rule (codes "count"))
 
 -- .. `pie` with its subcommands
 abbrev pub pie_app : App
-pie_app = with_subcommand (with_subcommand (with_subcommand (with_subcommand (with_subcommand (with_subcommand pie_alone run_app.top) audit_app.top) explain_app.top) migrate_app.top)
+pie_app = with_subcommand (with_subcommand (with_subcommand
+    (with_subcommand (with_subcommand (with_subcommand pie_alone run_app.top) audit_app.top) explain_app.top) migrate_app.top)
     storm_app.top) params_app.top
 
 -- ---- subcommands

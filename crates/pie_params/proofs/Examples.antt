@@ -81,7 +81,8 @@ max_burst_ends : map max_burst_at (0 ∷ 1_000_000_000_000 ∷ 1_000_000_000_001
 unfolding max_burst_at
 max_burst_ends = refl
 
-gain_ends : (map alpha_at (0 ∷ 1_000_000 ∷ 1_000_001 ∷ []) ≡ true ∷ true ∷ false ∷ []) × (map beta_at (0 ∷ 1_000_000 ∷ 1_000_001 ∷ []) ≡ true ∷ true ∷ false ∷ [])
+gain_ends : (map alpha_at (0 ∷ 1_000_000 ∷ 1_000_001 ∷ []) ≡ true ∷ true ∷ false ∷ [])
+    × (map beta_at (0 ∷ 1_000_000 ∷ 1_000_001 ∷ []) ≡ true ∷ true ∷ false ∷ [])
 unfolding alpha_at beta_at
 gain_ends = (refl, refl)
 

@@ -29,13 +29,54 @@ impl Model for Params {
 
     ghost Value = { RawParams };
 
-    ghost view = { λ p. record { target = p.target; t_update = p.t_update; max_burst = p.max_burst; alpha = p.alpha; beta = p.beta; mean_pkt = p.mean_pkt; limit_bytes = p.limit_bytes; mark_ecnth = p.mark_ecnth; dq_threshold = p.below_threshold + 1 } };
+    ghost view = { λ p. record {
+      target = p.target;
+      t_update = p.t_update;
+      max_burst = p.max_burst;
+      alpha = p.alpha;
+      beta = p.beta;
+      mean_pkt = p.mean_pkt;
+      limit_bytes = p.limit_bytes;
+      mark_ecnth = p.mark_ecnth;
+      dq_threshold = p.below_threshold + 1;
+    } };
 
-    ghost invariant = { λ p. IsInRange (record { target = p.target; t_update = p.t_update; max_burst = p.max_burst; alpha = p.alpha; beta = p.beta; mean_pkt = p.mean_pkt; limit_bytes = p.limit_bytes; mark_ecnth = p.mark_ecnth; dq_threshold = p.below_threshold + 1 }) };
+    ghost invariant = { λ p. IsInRange (record {
+      target = p.target;
+      t_update = p.t_update;
+      max_burst = p.max_burst;
+      alpha = p.alpha;
+      beta = p.beta;
+      mean_pkt = p.mean_pkt;
+      limit_bytes = p.limit_bytes;
+      mark_ecnth = p.mark_ecnth;
+      dq_threshold = p.below_threshold + 1;
+    }) };
 
-    ghost inverse = { λ p. record { target = p.target; t_update = p.t_update; max_burst = p.max_burst; alpha = p.alpha; beta = p.beta; mean_pkt = p.mean_pkt; limit_bytes = p.limit_bytes; mark_ecnth = p.mark_ecnth; below_threshold = p.dq_threshold - 1 } };
+    ghost inverse = { λ p. record {
+      target = p.target;
+      t_update = p.t_update;
+      max_burst = p.max_burst;
+      alpha = p.alpha;
+      beta = p.beta;
+      mean_pkt = p.mean_pkt;
+      limit_bytes = p.limit_bytes;
+      mark_ecnth = p.mark_ecnth;
+      below_threshold = p.dq_threshold - 1;
+    } };
 
-    ghost inverse_ok = { λ p h. ap (λ below. record { target = p.target; t_update = p.t_update; max_burst = p.max_burst; alpha = p.alpha; beta = p.beta; mean_pkt = p.mean_pkt; limit_bytes = p.limit_bytes; mark_ecnth = p.mark_ecnth; below_threshold = below }) (add-sub_cancel p.below_threshold 1) };
+    ghost inverse_ok = { λ p h. ap (λ below. record {
+      target = p.target;
+      t_update = p.t_update;
+      max_burst = p.max_burst;
+      alpha = p.alpha;
+      beta = p.beta;
+      mean_pkt = p.mean_pkt;
+      limit_bytes = p.limit_bytes;
+      mark_ecnth = p.mark_ecnth;
+      below_threshold = below;
+    })
+        (add-sub_cancel p.below_threshold 1) };
 }
 
 impl Params {

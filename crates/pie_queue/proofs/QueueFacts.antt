@@ -20,7 +20,8 @@ bytes-push entries entry =
     let sum = sum_by-append (λ (w : Waiting). w.packet.size) entries (entry ∷ []) in omega (arith, sum)
 
 -- the oldest leaves with its size
-pub bytes-drop : (entries : List Waiting) (entry : Waiting) → slice_get entries 0 ≡ Some entry → bytes_of entries ≡ entry.packet.size + bytes_of (drop 1 entries)
+pub bytes-drop : (entries : List Waiting) (entry : Waiting) → slice_get entries 0 ≡ Some entry
+    → bytes_of entries ≡ entry.packet.size + bytes_of (drop 1 entries)
 bytes-drop [] entry first = cc
 bytes-drop (e ∷ entries) entry first =
     let same : e ≡ entry = cc in rw (sum_by-cons (λ (w : Waiting). w.packet.size) e entries, same) refl

@@ -31,7 +31,8 @@ impl Model for ByteQueue {
 
     ghost view = { λ queue. record { waiting = queue.ring.items; packets = queue.ring.capacity } };
 
-    ghost invariant = { λ queue. (queue.bytes ≡ bytes_of queue.ring.items) × IsQueue (record { waiting = queue.ring.items; packets = queue.ring.capacity }) };
+    ghost invariant = { λ queue. (queue.bytes ≡ bytes_of queue.ring.items)
+        × IsQueue (record { waiting = queue.ring.items; packets = queue.ring.capacity }) };
 }
 
 impl ByteQueue {

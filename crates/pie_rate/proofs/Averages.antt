@@ -22,7 +22,8 @@ NoneZero-samples threshold ds = NoneZero-map ds (cycles threshold ds)
 pub averaged-positive : (threshold average sample : ℕ) → threshold ≤ 65536 → 1 ≤ average → 1 ≤ sample → 1 ≤ averaged threshold average sample
 averaged-positive threshold average sample t a s = grind arith
 
-fold-averaged-positive : (threshold : ℕ) → threshold ≤ 65536 → (average : ℕ) (later : List ℕ) → 1 ≤ average → NoneZero later → 1 ≤ fold (averaged threshold) average later
+fold-averaged-positive : (threshold : ℕ) → threshold ≤ 65536 → (average : ℕ) (later : List ℕ) → 1 ≤ average → NoneZero later
+    → 1 ≤ fold (averaged threshold) average later
 fold-averaged-positive threshold t average [] a none = a
 fold-averaged-positive threshold t average (sample ∷ later) a none =
     fold-averaged-positive threshold t (averaged threshold average sample) later (averaged-positive threshold average sample t a none.0) none.1
@@ -51,6 +52,7 @@ map-nil ds (cycle ∷ rest) e = absurd (cc)
 pub average-zero : (threshold : ℕ) (ds : List Departure) → threshold ≤ 65536 → (average threshold ds ≡ 0) ↔ (cycles threshold ds ≡ [])
 unfolding average samples
 average-zero threshold ds t = (
-  λ e. map-nil ds (cycles threshold ds) (average_of-zero threshold t (map (sample_of ds) (cycles threshold ds)) (NoneZero-map ds (cycles threshold ds)) e),
+  λ e. map-nil ds (cycles threshold ds) (average_of-zero threshold t (map (sample_of ds) (cycles threshold ds))
+      (NoneZero-map ds (cycles threshold ds)) e),
   λ e. rw e refl,
 )

@@ -97,7 +97,9 @@ none-begun = refl
 abbrev at_two : Estimate
 at_two = record { average = 12_000_000; begun = Some (record { start = 1000; count = 16_000 }) }
 
-steps : (after_departure 16384 at_two (departure 383 0 5000) ≡ record { average = 12_000_000; begun = Some (record { start = 1000; count = 16_383 }) })
-    × (after_departure 16384 at_two (departure 384 16384 20_001_000) ≡ record { average = 14_000_000; begun = Some (record { start = 20_001_000; count = 0 }) })
+steps : (after_departure 16384 at_two (departure 383 0 5000)
+    ≡ record { average = 12_000_000; begun = Some (record { start = 1000; count = 16_383 }) })
+    × (after_departure 16384 at_two (departure 384 16384 20_001_000)
+    ≡ record { average = 14_000_000; begun = Some (record { start = 20_001_000; count = 0 }) })
     × (after_departure 16384 at_two (departure 384 16383 20_001_000) ≡ record { average = 14_000_000; begun = None })
 steps = (refl, refl, refl)

@@ -1,5 +1,6 @@
 -- How each definition changes when one more departure joins the list at its end.
-use Rattle.std.proofs.Common.{◌≡◌, ℕ, zero, suc, ◌+◌, ◌-◌, ◌<◌, ◌≤◌, Bool, true, false, cond, List, [], ◌∷◌, ◌++◌, length, take, drop, Option, Some, None, refl, ap, ◌∙◌, arith, length-drop, map}
+use Rattle.std.proofs.Common.{◌≡◌, ℕ, zero, suc, ◌+◌, ◌-◌, ◌<◌, ◌≤◌, Bool, true, false, cond, List, [], ◌∷◌, ◌++◌, length, take, drop, Option, Some}
+use Rattle.std.proofs.Common.{None, refl, ap, ◌∙◌, arith, length-drop, map}
 use Rattle.std.specs.Prelude.{find, option_map, option_and_then, nat_le, IfSome}
 use Rattle.std.specs.List.{range_with_len}
 use Rattle.std.specs.Option.{option_map_or, option_or}
@@ -16,7 +17,8 @@ range-push : (a n : ℕ) → range_with_len a (suc n) ≡ range_with_len a n ++ 
 range-push a zero = grind arith
 range-push a (suc n) = let e : (a + 1) + n ≡ a + suc n = omega arith in rw (← e) (ap (λ xs. a ∷ xs) (range-push (a + 1) n))
 
-find-range-push : (p : ℕ → Bool) (a n : ℕ) → find p (range_with_len a (suc n)) ≡ option_or (find p (range_with_len a n)) (cond (p (a + n)) (Some (a + n)) None)
+find-range-push : (p : ℕ → Bool) (a n : ℕ) → find p (range_with_len a (suc n))
+    ≡ option_or (find p (range_with_len a n)) (cond (p (a + n)) (Some (a + n)) None)
 find-range-push p a n = ap (find p) (range-push a n) ∙ find-append p (range_with_len a n) ((a + n) ∷ [])
 
 -- a search depends on the tests in its range alone
@@ -24,14 +26,16 @@ find-range-same : (p q : ℕ → Bool) (a n : ℕ) → ((k : ℕ) → a ≤ k �
 find-range-same p q a zero same = refl
 find-range-same p q a (suc n) same =
     let here : p a ≡ q a = same a (omega arith) (omega arith) in
-    let rest : find p (range_with_len (a + 1) n) ≡ find q (range_with_len (a + 1) n) = find-range-same p q (a + 1) n (λ k l h. same k (omega arith) (omega arith)) in
+    let rest : find p (range_with_len (a + 1) n) ≡ find q (range_with_len (a + 1) n) = find-range-same p q (a + 1) n
+    (λ k l h. same k (omega arith) (omega arith)) in
     rw (here, rest) refl
 
 -- a number that is found lies in the range
 Within : ℕ → ℕ → ℕ → Type 0
 Within a b k = (a ≤ k) × (k < b)
 
-found_here : (b : Bool) (a e : ℕ) (o : Option ℕ) → a < e → IfSome o (λ k. (a ≤ k) × (k < e)) → IfSome (cond {A = Option ℕ} b (Some a) o) (λ k. (a ≤ k) × (k < e))
+found_here : (b : Bool) (a e : ℕ) (o : Option ℕ) → a < e → IfSome o (λ k. (a ≤ k) × (k < e))
+    → IfSome (cond {A = Option ℕ} b (Some a) o) (λ k. (a ≤ k) × (k < e))
 found_here true a e o l h = (omega arith, l)
 found_here false a e o l h = h
 
@@ -92,7 +96,8 @@ module _ (threshold : ℕ) (ds : List Departure) (d : Departure) where
       let here : nat_le threshold (departure_at (ds ++ d ∷ []) (length ds)).bytes_left ≡ nat_le threshold d.bytes_left
       = ap (λ x. nat_le threshold x.bytes_left) departure_at-push_new in
       rw (n, ← here)
-      (first_position-push (λ i. nat_le threshold (departure_at (ds ++ d ∷ []) i).bytes_left) (λ i. nat_le threshold (departure_at ds i).bytes_left) from (length ds) l
+      (first_position-push (λ i. nat_le threshold (departure_at (ds ++ d ∷ []) i).bytes_left) (λ i. nat_le threshold (departure_at ds i).bytes_left)
+      from (length ds) l
       (λ k a b. ap (λ x. nat_le threshold x.bytes_left) (departure_at-push_old k b)))
 
   first_closing-push : (i : ℕ) → i < length ds → first_closing threshold (ds ++ d ∷ []) i
@@ -102,7 +107,8 @@ module _ (threshold : ℕ) (ds : List Departure) (d : Departure) where
       let n = length_push ds d in
       let here = bytes_after_to-push_new i l in
       rw (n, ← here)
-      (first_position-push (λ j. nat_le threshold (bytes_after_to (ds ++ d ∷ []) i j)) (λ j. nat_le threshold (bytes_after_to ds i j)) (i + 1) (length ds) (omega arith)
+      (first_position-push (λ j. nat_le threshold (bytes_after_to (ds ++ d ∷ []) i j)) (λ j. nat_le threshold (bytes_after_to ds i j)) (i + 1)
+      (length ds) (omega arith)
       (λ k a b. ap (nat_le threshold) (bytes_after_to-push_old i k (omega arith) b)))
 
   -- nothing opens at the end of the list, and nothing closes what its last departure opens
@@ -134,7 +140,9 @@ module _ (threshold : ℕ) (ds : List Departure) (d : Departure) where
   last_opens most false e = rw e refl
 
   cycles_from-last : (most : ℕ) → cycles_from threshold (ds ++ d ∷ []) (suc most) (length ds) ≡ []
-  cycles_from-last most = last_opens most (nat_le threshold d.bytes_left) (first_opening-push (length ds) (omega arith) ∙ ap (λ o. option_or o (cond (nat_le threshold d.bytes_left) (Some (length ds)) None)) first_opening-end)
+  cycles_from-last most = last_opens most (nat_le threshold d.bytes_left)
+      (first_opening-push (length ds) (omega arith) ∙ ap (λ o. option_or o (cond (nat_le threshold d.bytes_left) (Some (length ds)) None))
+      first_opening-end)
 
   none_begun : (most from : ℕ) (b : Bool) → first_opening threshold (ds ++ d ∷ []) from ≡ cond b (Some (length ds)) None
       → cycles_from threshold (ds ++ d ∷ []) (suc most) from ≡ []
@@ -165,7 +173,8 @@ module _ (threshold : ℕ) (ds : List Departure) (d : Departure) where
   none_cycles zero from e = refl
   none_cycles (suc most) from e = rw e refl
 
-  open_cycles : (most from i : ℕ) → first_opening threshold ds from ≡ Some i → first_closing threshold ds i ≡ None → cycles_from threshold ds most from ≡ []
+  open_cycles : (most from i : ℕ) → first_opening threshold ds from ≡ Some i → first_closing threshold ds i ≡ None
+      → cycles_from threshold ds most from ≡ []
   unfolding cycles_from first_cycle
   open_cycles zero from i e f = refl
   open_cycles (suc most) from i e f = rw (e, f) refl
@@ -220,7 +229,8 @@ module _ (threshold : ℕ) (ds : List Departure) (d : Departure) where
 
   within_at_closing : (most i : ℕ) (c : Option ℕ) → i < length ds → IfSome c (λ j. (i + 1 ≤ j) × (j < length ds))
       → ((j : ℕ) → j < length ds → AllWithin (cycles_from threshold ds most j))
-      → AllWithin (option_map_or (λ cycle. cycle ∷ cycles_from threshold ds most cycle.closed) (option_map (λ j. record { opened = i; closed = j }) c) [])
+      → AllWithin (option_map_or (λ cycle. cycle ∷ cycles_from threshold ds most cycle.closed)
+      (option_map (λ j. record { opened = i; closed = j }) c) [])
   within_at_closing most i None l w rest = tt
   within_at_closing most i (Some j) l w rest = (l, w.1, rest j w.1)
 
@@ -272,16 +282,19 @@ module _ (threshold : ℕ) (ds : List Departure) (d : Departure) where
   opens_at_end = first_opening-push (length ds) (omega arith) ∙ ap (λ o. option_or o opens) first_opening-end
 
   after_closing : (from i : ℕ) (cs : List Cycle) (b : Bool) → first_opening threshold (ds ++ d ∷ []) (last_closed from cs) ≡ Some i
-      → first_opening threshold (ds ++ d ∷ []) (last_closed from (cs ++ cond b (record { opened = i; closed = length ds } ∷ []) [])) ≡ cond b opens (Some i)
+      → first_opening threshold (ds ++ d ∷ []) (last_closed from (cs ++ cond b (record { opened = i; closed = length ds } ∷ []) []))
+      ≡ cond b opens (Some i)
   after_closing from i cs true e = rw last_closed-push opens_at_end
   after_closing from i cs false e = rw append-nil e
 
-  last_closed_at : (from : ℕ) (o : Option ℕ) (cs : List Cycle) → last_closed from cs ≤ length ds → first_opening threshold ds (last_closed from cs) ≡ o
+  last_closed_at : (from : ℕ) (o : Option ℕ) (cs : List Cycle) → last_closed from cs ≤ length ds
+      → first_opening threshold ds (last_closed from cs) ≡ o
       → first_opening threshold (ds ++ d ∷ []) (last_closed from (cs ++ added o)) ≡ begins o
   last_closed_at from None cs l e =
       rw append-nil (first_opening-push (last_closed from cs) l ∙ ap (λ o. option_or o opens) e)
   last_closed_at from (Some i) cs l e =
-      after_closing from i cs (nat_le threshold (bytes_after ds i + d.size)) (first_opening-push (last_closed from cs) l ∙ ap (λ o. option_or o opens) e)
+      after_closing from i cs (nat_le threshold (bytes_after ds i + d.size))
+      (first_opening-push (last_closed from cs) l ∙ ap (λ o. option_or o opens) e)
 
   pub begun-push : begun threshold (ds ++ d ∷ []) ≡ begins (begun threshold ds)
   unfolding begun
@@ -317,7 +330,8 @@ module _ (threshold : ℕ) (ds : List Departure) (d : Departure) where
 
   unclosed_at_opening : (most from : ℕ) (o : Option ℕ) → length ds ≤ from + most → first_opening threshold ds from ≡ o
       → IfSome o (λ i. (from ≤ i) × (i < length ds))
-      → ((j fewer : ℕ) → most ≡ suc fewer → from + 1 ≤ j → j < length ds → Unclosed (first_opening threshold ds (last_closed j (cycles_from threshold ds fewer j))))
+      → ((j fewer : ℕ) → most ≡ suc fewer → from + 1 ≤ j → j < length ds
+      → Unclosed (first_opening threshold ds (last_closed j (cycles_from threshold ds fewer j))))
       → Unclosed (first_opening threshold ds (last_closed from (cycles_from threshold ds most from)))
   unclosed_at_opening most from None room a w rest = rw (none_cycles most from a, a) tt
   unclosed_at_opening zero from (Some i) room a w rest = absurd (omega arith)

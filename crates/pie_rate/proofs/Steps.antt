@@ -1,5 +1,6 @@
 -- What an estimate shows after one more departure, for each way through the code.
-use Rattle.std.proofs.Common.{◌≡◌, ℕ, ◌+◌, ◌-◌, ◌^◌, ◌<◌, ◌≤◌, ◌==◌, Bool, true, false, cond, List, [], ◌∷◌, ◌++◌, length, Option, Some, None, refl, sym, ap, ◌∙◌, arith, max, map}
+use Rattle.std.proofs.Common.{◌≡◌, ℕ, ◌+◌, ◌-◌, ◌^◌, ◌<◌, ◌≤◌, ◌==◌, Bool, true, false, cond, List, [], ◌∷◌, ◌++◌, length, Option, Some, None, refl}
+use Rattle.std.proofs.Common.{sym, ap, ◌∙◌, arith, max, map}
 use Rattle.std.specs.Prelude.{option_map, nat_le, nat_lt, if◌then◌else◌, IfSome}
 use Rattle.std.proofs.lemmas.List.{append-nil, drop_all, length_push}
 use Rattle.std.proofs.lemmas.Bool.{le-leb, lt-leb}
@@ -10,7 +11,8 @@ use Rattle.std.specs.Option.{ForSome}
 use Rattle.pie_rate.specs.Average.{averaged, sample_of, samples, average_of, average, with_sample}
 use Rattle.pie_rate.specs.Estimate.{Begun, Estimate, IsWithin, Shows, begun_at}
 use Rattle.pie_rate.specs.Step.{after_departure, opened_by, step_from}
-use Rattle.pie_rate.proofs.Laws.{added, opens, begins, begun-push, begun-within, samples-push, departure_at-push_old, departure_at-push_new, bytes_after-push}
+use Rattle.pie_rate.proofs.Laws.{added, opens, begins, begun-push, begun-within, samples-push, departure_at-push_old, departure_at-push_new}
+use Rattle.pie_rate.proofs.Laws.{bytes_after-push}
 use Rattle.pie_rate.proofs.Averages.{NoneZero-samples, average_of-push}
 
 module _ (threshold : ℕ) (ds : List Departure) (d : Departure) where
@@ -23,16 +25,19 @@ module _ (threshold : ℕ) (ds : List Departure) (d : Departure) where
       let past = drop_all (length ds + 1) (ds ++ d ∷ []) (omega (arith, length_push ds d)) in
       rw (departure_at-push_new threshold ds d, past) refl
 
-  map_opens : (b : Bool) → option_map (begun_at (ds ++ d ∷ [])) (cond b (Some (length ds)) None) ≡ cond b (Some (record { start = d.moment; count = 0 })) None
+  map_opens : (b : Bool) → option_map (begun_at (ds ++ d ∷ [])) (cond b (Some (length ds)) None)
+      ≡ cond b (Some (record { start = d.moment; count = 0 })) None
   map_opens true = ap Some begun_at-new
   map_opens false = refl
 
   average-kept : (o : Option ℕ) → begun threshold ds ≡ o → added threshold ds d o ≡ [] → average threshold (ds ++ d ∷ []) ≡ average threshold ds
   unfolding average
   average-kept o e a =
-      ap (average_of threshold) (samples-push threshold ds d ∙ ap (λ cs. samples threshold ds ++ map (sample_of (ds ++ d ∷ [])) cs) (ap (added threshold ds d) e ∙ a) ∙ append-nil (samples threshold ds))
+      ap (average_of threshold) (samples-push threshold ds d ∙ ap (λ cs. samples threshold ds ++ map (sample_of (ds ++ d ∷ [])) cs)
+      (ap (added threshold ds d) e ∙ a) ∙ append-nil (samples threshold ds))
 
-  begun_at-push : (i : ℕ) → i < length ds → begun_at (ds ++ d ∷ []) i ≡ record { start = (departure_at ds i).moment; count = bytes_after ds i + d.size }
+  begun_at-push : (i : ℕ) → i < length ds → begun_at (ds ++ d ∷ []) i
+      ≡ record { start = (departure_at ds i).moment; count = bytes_after ds i + d.size }
   begun_at-push i h = rw (departure_at-push_old threshold ds d i h, bytes_after-push threshold ds d i h) refl
 
   -- no cycle was begun
@@ -49,7 +54,8 @@ module _ (threshold : ℕ) (ds : List Departure) (d : Departure) where
   idle e n s = idle_by (begun threshold ds) e refl (sym s.begun ∙ n) s
 
   -- a cycle was begun, and counts the departure without closing
-  counts_by : (o : Option ℕ) (e : Estimate) (cycle : Begun) → begun threshold ds ≡ o → IfSome o (λ i. i < length ds) → option_map (begun_at ds) o ≡ Some cycle
+  counts_by : (o : Option ℕ) (e : Estimate) (cycle : Begun) → begun threshold ds ≡ o → IfSome o (λ i. i < length ds)
+      → option_map (begun_at ds) o ≡ Some cycle
       → cycle.count + d.size < threshold → Shows threshold ds e
       → Shows threshold (ds ++ d ∷ []) (record { average = e.average; begun = Some (record { start = cycle.start; count = cycle.count + d.size }) })
   counts_by None e cycle b w n less s = absurd (cc)
@@ -59,7 +65,8 @@ module _ (threshold : ℕ) (ds : List Departure) (d : Departure) where
       record {
         average = s.average ∙ sym (average-kept (Some i) b (rw short refl));
         begun =
-            let after : begun threshold (ds ++ d ∷ []) ≡ Some i = begun-push threshold ds d ∙ ap (begins threshold ds d) b ∙ ap (λ t. cond t (opens threshold ds d) (Some i)) short in
+            let after : begun threshold (ds ++ d ∷ []) ≡ Some i = begun-push threshold ds d ∙ ap (begins threshold ds d) b
+            ∙ ap (λ t. cond t (opens threshold ds d) (Some i)) short in
             rw (after, ← same) (ap Some (sym (begun_at-push i w)));
       }
 
@@ -74,12 +81,15 @@ module _ (threshold : ℕ) (ds : List Departure) (d : Departure) where
   average-closed i t w b full =
       let cycle : List Cycle = record { opened = i; closed = length ds } ∷ [] in
       let gained : added threshold ds d (begun threshold ds) ≡ record { opened = i; closed = length ds } ∷ [] = rw (b, full) refl in
-      let sample : map (sample_of (ds ++ d ∷ [])) (record { opened = i; closed = length ds } ∷ []) ≡ max 1 (d.moment - (departure_at ds i).moment) ∷ []
+      let sample : map (sample_of (ds ++ d ∷ [])) (record { opened = i; closed = length ds } ∷ [])
+      ≡ max 1 (d.moment - (departure_at ds i).moment) ∷ []
       = rw (departure_at-push_new threshold ds d, departure_at-push_old threshold ds d i w) refl in
-      ap (average_of threshold) (samples-push threshold ds d ∙ ap (λ cs. samples threshold ds ++ map (sample_of (ds ++ d ∷ [])) cs) gained ∙ ap (λ xs. samples threshold ds ++ xs) sample)
+      ap (average_of threshold) (samples-push threshold ds d ∙ ap (λ cs. samples threshold ds ++ map (sample_of (ds ++ d ∷ [])) cs) gained
+      ∙ ap (λ xs. samples threshold ds ++ xs) sample)
       ∙ average_of-push threshold t (samples threshold ds) (max 1 (d.moment - (departure_at ds i).moment)) (NoneZero-samples threshold ds)
 
-  closes_by : (o : Option ℕ) (e : Estimate) (cycle : Begun) → threshold ≤ 65536 → begun threshold ds ≡ o → IfSome o (λ i. i < length ds) → option_map (begun_at ds) o ≡ Some cycle
+  closes_by : (o : Option ℕ) (e : Estimate) (cycle : Begun) → threshold ≤ 65536 → begun threshold ds ≡ o → IfSome o (λ i. i < length ds)
+      → option_map (begun_at ds) o ≡ Some cycle
       → threshold ≤ cycle.count + d.size → Shows threshold ds e
       → Shows threshold (ds ++ d ∷ []) (record { average = with_sample threshold e.average (max 1 (d.moment - cycle.start)); begun = opened })
   closes_by None e cycle t b w n full s = absurd (cc)
@@ -90,7 +100,8 @@ module _ (threshold : ℕ) (ds : List Departure) (d : Departure) where
       record {
         average = rw (s.average, ← start) (sym (average-closed i t w b closed));
         begun = sym (map_opens (nat_le threshold d.bytes_left))
-            ∙ ap (option_map (begun_at (ds ++ d ∷ []))) (sym (begun-push threshold ds d ∙ ap (begins threshold ds d) b ∙ ap (λ t. cond t (opens threshold ds d) (Some i)) closed));
+            ∙ ap (option_map (begun_at (ds ++ d ∷ []))) (sym (begun-push threshold ds d ∙ ap (begins threshold ds d) b
+            ∙ ap (λ t. cond t (opens threshold ds d) (Some i)) closed));
       }
 
   pub closes : (e : Estimate) (cycle : Begun) → threshold ≤ 65536 → e.begun ≡ Some cycle → threshold ≤ cycle.count + d.size → Shows threshold ds e
@@ -139,7 +150,8 @@ module _ (threshold : ℕ) (d : Departure) (t : threshold ≤ 65536) (m : d.mome
   abbrev first : Begun
   first = record { start = d.moment; count = 0 }
 
-  opened_by-within : (b : Bool) → ForSome (if b then None else Some (record { start = d.moment; count = 0 })) (λ (cycle : Begun). (cycle.start < 2 ^ 60) × (cycle.count < 65536))
+  opened_by-within : (b : Bool) → ForSome (if b then None else Some (record { start = d.moment; count = 0 }))
+      (λ (cycle : Begun). (cycle.start < 2 ^ 60) × (cycle.count < 65536))
   opened_by-within true = λ x e. absurd (cc)
   opened_by-within false = λ x e. let same : first ≡ x = cc in rw (← same) (m, omega arith)
 
@@ -154,8 +166,11 @@ module _ (threshold : ℕ) (d : Departure) (t : threshold ≤ 65536) (m : d.mome
       let less : cycle.count + d.size < threshold = grind (arith, nat_tests) in
       (a, λ x e. let same : counted cycle ≡ x = cc in rw (← same) (s, omega arith))
   counted-within before cycle false e a s =
-      let sample : max 1 (d.moment - cycle.start) < 2 ^ 60 = grind arith in
-      (with_sample-within threshold before (max 1 (d.moment - cycle.start)) (before == 0) refl t a sample, opened_by-within (nat_lt d.bytes_left threshold))
+      let sample : max 1 (d.moment - cycle.start) < 2 ^ 60 = grind arith in (
+        with_sample-within threshold before (max 1 (d.moment - cycle.start)) (before == 0) refl t a sample,
+        opened_by-within
+            (nat_lt d.bytes_left threshold),
+      )
 
   within-from : (before : ℕ) (o : Option Begun) → IsWithin (record { average = before; begun = o }) → IsWithin (step_from threshold before d o)
   within-from before None w = (w.0, opened_by-within (nat_lt d.bytes_left threshold))

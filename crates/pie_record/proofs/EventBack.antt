@@ -8,7 +8,8 @@ use Rattle.pie_queue.specs.declared.ecn.Ecn.TheVariants as ecn
 use Rattle.pie_queue.specs.declared.packet.Packet.{Packet}
 use Rattle.pie_book.specs.Deed.{fits}
 use Rattle.pie_book.specs.declared.command.Answer.{Answer}
-use Rattle.pie_book.specs.declared.command.Answer.TheVariants.{Enqueued, Marked, DroppedEarly, DroppedBytes, DroppedPackets, Empty, Left, Updated, Done}
+use Rattle.pie_book.specs.declared.command.Answer.TheVariants.{Enqueued, Marked, DroppedEarly, DroppedBytes, DroppedPackets, Empty, Left, Updated}
+use Rattle.pie_book.specs.declared.command.Answer.TheVariants.{Done}
 use Rattle.pie_book.specs.declared.command.Command.{Command}
 use Rattle.pie_book.specs.declared.command.Command.TheVariants.{Arrive, Depart, Update, Reset, SetParams}
 use Rattle.pie_record.specs.declared.version.Version.{Version}
@@ -41,12 +42,23 @@ back_ecn ecn.Ce = refl
 
 -- ---- events
 
-line-arrive : (version : Version) (caller moment : ℕ) (packet : Packet) (word : ℕ) (answer : Answer) (verdict : List ℕ) → caller ≤ most_u16 → CommandFits (Arrive moment packet word)
+line-arrive : (version : Version) (caller moment : ℕ) (packet : Packet) (word : ℕ) (answer : Answer) (verdict : List ℕ) → caller ≤ most_u16
+    → CommandFits (Arrive moment packet word)
     → answer_fields answer ≡ verdict ∷ [] → verdict_of verdict ≡ Some answer
-    → line_of version (command_fields caller (Arrive moment packet word) ++ answer_fields answer) ≡ Ok (made caller (Arrive moment packet word) answer)
+    → line_of version (command_fields caller (Arrive moment packet word) ++ answer_fields answer)
+    ≡ Ok (made caller (Arrive moment packet word) answer)
 unfolding line_of arrival_line call_at packet_at field_at command_fields
 line-arrive version caller moment packet word answer verdict called fits said is =
-    rw said (rw (back_u16 caller called, back_u64 moment fits.0, back_u64 packet.tag fits.1.tag, back_u32 packet.size fits.1.size, back_ecn packet.ecn, back_u64 word fits.2, is) refl)
+    rw said (rw (
+      back_u16 caller called,
+      back_u64 moment fits.0,
+      back_u64 packet.tag fits.1.tag,
+      back_u32 packet.size fits.1.size,
+      back_ecn
+          packet.ecn,
+      back_u64 word fits.2,
+      is,
+    ) refl)
 
 line-left : (version : Version) (caller moment : ℕ) (packet : Packet) → caller ≤ most_u16 → moment < 2 ^ 64 → PacketFits packet
     → line_of version (command_fields caller (Depart moment) ++ answer_fields (Left packet)) ≡ Ok (made caller (Depart moment) (Left packet))
@@ -60,7 +72,8 @@ unfolding line_of departure_line call_at field_at command_fields answer_fields
 line-empty version caller moment called fits = rw (back_u16 caller called, back_u64 moment fits) refl
 
 line-updated : (version : Version) (caller moment delay prob burst : ℕ) → caller ≤ most_u16 → moment < 2 ^ 64 → AnswerFits (Updated delay prob burst)
-    → line_of version (command_fields caller (Update moment) ++ answer_fields (Updated delay prob burst)) ≡ Ok (made caller (Update moment) (Updated delay prob burst))
+    → line_of version (command_fields caller (Update moment) ++ answer_fields (Updated delay prob burst))
+    ≡ Ok (made caller (Update moment) (Updated delay prob burst))
 unfolding line_of update_line call_at field_at command_fields answer_fields
 line-updated version caller moment delay prob burst called fits answer =
     rw (back_u16 caller called, back_u64 moment fits, back_u64 delay answer.0, back_u64 prob answer.1, back_u64 burst answer.2) refl
@@ -90,17 +103,24 @@ line-params version caller moment params called fits set =
     ) refl
 
 -- the record of a command with its answer
-pub line-back : (version : Version) (caller : ℕ) (command : Command) (answer : Answer) → fits command answer ≡ true → caller ≤ most_u16 → CommandFits command → AnswerFits answer
+pub line-back : (version : Version) (caller : ℕ) (command : Command) (answer : Answer) → fits command answer ≡ true → caller ≤ most_u16
+    → CommandFits command → AnswerFits answer
     → line_of version (command_fields caller command ++ answer_fields answer) ≡ Ok (made caller command answer)
 unfolding verdict_of answer_fields
-line-back version caller (Arrive moment packet word) Enqueued kind called fits said = line-arrive version caller moment packet word Enqueued (codes "enqueue") called fits refl refl
-line-back version caller (Arrive moment packet word) Marked kind called fits said = line-arrive version caller moment packet word Marked (codes "mark") called fits refl refl
-line-back version caller (Arrive moment packet word) DroppedEarly kind called fits said = line-arrive version caller moment packet word DroppedEarly (codes "early") called fits refl refl
-line-back version caller (Arrive moment packet word) DroppedBytes kind called fits said = line-arrive version caller moment packet word DroppedBytes (codes "bytes") called fits refl refl
-line-back version caller (Arrive moment packet word) DroppedPackets kind called fits said = line-arrive version caller moment packet word DroppedPackets (codes "packets") called fits refl refl
+line-back version caller (Arrive moment packet word) Enqueued kind called fits said = line-arrive version caller moment packet word Enqueued
+    (codes "enqueue") called fits refl refl
+line-back version caller (Arrive moment packet word) Marked kind called fits said = line-arrive version caller moment packet word Marked
+    (codes "mark") called fits refl refl
+line-back version caller (Arrive moment packet word) DroppedEarly kind called fits said = line-arrive version caller moment packet word DroppedEarly
+    (codes "early") called fits refl refl
+line-back version caller (Arrive moment packet word) DroppedBytes kind called fits said = line-arrive version caller moment packet word DroppedBytes
+    (codes "bytes") called fits refl refl
+line-back version caller (Arrive moment packet word) DroppedPackets kind called fits said = line-arrive version caller moment packet word
+    DroppedPackets (codes "packets") called fits refl refl
 line-back version caller (Depart moment) Empty kind called fits said = line-empty version caller moment called fits
 line-back version caller (Depart moment) (Left packet) kind called fits said = line-left version caller moment packet called fits said
-line-back version caller (Update moment) (Updated delay prob burst) kind called fits said = line-updated version caller moment delay prob burst called fits said
+line-back version caller (Update moment) (Updated delay prob burst) kind called fits said = line-updated version caller moment delay prob burst
+    called fits said
 line-back version caller (Reset moment) Done kind called fits said = line-reset version caller moment called fits
 line-back version caller (SetParams moment params) Done kind called fits said = line-params version caller moment params called fits.0 fits.1
 line-back version caller command answer kind called fits said = cc

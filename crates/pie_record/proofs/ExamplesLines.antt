@@ -11,7 +11,8 @@ use Rattle.pie_queue.specs.declared.ecn.Ecn.{Ecn}
 use Rattle.pie_queue.specs.declared.ecn.Ecn.TheVariants as ecn
 use Rattle.pie_queue.specs.declared.packet.Packet.{Packet}
 use Rattle.pie_book.specs.declared.command.Answer.{Answer}
-use Rattle.pie_book.specs.declared.command.Answer.TheVariants.{Enqueued, Marked, DroppedEarly, DroppedBytes, DroppedPackets, Empty, Left, Updated, Done}
+use Rattle.pie_book.specs.declared.command.Answer.TheVariants.{Enqueued, Marked, DroppedEarly, DroppedBytes, DroppedPackets, Empty, Left, Updated}
+use Rattle.pie_book.specs.declared.command.Answer.TheVariants.{Done}
 use Rattle.pie_book.specs.declared.command.Command.{Command}
 use Rattle.pie_book.specs.declared.command.Command.TheVariants.{Arrive, Depart, Update, Reset, SetParams}
 use Rattle.pie_book.specs.declared.command.Event.{Event}
@@ -31,7 +32,8 @@ use Rattle.pie_record.specs.Record.{ecn_of, params_at, call_at}
 use Rattle.pie_record.specs.Answer.{answer_fields}
 use Rattle.pie_record.specs.Opening.{opening_of}
 use Rattle.pie_record.specs.Text.{rows_text, records_of}
-use Rattle.pie_record.specs.Line.{arrival_line, departure_line, line_of, note_line, numbers_at, packet_at, params_line, registers_at, reset_line, shown_line, update_line, verdict_of}
+use Rattle.pie_record.specs.Line.{arrival_line, departure_line, line_of, note_line, numbers_at, packet_at, params_line, registers_at, reset_line}
+use Rattle.pie_record.specs.Line.{shown_line, update_line, verdict_of}
 use Rattle.pie_record.specs.Lines.{after_opening, fault_from, history_lines, history_opening, history_version, later_fault, lines_from, told_by}
 use Rattle.pie_record.specs.Write.{command_fields, opening_row, written_rows}
 
@@ -54,7 +56,12 @@ abbrev arrival : Answer → Event
 arrival answer = event 1 (Arrive 10 (packet ecn.Ect0) 0) answer
 
 abbrev opened_as : Mode → RawParams → Opening
-opened_as mode params = record { moment = 0; limits = record { packets = 4; tail = 16; events = 100 }; params = params; choices = record { mode = mode; profile = One } }
+opened_as mode params = record {
+  moment = 0;
+  limits = record { packets = 4; tail = 16; events = 100 };
+  params = params;
+  choices = record { mode = mode; profile = One };
+}
 
 abbrev one_arrival : List ℕ
 one_arrival = codes "open,0,4,16,100\narrive,1,10,7,1500,ect0,0,enqueue\ndepart,2,25,left,7,1500,ect0\ndepart,2,30,empty\n"
@@ -63,8 +70,10 @@ one_arrival = codes "open,0,4,16,100\narrive,1,10,7,1500,ect0,0,enqueue\ndepart,
 one_arrival-lines : (history_opening (records_of one_arrival) ≡ Ok (opened_as Bounded default_profile))
     × (lines_of one_arrival ≡ Made (arrival Enqueued) ∷ Made (event 2 (Depart 25) (Left (packet ecn.Ect0))) ∷ Made (event 2 (Depart 30) Empty) ∷ [])
     × (fault_in one_arrival ≡ None)
-unfolding records_from next_record strip_bom field_at digits fields_text is_blank number ecn_of params_at first_kind version_of profile_of mode_of limits_at draft_at version_one_fields version_two_fields
-    opening_of rows_text answer_fields verdict_of call_at packet_at arrival_line departure_line update_line reset_line params_line numbers_at registers_at
+unfolding records_from next_record strip_bom field_at digits fields_text is_blank number ecn_of params_at first_kind version_of profile_of mode_of
+    limits_at draft_at version_one_fields version_two_fields
+    opening_of rows_text answer_fields verdict_of call_at packet_at arrival_line departure_line update_line reset_line params_line numbers_at
+    registers_at
     note_line shown_line line_of told_by lines_from fault_from history_opening history_version after_opening opening_row command_fields
 one_arrival-lines = (refl, refl, refl)
 
@@ -84,9 +93,12 @@ kinds-lines : lines_of (
     ++ codes "shown,1,2,3,4,5,6,7,8,9,10,1\n"
     ++ codes "tallied,1,2,3,4,5,6,7,8,9,10,11,12,13,14,340282366920938463463374607431768211455\n")
     ≡ Made (event 3 (Update 4) (Updated 5 6 7)) ∷ Made (event 1 (Reset 2) Done) ∷ Made (event 1 (SetParams 2 default_profile) Done) ∷ Unmakeable
-    ∷ Made (arrival Marked) ∷ Made (arrival DroppedEarly) ∷ Made (arrival DroppedBytes) ∷ Made (arrival DroppedPackets) ∷ Note ∷ Note ∷ Note ∷ Note ∷ []
-unfolding records_from next_record strip_bom field_at digits fields_text is_blank number ecn_of params_at first_kind version_of profile_of mode_of limits_at draft_at version_one_fields version_two_fields
-    opening_of rows_text answer_fields verdict_of call_at packet_at arrival_line departure_line update_line reset_line params_line numbers_at registers_at
+    ∷ Made (arrival Marked) ∷ Made (arrival DroppedEarly) ∷ Made (arrival DroppedBytes) ∷ Made (arrival DroppedPackets) ∷ Note ∷ Note ∷ Note ∷ Note
+    ∷ []
+unfolding records_from next_record strip_bom field_at digits fields_text is_blank number ecn_of params_at first_kind version_of profile_of mode_of
+    limits_at draft_at version_one_fields version_two_fields
+    opening_of rows_text answer_fields verdict_of call_at packet_at arrival_line departure_line update_line reset_line params_line numbers_at
+    registers_at
     note_line shown_line line_of told_by lines_from fault_from history_opening history_version after_opening opening_row command_fields
 kinds-lines = refl
 
@@ -107,8 +119,10 @@ faults-in : map (λ last. fault_in (codes "open,0,4,16,100\ndepart,1,1,empty\n" 
     ∷ [])
     ≡ Some (fault.Kind 3) ∷ Some (fault.Kind 3) ∷ Some (fault.Fields 3) ∷ Some (fault.Word 3) ∷ Some (fault.Word 3) ∷ Some (fault.Word 3)
     ∷ Some (fault.Number 3) ∷ Some (fault.Word 3) ∷ Some (fault.Word 3) ∷ Some (fault.Number 3) ∷ Some (fault.Number 3) ∷ Some (fault.Number 3) ∷ []
-unfolding records_from next_record strip_bom field_at digits fields_text is_blank number ecn_of params_at first_kind version_of profile_of mode_of limits_at draft_at version_one_fields version_two_fields
-    opening_of rows_text answer_fields verdict_of call_at packet_at arrival_line departure_line update_line reset_line params_line numbers_at registers_at
+unfolding records_from next_record strip_bom field_at digits fields_text is_blank number ecn_of params_at first_kind version_of profile_of mode_of
+    limits_at draft_at version_one_fields version_two_fields
+    opening_of rows_text answer_fields verdict_of call_at packet_at arrival_line departure_line update_line reset_line params_line numbers_at
+    registers_at
     note_line shown_line line_of told_by lines_from fault_from history_opening history_version after_opening opening_row command_fields
 faults-in = refl
 
@@ -118,8 +132,10 @@ faulty-lines : (lines_of (codes "open,0,4,16,100\nrefused,1,1\ndep\nrefused,1,1\
     × (fault_from version.One 3 2 (records_of (codes "refused,1,1\nrefused,1,1\ndep\n")) ≡ Some fault.TooLong)
     × (fault_from version.One 4 2 (records_of (codes "refused,1,1\nrefused,1,1\ndep\n")) ≡ Some (fault.Kind 4))
     × (history_opening [] ≡ Err fault.NoOpen)
-unfolding records_from next_record strip_bom field_at digits fields_text is_blank number ecn_of params_at first_kind version_of profile_of mode_of limits_at draft_at version_one_fields version_two_fields
-    opening_of rows_text answer_fields verdict_of call_at packet_at arrival_line departure_line update_line reset_line params_line numbers_at registers_at
+unfolding records_from next_record strip_bom field_at digits fields_text is_blank number ecn_of params_at first_kind version_of profile_of mode_of
+    limits_at draft_at version_one_fields version_two_fields
+    opening_of rows_text answer_fields verdict_of call_at packet_at arrival_line departure_line update_line reset_line params_line numbers_at
+    registers_at
     note_line shown_line line_of told_by lines_from fault_from history_opening history_version after_opening opening_row command_fields
 faulty-lines = (refl, refl, refl, refl, refl)
 
@@ -133,8 +149,10 @@ shown-lines : map (λ last. fault_in (codes "open2,2,bounded,0,4,16,100\n" ++ la
     ∷ codes "open2,2,bounded,0,4,16,100\n"
     ∷ [])
     ≡ None ∷ None ∷ Some (fault.Fields 2) ∷ Some (fault.Number 2) ∷ Some (fault.Number 2) ∷ Some (fault.Kind 2) ∷ []
-unfolding records_from next_record strip_bom field_at digits fields_text is_blank number ecn_of params_at first_kind version_of profile_of mode_of limits_at draft_at version_one_fields version_two_fields
-    opening_of rows_text answer_fields verdict_of call_at packet_at arrival_line departure_line update_line reset_line params_line numbers_at registers_at
+unfolding records_from next_record strip_bom field_at digits fields_text is_blank number ecn_of params_at first_kind version_of profile_of mode_of
+    limits_at draft_at version_one_fields version_two_fields
+    opening_of rows_text answer_fields verdict_of call_at packet_at arrival_line departure_line update_line reset_line params_line numbers_at
+    registers_at
     note_line shown_line line_of told_by lines_from fault_from history_opening history_version after_opening opening_row command_fields
 shown-lines = refl
 
@@ -158,8 +176,10 @@ kinds-written : rows_text (written_rows (opened_as Bounded default_profile) (
     ++ codes "update,3,4,5,6,7\n"
     ++ codes "reset,65535,2,done\n"
     ++ codes "params,0,2,15000000,15000000,150000000,125,1250,1024,262144,100000000000,16384,done\n"
-unfolding records_from next_record strip_bom field_at digits fields_text is_blank number ecn_of params_at first_kind version_of profile_of mode_of limits_at draft_at version_one_fields version_two_fields
-    opening_of rows_text answer_fields verdict_of call_at packet_at arrival_line departure_line update_line reset_line params_line numbers_at registers_at
+unfolding records_from next_record strip_bom field_at digits fields_text is_blank number ecn_of params_at first_kind version_of profile_of mode_of
+    limits_at draft_at version_one_fields version_two_fields
+    opening_of rows_text answer_fields verdict_of call_at packet_at arrival_line departure_line update_line reset_line params_line numbers_at
+    registers_at
     note_line shown_line line_of told_by lines_from fault_from history_opening history_version after_opening opening_row command_fields
 kinds-written = refl
 
@@ -178,20 +198,28 @@ with_beta beta = record {
 
 -- the short form exactly where all nine are the defaults, and the kind of the book's mode
 openings-written : map (λ opening. rows_text (opening_row opening ∷ []))
-    (opened_as Bounded (with_beta 1250) ∷ opened_as Bounded (with_beta 1251) ∷ opened_as Rolling (with_beta 1250) ∷ opened_as Rolling (with_beta 0) ∷ [])
+    (opened_as Bounded (with_beta 1250) ∷ opened_as Bounded (with_beta 1251) ∷ opened_as Rolling (with_beta 1250) ∷ opened_as Rolling (with_beta 0)
+    ∷ [])
     ≡ codes "open,0,4,16,100\n"
     ∷ codes "open,0,4,16,100,15000000,15000000,150000000,125,1251,1024,262144,100000000000,16384\n"
     ∷ codes "rolling,0,4,16,100\n"
     ∷ codes "rolling,0,4,16,100,15000000,15000000,150000000,125,0,1024,262144,100000000000,16384\n"
     ∷ []
-unfolding records_from next_record strip_bom field_at digits fields_text is_blank number ecn_of params_at first_kind version_of profile_of mode_of limits_at draft_at version_one_fields version_two_fields
-    opening_of rows_text answer_fields verdict_of call_at packet_at arrival_line departure_line update_line reset_line params_line numbers_at registers_at
+unfolding records_from next_record strip_bom field_at digits fields_text is_blank number ecn_of params_at first_kind version_of profile_of mode_of
+    limits_at draft_at version_one_fields version_two_fields
+    opening_of rows_text answer_fields verdict_of call_at packet_at arrival_line departure_line update_line reset_line params_line numbers_at
+    registers_at
     note_line shown_line line_of told_by lines_from fault_from history_opening history_version after_opening opening_row command_fields
 openings-written = refl
 
 -- version two exactly where the profile is two
 abbrev opened_in : Profile → Mode → RawParams → Opening
-opened_in profile mode params = record { moment = 0; limits = record { packets = 4; tail = 16; events = 100 }; params = params; choices = record { mode = mode; profile = profile } }
+opened_in profile mode params = record {
+  moment = 0;
+  limits = record { packets = 4; tail = 16; events = 100 };
+  params = params;
+  choices = record { mode = mode; profile = profile };
+}
 
 versions-written : map (λ opening. rows_text (opening_row opening ∷ []))
     (opened_in One Rolling (with_beta 1250) ∷ opened_in Two Bounded (with_beta 1250) ∷ opened_in Two Rolling (with_beta 0) ∷ [])
@@ -199,7 +227,9 @@ versions-written : map (λ opening. rows_text (opening_row opening ∷ []))
     ∷ codes "open2,2,bounded,0,4,16,100\n"
     ∷ codes "open2,2,rolling,0,4,16,100,15000000,15000000,150000000,125,0,1024,262144,100000000000,16384\n"
     ∷ []
-unfolding records_from next_record strip_bom field_at digits fields_text is_blank number ecn_of params_at first_kind version_of profile_of mode_of limits_at draft_at version_one_fields version_two_fields
-    opening_of rows_text answer_fields verdict_of call_at packet_at arrival_line departure_line update_line reset_line params_line numbers_at registers_at
+unfolding records_from next_record strip_bom field_at digits fields_text is_blank number ecn_of params_at first_kind version_of profile_of mode_of
+    limits_at draft_at version_one_fields version_two_fields
+    opening_of rows_text answer_fields verdict_of call_at packet_at arrival_line departure_line update_line reset_line params_line numbers_at
+    registers_at
     note_line shown_line line_of told_by lines_from fault_from history_opening history_version after_opening opening_row command_fields
 versions-written = refl

@@ -24,7 +24,8 @@ use Rattle.pie_record.specs.Opening.{opening_of}
 use Rattle.pie_record.specs.Text.{HasField, rows_text, Row}
 use Rattle.pie_record.specs.Line.{line_of}
 use Rattle.pie_record.specs.FirstRecord.{kind_word, version_of}
-use Rattle.pie_record.specs.Lines.{Coming, after_opening, coming_after, coming_from, fault_from, history_opening, history_version, lines_from, told_by}
+use Rattle.pie_record.specs.Lines.{Coming, after_opening, coming_after, coming_from, fault_from, history_opening, history_version, lines_from}
+use Rattle.pie_record.specs.Lines.{told_by}
 use Rattle.pie_book.specs.Ranges.{ParamsFit}
 use Rattle.pie_record.specs.ReadBack.{Begins, EventFits, TellEach, TellsHistory}
 use Rattle.pie_record.specs.Write.{choices_row, command_fields, event_row, opening_row, written_rows}
@@ -40,15 +41,18 @@ pub TellEach-none : (version : Version) → TellEach version [] []
 unfolding TellEach
 TellEach-none version = tt
 
-pub TellEach-cons : (version : Version) (row : Row) (rows : List Row) (line : Line) (lines : List Line) → line_of version row ≡ Ok line → TellEach version rows lines → TellEach version (row ∷ rows) (line ∷ lines)
+pub TellEach-cons : (version : Version) (row : Row) (rows : List Row) (line : Line) (lines : List Line) → line_of version row ≡ Ok line
+    → TellEach version rows lines → TellEach version (row ∷ rows) (line ∷ lines)
 unfolding TellEach
 TellEach-cons version row rows line lines tells others = (tells, others)
 
 coming : List Line → Option TraceFault → Coming
 coming lines fault = record { lines = lines; fault = fault }
 
-coming-line : (version : Version) (most number : ℕ) (row : Row) (rows : List Row) (line : Line) (lines : List Line) → told_by version most number row ≡ Ok line
-    → coming_from version most (number + 1) rows ≡ record { lines = lines; fault = None } → coming_from version most number (row ∷ rows) ≡ record { lines = line ∷ lines; fault = None }
+coming-line : (version : Version) (most number : ℕ) (row : Row) (rows : List Row) (line : Line) (lines : List Line)
+    → told_by version most number row ≡ Ok line
+    → coming_from version most (number + 1) rows ≡ record { lines = lines; fault = None }
+    → coming_from version most number (row ∷ rows) ≡ record { lines = line ∷ lines; fault = None }
 unfolding lines_from fault_from
 coming-line version most number row rows line lines tells later =
     rw tells (ap (λ (c : Coming). let more : Coming = record { lines = line ∷ c.lines; fault = c.fault } in more) later)
@@ -57,14 +61,16 @@ coming-none : (version : Version) (most number : ℕ) → coming_from version mo
 unfolding lines_from fault_from
 coming-none version most number = refl
 
-pub coming-told : (version : Version) (most number : ℕ) (rows : List Row) (lines : List Line) → number + length rows ≤ most + 1 → TellEach version rows lines
+pub coming-told : (version : Version) (most number : ℕ) (rows : List Row) (lines : List Line) → number + length rows ≤ most + 1
+    → TellEach version rows lines
     → coming_from version most number rows ≡ record { lines = lines; fault = None }
 unfolding TellEach
 coming-told version most number [] [] within tells = coming-none version most number
 coming-told version most number [] (line ∷ lines) within tells = absurd tells
 coming-told version most number (row ∷ rows) [] within tells = absurd tells
 coming-told version most number (row ∷ rows) (line ∷ lines) within tells =
-    coming-line version most number row rows line lines (told_by-line version most number row line (omega arith) tells.0) (coming-told version most (number + 1) rows lines (omega arith) tells.1)
+    coming-line version most number row rows line lines (told_by-line version most number row line (omega arith) tells.0)
+    (coming-told version most (number + 1) rows lines (omega arith) tells.1)
 
 -- ---- a whole text
 
@@ -81,8 +87,10 @@ unfolding history_version
 version-there row rows = refl
 
 -- a text of a record that opens so, and then of rows that tell these lines
-pub history-told : (kind : FirstKind) (rest : Row) (rows : List Row) (opening : Opening) (lines : List Line) → opening_of (kind_word kind ∷ rest) ≡ Ok opening
-    → All HasField rows → TellEach (version_of (kind_word kind ∷ rest)) rows lines → length rows < 2 ^ 32 → TellsHistory (rows_text ((kind_word kind ∷ rest) ∷ rows)) opening lines
+pub history-told : (kind : FirstKind) (rest : Row) (rows : List Row) (opening : Opening) (lines : List Line)
+    → opening_of (kind_word kind ∷ rest) ≡ Ok opening
+    → All HasField rows → TellEach (version_of (kind_word kind ∷ rest)) rows lines → length rows < 2 ^ 32
+    → TellsHistory (rows_text ((kind_word kind ∷ rest) ∷ rows)) opening lines
 history-told kind rest rows opening lines opens some tells few =
     let records = records_of-written kind rest rows some in
     let first : Row = kind_word kind ∷ rest in
@@ -106,14 +114,16 @@ fields-some caller (SetParams moment params) more = omega arith
 
 events-some : (events : List Event) → All HasField (map event_row events)
 events-some [] = All-nil HasField
-events-some (event ∷ events) = All-cons HasField (event_row event) (map event_row events) (fields-some event.caller event.command _) (events-some events)
+events-some (event ∷ events) = All-cons HasField (event_row event) (map event_row events) (fields-some event.caller event.command _)
+    (events-some events)
 
 events-tell : (version : Version) (events : List Event) → All EventFits events → TellEach version (map event_row events) (map Made events)
 events-tell version [] fit = TellEach-none version
 events-tell version (event ∷ events) fit =
     let fits = All-head EventFits event events fit in
     TellEach-cons version (event_row event) (map event_row events) (Made event) (map Made events)
-    (line-back version event.caller event.command event.answer fits.kind fits.caller fits.command fits.answer) (events-tell version events (All-tail EventFits event events fit))
+    (line-back version event.caller event.command event.answer fits.kind fits.caller fits.command fits.answer)
+    (events-tell version events (All-tail EventFits event events fit))
 
 rows-many : (events : List Event) → length (map event_row events) ≡ length events
 rows-many [] = refl
@@ -128,7 +138,8 @@ opening_row-begins o = by o.choices.profile o.choices.mode _
     by One Rolling rest = record { kind = kinds.Rolling; rest = rest; is = refl }
     by Two mode rest = record { kind = kinds.Open2; rest = profile_number Two ∷ mode_word mode ∷ rest; is = refl }
 
-pub written-back : (opening : Opening) (events : List Event) → opening_refusal opening.limits opening.moment ≡ None → ParamsFit opening.params → All EventFits events → length events < 2 ^ 32
+pub written-back : (opening : Opening) (events : List Event) → opening_refusal opening.limits opening.moment ≡ None → ParamsFit opening.params
+    → All EventFits events → length events < 2 ^ 32
     → TellsHistory (rows_text (written_rows opening events)) opening (map Made events)
 written-back opening events accepted set fit few =
     let first = opening_row-begins opening in
@@ -139,7 +150,8 @@ written-back opening events accepted set fit few =
     (events-tell (version_of (kind_word first.kind ∷ first.rest)) events fit) (omega arith))
 
 -- .. to a writer that held nothing
-pub contents-back : (before now : Option (List ℕ)) (text : List ℕ) (opening : Opening) (lines : List Line) → Appends before now text → before ≡ Some [] → TellsHistory text opening lines
+pub contents-back : (before now : Option (List ℕ)) (text : List ℕ) (opening : Opening) (lines : List Line) → Appends before now text
+    → before ≡ Some [] → TellsHistory text opening lines
     → IfSome now (λ held. TellsHistory held opening lines)
 contents-back None now text opening lines appends empty tells = cc
 contents-back (Some xs) None text opening lines appends empty tells = tt
@@ -148,12 +160,15 @@ contents-back (Some xs) (Some ys) text opening lines appends empty tells =
     let same : ys ≡ text = rw none at appends in
     subst (λ (held : List ℕ). TellsHistory held opening lines) (sym same) tells
 
-pub history-back : (before now : Option (List ℕ)) (opening : Opening) (events : List Event) (result : Result (Unit {0}) TraceFault) → ParamsFit opening.params → All EventFits events
+pub history-back : (before now : Option (List ℕ)) (opening : Opening) (events : List Event) (result : Result (Unit {0}) TraceFault)
+    → ParamsFit opening.params → All EventFits events
     → OnOk result (Appends before now (rows_text (written_rows opening events)))
-    → OnOk result (opening_refusal opening.limits opening.moment ≡ None → length events < 2 ^ 32 → before ≡ Some [] → IfSome now (λ text. TellsHistory text opening (map Made events)))
+    → OnOk result (opening_refusal opening.limits opening.moment ≡ None → length events < 2 ^ 32 → before ≡ Some []
+    → IfSome now (λ text. TellsHistory text opening (map Made events)))
 history-back before now opening events (Err why) set fit written = tt
 history-back before now opening events (Ok done) set fit written = λ accepted few empty.
-    contents-back before now (rows_text (written_rows opening events)) opening (map Made events) written empty (written-back opening events accepted set fit few)
+    contents-back before now (rows_text (written_rows opening events)) opening (map Made events) written empty
+    (written-back opening events accepted set fit few)
 
 pub ltb-false : (a b : ℕ) → nat_lt a b ≡ false → b ≤ a
 ltb-false a b e = grind (arith, nat_tests)

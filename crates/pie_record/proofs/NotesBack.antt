@@ -1,5 +1,6 @@
 -- Records that tell no event are read back as notes.
-use Rattle.std.proofs.Common.{◌≡◌, ◌<◌, ◌+◌, ◌%◌, ◌^◌, ℕ, zero, suc, [], ◌∷◌, length, get_or, Bool, true, false, decimal, refl, ap, ◌∙◌, arith, length-append}
+use Rattle.std.proofs.Common.{◌≡◌, ◌<◌, ◌+◌, ◌%◌, ◌^◌, ℕ, zero, suc, [], ◌∷◌, length, get_or, Bool, true, false, decimal, refl, ap, ◌∙◌, arith}
+use Rattle.std.proofs.Common.{length-append}
 use Rattle.std.specs.Prelude.{Some, Ok}
 use Rattle.std.specs.Str.{all_ascii_digits}
 use Rattle.std.specs.Str.Parse.{digits_value}
@@ -32,7 +33,11 @@ own = numerals_by_value _ tells_all_ascii_digits
 
 first-digit : (n : ℕ) → n < 10 ^ 64 → (0 < length (decimal n)) × (0 < n → 48 < get_or (decimal n) 0 0)
 first-digit n small = decimal_by_steps_wide (λ m ds. (0 < length ds) × (0 < m → 48 < get_or ds 0 0)) (λ m l. (omega arith, λ a. omega arith))
-    (λ m ds l h. (omega (arith, length-append ds ((48 + m % 10) ∷ [])), λ a. omega (arith, get_or-append ds ((48 + m % 10) ∷ []) 0 0 h.0, h.1 (omega arith)))) n small
+    (λ m ds l h. (
+      omega (arith, length-append ds ((48 + m % 10) ∷ [])),
+      λ a. omega
+          (arith, get_or-append ds ((48 + m % 10) ∷ []) 0 0 h.0, h.1 (omega arith)),
+    )) n small
 
 no-lead : (n : ℕ) → n < 10 ^ 64 → get_or (decimal n) 0 0 ≡ 48 → length (decimal n) ≡ 1
 no-lead zero small e = ap length (decimal_digit 0 (omega arith))
@@ -47,7 +52,8 @@ back-long n fits =
 
 -- ---- notes
 
-pub refused-note : (version : Version) (record_number code : ℕ) → record_number < 2 ^ 64 → code < 2 ^ 64 → line_of version (refused_row record_number code) ≡ Ok line.Note
+pub refused-note : (version : Version) (record_number code : ℕ) → record_number < 2 ^ 64 → code < 2 ^ 64
+    → line_of version (refused_row record_number code) ≡ Ok line.Note
 unfolding line_of note_line numbers_at field_at refused_row
 refused-note version record_number code a b = rw (back record_number a, back code b) refl
 

@@ -1,5 +1,6 @@
 -- The record of an opening is read back as that opening.
-use Rattle.std.proofs.Common.{◌≡◌, ◌≤◌, ◌<◌, ◌^◌, ◌==◌, ◌&&◌, nat_le, ℕ, List, [], ◌∷◌, ◌++◌, map, Bool, true, false, decimal, refl, sym, ap, ◌∙◌, arith, if◌then◌else◌}
+use Rattle.std.proofs.Common.{◌≡◌, ◌≤◌, ◌<◌, ◌^◌, ◌==◌, ◌&&◌, nat_le, ℕ, List, [], ◌∷◌, ◌++◌, map, Bool, true, false, decimal, refl, sym, ap, ◌∙◌}
+use Rattle.std.proofs.Common.{arith, if◌then◌else◌}
 use Rattle.std.specs.Prelude.{Some, None, Result, Ok, codes}
 use Rattle.std.proofs.lemmas.Bool.{eqb-true}
 use Rattle.std.proofs.lemmas.Bool.Decides.{nat_tests}
@@ -60,14 +61,21 @@ are_default-true p e =
     let e3 = both _ (p.max_burst == d.max_burst) e4.0 in
     let e2 = both (p.target == d.target) (p.t_update == d.t_update) e3.0 in
     ap (λ (x : ℕ). raw x p.t_update p.max_burst p.alpha p.beta p.mean_pkt p.limit_bytes p.mark_ecnth p.dq_threshold) (eqb-true p.target d.target e2.0)
-    ∙ ap (λ (x : ℕ). raw d.target x p.max_burst p.alpha p.beta p.mean_pkt p.limit_bytes p.mark_ecnth p.dq_threshold) (eqb-true p.t_update d.t_update e2.1)
-    ∙ ap (λ (x : ℕ). raw d.target d.t_update x p.alpha p.beta p.mean_pkt p.limit_bytes p.mark_ecnth p.dq_threshold) (eqb-true p.max_burst d.max_burst e3.1)
-    ∙ ap (λ (x : ℕ). raw d.target d.t_update d.max_burst x p.beta p.mean_pkt p.limit_bytes p.mark_ecnth p.dq_threshold) (eqb-true p.alpha d.alpha e4.1)
+    ∙ ap (λ (x : ℕ). raw d.target x p.max_burst p.alpha p.beta p.mean_pkt p.limit_bytes p.mark_ecnth p.dq_threshold)
+    (eqb-true p.t_update d.t_update e2.1)
+    ∙ ap (λ (x : ℕ). raw d.target d.t_update x p.alpha p.beta p.mean_pkt p.limit_bytes p.mark_ecnth p.dq_threshold)
+    (eqb-true p.max_burst d.max_burst e3.1)
+    ∙ ap (λ (x : ℕ). raw d.target d.t_update d.max_burst x p.beta p.mean_pkt p.limit_bytes p.mark_ecnth p.dq_threshold)
+    (eqb-true p.alpha d.alpha e4.1)
     ∙ ap (λ (x : ℕ). raw d.target d.t_update d.max_burst d.alpha x p.mean_pkt p.limit_bytes p.mark_ecnth p.dq_threshold) (eqb-true p.beta d.beta e5.1)
-    ∙ ap (λ (x : ℕ). raw d.target d.t_update d.max_burst d.alpha d.beta x p.limit_bytes p.mark_ecnth p.dq_threshold) (eqb-true p.mean_pkt d.mean_pkt f.1)
-    ∙ ap (λ (x : ℕ). raw d.target d.t_update d.max_burst d.alpha d.beta d.mean_pkt x p.mark_ecnth p.dq_threshold) (eqb-true p.limit_bytes d.limit_bytes g.1)
-    ∙ ap (λ (x : ℕ). raw d.target d.t_update d.max_burst d.alpha d.beta d.mean_pkt d.limit_bytes x p.dq_threshold) (eqb-true p.mark_ecnth d.mark_ecnth h.1)
-    ∙ ap (λ (x : ℕ). raw d.target d.t_update d.max_burst d.alpha d.beta d.mean_pkt d.limit_bytes d.mark_ecnth x) (eqb-true p.dq_threshold d.dq_threshold i.1)
+    ∙ ap (λ (x : ℕ). raw d.target d.t_update d.max_burst d.alpha d.beta x p.limit_bytes p.mark_ecnth p.dq_threshold)
+    (eqb-true p.mean_pkt d.mean_pkt f.1)
+    ∙ ap (λ (x : ℕ). raw d.target d.t_update d.max_burst d.alpha d.beta d.mean_pkt x p.mark_ecnth p.dq_threshold)
+    (eqb-true p.limit_bytes d.limit_bytes g.1)
+    ∙ ap (λ (x : ℕ). raw d.target d.t_update d.max_burst d.alpha d.beta d.mean_pkt d.limit_bytes x p.dq_threshold)
+    (eqb-true p.mark_ecnth d.mark_ecnth h.1)
+    ∙ ap (λ (x : ℕ). raw d.target d.t_update d.max_burst d.alpha d.beta d.mean_pkt d.limit_bytes d.mark_ecnth x)
+    (eqb-true p.dq_threshold d.dq_threshold i.1)
 
 -- ---- what is accepted is held by its type
 
@@ -82,7 +90,8 @@ leb a b e = grind (arith, nat_tests)
 
 fits_from : (limits : Limits) (moment : ℕ) → are_in_range limits ≡ true → nat_le moment last_moment ≡ true → OpeningFits limits moment
 fits_from limits moment good within =
-    let outer = both ((nat_le 1 limits.packets && nat_le limits.packets 65536) && (nat_le 1 limits.tail && nat_le limits.tail 1048576)) (nat_le 1 limits.events && nat_le limits.events 1099511627776) good in
+    let outer = both ((nat_le 1 limits.packets && nat_le limits.packets 65536) && (nat_le 1 limits.tail && nat_le limits.tail 1048576))
+    (nat_le 1 limits.events && nat_le limits.events 1099511627776) good in
     let inner = both (nat_le 1 limits.packets && nat_le limits.packets 65536) (nat_le 1 limits.tail && nat_le limits.tail 1048576) outer.0 in
     let packets = leb limits.packets 65536 (both (nat_le 1 limits.packets) (nat_le limits.packets 65536) inner.0).1 in
     let tail = leb limits.tail 1048576 (both (nat_le 1 limits.tail) (nat_le limits.tail 1048576) inner.1).1 in
@@ -133,10 +142,17 @@ short-one : (kind : List ℕ) (choices : Choices) (moment : ℕ) (limits : Limit
     → draft_at (kind ∷ numbers_row moment limits []) 1 choices ≡ drafted moment limits default_profile choices
 unfolding draft_at limits_at field_at
 short-one kind choices moment limits fits =
-    rw (back_u64 moment (let m = fits.within in omega arith), back_u32 limits.packets fits.packets, back_u32 limits.tail fits.tail, back_u64 limits.events (let m = fits.events in omega arith)) refl
+    rw (
+      back_u64 moment (let m = fits.within in omega arith),
+      back_u32 limits.packets fits.packets,
+      back_u32 limits.tail fits.tail,
+      back_u64
+          limits.events (let m = fits.events in omega arith),
+    ) refl
 
 -- .. after the kind, the profile and the mode
-long-two : (kind profile mode : List ℕ) (choices : Choices) (moment : ℕ) (limits : Limits) (params : RawParams) → OpeningFits limits moment → ParamsFit params
+long-two : (kind profile mode : List ℕ) (choices : Choices) (moment : ℕ) (limits : Limits) (params : RawParams) → OpeningFits limits moment
+    → ParamsFit params
     → draft_at (kind ∷ profile ∷ mode ∷ numbers_row moment limits (map decimal (nine_of params))) 3 choices ≡ drafted moment limits params choices
 unfolding draft_at limits_at params_at field_at
 long-two kind profile mode choices moment limits params fits set =
@@ -160,10 +176,17 @@ short-two : (kind profile mode : List ℕ) (choices : Choices) (moment : ℕ) (l
     → draft_at (kind ∷ profile ∷ mode ∷ numbers_row moment limits []) 3 choices ≡ drafted moment limits default_profile choices
 unfolding draft_at limits_at field_at
 short-two kind profile mode choices moment limits fits =
-    rw (back_u64 moment (let m = fits.within in omega arith), back_u32 limits.packets fits.packets, back_u32 limits.tail fits.tail, back_u64 limits.events (let m = fits.events in omega arith)) refl
+    rw (
+      back_u64 moment (let m = fits.within in omega arith),
+      back_u32 limits.packets fits.packets,
+      back_u32 limits.tail fits.tail,
+      back_u64
+          limits.events (let m = fits.events in omega arith),
+    ) refl
 
 -- a draft that is accepted opens what it says
-accepted_draft : (moment : ℕ) (limits : Limits) (params : RawParams) (choices : Choices) → opening_refusal limits moment ≡ None → first_bad params ≡ None
+accepted_draft : (moment : ℕ) (limits : Limits) (params : RawParams) (choices : Choices) → opening_refusal limits moment ≡ None
+    → first_bad params ≡ None
     → opening_read (drafted moment limits params choices) ≡ Ok (record { moment = moment; limits = limits; params = params; choices = choices })
 accepted_draft moment limits params choices accepted good = rw (good, accepted) refl
 
@@ -179,16 +202,20 @@ long-back : (profile : Profile) (mode : Mode) (moment : ℕ) (limits : Limits) (
 unfolding opening_of first_kind version_one_fields version_two_fields profile_of mode_of field_at
 long-back One Bounded moment limits params fits set = ap opening_read (long-one (codes "open") (chosen One Bounded) moment limits params fits set)
 long-back One Rolling moment limits params fits set = ap opening_read (long-one (codes "rolling") (chosen One Rolling) moment limits params fits set)
-long-back Two Bounded moment limits params fits set = ap opening_read (long-two (codes "open2") (codes "2") (codes "bounded") (chosen Two Bounded) moment limits params fits set)
-long-back Two Rolling moment limits params fits set = ap opening_read (long-two (codes "open2") (codes "2") (codes "rolling") (chosen Two Rolling) moment limits params fits set)
+long-back Two Bounded moment limits params fits set = ap opening_read
+    (long-two (codes "open2") (codes "2") (codes "bounded") (chosen Two Bounded) moment limits params fits set)
+long-back Two Rolling moment limits params fits set = ap opening_read
+    (long-two (codes "open2") (codes "2") (codes "rolling") (chosen Two Rolling) moment limits params fits set)
 
 short-back : (profile : Profile) (mode : Mode) (moment : ℕ) (limits : Limits) → OpeningFits limits moment
     → Reads profile mode (numbers_row moment limits []) (drafted moment limits default_profile (chosen profile mode))
 unfolding opening_of first_kind version_one_fields version_two_fields profile_of mode_of field_at
 short-back One Bounded moment limits fits = ap opening_read (short-one (codes "open") (chosen One Bounded) moment limits fits)
 short-back One Rolling moment limits fits = ap opening_read (short-one (codes "rolling") (chosen One Rolling) moment limits fits)
-short-back Two Bounded moment limits fits = ap opening_read (short-two (codes "open2") (codes "2") (codes "bounded") (chosen Two Bounded) moment limits fits)
-short-back Two Rolling moment limits fits = ap opening_read (short-two (codes "open2") (codes "2") (codes "rolling") (chosen Two Rolling) moment limits fits)
+short-back Two Bounded moment limits fits = ap opening_read
+    (short-two (codes "open2") (codes "2") (codes "bounded") (chosen Two Bounded) moment limits fits)
+short-back Two Rolling moment limits fits = ap opening_read
+    (short-two (codes "open2") (codes "2") (codes "rolling") (chosen Two Rolling) moment limits fits)
 
 -- this opening with these parameters
 abbrev made : Opening → RawParams → Opening
@@ -199,7 +226,8 @@ unfolding opening_row
 opening-back o accepted set = by (are_default o.params) refl
   where
     by : (b : Bool) → are_default o.params ≡ b
-        → opening_of (choices_row o.choices.profile o.choices.mode ++ numbers_row o.moment o.limits (if b then [] else map decimal (nine_of o.params))) ≡ Ok o
+        → opening_of (choices_row o.choices.profile o.choices.mode
+        ++ numbers_row o.moment o.limits (if b then [] else map decimal (nine_of o.params))) ≡ Ok o
     by true same =
         let default : o.params ≡ default_profile = are_default-true o.params same in
         short-back o.choices.profile o.choices.mode o.moment o.limits (accepted_fits o.limits o.moment accepted)

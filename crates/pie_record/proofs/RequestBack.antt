@@ -1,5 +1,6 @@
 -- A record that asks a command is the command's fields, as they are written.
-use Rattle.std.proofs.Common.{rules, ◌≡◌, ◌≤◌, ◌<◌, ◌^◌, ◌==◌, ℕ, suc, List, [], ◌∷◌, map, length, Bool, true, false, decimal, refl, sym, ap, subst, ◌∙◌, arith, if◌then◌else◌}
+use Rattle.std.proofs.Common.{rules, ◌≡◌, ◌≤◌, ◌<◌, ◌^◌, ◌==◌, ℕ, suc, List, [], ◌∷◌, map, length, Bool, true, false, decimal, refl, sym, ap, subst}
+use Rattle.std.proofs.Common.{◌∙◌, arith, if◌then◌else◌}
 use Rattle.std.specs.Prelude.{Option, Some, None, Result, Ok, Err, codes}
 use Rattle.std.specs.Option.{ok_or}
 use Rattle.std.specs.Str.{bytes_eq}
@@ -20,7 +21,8 @@ use Rattle.pie_record.specs.declared.fields.Call.{Call}
 use Rattle.pie_record.specs.declared.fields.Request.{Request}
 use Rattle.pie_record.specs.declared.fields.Request.TheVariants as request
 use Rattle.pie_record.specs.Number.{number}
-use Rattle.pie_record.specs.Record.{alone, and_then, arrive_fields, call_at, call_fields, change_to, ecn_at, ecn_of, fold_fields, is_kind, most_u16, most_u32, most_u64, number_at, params_at, params_fields, request_of}
+use Rattle.pie_record.specs.Record.{alone, and_then, arrive_fields, call_at, call_fields, change_to, ecn_at, ecn_of, fold_fields, is_kind, most_u16}
+use Rattle.pie_record.specs.Record.{most_u32, most_u64, number_at, params_at, params_fields, request_of}
 use Rattle.pie_record.specs.Words.{ecn_word}
 use Rattle.pie_record.specs.Text.{Row}
 use Rattle.pie_record.specs.Write.{command_fields, nine_of}
@@ -54,17 +56,21 @@ same-bytes xs ys e = search (rules, bytes_eq-Decides)
 
 ecn_of-some : (field : List ℕ) (e : Ecn) → ecn_of field ≡ Some e → field ≡ ecn_word e
 unfolding ecn_of
-ecn_of-some field e = by (bytes_eq field (codes "not")) (bytes_eq field (codes "ect1")) (bytes_eq field (codes "ect0")) (bytes_eq field (codes "ce")) refl refl refl refl
+ecn_of-some field e = by (bytes_eq field (codes "not")) (bytes_eq field (codes "ect1")) (bytes_eq field (codes "ect0"))
+    (bytes_eq field (codes "ce")) refl refl refl refl
   where
-    by : (a b c d : Bool) → bytes_eq field (codes "not") ≡ a → bytes_eq field (codes "ect1") ≡ b → bytes_eq field (codes "ect0") ≡ c → bytes_eq field (codes "ce") ≡ d
-        → (if a then Some ecn.NotEct else if b then Some ecn.Ect1 else if c then Some ecn.Ect0 else if d then Some ecn.Ce else None) ≡ Some e → field ≡ ecn_word e
+    by : (a b c d : Bool) → bytes_eq field (codes "not") ≡ a → bytes_eq field (codes "ect1") ≡ b → bytes_eq field (codes "ect0") ≡ c
+        → bytes_eq field (codes "ce") ≡ d
+        → (if a then Some ecn.NotEct else if b then Some ecn.Ect1 else if c then Some ecn.Ect0 else if d then Some ecn.Ce else None) ≡ Some e
+        → field ≡ ecn_word e
     by true b c d p q r s f = let same : ecn.NotEct ≡ e = cc in rw (← same) (same-bytes field (codes "not") p)
     by false true c d p q r s f = let same : ecn.Ect1 ≡ e = cc in rw (← same) (same-bytes field (codes "ect1") q)
     by false false true d p q r s f = let same : ecn.Ect0 ≡ e = cc in rw (← same) (same-bytes field (codes "ect0") r)
     by false false false true p q r s f = let same : ecn.Ce ≡ e = cc in rw (← same) (same-bytes field (codes "ce") s)
     by false false false false p q r s f = cc
 
-pub read-ecn : {B : Type 0} (field : List ℕ) (later : Ecn → Result B Flaw) (value : B) → and_then (ok_or (ecn_of field) flaw.Word) later ≡ Ok value → ReadEcn field later value
+pub read-ecn : {B : Type 0} (field : List ℕ) (later : Ecn → Result B Flaw) (value : B) → and_then (ok_or (ecn_of field) flaw.Word) later ≡ Ok value
+    → ReadEcn field later value
 read-ecn field later value e = by (ecn_of field) refl e
   where
     by : (o : Option Ecn) → ecn_of field ≡ o → and_then (ok_or o flaw.Word) later ≡ Ok value → ReadEcn field later value
@@ -99,7 +105,8 @@ pub record Asks (row : Row) (from : ℕ) (command : Command) : Type 0 where
   pub caller : from ≤ most_u16
   pub fits : CommandFits command
 
-asks-same : (row : Row) (from from' : ℕ) (command command' : Command) → from ≡ from' → command ≡ command' → Asks row from command → Asks row from' command'
+asks-same : (row : Row) (from from' : ℕ) (command command' : Command) → from ≡ from' → command ≡ command' → Asks row from command
+    → Asks row from' command'
 asks-same row from from' command command' e f asks = subst (λ (n : ℕ). Asks row n command') e (subst (λ (c : Command). Asks row from c) f asks)
 
 -- two answers are the same
@@ -110,7 +117,8 @@ asked-same : (a b : ℕ) (c d : Command) → Same (Ok (request.Ask a c)) (Ok (re
 asked-same a b c d e = (cc, cc)
 
 arrive-list : (f0 f1 f2 f3 f4 f5 f6 : List ℕ) (caller : ℕ) (command : Command) → f0 ≡ codes "arrive"
-    → arrive_fields (f0 ∷ f1 ∷ f2 ∷ f3 ∷ f4 ∷ f5 ∷ f6 ∷ []) ≡ Ok (request.Ask caller command) → Asks (f0 ∷ f1 ∷ f2 ∷ f3 ∷ f4 ∷ f5 ∷ f6 ∷ []) caller command
+    → arrive_fields (f0 ∷ f1 ∷ f2 ∷ f3 ∷ f4 ∷ f5 ∷ f6 ∷ []) ≡ Ok (request.Ask caller command)
+    → Asks (f0 ∷ f1 ∷ f2 ∷ f3 ∷ f4 ∷ f5 ∷ f6 ∷ []) caller command
 unfolding arrive_fields field_at command_fields
 arrive-list f0 f1 f2 f3 f4 f5 f6 caller command kind e =
     let a = read-number most_u16 f1 _ _ (omega arith) e in
@@ -141,7 +149,8 @@ pub record Calls (f1 f2 : List ℕ) (call : Call) : Type 0 where
 call-of : ℕ → ℕ → Call
 call-of caller moment = record { caller = caller; moment = moment }
 
-calls-made : (f1 f2 : List ℕ) (a b : ℕ) (call : Call) → call-of a b ≡ call → f1 ≡ decimal a → f2 ≡ decimal b → a ≤ most_u16 → b ≤ most_u64 → Calls f1 f2 call
+calls-made : (f1 f2 : List ℕ) (a b : ℕ) (call : Call) → call-of a b ≡ call → f1 ≡ decimal a → f2 ≡ decimal b → a ≤ most_u16 → b ≤ most_u64
+    → Calls f1 f2 call
 unfolding call-of
 calls-made f1 f2 a b call same p q from at = subst (λ (c : Call). Calls f1 f2 c) same (record { caller = p; moment = q; from = from; at = at })
 
@@ -206,7 +215,8 @@ call-row row call e =
     let c = call-list t.f0 t.f1 t.f2 call (ap call_fields (sym t.whole) ∙ e) in
     record { kind = t.f0; is = t.whole ∙ (λ i. t.f0 ∷ c.caller i ∷ c.moment i ∷ []); from = c.from; at = c.at }
 
-called : (row : Row) (word : List ℕ) (call : Call) → is_kind row word ≡ true → call_fields row ≡ Ok call → row ≡ word ∷ decimal call.caller ∷ decimal call.moment ∷ []
+called : (row : Row) (word : List ℕ) (call : Call) → is_kind row word ≡ true → call_fields row ≡ Ok call
+    → row ≡ word ∷ decimal call.caller ∷ decimal call.moment ∷ []
 called row word call kind e =
     let r = call-row row call e in
     let first = kind-word row word r.kind (decimal call.caller ∷ decimal call.moment ∷ []) r.is kind in
@@ -217,13 +227,16 @@ unfolding arrive_fields
 arrive-long row asks e = by (length row == 7) refl e
   where
     by : (b : Bool) → (length row == 7) ≡ b
-        → (if b then and_then (number_at row 1 most_u16) (λ caller. and_then (number_at row 2 most_u64) (λ moment. and_then (number_at row 3 most_u64) (λ tag.
+        → (if b then and_then (number_at row 1 most_u16) (λ caller. and_then (number_at row 2 most_u64)
+        (λ moment. and_then (number_at row 3 most_u64) (λ tag.
         and_then (number_at row 4 most_u32) (λ size. and_then (ecn_at row 5) (λ ecn. and_then (number_at row 6 most_u64) (λ word.
-        Ok (request.Ask caller (Arrive moment (record { tag = tag; size = size; ecn = ecn }) word)))))))) else Err flaw.Fields) ≡ Ok asks → length row ≡ 7
+        Ok (request.Ask caller (Arrive moment (record { tag = tag; size = size; ecn = ecn }) word)))))))) else Err flaw.Fields) ≡ Ok asks
+        → length row ≡ 7
     by true t f = eqb-true (length row) 7 t
     by false t f = cc
 
-arrive-asks : (row : Row) (caller : ℕ) (command : Command) → is_kind row (codes "arrive") ≡ true → arrive_fields row ≡ Ok (request.Ask caller command) → Asks row caller command
+arrive-asks : (row : Row) (caller : ℕ) (command : Command) → is_kind row (codes "arrive") ≡ true
+    → arrive_fields row ≡ Ok (request.Ask caller command) → Asks row caller command
 arrive-asks row caller command kind e =
     let s0 = split row 6 (arrive-long row (request.Ask caller command) e) in
     let s1 = split s0.rest 5 s0.left in
@@ -234,7 +247,8 @@ arrive-asks row caller command kind e =
     let s6 = split s5.rest 0 s5.left in
     let end = ended s6.rest s6.left in
     let whole : row ≡ s0.first ∷ s1.first ∷ s2.first ∷ s3.first ∷ s4.first ∷ s5.first ∷ s6.first ∷ [] =
-    s0.whole ∙ ap (λ (r : Row). s0.first ∷ r) (s1.whole ∙ ap (λ (r : Row). s1.first ∷ r) (s2.whole ∙ ap (λ (r : Row). s2.first ∷ r) (s3.whole ∙ ap (λ (r : Row). s3.first ∷ r)
+    s0.whole ∙ ap (λ (r : Row). s0.first ∷ r) (s1.whole ∙ ap (λ (r : Row). s1.first ∷ r)
+    (s2.whole ∙ ap (λ (r : Row). s2.first ∷ r) (s3.whole ∙ ap (λ (r : Row). s3.first ∷ r)
     (s4.whole ∙ ap (λ (r : Row). s4.first ∷ r) (s5.whole ∙ ap (λ (r : Row). s5.first ∷ r) (s6.whole ∙ ap (λ (r : Row). s6.first ∷ r) end)))))) in
     let first = kind-word row (codes "arrive") s0.first s0.rest s0.whole kind in
     subst (λ (r : Row). Asks r caller command) (sym whole)
@@ -242,35 +256,41 @@ arrive-asks row caller command kind e =
 
 -- a depart, an update, a reset
 depart-asks : (row : Row) (caller : ℕ) (command : Command) → is_kind row (codes "depart") ≡ true
-    → and_then (call_fields row) (λ call. Ok (request.Ask call.caller (Depart call.moment))) ≡ Ok (request.Ask caller command) → Asks row caller command
+    → and_then (call_fields row) (λ call. Ok (request.Ask call.caller (Depart call.moment))) ≡ Ok (request.Ask caller command)
+    → Asks row caller command
 unfolding command_fields
 depart-asks row caller command kind e =
     let t = and_after (call_fields row) (λ (call : Call). Ok (request.Ask call.caller (Depart call.moment))) (request.Ask caller command) e in
     let r = call-row row t.got t.is in
     let moment = r.at in
-    let made : Asks row t.got.caller (Depart t.got.moment) = record { is = called row (codes "depart") t.got kind t.is; caller = r.from; fits = omega arith } in
+    let made : Asks row t.got.caller (Depart t.got.moment) = record
+    { is = called row (codes "depart") t.got kind t.is; caller = r.from; fits = omega arith } in
     let same = asked-same t.got.caller caller (Depart t.got.moment) command t.rest in
     asks-same row t.got.caller caller (Depart t.got.moment) command same.0 same.1 made
 
 update-asks : (row : Row) (caller : ℕ) (command : Command) → is_kind row (codes "update") ≡ true
-    → and_then (call_fields row) (λ call. Ok (request.Ask call.caller (Update call.moment))) ≡ Ok (request.Ask caller command) → Asks row caller command
+    → and_then (call_fields row) (λ call. Ok (request.Ask call.caller (Update call.moment))) ≡ Ok (request.Ask caller command)
+    → Asks row caller command
 unfolding command_fields
 update-asks row caller command kind e =
     let t = and_after (call_fields row) (λ (call : Call). Ok (request.Ask call.caller (Update call.moment))) (request.Ask caller command) e in
     let r = call-row row t.got t.is in
     let moment = r.at in
-    let made : Asks row t.got.caller (Update t.got.moment) = record { is = called row (codes "update") t.got kind t.is; caller = r.from; fits = omega arith } in
+    let made : Asks row t.got.caller (Update t.got.moment) = record
+    { is = called row (codes "update") t.got kind t.is; caller = r.from; fits = omega arith } in
     let same = asked-same t.got.caller caller (Update t.got.moment) command t.rest in
     asks-same row t.got.caller caller (Update t.got.moment) command same.0 same.1 made
 
 reset-asks : (row : Row) (caller : ℕ) (command : Command) → is_kind row (codes "reset") ≡ true
-    → and_then (call_fields row) (λ call. Ok (request.Ask call.caller (Reset call.moment))) ≡ Ok (request.Ask caller command) → Asks row caller command
+    → and_then (call_fields row) (λ call. Ok (request.Ask call.caller (Reset call.moment))) ≡ Ok (request.Ask caller command)
+    → Asks row caller command
 unfolding command_fields
 reset-asks row caller command kind e =
     let t = and_after (call_fields row) (λ (call : Call). Ok (request.Ask call.caller (Reset call.moment))) (request.Ask caller command) e in
     let r = call-row row t.got t.is in
     let moment = r.at in
-    let made : Asks row t.got.caller (Reset t.got.moment) = record { is = called row (codes "reset") t.got kind t.is; caller = r.from; fits = omega arith } in
+    let made : Asks row t.got.caller (Reset t.got.moment) = record
+    { is = called row (codes "reset") t.got kind t.is; caller = r.from; fits = omega arith } in
     let same = asked-same t.got.caller caller (Reset t.got.moment) command t.rest in
     asks-same row t.got.caller caller (Reset t.got.moment) command same.0 same.1 made
 
@@ -320,20 +340,26 @@ pub record Sets (params : RawParams) (caller moment : ℕ) (from : ℕ) (command
   pub same_caller : caller ≡ from
   pub same_command : SetParams moment params ≡ command
 
-changed : (caller moment : ℕ) (params : RawParams) (from : ℕ) (command : Command) → Same (Ok (change_to caller moment params (first_bad params))) (Ok (request.Ask from command)) → Sets params caller moment from command
+changed : (caller moment : ℕ) (params : RawParams) (from : ℕ) (command : Command)
+    → Same (Ok (change_to caller moment params (first_bad params))) (Ok (request.Ask from command)) → Sets params caller moment from command
 changed caller moment params from command = by (first_bad params) refl
   where
-    by : (bad : Option Field) → first_bad params ≡ bad → Same (Ok (change_to caller moment params bad)) (Ok (request.Ask from command)) → Sets params caller moment from command
-    by None good e = let same = asked-same caller from (SetParams moment params) command e in record { good = good; same_caller = same.0; same_command = same.1 }
+    by : (bad : Option Field) → first_bad params ≡ bad → Same (Ok (change_to caller moment params bad)) (Ok (request.Ask from command))
+        → Sets params caller moment from command
+    by None good e = let same = asked-same caller from (SetParams moment params) command e in record
+        { good = good; same_caller = same.0; same_command = same.1 }
     by (Some field) good e = cc
 
-set-list : (f0 f1 f2 a b c d f g h j k : List ℕ) (caller : ℕ) (command : Command) → ((params : RawParams) → first_bad params ≡ None → ParamsFit params) → f0 ≡ codes "params"
-    → params_fields (f0 ∷ f1 ∷ f2 ∷ a ∷ b ∷ c ∷ d ∷ f ∷ g ∷ h ∷ j ∷ k ∷ []) ≡ Ok (request.Ask caller command) → Asks (f0 ∷ f1 ∷ f2 ∷ a ∷ b ∷ c ∷ d ∷ f ∷ g ∷ h ∷ j ∷ k ∷ []) caller command
+set-list : (f0 f1 f2 a b c d f g h j k : List ℕ) (caller : ℕ) (command : Command)
+    → ((params : RawParams) → first_bad params ≡ None → ParamsFit params) → f0 ≡ codes "params"
+    → params_fields (f0 ∷ f1 ∷ f2 ∷ a ∷ b ∷ c ∷ d ∷ f ∷ g ∷ h ∷ j ∷ k ∷ []) ≡ Ok (request.Ask caller command)
+    → Asks (f0 ∷ f1 ∷ f2 ∷ a ∷ b ∷ c ∷ d ∷ f ∷ g ∷ h ∷ j ∷ k ∷ []) caller command
 unfolding params_fields field_at command_fields
 set-list f0 f1 f2 a b c d f g h j k caller command held kind e =
     let n1 = read-number most_u16 f1 _ _ (omega arith) e in
     let n2 = read-number most_u64 f2 _ _ (omega arith) n1.rest in
-    let t = and_after (params_at (f0 ∷ f1 ∷ f2 ∷ a ∷ b ∷ c ∷ d ∷ f ∷ g ∷ h ∷ j ∷ k ∷ []) 3) (λ (params : RawParams). Ok (change_to n1.n n2.n params (first_bad params))) (request.Ask caller command) n2.rest in
+    let t = and_after (params_at (f0 ∷ f1 ∷ f2 ∷ a ∷ b ∷ c ∷ d ∷ f ∷ g ∷ h ∷ j ∷ k ∷ []) 3)
+    (λ (params : RawParams). Ok (change_to n1.n n2.n params (first_bad params))) (request.Ask caller command) n2.rest in
     let nine = params-list f0 f1 f2 a b c d f g h j k t.got t.is in
     let sets = changed n1.n n2.n t.got caller command t.rest in
     let moment = n2.within in
@@ -349,12 +375,14 @@ unfolding params_fields
 params-long row asks e = by (length row == 12) refl e
   where
     by : (b : Bool) → (length row == 12) ≡ b
-        → (if b then and_then (number_at row 1 most_u16) (λ caller. and_then (number_at row 2 most_u64) (λ moment. and_then (params_at row 3) (λ params.
+        → (if b then and_then (number_at row 1 most_u16) (λ caller. and_then (number_at row 2 most_u64)
+        (λ moment. and_then (params_at row 3) (λ params.
         Ok (change_to caller moment params (first_bad params))))) else Err flaw.Fields) ≡ Ok asks → length row ≡ 12
     by true t f = eqb-true (length row) 12 t
     by false t f = cc
 
-set-asks : (row : Row) (caller : ℕ) (command : Command) → ((params : RawParams) → first_bad params ≡ None → ParamsFit params) → is_kind row (codes "params") ≡ true
+set-asks : (row : Row) (caller : ℕ) (command : Command) → ((params : RawParams) → first_bad params ≡ None → ParamsFit params)
+    → is_kind row (codes "params") ≡ true
     → params_fields row ≡ Ok (request.Ask caller command) → Asks row caller command
 set-asks row caller command held kind e =
     let s0 = split row 11 (params-long row (request.Ask caller command) e) in
@@ -370,13 +398,18 @@ set-asks row caller command held kind e =
     let s10 = split s9.rest 1 s9.left in
     let s11 = split s10.rest 0 s10.left in
     let end = ended s11.rest s11.left in
-    let whole : row ≡ s0.first ∷ s1.first ∷ s2.first ∷ s3.first ∷ s4.first ∷ s5.first ∷ s6.first ∷ s7.first ∷ s8.first ∷ s9.first ∷ s10.first ∷ s11.first ∷ [] =
-    s0.whole ∙ ap (λ (r : Row). s0.first ∷ r) (s1.whole ∙ ap (λ (r : Row). s1.first ∷ r) (s2.whole ∙ ap (λ (r : Row). s2.first ∷ r) (s3.whole ∙ ap (λ (r : Row). s3.first ∷ r)
-    (s4.whole ∙ ap (λ (r : Row). s4.first ∷ r) (s5.whole ∙ ap (λ (r : Row). s5.first ∷ r) (s6.whole ∙ ap (λ (r : Row). s6.first ∷ r) (s7.whole ∙ ap (λ (r : Row). s7.first ∷ r)
-    (s8.whole ∙ ap (λ (r : Row). s8.first ∷ r) (s9.whole ∙ ap (λ (r : Row). s9.first ∷ r) (s10.whole ∙ ap (λ (r : Row). s10.first ∷ r) (s11.whole ∙ ap (λ (r : Row). s11.first ∷ r) end))))))))))) in
+    let whole : row ≡ s0.first ∷ s1.first ∷ s2.first ∷ s3.first ∷ s4.first ∷ s5.first ∷ s6.first ∷ s7.first ∷ s8.first ∷ s9.first ∷ s10.first
+    ∷ s11.first ∷ [] =
+    s0.whole ∙ ap (λ (r : Row). s0.first ∷ r) (s1.whole ∙ ap (λ (r : Row). s1.first ∷ r)
+    (s2.whole ∙ ap (λ (r : Row). s2.first ∷ r) (s3.whole ∙ ap (λ (r : Row). s3.first ∷ r)
+    (s4.whole ∙ ap (λ (r : Row). s4.first ∷ r) (s5.whole ∙ ap (λ (r : Row). s5.first ∷ r)
+    (s6.whole ∙ ap (λ (r : Row). s6.first ∷ r) (s7.whole ∙ ap (λ (r : Row). s7.first ∷ r)
+    (s8.whole ∙ ap (λ (r : Row). s8.first ∷ r) (s9.whole ∙ ap (λ (r : Row). s9.first ∷ r)
+    (s10.whole ∙ ap (λ (r : Row). s10.first ∷ r) (s11.whole ∙ ap (λ (r : Row). s11.first ∷ r) end))))))))))) in
     let first = kind-word row (codes "params") s0.first s0.rest s0.whole kind in
     subst (λ (r : Row). Asks r caller command) (sym whole)
-    (set-list s0.first s1.first s2.first s3.first s4.first s5.first s6.first s7.first s8.first s9.first s10.first s11.first caller command held first (ap params_fields (sym whole) ∙ e))
+    (set-list s0.first s1.first s2.first s3.first s4.first s5.first s6.first s7.first s8.first s9.first s10.first s11.first caller command held first
+    (ap params_fields (sym whole) ∙ e))
 
 -- no other kind asks a command
 fold-asks : (row : Row) (caller : ℕ) (command : Command) → fold_fields row ≡ Ok (request.Ask caller command) → ⊥
@@ -388,12 +421,15 @@ fold-asks row caller command e = by (length row == 2) (number_at row 1 most_u64)
     by true (Err what) e = cc
     by false r e = cc
 
-pub request-asks : (row : Row) (caller : ℕ) (command : Command) → ((params : RawParams) → first_bad params ≡ None → ParamsFit params) → request_of row ≡ Ok (request.Ask caller command) → Asks row caller command
+pub request-asks : (row : Row) (caller : ℕ) (command : Command) → ((params : RawParams) → first_bad params ≡ None → ParamsFit params)
+    → request_of row ≡ Ok (request.Ask caller command) → Asks row caller command
 unfolding request_of
 request-asks row caller command held e =
-    by (is_kind row (codes "arrive")) (is_kind row (codes "depart")) (is_kind row (codes "update")) (is_kind row (codes "reset")) (is_kind row (codes "params")) refl refl refl refl refl e
+    by (is_kind row (codes "arrive")) (is_kind row (codes "depart")) (is_kind row (codes "update")) (is_kind row (codes "reset"))
+    (is_kind row (codes "params")) refl refl refl refl refl e
   where
-    none : (g h i l : Bool) → (if g then fold_fields row else if h then (if l then Ok request.Show else Err flaw.Fields) else if i then (if l then Ok request.Tally else Err flaw.Fields) else Err flaw.Kind) ≡ Ok (request.Ask caller command) → Asks row caller command
+    none : (g h i l : Bool) → (if g then fold_fields row else if h then (if l then Ok request.Show else Err flaw.Fields) else if i then
+        (if l then Ok request.Tally else Err flaw.Fields) else Err flaw.Kind) ≡ Ok (request.Ask caller command) → Asks row caller command
     none true h i l e = absurd (fold-asks row caller command e)
     none false true i true e = cc
     none false true i false e = cc
@@ -401,7 +437,8 @@ request-asks row caller command held e =
     none false false true false e = cc
     none false false false l e = cc
 
-    by : (a b c d f : Bool) → is_kind row (codes "arrive") ≡ a → is_kind row (codes "depart") ≡ b → is_kind row (codes "update") ≡ c → is_kind row (codes "reset") ≡ d → is_kind row (codes "params") ≡ f
+    by : (a b c d f : Bool) → is_kind row (codes "arrive") ≡ a → is_kind row (codes "depart") ≡ b → is_kind row (codes "update") ≡ c
+        → is_kind row (codes "reset") ≡ d → is_kind row (codes "params") ≡ f
         → (if a then arrive_fields row
         else if b then and_then (call_fields row) (λ call. Ok (request.Ask call.caller (Depart call.moment)))
         else if c then and_then (call_fields row) (λ call. Ok (request.Ask call.caller (Update call.moment)))
@@ -416,4 +453,5 @@ request-asks row caller command held e =
     by false false true d f p q r s t e = update-asks row caller command r e
     by false false false true f p q r s t e = reset-asks row caller command s e
     by false false false false true p q r s t e = set-asks row caller command held t e
-    by false false false false false p q r s t e = none (is_kind row (codes "fold")) (is_kind row (codes "show")) (is_kind row (codes "tally")) (length row == 1) e
+    by false false false false false p q r s t e = none (is_kind row (codes "fold")) (is_kind row (codes "show")) (is_kind row (codes "tally"))
+        (length row == 1) e

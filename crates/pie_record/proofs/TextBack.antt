@@ -63,7 +63,8 @@ records_left-written [] some = rw rows_text-none none-left
 records_left-written (row ∷ rows) some =
     let same = read_back-same row (All-head HasField row rows some) in
     let read : next_record default_config st.StartRecord [] [] (text_of row ++ rows_text rows) ≡ Some (row, st.StartRecord, rows_text rows) =
-    subst (λ (t : List ℕ). next_record default_config st.StartRecord [] [] (t ++ rows_text rows) ≡ Some (row, st.StartRecord, rows_text rows)) (sym (text-same row))
+    subst (λ (t : List ℕ). next_record default_config st.StartRecord [] [] (t ++ rows_text rows) ≡ Some (row, st.StartRecord, rows_text rows))
+    (sym (text-same row))
     (read-write row (rows_text rows) ∙ ap (λ (r : Row). Some (r, st.StartRecord, rows_text rows)) same) in
     ap (λ (t : List ℕ). records_left st.StartRecord t) (rows_text-cons row rows)
     ∙ (records_left-next st.StartRecord (text_of row ++ rows_text rows) (row, st.StartRecord, rows_text rows) read
@@ -71,17 +72,21 @@ records_left-written (row ∷ rows) some =
 
 -- ---- a whole text, which begins with no byte order mark
 
-strip_bom-word : (kind : FirstKind) (rest : Row) (tail : List ℕ) → strip_bom (text_of (kind_word kind ∷ rest) ++ tail) ≡ text_of (kind_word kind ∷ rest) ++ tail
+strip_bom-word : (kind : FirstKind) (rest : Row) (tail : List ℕ)
+    → strip_bom (text_of (kind_word kind ∷ rest) ++ tail) ≡ text_of (kind_word kind ∷ rest) ++ tail
 unfolding strip_bom
 strip_bom-word kinds.Open rest tail = refl
 strip_bom-word kinds.Rolling rest tail = refl
 strip_bom-word kinds.Open2 rest tail = refl
 
-no_mark : (kind : FirstKind) (rest : Row) (rows : List Row) → strip_bom (rows_text ((kind_word kind ∷ rest) ∷ rows)) ≡ rows_text ((kind_word kind ∷ rest) ∷ rows)
+no_mark : (kind : FirstKind) (rest : Row) (rows : List Row)
+    → strip_bom (rows_text ((kind_word kind ∷ rest) ∷ rows)) ≡ rows_text ((kind_word kind ∷ rest) ∷ rows)
 no_mark kind rest rows =
-    ap strip_bom (rows_text-cons (kind_word kind ∷ rest) rows) ∙ strip_bom-word kind rest (rows_text rows) ∙ sym (rows_text-cons (kind_word kind ∷ rest) rows)
+    ap strip_bom (rows_text-cons (kind_word kind ∷ rest) rows) ∙ strip_bom-word kind rest (rows_text rows)
+    ∙ sym (rows_text-cons (kind_word kind ∷ rest) rows)
 
-pub records_of-written : (kind : FirstKind) (rest : Row) (rows : List Row) → All HasField rows → records_of (rows_text ((kind_word kind ∷ rest) ∷ rows)) ≡ (kind_word kind ∷ rest) ∷ rows
+pub records_of-written : (kind : FirstKind) (rest : Row) (rows : List Row) → All HasField rows
+    → records_of (rows_text ((kind_word kind ∷ rest) ∷ rows)) ≡ (kind_word kind ∷ rest) ∷ rows
 records_of-written kind rest rows some =
     ap (λ (t : List ℕ). records_left st.StartRecord t) (no_mark kind rest rows)
     ∙ records_left-written ((kind_word kind ∷ rest) ∷ rows) (All-cons HasField (kind_word kind ∷ rest) rows (omega arith) some)

@@ -11,19 +11,23 @@ use Rattle.pie_storm.specs.StormPlan.{arrival_at, arrival_by, arrivals_of, held_
 
 -- ---- lists
 
-pub list-push : (f : ℕ → ℕ) (j : ℕ) (list later : List ℕ) → list ≡ map f (range_with_len 0 j) → later ≡ list ++ f j ∷ [] → later ≡ map f (range_with_len 0 (j + 1))
+pub list-push : (f : ℕ → ℕ) (j : ℕ) (list later : List ℕ) → list ≡ map f (range_with_len 0 j) → later ≡ list ++ f j ∷ []
+    → later ≡ map f (range_with_len 0 (j + 1))
 list-push f j list later before pushed = rw (pushed, before) (sym (map-range_with_len_more f 0 j j (omega arith)))
 
-pub arrivals-push : (sender : ℕ) (words : Stream) (i : ℕ) (list later : List Arrival) (arrival : Arrival) → list ≡ map (arrival_at sender words) (range_with_len 0 i)
+pub arrivals-push : (sender : ℕ) (words : Stream) (i : ℕ) (list later : List Arrival) (arrival : Arrival)
+    → list ≡ map (arrival_at sender words) (range_with_len 0 i)
     → later ≡ list ++ arrival ∷ [] → arrival ≡ arrival_at sender words i → later ≡ map (arrival_at sender words) (range_with_len 0 (i + 1))
 arrivals-push sender words i list later arrival before pushed is =
     rw (pushed, before, is) (sym (map-range_with_len_more (arrival_at sender words) 0 i i (omega arith)))
 
 pub lists-push : (packets seed before : ℕ) (lists later : List (Vec Arrival Global)) (list : Vec Arrival Global)
-    → map held_by lists ≡ map (arrivals_of packets seed) (range_with_len 1 before) → later ≡ lists ++ list ∷ [] → held_by list ≡ arrivals_of packets seed (before + 1)
+    → map held_by lists ≡ map (arrivals_of packets seed) (range_with_len 1 before) → later ≡ lists ++ list ∷ []
+    → held_by list ≡ arrivals_of packets seed (before + 1)
     → map held_by later ≡ map (arrivals_of packets seed) (range_with_len 1 (before + 1))
 lists-push packets seed before lists later list so_far pushed is =
-    ap (λ (all : List (Vec Arrival Global)). map held_by all) pushed ∙ map-append held_by lists (list ∷ []) ∙ ap (λ (all : List (List Arrival)). all ++ held_by list ∷ []) so_far
+    ap (λ (all : List (Vec Arrival Global)). map held_by all) pushed ∙ map-append held_by lists (list ∷ [])
+    ∙ ap (λ (all : List (List Arrival)). all ++ held_by list ∷ []) so_far
     ∙ ap (λ (last : List Arrival). map (arrivals_of packets seed) (range_with_len 1 before) ++ last ∷ []) is
     ∙ sym (map-range_with_len_more (arrivals_of packets seed) 1 before (before + 1) (omega arith))
 
@@ -42,9 +46,12 @@ pub drawn : (sender i : ℕ) (all first second third last : Stream) (size ecn wo
     → (size, second) ≡ next_u64 first → (ecn, third) ≡ next_u64 second → (word, last) ≡ next_u64 third
     → (arrival_by sender i size ecn word ≡ arrival_at sender all i) × (last ≡ words_after (3 * (i + 1)) all)
 drawn sender i all first second third last size ecn word at one two three =
-    let second_is : second ≡ words_after (3 * i + 1) all = ap (λ p. p.1) one ∙ ap (λ (s : Stream). (next_u64 s).1) at ∙ sym (words_after-next (3 * i) all) in
-    let third_is : third ≡ words_after (3 * i + 1 + 1) all = ap (λ p. p.1) two ∙ ap (λ (s : Stream). (next_u64 s).1) second_is ∙ sym (words_after-next (3 * i + 1) all) in
-    let last_is : last ≡ words_after (3 * i + 1 + 1 + 1) all = ap (λ p. p.1) three ∙ ap (λ (s : Stream). (next_u64 s).1) third_is ∙ sym (words_after-next (3 * i + 1 + 1) all) in
+    let second_is : second ≡ words_after (3 * i + 1) all = ap (λ p. p.1) one ∙ ap (λ (s : Stream). (next_u64 s).1) at
+    ∙ sym (words_after-next (3 * i) all) in
+    let third_is : third ≡ words_after (3 * i + 1 + 1) all = ap (λ p. p.1) two ∙ ap (λ (s : Stream). (next_u64 s).1) second_is
+    ∙ sym (words_after-next (3 * i + 1) all) in
+    let last_is : last ≡ words_after (3 * i + 1 + 1 + 1) all = ap (λ p. p.1) three ∙ ap (λ (s : Stream). (next_u64 s).1) third_is
+    ∙ sym (words_after-next (3 * i + 1 + 1) all) in
     let size_is : size ≡ word_at (3 * i) all = ap (λ p. p.0) one ∙ ap (λ (s : Stream). (next_u64 s).0) at in
     let ecn_is : ecn ≡ word_at (3 * i + 1) all = ap (λ p. p.0) two ∙ ap (λ (s : Stream). (next_u64 s).0) second_is in
     let word_is : word ≡ word_at (3 * i + 1 + 1) all = ap (λ p. p.0) three ∙ ap (λ (s : Stream). (next_u64 s).0) third_is in

@@ -1,5 +1,6 @@
 -- A legal history is found clean, and so is the text that it is written as.
-use Rattle.std.proofs.Common.{◌≡◌, ◌≤◌, ◌<◌, ◌^◌, ◌==◌, ◌+◌, ℕ, zero, suc, List, [], ◌∷◌, ◌++◌, map, take, get_or, length, true, false, cond, refl, ap, subst, ◌∙◌, arith, add-one, eq-eqb}
+use Rattle.std.proofs.Common.{◌≡◌, ◌≤◌, ◌<◌, ◌^◌, ◌==◌, ◌+◌, ℕ, zero, suc, List, [], ◌∷◌, ◌++◌, map, take, get_or, length, true, false, cond, refl}
+use Rattle.std.proofs.Common.{ap, subst, ◌∙◌, arith, add-one, eq-eqb}
 use Rattle.std.specs.Prelude.{All, IfSome, Option, Some, None, Result, Ok, Err, OnOk}
 use Rattle.std.specs.List.{find}
 use Rattle.std.specs.Io.KnownBytes.{Appends}
@@ -13,7 +14,8 @@ use Rattle.pie_book.specs.Deed.{fits}
 use Rattle.pie_queue.specs.declared.ecn.Ecn.{Ecn}
 use Rattle.pie_queue.specs.declared.ecn.Ecn.TheVariants.{NotEct, Ect1, Ect0, Ce}
 use Rattle.pie_book.specs.declared.command.Answer.{Answer}
-use Rattle.pie_book.specs.declared.command.Answer.TheVariants.{Enqueued, Marked, DroppedEarly, DroppedBytes, DroppedPackets, Empty, Left, Updated, Done}
+use Rattle.pie_book.specs.declared.command.Answer.TheVariants.{Enqueued, Marked, DroppedEarly, DroppedBytes, DroppedPackets, Empty, Left, Updated}
+use Rattle.pie_book.specs.declared.command.Answer.TheVariants.{Done}
 use Rattle.pie_book.specs.declared.command.Event.{Event}
 use Rattle.pie_book.specs.declared.opening.Limits.{Limits}
 use Rattle.pie_book.specs.declared.opening.Opening.{Opening}
@@ -35,7 +37,8 @@ use Rattle.pie_audit.specs.declared.auditor.Finding.{Finding}
 use Rattle.pie_audit.specs.declared.auditor.Finding.TheVariants.{Clean, Differs}
 use Rattle.pie_audit.specs.Auditor.{Audits, AuditorView}
 use Rattle.pie_record.specs.Lines.{event_count, is_event}
-use Rattle.pie_audit.specs.Finding.{LinePlace, after_line, agrees, differs_at, events_of, finding, first_difference, is_same_answer, is_same_ecn, line_places}
+use Rattle.pie_audit.specs.Finding.{LinePlace, after_line, agrees, differs_at, events_of, finding, first_difference, is_same_answer, is_same_ecn}
+use Rattle.pie_audit.specs.Finding.{line_places}
 use Rattle.pie_audit.specs.Text.{finding_after, judged, text_finding}
 use Rattle.pie_link.specs.declared.plan.Plan.{Plan}
 use Rattle.pie_link.specs.Plans.{opening_of}
@@ -98,7 +101,8 @@ differs-not opening place legal = rw (events_of-told place.before, agrees-legal 
 none-differs : (opening : Opening) (some : List (Place Event)) → All (IsLegalAt opening) some → find (differs_at opening) (map told_at some) ≡ None
 none-differs opening [] legal = refl
 none-differs opening (place ∷ some) legal =
-    rw (differs-not opening place (All-head (IsLegalAt opening) place some legal)) (none-differs opening some (All-tail (IsLegalAt opening) place some legal))
+    rw (differs-not opening place (All-head (IsLegalAt opening) place some legal))
+    (none-differs opening some (All-tail (IsLegalAt opening) place some legal))
 
 no-difference : (opening : Opening) (events : List Event) → IsLegal opening events → first_difference opening (map Made events) ≡ None
 unfolding first_difference
@@ -116,9 +120,11 @@ pub clean-legal : (opening : Opening) (events : List Event) → IsLegal opening 
 unfolding finding
 clean-legal opening events legal = rw (no-difference opening events legal, count-told events) refl
 
-pub differs-never : (opening own : Opening) (events : List Event) (event : ℕ) → opening ≡ own → IsLegal own events → Differs event ≡ finding opening (map Made events) → ⊥
+pub differs-never : (opening own : Opening) (events : List Event) (event : ℕ) → opening ≡ own → IsLegal own events
+    → Differs event ≡ finding opening (map Made events) → ⊥
 differs-never opening own events event is legal differs =
-    let wrong : Differs event ≡ Clean (length events) = differs ∙ ap (λ (o : Opening). finding o (map Made events)) is ∙ clean-legal own events legal in
+    let wrong : Differs event ≡ Clean (length events) = differs ∙ ap (λ (o : Opening). finding o (map Made events)) is
+    ∙ clean-legal own events legal in
     cc
 
 -- .. of which there are no more than the opening allows
@@ -172,7 +178,8 @@ fit-places opening (place ∷ some) legal =
     All-cons Fits place.event (map event_of some) (fits-legal opening place (All-head (IsLegalAt opening) place some legal))
     (fit-places opening some (All-tail (IsLegalAt opening) place some legal))
 
-pub fit-legal : (opening : Opening) (events : List Event) → IsLegal opening events → All (λ (event : Event). fits event.command event.answer ≡ true) events
+pub fit-legal : (opening : Opening) (events : List Event) → IsLegal opening events
+    → All (λ (event : Event). fits event.command event.answer ≡ true) events
 fit-legal opening events legal = subst (All Fits) (events-places events) (fit-places opening (places events) legal)
 
 -- ---- the loop that audits
@@ -190,7 +197,8 @@ told-more (first ∷ events) (suc i) event lt is =
 
 -- ---- the text
 
-clean-told : (opening : Opening) (events : List Event) (known : Option (List ℕ)) → IsLegal opening events → IfSome known (λ text. TellsHistory text opening (map Made events))
+clean-told : (opening : Opening) (events : List Event) (known : Option (List ℕ)) → IsLegal opening events
+    → IfSome known (λ text. TellsHistory text opening (map Made events))
     → IfSome known (λ text. text_finding (records_of text) ≡ Ok (Clean (length events)))
 clean-told opening events None legal told = tt
 clean-told opening events (Some text) legal told =
@@ -213,28 +221,36 @@ few-events opening auditor events legal audits same =
 -- what `write_history` says of these events
 record Written (opening : Opening) (events : List Event) (before now : Option (List ℕ)) : Type 0 where
   appends : Appends before now (rows_text (written_rows opening events))
-  back : opening_refusal opening.limits opening.moment ≡ None → length events < 2 ^ 32 → before ≡ Some [] → IfSome now (λ text. TellsHistory text opening (map Made events))
+  back : opening_refusal opening.limits opening.moment ≡ None → length events < 2 ^ 32 → before ≡ Some []
+      → IfSome now (λ text. TellsHistory text opening (map Made events))
 
-written-own : (plan : Plan) (events : List Event) (auditor : AuditorView) (before now : Option (List ℕ)) → IsLegal (opening_of plan) events → plan.limits.events ≡ plan.limits.tail
+written-own : (plan : Plan) (events : List Event) (auditor : AuditorView) (before now : Option (List ℕ)) → IsLegal (opening_of plan) events
+    → plan.limits.events ≡ plan.limits.tail
     → Audits (opening_of plan) auditor (map Made events) → Written (opening_of plan) events before now → WritesHistory plan events before now
 written-own plan events auditor before now legal same audits written = record {
   written = written.appends;
-  clean = λ empty. clean-told (opening_of plan) events now legal (written.back audits.accepted (few-events (opening_of plan) auditor events legal audits same) empty);
+  clean = λ empty. clean-told (opening_of plan) events now legal
+      (written.back audits.accepted (few-events (opening_of plan) auditor events legal audits same) empty);
 }
 
-writes-history : (plan : Plan) (events : List Event) (auditor : AuditorView) (opening : Opening) (before now : Option (List ℕ)) → opening ≡ opening_of plan
+writes-history : (plan : Plan) (events : List Event) (auditor : AuditorView) (opening : Opening) (before now : Option (List ℕ))
+    → opening ≡ opening_of plan
     → IsLegal (opening_of plan) events → plan.limits.events ≡ plan.limits.tail → Audits opening auditor (map Made events)
     → Appends before now (rows_text (written_rows opening events))
-    → (opening_refusal opening.limits opening.moment ≡ None → length events < 2 ^ 32 → before ≡ Some [] → IfSome now (λ text. TellsHistory text opening (map Made events)))
+    → (opening_refusal opening.limits opening.moment ≡ None → length events < 2 ^ 32 → before ≡ Some []
+    → IfSome now (λ text. TellsHistory text opening (map Made events)))
     → WritesHistory plan events before now
 writes-history plan events auditor opening before now is legal same audits appends back =
     written-own plan events auditor before now legal same (subst (λ (o : Opening). Audits o auditor (map Made events)) is audits)
     (subst (λ (o : Opening). Written o events before now) is (record { appends = appends; back = back }))
 
-pub writes-told : {A E : Type 0} (given : Result A E) (plan : Plan) (events : List Event) (auditor : AuditorView) (opening : Opening) (before now : Option (List ℕ)) → opening ≡ opening_of plan
+pub writes-told : {A E : Type 0} (given : Result A E) (plan : Plan) (events : List Event) (auditor : AuditorView) (opening : Opening)
+    (before now : Option (List ℕ)) → opening ≡ opening_of plan
     → IsLegal (opening_of plan) events → plan.limits.events ≡ plan.limits.tail → Audits opening auditor (map Made events)
     → OnOk given (Appends before now (rows_text (written_rows opening events)))
-    → OnOk given (opening_refusal opening.limits opening.moment ≡ None → length events < 2 ^ 32 → before ≡ Some [] → IfSome now (λ text. TellsHistory text opening (map Made events)))
+    → OnOk given (opening_refusal opening.limits opening.moment ≡ None → length events < 2 ^ 32 → before ≡ Some []
+    → IfSome now (λ text. TellsHistory text opening (map Made events)))
     → OnOk given (WritesHistory plan events before now)
-writes-told (Ok value) plan events auditor opening before now is legal same audits appends back = writes-history plan events auditor opening before now is legal same audits appends back
+writes-told (Ok value) plan events auditor opening before now is legal same audits appends back = writes-history plan events auditor opening before
+    now is legal same audits appends back
 writes-told (Err why) plan events auditor opening before now is legal same audits appends back = tt

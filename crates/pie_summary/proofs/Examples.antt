@@ -5,11 +5,13 @@ use Rattle.pie_params.specs.Profile.{default_profile}
 use Rattle.pie_queue.specs.declared.ecn.Ecn.TheVariants.{NotEct, Ect0}
 use Rattle.pie_queue.specs.declared.packet.Packet.{Packet}
 use Rattle.pie_controller.specs.declared.cause.Cause.{Cause}
-use Rattle.pie_controller.specs.declared.cause.Cause.TheVariants.{NoRoomInBytes, NoRoomInPackets, Inactive, BurstAllowed, LowDelay, ShortQueue, NoProbability, LittleAccumulated, PickedBySum, PickedByWord, WordNotBelow}
+use Rattle.pie_controller.specs.declared.cause.Cause.TheVariants.{NoRoomInBytes, NoRoomInPackets, Inactive, BurstAllowed, LowDelay, ShortQueue}
+use Rattle.pie_controller.specs.declared.cause.Cause.TheVariants.{NoProbability, LittleAccumulated, PickedBySum, PickedByWord, WordNotBelow}
 use Rattle.pie_controller.specs.declared.cause.Fate.TheVariants as fate
 use Rattle.pie_controller.specs.Places.{greatest, last_or, places}
 use Rattle.pie_book.specs.declared.command.Answer.{Answer}
-use Rattle.pie_book.specs.declared.command.Answer.TheVariants.{Enqueued, Marked, DroppedEarly, DroppedBytes, DroppedPackets, Empty, Left, Updated, Done}
+use Rattle.pie_book.specs.declared.command.Answer.TheVariants.{Enqueued, Marked, DroppedEarly, DroppedBytes, DroppedPackets, Empty, Left, Updated}
+use Rattle.pie_book.specs.declared.command.Answer.TheVariants.{Done}
 use Rattle.pie_book.specs.declared.command.Command.{Command}
 use Rattle.pie_book.specs.declared.command.Command.TheVariants.{Arrive, Depart, Update, Reset}
 use Rattle.pie_book.specs.declared.registers.Registers.{Registers}
@@ -18,11 +20,14 @@ use Rattle.pie_explain.specs.declared.explanation.Explained.{Explained}
 use Rattle.pie_explain.specs.Words.{millis, per_cent, share}
 use Rattle.pie_summary.specs.declared.series.Series.{Series}
 use Rattle.pie_summary.specs.Period.{begins, last_events, last_period, period_of}
-use Rattle.pie_summary.specs.Record.{cause_fields, first_fields, last_fields, later_fields, left_fields, middle_fields, moment_fields, record_of, turned_fields, update_fields, verdict_fields}
+use Rattle.pie_summary.specs.Record.{cause_fields, first_fields, last_fields, later_fields, left_fields, middle_fields, moment_fields, record_of}
+use Rattle.pie_summary.specs.Record.{turned_fields, update_fields, verdict_fields}
 use Rattle.pie_summary.specs.Series.{kept, series_of}
 use Rattle.pie_summary.specs.Summary.{header, summary_of}
 use Rattle.pie_summary.specs.Sums.{answer_place, cause_place, moment_at, sums_of, turned_at}
-use Rattle.pie_summary.specs.Words.{arrival_words, arrived_words, cause_name, cause_row, cause_words, delay_words, dropped_words, first_causes, head_words, later_words, left_words, mean, middle_causes, prob_words, queued_words, row_words, sum_causes, title, turned_words, update_words, verdict_words, word_causes, words}
+use Rattle.pie_summary.specs.Words.{arrival_words, arrived_words, cause_name, cause_row, cause_words, delay_words, dropped_words, first_causes}
+use Rattle.pie_summary.specs.Words.{head_words, later_words, left_words, mean, middle_causes, prob_words, queued_words, row_words, sum_causes, title}
+use Rattle.pie_summary.specs.Words.{turned_words, update_words, verdict_words, word_causes, words}
 
 -- all that a theorem on a worked list computes with
 unfoldable worked : Type 0

@@ -22,9 +22,11 @@ ends-of (x ∷ xs) = longer x xs (ends-of xs)
     longer x xs (inr (front, last, is)) = inr (x ∷ front, last, ap (λ ys. x ∷ ys) is)
 
 -- the period of the last event
-pub last_period-push : (every : Option ℕ) (shown : List Explained) (one : Explained) → last_period every (shown ++ one ∷ []) ≡ Some (period_at every one)
+pub last_period-push : (every : Option ℕ) (shown : List Explained) (one : Explained)
+    → last_period every (shown ++ one ∷ []) ≡ Some (period_at every one)
 last_period-push every shown one =
-    ap (λ ps. last_or None ps) (map_push (λ e. Some (period_at every e)) shown one) ∙ last_or-push None (map (λ e. Some (period_at every e)) shown) (Some (period_at every one))
+    ap (λ ps. last_or None ps) (map_push (λ e. Some (period_at every e)) shown one)
+    ∙ last_or-push None (map (λ e. Some (period_at every e)) shown) (Some (period_at every one))
 
 -- an event is in its own period
 in_its_own : (every : Option ℕ) (one : Explained) → is_elsewhere every (period_at every one) one ≡ false
@@ -38,7 +40,8 @@ last_events-push every shown one =
     ∙ after_last-push_no (is_elsewhere every (period_at every one)) shown one (in_its_own every one)
 
 -- .. in the same period as the one before, in another, or where none was before
-pub since-same : (every : Option ℕ) (period : ℕ) (shown : List Explained) (before : Option ℕ) → before ≡ last_period every shown → begins before period ≡ false
+pub since-same : (every : Option ℕ) (period : ℕ) (shown : List Explained) (before : Option ℕ) → before ≡ last_period every shown
+    → begins before period ≡ false
     → since every (Some period) shown ≡ last_events every shown
 unfolding last_or
 since-same every period shown before is same = by_end (ends-of shown)
@@ -57,7 +60,8 @@ since-same every period shown before is same = by_end (ends-of shown)
         let at : period_at every last ≡ period = equal (period_at every last) (ap (λ b. begins b period) (sym known) ∙ same) in
         ap (λ p. since every p shown) (ap Some (sym at) ∙ sym known ∙ is)
 
-pub since-begun : (every : Option ℕ) (period : ℕ) (shown : List Explained) (before : Option ℕ) → before ≡ last_period every shown → begins before period ≡ true
+pub since-begun : (every : Option ℕ) (period : ℕ) (shown : List Explained) (before : Option ℕ) → before ≡ last_period every shown
+    → begins before period ≡ true
     → since every (Some period) shown ≡ []
 since-begun every period shown before is begun = by_end (ends-of shown)
   where

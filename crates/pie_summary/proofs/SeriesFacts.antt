@@ -14,7 +14,8 @@ pub kept-more : (n more most : ℕ) → min (min n most + more) most ≡ min (n 
 kept-more n more most = omega arith
 
 -- the first number of a list with one more
-first-push : (numbers : List ℕ) (number : ℕ) → first_with (kept (length numbers)) (slice_index numbers 0) number ≡ slice_index (numbers ++ number ∷ []) 0
+first-push : (numbers : List ℕ) (number : ℕ) → first_with (kept (length numbers)) (slice_index numbers 0) number
+    ≡ slice_index (numbers ++ number ∷ []) 0
 first-push [] number = refl
 first-push (first ∷ numbers) number = later (length numbers)
   where
@@ -31,9 +32,12 @@ pub series-push : (numbers : List ℕ) (number : ℕ) (old : Series) (count firs
     → the_series count first number greatest_then total ≡ series_of (numbers ++ number ∷ [])
 series-push numbers number old count first greatest_then total old-is count-is first-is greatest-is total-is =
     let counted : count ≡ kept (length (numbers ++ number ∷ [])) =
-    count-is ∙ ap (λ (s : Series). min (s.count + 1) 18446744073709551615) old-is ∙ kept-more (length numbers) 1 18446744073709551615 ∙ ap kept (sym (length_push numbers number)) in
-    let begun : first ≡ slice_index (numbers ++ number ∷ []) 0 = first-is ∙ ap (λ (s : Series). first_with s.count s.first number) old-is ∙ first-push numbers number in
-    let most : greatest_then ≡ greatest (numbers ++ number ∷ []) = greatest-is ∙ ap (λ (s : Series). max s.greatest number) old-is ∙ sym (greatest-push numbers number) in
+    count-is ∙ ap (λ (s : Series). min (s.count + 1) 18446744073709551615) old-is ∙ kept-more (length numbers) 1 18446744073709551615
+    ∙ ap kept (sym (length_push numbers number)) in
+    let begun : first ≡ slice_index (numbers ++ number ∷ []) 0 = first-is ∙ ap (λ (s : Series). first_with s.count s.first number) old-is
+    ∙ first-push numbers number in
+    let most : greatest_then ≡ greatest (numbers ++ number ∷ []) = greatest-is ∙ ap (λ (s : Series). max s.greatest number) old-is
+    ∙ sym (greatest-push numbers number) in
     let summed : total ≡ min (sum (numbers ++ number ∷ [])) 340282366920938463463374607431768211455 =
     total-is ∙ ap (λ (s : Series). min (s.total + number) 340282366920938463463374607431768211455) old-is
     ∙ kept-more (sum numbers) number 340282366920938463463374607431768211455

@@ -10,7 +10,8 @@ use Rattle.pie_explain.specs.declared.explanation.Explained.{Explained}
 use Rattle.pie_summary.specs.declared.series.Series.{Series}
 use Rattle.pie_summary.specs.declared.sums.Sums.{Sums}
 use Rattle.pie_summary.specs.Series.{kept, series_of}
-use Rattle.pie_summary.specs.Sums.{answer_of, cause_of, count_at, counts_of, delay_in, moment_at, prob_at, size_in, sums_of, turned_off, turned_on, wait_in}
+use Rattle.pie_summary.specs.Sums.{answer_of, cause_of, count_at, counts_of, delay_in, moment_at, prob_at, size_in, sums_of, turned_off, turned_on}
+use Rattle.pie_summary.specs.Sums.{wait_in}
 use Rattle.pie_summary.proofs.SeriesFacts.{kept-more}
 
 -- ---- a list over a range, with another value at one place
@@ -43,7 +44,8 @@ count-push place wanted shown one =
     ap kept (sum_by_push (λ (e : Explained). cond (place e == wanted) 1 0) shown one)
     ∙ sym (kept-more (count_by (λ e. place e == wanted) shown) (cond (place one == wanted) 1 0) 18446744073709551615)
 
-pub counted-push : (place : Explained → ℕ) (places at : ℕ) (shown : List Explained) (one : Explained) (old : List ℕ) → old ≡ counts_of place places shown
+pub counted-push : (place : Explained → ℕ) (places at : ℕ) (shown : List Explained) (one : Explained) (old : List ℕ)
+    → old ≡ counts_of place places shown
     → at ≡ place one → at < places
     → slice_set old at (min (slice_index old at + 1) 18446744073709551615) ≡ counts_of place places (shown ++ one ∷ [])
 counted-push place places at shown one old is here within =
@@ -52,7 +54,8 @@ counted-push place places at shown one old is here within =
     let more : min (slice_index old at + 1) 18446744073709551615 ≡ after at =
     ap (λ (xs : List ℕ). min (slice_index xs at + 1) 18446744073709551615) is
     ∙ ap (λ (n : ℕ). min (n + 1) 18446744073709551615) (index-range before 0 places at within ∙ ap before (omega arith))
-    ∙ sym (count-push place at shown one ∙ ap (λ (b : Bool). min (count_at place at shown + cond b 1 0) 18446744073709551615) (eq-eqb (place one) at (sym here))) in
+    ∙ sym (count-push place at shown one ∙ ap (λ (b : Bool). min (count_at place at shown + cond b 1 0) 18446744073709551615)
+    (eq-eqb (place one) at (sym here))) in
     let others : (w : ℕ) → (at ≡ w → ⊥) → after w ≡ before w =
     λ w differs. count-push place w shown one
     ∙ ap (λ (b : Bool). min (count_at place w shown + cond b 1 0) 18446744073709551615) (ne_eqb (place one) w (λ e. differs (here ∙ e)))
@@ -123,7 +126,8 @@ parts-of shown sums is = record {
 }
 
 pub sums-are : (shown : List Explained) (answers causes : List ℕ) (moments arrived waits delays probs on off : Series)
-    → Parts shown answers causes moments arrived waits delays probs on off → the_sums answers causes moments arrived waits delays probs on off ≡ sums_of shown
+    → Parts shown answers causes moments arrived waits delays probs on off
+    → the_sums answers causes moments arrived waits delays probs on off ≡ sums_of shown
 unfolding sums_of
 sums-are shown answers causes moments arrived waits delays probs on off parts = λ i. record {
   answers = parts.answers-are i;

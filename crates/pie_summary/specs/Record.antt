@@ -17,7 +17,8 @@ field_names =
     ∷ codes "picked_by_word" ∷ codes "picked_by_word_not_capable" ∷ codes "picked_by_word_not_below" ∷ codes "word_not_below"
     ∷ codes "left" ∷ codes "greatest_wait" ∷ codes "mean_wait"
     ∷ codes "updates" ∷ codes "greatest_delay" ∷ codes "last_delay" ∷ codes "greatest_probability" ∷ codes "last_probability"
-    ∷ codes "turned_on" ∷ codes "first_turned_on" ∷ codes "last_turned_on" ∷ codes "turned_off" ∷ codes "first_turned_off" ∷ codes "last_turned_off" ∷ []
+    ∷ codes "turned_on" ∷ codes "first_turned_on" ∷ codes "last_turned_on" ∷ codes "turned_off" ∷ codes "first_turned_off" ∷ codes "last_turned_off"
+    ∷ []
 
 -- when events were
 unfoldable pub moment_fields : Series → List ℕ
@@ -69,7 +70,8 @@ cause_fields causes = joined (first_fields causes ∷ middle_fields causes ∷ l
 
 unfoldable pub later_fields : Sums → List ℕ
 later_fields sums =
-    joined (left_fields sums.waits ∷ update_fields (slice_index sums.answers 7) sums.delays sums.probs ∷ turned_fields sums.turned_on sums.turned_off ∷ [])
+    joined (left_fields sums.waits ∷ update_fields (slice_index sums.answers 7) sums.delays sums.probs ∷ turned_fields sums.turned_on sums.turned_off
+    ∷ [])
 
 unfoldable pub record_of : Sums → List ℕ
 record_of sums =

@@ -32,7 +32,8 @@ ended form false sums = []
 -- what is written at an event: a summary of the last events before it, where they are in another period
 abbrev pub ended_at : Summary → Place Explained → List ℕ
 ended_at summary place =
-    ended summary.form (begins (last_period summary.every place.before) (period_at summary.every place.event)) (sums_of (last_events summary.every place.before))
+    ended summary.form (begins (last_period summary.every place.before) (period_at summary.every place.event))
+    (sums_of (last_events summary.every place.before))
 
 -- .. at each of these events
 abbrev pub summaries : Summary → List Explained → List ℕ

@@ -3,7 +3,10 @@ use Rattle.std.specs.Prelude.{ℕ, ◌-◌, ◌/◌, ◌^◌, ◌==◌, min, max
 use Rattle.std.specs.Fmt.{decimal}
 use Rattle.pie_explain.specs.Words.{joined, millis, per_cent, share}
 use Rattle.pie_summary.specs.declared.cause_name.CauseName.{CauseName}
-use Rattle.pie_summary.specs.declared.cause_name.CauseName.TheVariants.{NoRoomInBytes, NoRoomInPackets, Inactive, BurstAllowed, LowDelay, ShortQueue, NoProbability, LittleAccumulated, PickedBySum, PickedBySumNotCapable, PickedBySumNotBelow, PickedByWord, PickedByWordNotCapable, PickedByWordNotBelow, WordNotBelow}
+use Rattle.pie_summary.specs.declared.cause_name.CauseName.TheVariants.{NoRoomInBytes, NoRoomInPackets, Inactive, BurstAllowed, LowDelay, ShortQueue}
+use Rattle.pie_summary.specs.declared.cause_name.CauseName.TheVariants.{NoProbability, LittleAccumulated, PickedBySum, PickedBySumNotCapable}
+use Rattle.pie_summary.specs.declared.cause_name.CauseName.TheVariants.{PickedBySumNotBelow, PickedByWord, PickedByWordNotCapable}
+use Rattle.pie_summary.specs.declared.cause_name.CauseName.TheVariants.{PickedByWordNotBelow, WordNotBelow}
 use Rattle.pie_summary.specs.declared.series.Series.{Series}
 use Rattle.pie_summary.specs.declared.sums.Sums.{Sums}
 
@@ -15,7 +18,8 @@ row_words name count all = joined (codes "    " ∷ name ∷ codes ": " ∷ deci
 
 -- what became of the arrivals
 unfoldable pub queued_words : List ℕ → ℕ → List ℕ
-queued_words answers all = joined (row_words (codes "queued") (slice_index answers 0) all ∷ row_words (codes "queued and marked") (slice_index answers 1) all ∷ [])
+queued_words answers all = joined (row_words (codes "queued") (slice_index answers 0) all
+    ∷ row_words (codes "queued and marked") (slice_index answers 1) all ∷ [])
 
 unfoldable pub dropped_words : List ℕ → ℕ → List ℕ
 dropped_words answers all =
@@ -81,7 +85,8 @@ abbrev pub mean : Series → ℕ
 mean series = min (series.total / max series.count 1) (2 ^ 64 - 1)
 
 unfoldable pub head_words : Series → List ℕ
-head_words moments = joined (decimal moments.count ∷ codes " events, from " ∷ millis moments.first ∷ codes " to " ∷ millis moments.last ∷ codes "\n" ∷ [])
+head_words moments = joined (decimal moments.count ∷ codes " events, from " ∷ millis moments.first ∷ codes " to " ∷ millis moments.last ∷ codes "\n"
+    ∷ [])
 
 unfoldable pub arrived_words : Series → List ℕ
 arrived_words arrived = joined (codes "  " ∷ decimal arrived.count ∷ codes " arrivals, " ∷ decimal arrived.total ∷ codes " bytes\n" ∷ [])
@@ -94,11 +99,13 @@ left_words waits =
 -- the delays that so many updates took
 unfoldable pub delay_words : ℕ → ℕ → ℕ → List ℕ
 delay_words updates greatest last =
-    joined (codes "  " ∷ decimal updates ∷ codes " updates; the greatest delay was " ∷ millis greatest ∷ codes ",\n    and the last " ∷ millis last ∷ codes "\n" ∷ [])
+    joined (codes "  " ∷ decimal updates ∷ codes " updates; the greatest delay was " ∷ millis greatest ∷ codes ",\n    and the last " ∷ millis last
+    ∷ codes "\n" ∷ [])
 
 -- the probabilities after the events
 unfoldable pub prob_words : ℕ → ℕ → List ℕ
-prob_words greatest last = joined (codes "  the greatest probability was " ∷ per_cent greatest ∷ codes ", and the last " ∷ per_cent last ∷ codes "\n" ∷ [])
+prob_words greatest last = joined (codes "  the greatest probability was " ∷ per_cent greatest ∷ codes ", and the last " ∷ per_cent last ∷ codes "\n"
+    ∷ [])
 
 unfoldable pub update_words : ℕ → Series → Series → List ℕ
 update_words updates delays probs = joined (delay_words updates delays.greatest delays.last ∷ prob_words probs.greatest probs.last ∷ [])
@@ -107,7 +114,8 @@ update_words updates delays probs = joined (delay_words updates delays.greatest 
 unfoldable pub turned_words : List ℕ → Series → List ℕ
 turned_words way turned =
     if turned.count == 0 then []
-    else joined (codes "  turned " ∷ way ∷ codes " " ∷ decimal turned.count ∷ codes " times, first at " ∷ millis turned.first ∷ codes ",\n    and last at " ∷ millis turned.last
+    else joined (codes "  turned " ∷ way ∷ codes " " ∷ decimal turned.count ∷ codes " times, first at " ∷ millis turned.first
+    ∷ codes ",\n    and last at " ∷ millis turned.last
     ∷ codes "\n" ∷ [])
 
 unfoldable pub verdict_words : Series → List ℕ → List ℕ

@@ -1,6 +1,8 @@
 //! A summary in words.
 ghost use Rattle.std.specs.Prelude.{◌≡◌, ◌++◌, OnOk, string_bytes};
-ghost use Rattle.pie_summary.specs.Words.{arrival_words, arrived_words, cause_row, cause_words, delay_words, dropped_words, first_causes, head_words, later_words, left_words, mean, middle_causes, prob_words, queued_words, row_words, sum_causes, title, turned_words, update_words, verdict_words, word_causes, words};
+ghost use Rattle.pie_summary.specs.Words.{arrival_words, arrived_words, cause_row, cause_words, delay_words, dropped_words, first_causes, head_words};
+ghost use Rattle.pie_summary.specs.Words.{later_words, left_words, mean, middle_causes, prob_words, queued_words, row_words, sum_causes, title};
+ghost use Rattle.pie_summary.specs.Words.{turned_words, update_words, verdict_words, word_causes, words};
 
 use crate::cause_name::{CauseName, cause_name};
 use crate::series::Series;

@@ -8,7 +8,8 @@ use Rattle.csv.specs.Writing.{fields_text, is_blank}
 use Rattle.pie_params.specs.Profile.{default_profile}
 use Rattle.pie_params.specs.declared.raw.RawParams.{RawParams}
 use Rattle.pie_queue.specs.declared.ecn.Ecn.TheVariants as ecn
-use Rattle.pie_book.specs.declared.command.Answer.TheVariants.{Enqueued, Marked, DroppedEarly, DroppedBytes, DroppedPackets, Empty, Left, Updated, Done}
+use Rattle.pie_book.specs.declared.command.Answer.TheVariants.{Enqueued, Marked, DroppedEarly, DroppedBytes, DroppedPackets, Empty, Left, Updated}
+use Rattle.pie_book.specs.declared.command.Answer.TheVariants.{Done}
 use Rattle.pie_book.specs.declared.command.Command.TheVariants.{Arrive, Depart, Update, Reset, SetParams}
 use Rattle.pie_book.specs.declared.opening.Mode.TheVariants.{Bounded, Rolling}
 use Rattle.pie_book.specs.declared.opening.Mode.{Mode}
@@ -80,37 +81,56 @@ nine_params = record {
 -- what each kind asks
 requests : map request_of (arrive_row ∷ depart_row ∷ (codes "update" ∷ codes "3" ∷ codes "4" ∷ []) ∷ (codes "reset" ∷ codes "5" ∷ codes "6" ∷ [])
     ∷ (codes "params" ∷ codes "7" ∷ codes "8" ∷ nine) ∷ (codes "fold" ∷ codes "9" ∷ []) ∷ (codes "show" ∷ []) ∷ (codes "tally" ∷ []) ∷ [])
-    ≡ Ok (Ask 1 (Arrive 10 (record { tag = 7; size = 1500; ecn = ecn.Ect0 }) 0)) ∷ Ok (Ask 2 (Depart 25)) ∷ Ok (Ask 3 (Update 4)) ∷ Ok (Ask 5 (Reset 6))
+    ≡ Ok (Ask 1 (Arrive 10 (record { tag = 7; size = 1500; ecn = ecn.Ect0 }) 0)) ∷ Ok (Ask 2 (Depart 25)) ∷ Ok (Ask 3 (Update 4))
+    ∷ Ok (Ask 5 (Reset 6))
     ∷ Ok (Ask 7 (SetParams 8 nine_params)) ∷ Ok (Fold 9) ∷ Ok Show ∷ Ok Tally ∷ []
-unfolding number ecn_of params_at first_kind version_of profile_of mode_of limits_at draft_at version_one_fields version_two_fields arrive_fields call_at call_fields params_fields fold_fields request_of field_at
+unfolding number ecn_of params_at first_kind version_of profile_of mode_of limits_at draft_at version_one_fields version_two_fields arrive_fields
+    call_at call_fields params_fields fold_fields request_of field_at
 requests = refl
 
 -- a parameter out of its range is no flaw, but a number that is no number is
 bad_params : map request_of (
-    (codes "params" ∷ codes "7" ∷ codes "8" ∷ codes "1" ∷ codes "1" ∷ codes "0" ∷ codes "1" ∷ codes "1" ∷ codes "1" ∷ codes "1" ∷ codes "0" ∷ codes "1024" ∷ [])
-    ∷ (codes "params" ∷ codes "7" ∷ codes "8" ∷ codes "1" ∷ codes "1" ∷ codes "0" ∷ codes "1" ∷ codes "1" ∷ codes "1" ∷ codes "1" ∷ codes "0" ∷ codes "x" ∷ [])
+    (codes "params" ∷ codes "7" ∷ codes "8" ∷ codes "1" ∷ codes "1" ∷ codes "0" ∷ codes "1" ∷ codes "1" ∷ codes "1" ∷ codes "1" ∷ codes "0"
+    ∷ codes "1024" ∷ [])
+    ∷ (codes "params" ∷ codes "7" ∷ codes "8" ∷ codes "1" ∷ codes "1" ∷ codes "0" ∷ codes "1" ∷ codes "1" ∷ codes "1" ∷ codes "1" ∷ codes "0"
+    ∷ codes "x" ∷ [])
     ∷ [])
     ≡ Ok BadParams ∷ Err flaw.Number ∷ []
-unfolding number ecn_of params_at first_kind version_of profile_of mode_of limits_at draft_at version_one_fields version_two_fields arrive_fields call_at call_fields params_fields fold_fields request_of field_at
+unfolding number ecn_of params_at first_kind version_of profile_of mode_of limits_at draft_at version_one_fields version_two_fields arrive_fields
+    call_at call_fields params_fields fold_fields request_of field_at
 bad_params = refl
 
 -- a later opening and any other word are no kind; the number of the fields comes before the fields
-flaws : map request_of (open_row ∷ (codes "rolling" ∷ []) ∷ (codes "open2" ∷ codes "1" ∷ codes "bounded" ∷ codes "0" ∷ codes "4" ∷ codes "16" ∷ codes "100" ∷ []) ∷ (codes "shown" ∷ []) ∷ [] ∷ (codes "depart" ∷ codes "x" ∷ []) ∷ (codes "depart" ∷ codes "65536" ∷ codes "1" ∷ []) ∷ [])
+flaws : map request_of (open_row ∷ (codes "rolling" ∷ []) ∷ (codes "open2" ∷ codes "1" ∷ codes "bounded" ∷ codes "0" ∷ codes "4" ∷ codes "16"
+    ∷ codes "100" ∷ []) ∷ (codes "shown" ∷ []) ∷ [] ∷ (codes "depart" ∷ codes "x" ∷ []) ∷ (codes "depart" ∷ codes "65536" ∷ codes "1" ∷ []) ∷ [])
     ≡ Err flaw.Kind ∷ Err flaw.Kind ∷ Err flaw.Kind ∷ Err flaw.Kind ∷ Err flaw.Kind ∷ Err flaw.Fields ∷ Err flaw.Number ∷ []
-unfolding number ecn_of params_at first_kind version_of profile_of mode_of limits_at draft_at version_one_fields version_two_fields arrive_fields call_at call_fields params_fields fold_fields request_of field_at
+unfolding number ecn_of params_at first_kind version_of profile_of mode_of limits_at draft_at version_one_fields version_two_fields arrive_fields
+    call_at call_fields params_fields fold_fields request_of field_at
 flaws = refl
 
 -- of several bad fields the first counts
 first_flaws : (request_of (codes "arrive" ∷ codes "1" ∷ codes "10" ∷ codes "7" ∷ codes "01" ∷ codes "ect2" ∷ codes "0" ∷ []) ≡ Err flaw.Number)
     × (request_of (codes "arrive" ∷ codes "1" ∷ codes "10" ∷ codes "7" ∷ codes "1" ∷ codes "ect2" ∷ codes "00" ∷ []) ≡ Err flaw.Word)
-unfolding number ecn_of params_at first_kind version_of profile_of mode_of limits_at draft_at version_one_fields version_two_fields arrive_fields call_at call_fields params_fields fold_fields request_of field_at
+unfolding number ecn_of params_at first_kind version_of profile_of mode_of limits_at draft_at version_one_fields version_two_fields arrive_fields
+    call_at call_fields params_fields fold_fields request_of field_at
 first_flaws = (refl, refl)
 
 -- the short form has the default parameters, and the long one its own
-opened : (opening_of open_row ≡ Ok (record { moment = 0; limits = record { packets = 4; tail = 16; events = 100 }; params = default_profile; choices = record { mode = Bounded; profile = One } }))
+opened : (opening_of open_row ≡ Ok (record {
+  moment = 0;
+  limits = record { packets = 4; tail = 16; events = 100 };
+  params = default_profile;
+  choices = record { mode = Bounded; profile = One };
+}))
     × (opening_of (codes "rolling" ∷ codes "5" ∷ codes "4" ∷ codes "16" ∷ codes "100" ∷ nine)
-    ≡ Ok (record { moment = 5; limits = record { packets = 4; tail = 16; events = 100 }; params = nine_params; choices = record { mode = Rolling; profile = One } }))
-unfolding opening_of number ecn_of params_at first_kind version_of profile_of mode_of limits_at draft_at version_one_fields version_two_fields arrive_fields call_at call_fields params_fields fold_fields request_of field_at
+    ≡ Ok (record {
+      moment = 5;
+      limits = record { packets = 4; tail = 16; events = 100 };
+      params = nine_params;
+      choices = record { mode = Rolling; profile = One };
+    }))
+unfolding opening_of number ecn_of params_at first_kind version_of profile_of mode_of limits_at draft_at version_one_fields version_two_fields
+    arrive_fields call_at call_fields params_fields fold_fields request_of field_at
 opened = (refl, refl)
 
 -- version two names the profile and the mode
@@ -119,12 +139,18 @@ open2_row profile mode = codes "open2" ∷ profile ∷ mode ∷ codes "5" ∷ co
 
 abbrev opening_with : RawParams → Mode → Profile → Opening
 opening_with params mode profile =
-    record { moment = 5; limits = record { packets = 4; tail = 16; events = 100 }; params = params; choices = record { mode = mode; profile = profile } }
+    record {
+      moment = 5;
+      limits = record { packets = 4; tail = 16; events = 100 };
+      params = params;
+      choices = record { mode = mode; profile = profile };
+    }
 
 opened_in_version_two : (opening_of (open2_row (codes "2") (codes "bounded")) ≡ Ok (opening_with default_profile Bounded Two))
     × (opening_of (open2_row (codes "1") (codes "rolling")) ≡ Ok (opening_with default_profile Rolling One))
     × (opening_of (open2_row (codes "2") (codes "rolling") ++ nine) ≡ Ok (opening_with nine_params Rolling Two))
-unfolding opening_of number ecn_of params_at first_kind version_of profile_of mode_of limits_at draft_at version_one_fields version_two_fields request_of field_at
+unfolding opening_of number ecn_of params_at first_kind version_of profile_of mode_of limits_at draft_at version_one_fields version_two_fields
+    request_of field_at
 opened_in_version_two = (refl, refl, refl)
 
 -- the number of the fields, the profile, the mode, and then the numbers
@@ -139,12 +165,15 @@ not_opened_in_version_two : map opening_of (
     ∷ (codes "open2" ∷ codes "1" ∷ codes "loose" ∷ codes "x" ∷ codes "4" ∷ codes "16" ∷ codes "100" ∷ [])
     ∷ (codes "open2" ∷ codes "1" ∷ codes "bounded" ∷ codes "x" ∷ codes "4" ∷ codes "16" ∷ codes "100" ∷ [])
     ∷ [])
-    ≡ Err (fault.Fields 1) ∷ Err (fault.Fields 1) ∷ Err (fault.Number 1) ∷ Err (fault.Number 1) ∷ Err (fault.Number 1) ∷ Err (fault.Word 1) ∷ Err (fault.Number 1)
+    ≡ Err (fault.Fields 1) ∷ Err (fault.Fields 1) ∷ Err (fault.Number 1) ∷ Err (fault.Number 1) ∷ Err (fault.Number 1) ∷ Err (fault.Word 1)
+    ∷ Err (fault.Number 1)
     ∷ Err (fault.Word 1) ∷ Err (fault.Number 1) ∷ []
-unfolding opening_of number ecn_of params_at first_kind version_of profile_of mode_of limits_at draft_at version_one_fields version_two_fields request_of field_at
+unfolding opening_of number ecn_of params_at first_kind version_of profile_of mode_of limits_at draft_at version_one_fields version_two_fields
+    request_of field_at
 not_opened_in_version_two = refl
 
-versions : map version_of (open_row ∷ (codes "rolling" ∷ []) ∷ open2_row (codes "1") (codes "bounded") ∷ []) ≡ version.One ∷ version.One ∷ version.Two ∷ []
+versions : map version_of (open_row ∷ (codes "rolling" ∷ []) ∷ open2_row (codes "1") (codes "bounded") ∷ [])
+    ≡ version.One ∷ version.One ∷ version.Two ∷ []
 unfolding version_of field_at
 versions = refl
 
@@ -154,34 +183,41 @@ not_opened : (opening_of depart_row ≡ Err fault.NoOpen)
     × (opening_of (codes "open" ∷ codes "00" ∷ codes "0" ∷ codes "4" ∷ codes "2" ∷ []) ≡ Err (fault.Number 1))
     × (opening_of (codes "open" ∷ codes "1152921504606846976" ∷ codes "0" ∷ codes "4" ∷ codes "2" ∷ []) ≡ Err (fault.Opening open_fault.Limits))
     × (opening_of (codes "open" ∷ codes "1152921504606846976" ∷ codes "4" ∷ codes "4" ∷ codes "2" ∷ []) ≡ Err (fault.Opening open_fault.Moment))
-unfolding opening_of number ecn_of params_at first_kind version_of profile_of mode_of limits_at draft_at version_one_fields version_two_fields arrive_fields call_at call_fields params_fields fold_fields request_of field_at
+unfolding opening_of number ecn_of params_at first_kind version_of profile_of mode_of limits_at draft_at version_one_fields version_two_fields
+    arrive_fields call_at call_fields params_fields fold_fields request_of field_at
 not_opened = (refl, refl, refl, refl, refl)
 
 -- a record past the greatest number is that fault, whatever it says
-too_long : (record_fault 3 4 (codes "shown" ∷ []) ≡ Some fault.TooLong) × (record_fault 4 4 (codes "shown" ∷ []) ≡ Some (fault.Kind 4)) × (record_fault 4 4 depart_row ≡ None)
-unfolding record_fault number ecn_of params_at first_kind version_of profile_of mode_of limits_at draft_at version_one_fields version_two_fields arrive_fields call_at call_fields params_fields fold_fields request_of field_at
+too_long : (record_fault 3 4 (codes "shown" ∷ []) ≡ Some fault.TooLong) × (record_fault 4 4 (codes "shown" ∷ []) ≡ Some (fault.Kind 4))
+    × (record_fault 4 4 depart_row ≡ None)
+unfolding record_fault number ecn_of params_at first_kind version_of profile_of mode_of limits_at draft_at version_one_fields version_two_fields
+    arrive_fields call_at call_fields params_fields fold_fields request_of field_at
 too_long = (refl, refl, refl)
 
 faults : (fault_of 9 [] ≡ Some fault.NoOpen) × (fault_of 0 [] ≡ Some fault.NoOpen) × (fault_of 9 (depart_row ∷ open_row ∷ []) ≡ Some fault.NoOpen)
     × (fault_of 0 (open_row ∷ []) ≡ Some fault.TooLong) × (fault_of 1 (open_row ∷ depart_row ∷ []) ≡ Some fault.TooLong)
     × (fault_of 2 (open_row ∷ depart_row ∷ []) ≡ None) × (fault_of 9 (open_row ∷ depart_row ∷ open_row ∷ []) ≡ Some (fault.Kind 3))
     × (fault_of 9 (open_row ∷ depart_row ∷ (codes "depart" ∷ []) ∷ open_row ∷ []) ≡ Some (fault.Fields 3))
-unfolding fault_of first_fault record_fault opening_of number ecn_of params_at first_kind version_of profile_of mode_of limits_at draft_at version_one_fields version_two_fields arrive_fields call_at call_fields params_fields fold_fields request_of field_at
+unfolding fault_of first_fault record_fault opening_of number ecn_of params_at first_kind version_of profile_of mode_of limits_at draft_at
+    version_one_fields version_two_fields arrive_fields call_at call_fields params_fields fold_fields request_of field_at
 faults = (refl, refl, refl, refl, refl, refl, refl, refl)
 
 up_to_the_fault : before_fault 9 2 (depart_row ∷ open_row ∷ late_row ∷ []) ≡ depart_row ∷ []
-unfolding before_fault record_fault number ecn_of params_at first_kind version_of profile_of mode_of limits_at draft_at version_one_fields version_two_fields arrive_fields call_at call_fields params_fields fold_fields request_of field_at
+unfolding before_fault record_fault number ecn_of params_at first_kind version_of profile_of mode_of limits_at draft_at version_one_fields
+    version_two_fields arrive_fields call_at call_fields params_fields fold_fields request_of field_at
 up_to_the_fault = refl
 
 -- history records
 
-answers : map answer_fields (Enqueued ∷ Marked ∷ DroppedEarly ∷ DroppedBytes ∷ DroppedPackets ∷ Empty ∷ Left (record { tag = 7; size = 1500; ecn = ecn.Ce }) ∷ Updated 1 20 300 ∷ Done ∷ [])
+answers : map answer_fields (Enqueued ∷ Marked ∷ DroppedEarly ∷ DroppedBytes ∷ DroppedPackets ∷ Empty
+    ∷ Left (record { tag = 7; size = 1500; ecn = ecn.Ce }) ∷ Updated 1 20 300 ∷ Done ∷ [])
     ≡ (codes "enqueue" ∷ []) ∷ (codes "mark" ∷ []) ∷ (codes "early" ∷ []) ∷ (codes "bytes" ∷ []) ∷ (codes "packets" ∷ []) ∷ (codes "empty" ∷ [])
     ∷ (codes "left" ∷ codes "7" ∷ codes "1500" ∷ codes "ce" ∷ []) ∷ (codes "1" ∷ codes "20" ∷ codes "300" ∷ []) ∷ (codes "done" ∷ []) ∷ []
 unfolding answer_fields digits
 answers = refl
 
-refusals : map (λ why. refused_row 12 (code_of why)) (refusal.Moment ∷ refusal.Size ∷ refusal.TooSoon 15 ∷ refusal.Exhausted ∷ refusal.HistoryFull ∷ [])
+refusals : map (λ why. refused_row 12 (code_of why)) (refusal.Moment ∷ refusal.Size ∷ refusal.TooSoon 15 ∷ refusal.Exhausted ∷ refusal.HistoryFull
+    ∷ [])
     ≡ map (λ code. codes "refused" ∷ codes "12" ∷ code ∷ []) (codes "1" ∷ codes "2" ∷ codes "3" ∷ codes "4" ∷ codes "5" ∷ [])
 unfolding refused_row digits
 refusals = refl

@@ -14,7 +14,8 @@ use Rattle.pie_control.specs.History.{probability, last_delay, last_moment, gran
 use Rattle.pie_control.specs.Next.{raw_step, tuning_divisor, tuned_step, decayed, next}
 use Rattle.pie_early.specs.Decision.{is_considered, is_picked}
 use Rattle.pie_early.specs.History.{accumulated}
-use Rattle.pie_controller.specs.History.{active_of, arrivals_shown, control_of, delay_noted, departures_of, departures_shown, early_of, held_of, is_active, noted, noted_after, now_of, params_of, updates_shown}
+use Rattle.pie_controller.specs.History.{active_of, arrivals_shown, control_of, delay_noted, departures_of, departures_shown, early_of, held_of}
+use Rattle.pie_controller.specs.History.{is_active, noted, noted_after, now_of, params_of, updates_shown}
 use Rattle.pie_controller.specs.Places.{places, greatest, last_or}
 use Rattle.pie_controller.specs.Steps.{verdict}
 use Rattle.pie_book.specs.Estimates.{held_after}
@@ -30,7 +31,8 @@ use Rattle.pie_record.specs.Number.{number}
 use Rattle.pie_record.specs.FirstRecord.{draft_at, first_kind, limits_at, mode_of, profile_of, version_of, version_one_fields, version_two_fields}
 use Rattle.pie_record.specs.Record.{arrive_fields, call_at, call_fields, ecn_of, fold_fields, params_at, params_fields, request_of}
 use Rattle.pie_record.specs.Answer.{answer_fields, folded_row, refused_row, shown_row, tallied_row}
-use Rattle.pie_trace.specs.History.{before_fault, end_of, fault_of, first_fault, history_rows, history_text, record_fault, replies, requests_of, steps_of, text_left}
+use Rattle.pie_trace.specs.History.{before_fault, end_of, fault_of, first_fault, history_rows, history_text, record_fault, replies, requests_of}
+use Rattle.pie_trace.specs.History.{steps_of, text_left}
 use Rattle.pie_record.specs.Opening.{opening_of}
 use Rattle.pie_record.specs.Text.{rows_text, records_of}
 
@@ -241,7 +243,8 @@ marks_rest-history =
     ++ codes "shown,14,1001005,4,3048,0,0,0,50,1001002,0,0\n"
     ++ codes "refused,20,7\n"
 
-marks-runs : history_of (codes "open,0,8,32,100,2,1,0,850000,0,1,100000,1000000000000,1024\n" ++ marks_rest) ≡ codes "open,0,8,32,100,2,1,0,850000,0,1,100000,1000000000000,1024\n" ++ marks_rest-history
+marks-runs : history_of (codes "open,0,8,32,100,2,1,0,850000,0,1,100000,1000000000000,1024\n" ++ marks_rest)
+    ≡ codes "open,0,8,32,100,2,1,0,850000,0,1,100000,1000000000000,1024\n" ++ marks_rest-history
 unfolding held_after shown held_of now_of params_of active_of departures_shown updates_shown arrivals_shown verdict record_fault first_fault
     before_fault requests_of steps_of replies history_rows rows_text text_left fault_of history_text end_of number ecn_of params_at first_kind
     version_of profile_of mode_of limits_at draft_at version_one_fields version_two_fields arrive_fields call_at call_fields params_fields
@@ -253,7 +256,8 @@ unfolding held_after shown held_of now_of params_of active_of departures_shown u
 marks-runs = refl
 
 -- the same in a rolling book whose tail holds one event: the first record alone is another
-marks_rolling-runs : history_of (codes "rolling,0,8,1,100,2,1,0,850000,0,1,100000,1000000000000,1024\n" ++ marks_rest) ≡ codes "rolling,0,8,1,100,2,1,0,850000,0,1,100000,1000000000000,1024\n" ++ marks_rest-history
+marks_rolling-runs : history_of (codes "rolling,0,8,1,100,2,1,0,850000,0,1,100000,1000000000000,1024\n" ++ marks_rest)
+    ≡ codes "rolling,0,8,1,100,2,1,0,850000,0,1,100000,1000000000000,1024\n" ++ marks_rest-history
 unfolding held_after shown held_of now_of params_of active_of departures_shown updates_shown arrivals_shown verdict record_fault first_fault
     before_fault requests_of steps_of replies history_rows rows_text text_left fault_of history_text end_of number ecn_of params_at first_kind
     version_of profile_of mode_of limits_at draft_at version_one_fields version_two_fields arrive_fields call_at call_fields params_fields
@@ -406,8 +410,10 @@ first_record_faults : map first_fault_of (
     ≡ Some fault.NoOpen ∷ Some fault.NoOpen ∷ Some (fault.Fields 1) ∷ Some (fault.Fields 1) ∷ Some (fault.Number 1)
     ∷ Some (fault.Opening (open_fault.Param Target)) ∷ Some (fault.Opening (open_fault.Param DqThreshold))
     ∷ Some (fault.Opening open_fault.Limits) ∷ Some (fault.Opening open_fault.Moment) ∷ None
-    ∷ Some (fault.Number 1) ∷ Some (fault.Word 1) ∷ Some (fault.Fields 1) ∷ Some (fault.Opening (open_fault.Param Target)) ∷ Some (fault.Opening open_fault.Limits) ∷ []
-unfolding fault_of first_fault record_fault number ecn_of params_at first_kind version_of profile_of mode_of limits_at draft_at version_one_fields version_two_fields arrive_fields call_at call_fields params_fields
+    ∷ Some (fault.Number 1) ∷ Some (fault.Word 1) ∷ Some (fault.Fields 1) ∷ Some (fault.Opening (open_fault.Param Target))
+    ∷ Some (fault.Opening open_fault.Limits) ∷ []
+unfolding fault_of first_fault record_fault number ecn_of params_at first_kind version_of profile_of mode_of limits_at draft_at version_one_fields
+    version_two_fields arrive_fields call_at call_fields params_fields
     fold_fields request_of opening_of records_from next_record strip_bom field_at
 first_record_faults = refl
 
@@ -427,9 +433,11 @@ later_record_faults : map (λ line. first_fault_of (codes "open,0,4,16,100\n" ++
     ∷ codes "arrive,1,10,7,1500,ect2,-1\n"
     ∷ codes "params,1,1,1,1,1,1,1,1,1,1,1\n"
     ∷ [])
-    ≡ Some (fault.Kind 2) ∷ Some (fault.Kind 2) ∷ Some (fault.Kind 2) ∷ Some (fault.Fields 2) ∷ Some (fault.Fields 2) ∷ Some (fault.Fields 2) ∷ Some (fault.Number 2)
+    ≡ Some (fault.Kind 2) ∷ Some (fault.Kind 2) ∷ Some (fault.Kind 2) ∷ Some (fault.Fields 2) ∷ Some (fault.Fields 2) ∷ Some (fault.Fields 2)
+    ∷ Some (fault.Number 2)
     ∷ Some (fault.Number 2) ∷ Some (fault.Fields 2) ∷ Some (fault.Fields 2) ∷ Some (fault.Number 2) ∷ Some (fault.Word 2) ∷ None ∷ []
-unfolding fault_of first_fault record_fault number ecn_of params_at first_kind version_of profile_of mode_of limits_at draft_at version_one_fields version_two_fields arrive_fields call_at call_fields params_fields
+unfolding fault_of first_fault record_fault number ecn_of params_at first_kind version_of profile_of mode_of limits_at draft_at version_one_fields
+    version_two_fields arrive_fields call_at call_fields params_fields
     fold_fields request_of opening_of records_from next_record strip_bom field_at
 later_record_faults = refl
 

@@ -1,5 +1,6 @@
 -- The history text of a trace is read back: its opening, the events of its run, and notes.
-use Rattle.std.proofs.Common.{◌≡◌, ◌≤◌, ◌<◌, ◌+◌, ◌-◌, ◌^◌, ◌==◌, ℕ, List, [], ◌∷◌, ◌++◌, length, Bool, true, false, refl, sym, ap, subst, ◌∙◌, arith, length-append, if◌then◌else◌}
+use Rattle.std.proofs.Common.{◌≡◌, ◌≤◌, ◌<◌, ◌+◌, ◌-◌, ◌^◌, ◌==◌, ℕ, List, [], ◌∷◌, ◌++◌, length, Bool, true, false, refl, sym, ap, subst, ◌∙◌, arith}
+use Rattle.std.proofs.Common.{length-append, if◌then◌else◌}
 use Rattle.std.specs.Prelude.{All, nat_lt, take, Option, Some, None, Result, Ok, Err, codes}
 use Rattle.std.proofs.lemmas.Bool.{ltb-true}
 use Rattle.std.proofs.lemmas.List.Elements.{All-append, All-cons, All-nil}
@@ -48,21 +49,27 @@ use Rattle.pie_record.specs.Record.{is_kind, request_of}
 use Rattle.pie_trace.specs.Reply.{Reply, after, history_row, reply, reply_to_command, reply_to_fold}
 use Rattle.pie_record.specs.Answer.{code_of}
 use Rattle.pie_trace.proofs.EndFacts.{history_text-read}
-use Rattle.pie_record.proofs.Laws.{TellEach-cons, TellEach-none, folded-note, history-told, kind-word, line-back, ltb-false, refused-note, request-asks, rows_text-cons, shown-note, tallied-note, told-field}
+use Rattle.pie_record.proofs.Laws.{TellEach-cons, TellEach-none, folded-note, history-told, kind-word, line-back, ltb-false, refused-note}
+use Rattle.pie_record.proofs.Laws.{request-asks, rows_text-cons, shown-note, tallied-note, told-field}
 use Rattle.pie_trace.proofs.HistoryFacts.{before_fault-later, flawed-record, long-record, requests_of-cons}
 
 -- what pie_book promises of all histories
 pub record Held : Type 0 where
   pub params : (params : RawParams) → first_bad params ≡ None → ParamsFit params
-  pub registers : (opening : Opening) (history : List Event) → opening_refusal opening.limits opening.moment ≡ None → ParamsFit opening.params → IsLegal opening history
+  pub registers : (opening : Opening) (history : List Event) → opening_refusal opening.limits opening.moment ≡ None → ParamsFit opening.params
+      → IsLegal opening history
       → All (λ event. CommandFits event.command) history → RegistersFit (registers_after opening history)
-  pub stats : (opening : Opening) (history : List Event) → opening_refusal opening.limits opening.moment ≡ None → ParamsFit opening.params → IsLegal opening history
+  pub stats : (opening : Opening) (history : List Event) → opening_refusal opening.limits opening.moment ≡ None → ParamsFit opening.params
+      → IsLegal opening history
       → All (λ event. CommandFits event.command) history → StatsFit (stats_after opening history)
-  pub answers : (opening : Opening) (history : List Event) (command : Command) → opening_refusal opening.limits opening.moment ≡ None → ParamsFit opening.params → IsLegal opening history
-      → All (λ event. CommandFits event.command) history → refusal_by_rule opening history command ≡ None → AnswerFits (decision opening history command)
+  pub answers : (opening : Opening) (history : List Event) (command : Command) → opening_refusal opening.limits opening.moment ≡ None
+      → ParamsFit opening.params → IsLegal opening history
+      → All (λ event. CommandFits event.command) history → refusal_by_rule opening history command ≡ None
+      → AnswerFits (decision opening history command)
   pub kinds : (opening : Opening) (history : List Event) (command : Command) → fits command (decision opening history command) ≡ true
   pub legal_at_first : (opening : Opening) → IsLegal opening []
-  pub legal_with_one_more : (opening : Opening) (history : List Event) (caller : ℕ) (command : Command) → IsLegal opening history → refusal_by_rule opening history command ≡ None
+  pub legal_with_one_more : (opening : Opening) (history : List Event) (caller : ℕ) (command : Command) → IsLegal opening history
+      → refusal_by_rule opening history command ≡ None
       → IsLegal opening (history ++ event_of caller command (decision opening history command) ∷ [])
 
 abbrev AllFit : List Event → Type 0
@@ -92,18 +99,22 @@ code-small refusal.HistoryFull = omega arith
 
 -- ---- one record
 
-ask-told : (version : Version) (held : Held) (number : ℕ) (row : Row) (caller : ℕ) (command : Command) (opening : Opening) (progress : Progress) → number < 2 ^ 64 → Opens opening → Sound opening progress → request_of row ≡ Ok (Ask caller command)
-    → line_of version (history_row version number row (reply opening progress (Ask caller command))) ≡ Ok (line_told (Ask caller command) (reply opening progress (Ask caller command)))
+ask-told : (version : Version) (held : Held) (number : ℕ) (row : Row) (caller : ℕ) (command : Command) (opening : Opening) (progress : Progress)
+    → number < 2 ^ 64 → Opens opening → Sound opening progress → request_of row ≡ Ok (Ask caller command)
+    → line_of version (history_row version number row (reply opening progress (Ask caller command)))
+    ≡ Ok (line_told (Ask caller command) (reply opening progress (Ask caller command)))
 ask-told version held number row caller command opening progress small opens sound reads =
     by (refusal_by_rule opening progress.history command) (is_refused_full opening.choices.mode (progress.held == opening.limits.tail)) refl
   where
     by : (o : Option Refusal) (full : Bool) → refusal_by_rule opening progress.history command ≡ o
-        → line_of version (history_row version number row (reply_to_command (refused_or (or_full o full) (decision opening progress.history command))))
+        → line_of version (history_row version number row (reply_to_command
+        (refused_or (or_full o full) (decision opening progress.history command))))
         ≡ Ok (line_told (Ask caller command) (reply_to_command (refused_or (or_full o full) (decision opening progress.history command))))
     by None false free =
         let asks = request-asks row caller command held.params reads in
         ap (λ (r : Row). line_of version (history_row version number r (reply_to_command (Ok (decision opening progress.history command))))) asks.is
-        ∙ line-back version caller command (decision opening progress.history command) (held.kinds opening progress.history command) asks.caller asks.fits
+        ∙ line-back version caller command (decision opening progress.history command) (held.kinds opening progress.history command) asks.caller
+        asks.fits
         (held.answers opening progress.history command opens.accepted opens.params sound.legal sound.fit free)
     by None true free = refused-note version number 5 small (omega arith)
     by (Some why) full free = refused-note version number (code_of why) small (code-small why)
@@ -111,15 +122,18 @@ ask-told version held number row caller command opening progress small opens sou
 fold-enough : (progress : Progress) (n : ℕ) (events : List Event) → fold_outcome progress n ≡ Ok events → n ≤ progress.held
 fold-enough progress n events = by (nat_lt progress.held n) refl
   where
-    by : (few : Bool) → nat_lt progress.held n ≡ few → (if few then Err (TooMany progress.held) else Ok (take n (last_events progress.held progress.history))) ≡ Ok events → n ≤ progress.held
+    by : (few : Bool) → nat_lt progress.held n ≡ few → (if few then Err (TooMany progress.held) else Ok
+        (take n (last_events progress.held progress.history))) ≡ Ok events → n ≤ progress.held
     by true f e = cc
     by false f e = ltb-false progress.held n f
 
-fold-told : (version : Version) (held : Held) (number : ℕ) (row : Row) (n : ℕ) (opening : Opening) (progress : Progress) → number < 2 ^ 64 → Opens opening → Sound opening progress
+fold-told : (version : Version) (held : Held) (number : ℕ) (row : Row) (n : ℕ) (opening : Opening) (progress : Progress) → number < 2 ^ 64
+    → Opens opening → Sound opening progress
     → line_of version (history_row version number row (reply opening progress (Fold n))) ≡ Ok (line_told (Fold n) (reply opening progress (Fold n)))
 fold-told version held number row n opening progress small opens sound = by (fold_outcome progress n) refl
   where
-    by : (o : Result (List Event) FoldRefusal) → fold_outcome progress n ≡ o → line_of version (history_row version number row (reply_to_fold n o)) ≡ Ok (line_told (Fold n) (reply_to_fold n o))
+    by : (o : Result (List Event) FoldRefusal) → fold_outcome progress n ≡ o
+        → line_of version (history_row version number row (reply_to_fold n o)) ≡ Ok (line_told (Fold n) (reply_to_fold n o))
     by (Err why) e = refused-note version number 6 small (omega arith)
     by (Ok events) e =
         let enough = fold-enough progress n events e in
@@ -127,15 +141,20 @@ fold-told version held number row n opening progress small opens sound = by (fol
         let count = count-small held opening progress opens sound in
         folded-note version n (omega arith)
 
-record-told : (version : Version) (held : Held) (number : ℕ) (row : Row) (request : Request) (opening : Opening) (progress : Progress) → number < 2 ^ 64 → Opens opening → Sound opening progress → request_of row ≡ Ok request
+record-told : (version : Version) (held : Held) (number : ℕ) (row : Row) (request : Request) (opening : Opening) (progress : Progress)
+    → number < 2 ^ 64 → Opens opening → Sound opening progress → request_of row ≡ Ok request
     → line_of version (history_row version number row (reply opening progress request)) ≡ Ok (line_told request (reply opening progress request))
-record-told version held number row (Ask caller command) opening progress small opens sound reads = ask-told version held number row caller command opening progress small opens sound reads
+record-told version held number row (Ask caller command) opening progress small opens sound reads = ask-told version held number row caller command
+    opening progress small opens sound reads
 record-told version held number row BadParams opening progress small opens sound reads = refused-note version number 7 small (omega arith)
-record-told version held number row (Fold n) opening progress small opens sound reads = fold-told version held number row n opening progress small opens sound
+record-told version held number row (Fold n) opening progress small opens sound reads = fold-told version held number row n opening progress small
+    opens sound
 record-told version held number row Show opening progress small opens sound reads =
-    shown-note version (registers_after opening progress.history) (held.registers opening progress.history opens.accepted opens.params sound.legal sound.fit)
+    shown-note version (registers_after opening progress.history)
+    (held.registers opening progress.history opens.accepted opens.params sound.legal sound.fit)
 record-told version held number row Tally opening progress small opens sound reads =
-    tallied-note version (stats_after opening progress.history) (held.stats opening progress.history opens.accepted opens.params sound.legal sound.fit)
+    tallied-note version (stats_after opening progress.history)
+    (held.stats opening progress.history opens.accepted opens.params sound.legal sound.fit)
 
 -- where the run stands after it
 with-one : (mode : Mode) (most held : ℕ) → held_with_one mode most held ≤ held + 1
@@ -150,7 +169,8 @@ after-fold : (b : Bool) (held n : ℕ) → (if b then held else held - n) ≤ he
 after-fold true held n = omega arith
 after-fold false held n = omega arith
 
-pub asked-sound : (held : Held) (opening : Opening) (progress : Progress) (caller : ℕ) (command : Command) → CommandFits command → Sound opening progress → Sound opening (after opening progress (Ask caller command))
+pub asked-sound : (held : Held) (opening : Opening) (progress : Progress) (caller : ℕ) (command : Command) → CommandFits command
+    → Sound opening progress → Sound opening (after opening progress (Ask caller command))
 asked-sound held opening progress caller command fit sound =
     by (refusal_by_rule opening progress.history command) (is_refused_full opening.choices.mode (progress.held == opening.limits.tail)) refl
   where
@@ -170,8 +190,10 @@ asked-sound held opening progress caller command fit sound =
     by None true free = sound
     by (Some why) full free = sound
 
-after-sound : (held : Held) (opening : Opening) (progress : Progress) (row : Row) (request : Request) → request_of row ≡ Ok request → Sound opening progress → Sound opening (after opening progress request)
-after-sound held opening progress row (Ask caller command) reads sound = asked-sound held opening progress caller command (request-asks row caller command held.params reads).fits sound
+after-sound : (held : Held) (opening : Opening) (progress : Progress) (row : Row) (request : Request) → request_of row ≡ Ok request
+    → Sound opening progress → Sound opening (after opening progress request)
+after-sound held opening progress row (Ask caller command) reads sound = asked-sound held opening progress caller command
+    (request-asks row caller command held.params reads).fits sound
 after-sound held opening progress row BadParams reads sound = sound
 after-sound held opening progress row (Fold n) reads sound =
     let within = sound.held in
@@ -193,50 +215,63 @@ good most number row e = by (nat_lt most number) (request_of row) refl refl
     by : (late : Bool) (o : Result Request Flaw) → nat_lt most number ≡ late → request_of row ≡ o → Good most number row
     by true o l r = let wrong : None ≡ Some fault.TooLong = sym e ∙ long-record most number row (ltb-true most number l) in cc
     by false (Ok request) l r = record { request = request; reads = r; within = ltb-false most number l }
-    by false (Err what) l r = let wrong : None ≡ Some (fault_at number what) = sym e ∙ flawed-record most number row what (ltb-false most number l) r in cc
+    by false (Err what) l r = let wrong : None ≡ Some (fault_at number what) = sym e
+        ∙ flawed-record most number row what (ltb-false most number l) r in cc
 
 abbrev pub RowsTold : Version → Opening → ℕ → Progress → List Row → List Request → Type 0
-RowsTold version opening number progress rows requests = TellEach version (history_rows version number rows (replies opening progress requests)) (lines_told requests (replies opening progress requests))
+RowsTold version opening number progress rows requests = TellEach version (history_rows version number rows (replies opening progress requests))
+    (lines_told requests (replies opening progress requests))
 
 told-none : (version : Version) (opening : Opening) (number : ℕ) (progress : Progress) → RowsTold version opening number progress [] (requests_of [])
 unfolding requests_of replies history_rows lines_told
 told-none version opening number progress = TellEach-none version
 
-told-one : (version : Version) (opening : Opening) (number : ℕ) (progress : Progress) (row : Row) (rows : List Row) (request : Request) (requests : List Request)
+told-one : (version : Version) (opening : Opening) (number : ℕ) (progress : Progress) (row : Row) (rows : List Row) (request : Request)
+    (requests : List Request)
     → line_of version (history_row version number row (reply opening progress request)) ≡ Ok (line_told request (reply opening progress request))
-    → RowsTold version opening (number + 1) (after opening progress request) rows requests → RowsTold version opening number progress (row ∷ rows) (request ∷ requests)
+    → RowsTold version opening (number + 1) (after opening progress request) rows requests
+    → RowsTold version opening number progress (row ∷ rows) (request ∷ requests)
 unfolding replies history_rows lines_told
 told-one version opening number progress row rows request requests here later =
-    TellEach-cons version (history_row version number row (reply opening progress request)) (history_rows version (number + 1) rows (replies opening (after opening progress request) requests))
+    TellEach-cons version (history_row version number row (reply opening progress request))
+    (history_rows version (number + 1) rows (replies opening (after opening progress request) requests))
     (line_told request (reply opening progress request)) (lines_told requests (replies opening (after opening progress request) requests)) here later
 
 pub before-none : (most number : ℕ) → before_fault most number [] ≡ []
 unfolding before_fault
 before-none most number = refl
 
-pub before-here : (most number : ℕ) (row : Row) (rows : List Row) (why : TraceFault) → record_fault most number row ≡ Some why → before_fault most number (row ∷ rows) ≡ []
+pub before-here : (most number : ℕ) (row : Row) (rows : List Row) (why : TraceFault) → record_fault most number row ≡ Some why
+    → before_fault most number (row ∷ rows) ≡ []
 unfolding before_fault
 before-here most number row rows why e = rw e refl
 
-pub rows-told : (version : Version) (held : Held) (most : ℕ) (opening : Opening) (number : ℕ) (progress : Progress) (rows : List Row) → most ≤ 2 ^ 32 → Opens opening → Sound opening progress
+pub rows-told : (version : Version) (held : Held) (most : ℕ) (opening : Opening) (number : ℕ) (progress : Progress) (rows : List Row) → most ≤ 2 ^ 32
+    → Opens opening → Sound opening progress
     → RowsTold version opening number progress (before_fault most number rows) (requests_of (before_fault most number rows))
 rows-told version held most opening number progress [] few opens sound =
-    subst (λ (l : List Row). RowsTold version opening number progress l (requests_of l)) (sym (before-none most number)) (told-none version opening number progress)
+    subst (λ (l : List Row). RowsTold version opening number progress l (requests_of l)) (sym (before-none most number))
+    (told-none version opening number progress)
 rows-told version held most opening number progress (row ∷ rows) few opens sound =
-    by (record_fault most number row) refl (λ request reads. rows-told version held most opening (number + 1) (after opening progress request) rows few opens (after-sound held opening progress row request reads sound))
+    by (record_fault most number row) refl (λ request reads. rows-told version held most opening (number + 1) (after opening progress request) rows
+    few opens (after-sound held opening progress row request reads sound))
   where
     by : (o : Option TraceFault) → record_fault most number row ≡ o
-        → ((request : Request) → request_of row ≡ Ok request → RowsTold version opening (number + 1) (after opening progress request) (before_fault most (number + 1) rows) (requests_of (before_fault most (number + 1) rows)))
+        → ((request : Request) → request_of row ≡ Ok request → RowsTold version opening (number + 1) (after opening progress request)
+        (before_fault most (number + 1) rows) (requests_of (before_fault most (number + 1) rows)))
         → RowsTold version opening number progress (before_fault most number (row ∷ rows)) (requests_of (before_fault most number (row ∷ rows)))
     by (Some why) e later =
-        subst (λ (l : List Row). RowsTold version opening number progress l (requests_of l)) (sym (before-here most number row rows why e)) (told-none version opening number progress)
+        subst (λ (l : List Row). RowsTold version opening number progress l (requests_of l)) (sym (before-here most number row rows why e))
+        (told-none version opening number progress)
     by None e later =
         let g = good most number row e in
         let within = g.within in
         let rest = before_fault most (number + 1) rows in
         subst (λ (l : List Row). RowsTold version opening number progress l (requests_of l)) (sym (before_fault-later most number row rows e))
-        (subst (λ (asked : List Request). RowsTold version opening number progress (row ∷ before_fault most (number + 1) rows) asked) (sym (requests_of-cons row (before_fault most (number + 1) rows) g.request g.reads))
-        (told-one version opening number progress row (before_fault most (number + 1) rows) g.request (requests_of (before_fault most (number + 1) rows))
+        (subst (λ (asked : List Request). RowsTold version opening number progress (row ∷ before_fault most (number + 1) rows) asked)
+        (sym (requests_of-cons row (before_fault most (number + 1) rows) g.request g.reads))
+        (told-one version opening number progress row (before_fault most (number + 1) rows) g.request
+        (requests_of (before_fault most (number + 1) rows))
         (record-told version held number row g.request opening progress (omega arith) opens sound g.reads) (later g.request g.reads)))
 
 -- how many there are
@@ -244,7 +279,8 @@ pub before-few : (most number : ℕ) (rows : List Row) → number ≤ most + 1 �
 before-few most number [] within = rw (before-none most number) (omega arith)
 before-few most number (row ∷ rows) within = by (record_fault most number row) refl (λ w. before-few most (number + 1) rows w)
   where
-    by : (o : Option TraceFault) → record_fault most number row ≡ o → (number + 1 ≤ most + 1 → number + 1 + length (before_fault most (number + 1) rows) ≤ most + 1)
+    by : (o : Option TraceFault) → record_fault most number row ≡ o
+        → (number + 1 ≤ most + 1 → number + 1 + length (before_fault most (number + 1) rows) ≤ most + 1)
         → number + length (before_fault most number (row ∷ rows)) ≤ most + 1
     by (Some why) e later = rw (before-here most number row rows why e) (omega arith)
     by None e later =
@@ -262,7 +298,8 @@ pub told-fields : (version : Version) (rows : List Row) (lines : List Line) → 
 unfolding TellEach
 told-fields version [] lines tells = All-nil HasField
 told-fields version (row ∷ rows) [] tells = absurd tells
-told-fields version (row ∷ rows) (line ∷ lines) tells = All-cons HasField row rows (told-field version row line tells.0) (told-fields version rows lines tells.1)
+told-fields version (row ∷ rows) (line ∷ lines) tells = All-cons HasField row rows (told-field version row line tells.0)
+    (told-fields version rows lines tells.1)
 
 -- ---- the first record
 
@@ -297,13 +334,15 @@ pub record Checked (draft : Draft) (opening : Opening) : Type 0 where
 pub checked : (draft : Draft) (opening : Opening) → checked_opening (first_bad draft.params) draft ≡ Ok opening → Checked draft opening
 checked draft opening = by (first_bad draft.params) (opening_refusal draft.limits draft.moment) refl refl
   where
-    inner : (why : Option OpenRefusal) → opening_refusal draft.limits draft.moment ≡ why → first_bad draft.params ≡ None → refused_opening why draft ≡ Ok opening → Checked draft opening
+    inner : (why : Option OpenRefusal) → opening_refusal draft.limits draft.moment ≡ why → first_bad draft.params ≡ None
+        → refused_opening why draft ≡ Ok opening → Checked draft opening
     inner None p q e = record { same = cc; accepted = p; in_range = q }
     inner (Some open_refusal.BadLimits) p q e = cc
     inner (Some open_refusal.Moment) p q e = cc
     inner (Some open_refusal.Memory) p q e = cc
 
-    by : (bad : Option Field) (why : Option OpenRefusal) → first_bad draft.params ≡ bad → opening_refusal draft.limits draft.moment ≡ why → checked_opening bad draft ≡ Ok opening → Checked draft opening
+    by : (bad : Option Field) (why : Option OpenRefusal) → first_bad draft.params ≡ bad → opening_refusal draft.limits draft.moment ≡ why
+        → checked_opening bad draft ≡ Ok opening → Checked draft opening
     by (Some field) why q p e = cc
     by None why q p e = inner (opening_refusal draft.limits draft.moment) refl q e
 
@@ -327,15 +366,18 @@ pub sound-start : (held : Held) (opening : Opening) → Sound opening start
 sound-start held opening = record { legal = held.legal_at_first opening; fit = All-nil (λ (e : Event). CommandFits e.command); held = omega arith }
 
 text-rows : (version : Version) (most : ℕ) (opening : Opening) (rows : List Row)
-    → text_left version most opening 2 start rows ≡ rows_text (history_rows version 2 (before_fault most 2 rows) (replies opening start (requests_of (before_fault most 2 rows))))
+    → text_left version most opening 2 start rows ≡ rows_text (history_rows version 2 (before_fault most 2 rows)
+    (replies opening start (requests_of (before_fault most 2 rows))))
 unfolding text_left
 text-rows version most opening rows = refl
 
 pub text-whole : (most : ℕ) (row : Row) (rows : List Row) (opening : Opening) → 0 < most → opening_of row ≡ Ok opening
-    → history_text most (row ∷ rows) ≡ rows_text (row ∷ history_rows (version_of row) 2 (before_fault most 2 rows) (replies opening start (requests_of (before_fault most 2 rows))))
+    → history_text most (row ∷ rows) ≡ rows_text (row ∷ history_rows (version_of row) 2 (before_fault most 2 rows)
+    (replies opening start (requests_of (before_fault most 2 rows))))
 text-whole most row rows opening some opens =
     history_text-read most row rows some ∙ rw opens (rw (text-rows (version_of row) most opening rows)
-    (sym (rows_text-cons row (history_rows (version_of row) 2 (before_fault most 2 rows) (replies opening start (requests_of (before_fault most 2 rows)))))))
+    (sym (rows_text-cons row (history_rows (version_of row) 2 (before_fault most 2 rows)
+    (replies opening start (requests_of (before_fault most 2 rows)))))))
 
 pub run-told : (held : Held) (most : ℕ) (row : Row) (rows : List Row) (opening : Opening) → 0 < most → most ≤ 2 ^ 32 → opening_of row ≡ Ok opening
     → TellsHistory (history_text most (row ∷ rows)) opening (run_lines most opening rows)
@@ -344,13 +386,19 @@ run-told held most row rows opening some few opens =
     let is = opened row opening opens in
     let fit : Opens opening = record { accepted = is.accepted; params = held.params opening.params is.in_range } in
     let first : Row = kind_word is.begins.kind ∷ is.begins.rest in
-    let told : TellEach (version_of first) (history_rows (version_of first) 2 (before_fault most 2 rows) (replies opening start (requests_of (before_fault most 2 rows)))) (lines_told (requests_of (before_fault most 2 rows)) (replies opening start (requests_of (before_fault most 2 rows)))) =
+    let told : TellEach (version_of first) (history_rows (version_of first) 2 (before_fault most 2 rows)
+    (replies opening start (requests_of (before_fault most 2 rows))))
+    (lines_told (requests_of (before_fault most 2 rows)) (replies opening start (requests_of (before_fault most 2 rows)))) =
     rows-told (version_of first) held most opening 2 start rows few fit (sound-start held opening) in
     let count = before-few most 2 rows (omega arith) in
     let fewer = rows-few (version_of first) 2 (before_fault most 2 rows) (replies opening start (requests_of (before_fault most 2 rows))) in
-    subst (λ (text : List ℕ). TellsHistory text opening (lines_told (requests_of (before_fault most 2 rows)) (replies opening start (requests_of (before_fault most 2 rows))))) (sym (text-whole most row rows opening some opens))
-    (subst (λ (first : Row). TellsHistory (rows_text (first ∷ history_rows (version_of first) 2 (before_fault most 2 rows) (replies opening start (requests_of (before_fault most 2 rows))))) opening
+    subst (λ (text : List ℕ). TellsHistory text opening (lines_told (requests_of (before_fault most 2 rows))
+    (replies opening start (requests_of (before_fault most 2 rows))))) (sym (text-whole most row rows opening some opens))
+    (subst (λ (first : Row). TellsHistory (rows_text (first ∷ history_rows (version_of first) 2 (before_fault most 2 rows)
+    (replies opening start (requests_of (before_fault most 2 rows))))) opening
     (lines_told (requests_of (before_fault most 2 rows)) (replies opening start (requests_of (before_fault most 2 rows))))) (sym is.begins.is)
-    (history-told is.begins.kind is.begins.rest (history_rows (version_of first) 2 (before_fault most 2 rows) (replies opening start (requests_of (before_fault most 2 rows)))) opening
-    (lines_told (requests_of (before_fault most 2 rows)) (replies opening start (requests_of (before_fault most 2 rows)))) (ap opening_of (sym is.begins.is) ∙ opens)
+    (history-told is.begins.kind is.begins.rest (history_rows (version_of first) 2 (before_fault most 2 rows)
+    (replies opening start (requests_of (before_fault most 2 rows)))) opening
+    (lines_told (requests_of (before_fault most 2 rows)) (replies opening start (requests_of (before_fault most 2 rows))))
+    (ap opening_of (sym is.begins.is) ∙ opens)
     (told-fields (version_of first) _ _ told) told (omega arith)))

@@ -35,7 +35,8 @@ pub replies-outcomes : (opening : Opening) (progress : Progress) (requests : Lis
 unfolding to_steps replies_by replies steps_of outcomes
 replies-outcomes opening progress [] = refl
 replies-outcomes opening progress (Ask caller command ∷ requests) =
-    ap (λ (given : List Reply). reply opening progress (Ask caller command) ∷ given) (replies-outcomes opening (after opening progress (Ask caller command)) requests)
+    ap (λ (given : List Reply). reply opening progress (Ask caller command) ∷ given)
+    (replies-outcomes opening (after opening progress (Ask caller command)) requests)
 replies-outcomes opening progress (BadParams ∷ requests) = replies-outcomes opening progress requests
 replies-outcomes opening progress (Fold n ∷ requests) =
     ap (λ (given : List Reply). reply opening progress (Fold n) ∷ given) (replies-outcomes opening (after opening progress (Fold n)) requests)

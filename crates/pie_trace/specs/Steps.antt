@@ -12,7 +12,8 @@ use Rattle.pie_trace.specs.declared.run.RunEnd.{RunEnd}
 use Rattle.pie_record.specs.declared.version.Version.{Version}
 use Rattle.pie_record.specs.Fault.{is_device}
 use Rattle.pie_record.specs.Text.{Row, text_of}
-use Rattle.pie_trace.specs.History.{end_of, fault_of, first_fault, history_text, progress_at_end, refused_count, replies, requests_of, steps_of, text_left}
+use Rattle.pie_trace.specs.History.{end_of, fault_of, first_fault, history_text, progress_at_end, refused_count, replies, requests_of, steps_of}
+use Rattle.pie_trace.specs.History.{text_left}
 use Rattle.pie_trace.specs.Reply.{Reply, after, history_row, is_refused, reply}
 
 -- a book stands where a run from its opening stands
@@ -24,7 +25,8 @@ pub record IsAt (book : BookView) (opening : Opening) (progress : Progress) : Ty
 
 -- of the records after the first in a text of this version, `rows` are left, the first of them with this number; `text` is the history text so
 -- far, and `refused` were refused
-pub record HasCome (version : Version) (most : ℕ) (opening : Opening) (all : List Row) (number : ℕ) (progress : Progress) (rows : List Row) (text : List ℕ) (refused : ℕ) : Type 0 where
+pub record HasCome (version : Version) (most : ℕ) (opening : Opening) (all : List Row) (number : ℕ) (progress : Progress) (rows : List Row)
+    (text : List ℕ) (refused : ℕ) : Type 0 where
   pub fault : first_fault most 2 all ≡ first_fault most number rows
   pub written : text_left version most opening 2 start all ≡ text ++ text_left version most opening number progress rows
   pub ended : progress_at_end opening (requests_of all) ≡ progress_after opening progress (steps_of (requests_of rows))
@@ -35,7 +37,8 @@ abbrev pub refusals_in : Reply → ℕ
 refusals_in given = cond (is_refused given) 1 0
 
 -- what a request did: the book stands where the run stands after it, a refusal is counted, and the row is its history record
-pub record IsReplied (version : Version) (number : ℕ) (row : Row) (request : Request) (opening : Opening) (new : BookView) (refused refused_then : ℕ) (row_then : Row) (progress : Progress) : Type 0 where
+pub record IsReplied (version : Version) (number : ℕ) (row : Row) (request : Request) (opening : Opening) (new : BookView) (refused refused_then : ℕ)
+    (row_then : Row) (progress : Progress) : Type 0 where
   pub stands : IsAt new opening (after opening progress request)
   pub refusals : refused_then ≡ refused + refusals_in (reply opening progress request)
   pub made : row_then ≡ history_row version number row (reply opening progress request)
@@ -43,17 +46,20 @@ pub record IsReplied (version : Version) (number : ℕ) (row : Row) (request : R
 -- .. wherever the run stood
 abbrev pub Replies : Version → ℕ → Row → Request → BookView → BookView → ℕ → ℕ → Row → Type 0
 Replies version number row request old new refused refused_then row_then =
-    (progress : Progress) → IsAt old old.opening progress → IsReplied version number row request old.opening new refused refused_then row_then progress
+    (progress : Progress) → IsAt old old.opening progress → IsReplied version number row request old.opening new refused refused_then row_then
+    progress
 
 -- what a record after the first did, where it reads well: its request is answered after the run so far, and its history
 -- record joins the text
-pub record IsAnswered (version : Version) (number : ℕ) (row : Row) (request : Request) (opening : Opening) (new : BookView) (refused refused_then : ℕ) (text text_then : List ℕ) (progress : Progress) : Type 0 where
+pub record IsAnswered (version : Version) (number : ℕ) (row : Row) (request : Request) (opening : Opening) (new : BookView)
+    (refused refused_then : ℕ) (text text_then : List ℕ) (progress : Progress) : Type 0 where
   pub stands : IsAt new opening (after opening progress request)
   pub refusals : refused_then ≡ refused + refusals_in (reply opening progress request)
   pub written : text_then ≡ text ++ text_of (history_row version number row (reply opening progress request))
 
 -- where a run stands among all records after the first: some are left, and the text of the others was written
-pub record Stands (version : Version) (most : ℕ) (opening : Opening) (all : List Row) (number : ℕ) (book : BookView) (refused : ℕ) (left : Option (List Row)) (before now : Option (List ℕ)) : Type 0 where
+pub record Stands (version : Version) (most : ℕ) (opening : Opening) (all : List Row) (number : ℕ) (book : BookView) (refused : ℕ)
+    (left : Option (List Row)) (before now : Option (List ℕ)) : Type 0 where
   pub rows : List Row
   pub progress : Progress
   pub text : List ℕ
@@ -63,16 +69,18 @@ pub record Stands (version : Version) (most : ℕ) (opening : Opening) (all : Li
   pub written : Appends before now text
 
 -- the steps of a trace ended with their last record, with no fault
-pub record AreDone (version : Version) (most : ℕ) (opening : Opening) (all : List Row) (book : BookView) (refused : ℕ) (before now : Option (List ℕ)) : Type 0 where
+pub record AreDone (version : Version) (most : ℕ) (opening : Opening) (all : List Row) (book : BookView) (refused : ℕ)
+    (before now : Option (List ℕ)) : Type 0 where
   pub sound : first_fault most 2 all ≡ None
   pub stands : IsAt book opening (progress_at_end opening (requests_of all))
   pub refusals : refused ≡ refused_count (replies opening start (requests_of all))
   pub written : Appends before now (text_left version most opening 2 start all)
 
 -- they ended at the first fault
-pub record AreStopped (version : Version) (most : ℕ) (opening : Opening) (all : List Row) (why : TraceFault) (before now : Option (List ℕ)) : Type 0 where
-  pub first : first_fault most 2 all ≡ Some why
-  pub written : Appends before now (text_left version most opening 2 start all)
+pub record AreStopped (version : Version) (most : ℕ) (opening : Opening) (all : List Row) (why : TraceFault) (before now : Option (List ℕ)) : Type 0
+  where
+    pub first : first_fault most 2 all ≡ Some why
+    pub written : Appends before now (text_left version most opening 2 start all)
 
 -- how a run of a whole trace ends, where neither the reader, the writer nor memory failed
 abbrev pub Ends : ℕ → List Row → Result RunEnd TraceFault → Option (List ℕ) → Option (List ℕ) → Type 0

@@ -16,8 +16,10 @@ use pie_book::{all_numbers_are_held, profile_one_is_always_active};
 ///
 /// It does nothing: its contract is the law (this project's own).
 pub fn migrated_histories_are_read_back()
-    ensures tells { (rows : List Row) (opening : Opening) → history_opening rows ≡ Ok opening → TellsHistory (migrated_text (2 ^ 32) rows) opening (history_lines (2 ^ 32) rows) }
-    ensures version { (rows : List Row) (opening : Opening) → history_opening rows ≡ Ok opening → history_version (records_of (migrated_text (2 ^ 32) rows)) ≡ Two }
+    ensures tells { (rows : List Row) (opening : Opening) → history_opening rows ≡ Ok opening
+        → TellsHistory (migrated_text (2 ^ 32) rows) opening (history_lines (2 ^ 32) rows) }
+    ensures version { (rows : List Row) (opening : Opening) → history_opening rows ≡ Ok opening
+        → history_version (records_of (migrated_text (2 ^ 32) rows)) ≡ Two }
     ensures same { (text : List ℕ) → history_fault (2 ^ 32) (records_of text) ≡ None → TellTheSame text (migrated_text (2 ^ 32) (records_of text)) }
 {}
 
@@ -34,7 +36,8 @@ pub fn migrating_again_changes_nothing()
 ///
 /// It does nothing: its contract is the law (this project's own).
 pub fn migrated_runs_are_runs_of_version_two()
-    ensures { (most : ℕ) (row : Row) (rows : List Row) → most ≤ 2 ^ 32 → migrated_text (2 ^ 32) (records_of (history_text most (row ∷ rows))) ≡ history_text most (first_in_two row ∷ rows) }
+    ensures { (most : ℕ) (row : Row) (rows : List Row) → most ≤ 2 ^ 32
+        → migrated_text (2 ^ 32) (records_of (history_text most (row ∷ rows))) ≡ history_text most (first_in_two row ∷ rows) }
 {
     all_numbers_are_held();
     profile_one_is_always_active();

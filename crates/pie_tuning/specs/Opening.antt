@@ -38,10 +38,12 @@ abbrev pub limits_text : ℕ → List ℕ
 limits_text packets = codes "open2,1,rolling,0," ++ (decimal packets ++ (codes "," ++ (decimal packets ++ codes ",1099511627776,")))
 
 abbrev pub delays_text : RawParams → List ℕ
-delays_text p = decimal p.target ++ (codes "," ++ (decimal p.t_update ++ (codes "," ++ (decimal p.max_burst ++ (codes "," ++ (decimal p.alpha ++ (codes "," ++ (decimal p.beta ++ codes ","))))))))
+delays_text p = decimal p.target ++ (codes "," ++ (decimal p.t_update
+    ++ (codes "," ++ (decimal p.max_burst ++ (codes "," ++ (decimal p.alpha ++ (codes "," ++ (decimal p.beta ++ codes ","))))))))
 
 abbrev pub sizes_text : RawParams → List ℕ
-sizes_text p = decimal p.mean_pkt ++ (codes "," ++ (decimal p.limit_bytes ++ (codes "," ++ (decimal p.mark_ecnth ++ (codes "," ++ (decimal p.dq_threshold ++ codes "\n"))))))
+sizes_text p = decimal p.mean_pkt ++ (codes "," ++ (decimal p.limit_bytes
+    ++ (codes "," ++ (decimal p.mark_ecnth ++ (codes "," ++ (decimal p.dq_threshold ++ codes "\n"))))))
 
 abbrev pub opening_line : ℕ → RawParams → List ℕ
 opening_line packets p = (limits_text packets ++ delays_text p) ++ sizes_text p

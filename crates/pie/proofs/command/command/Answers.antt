@@ -16,24 +16,29 @@ use Rattle.pie.proofs.command.command.Goals as goal
 pub returns-clause-runs : goal.returns-clause-runs
 returns-clause-runs g c asks =
     let words = map string_bytes c.args.words.now in
-    subst (λ (file : Option Text). IfSome (text_given (g.R.Read.remaining c.args.input) (g.H.NamedFiles.holds c.args.rt.now) file) (λ text. EndsRun text c.answer.result (g.W.Write.contents c.args.output.now) (g.W.Write.contents c.answer.new.output)))
+    subst (λ (file : Option Text). IfSome (text_given (g.R.Read.remaining c.args.input) (g.H.NamedFiles.holds c.args.rt.now) file)
+    (λ text. EndsRun text c.answer.result (g.W.Write.contents c.args.output.now) (g.W.Write.contents c.answer.new.output)))
     (run-file words asks)
     (subst (λ (output : Option Text). EndsIn g.H.Made.Write.contents (g.H.NamedFiles.makes c.args.rt.now) output
-    (λ end before now. IfSome (text_given (g.R.Read.remaining c.args.input) (g.H.NamedFiles.holds c.args.rt.now) (file_in (options_in words))) (λ text. EndsRun text end before now)) c.answer.result (g.W.Write.contents c.args.output.now) (g.W.Write.contents c.answer.new.output))
+    (λ end before now. IfSome (text_given (g.R.Read.remaining c.args.input) (g.H.NamedFiles.holds c.args.rt.now) (file_in (options_in words)))
+    (λ text. EndsRun text end before now)) c.answer.result (g.W.Write.contents c.args.output.now) (g.W.Write.contents c.answer.new.output))
     (run-output words asks) (c.answer.ensures.ends Run (run-asks words asks)))
 
 pub returns-clause-audits : goal.returns-clause-audits
 returns-clause-audits g c asks =
-    subst (λ (files : List Text). EndsAudits (g.R.Read.remaining c.args.input) (g.H.NamedFiles.holds c.args.rt.now) files c.answer.result (g.W.Write.contents c.args.output.now) (g.W.Write.contents c.answer.new.output))
+    subst (λ (files : List Text). EndsAudits (g.R.Read.remaining c.args.input) (g.H.NamedFiles.holds c.args.rt.now) files c.answer.result
+    (g.W.Write.contents c.args.output.now) (g.W.Write.contents c.answer.new.output))
     (audit-files (map string_bytes c.args.words.now) asks) (c.answer.ensures.ends Audit (audit-asks (map string_bytes c.args.words.now) asks))
 
 pub returns-clause-migrates : goal.returns-clause-migrates
 returns-clause-migrates g c asks =
     let words = map string_bytes c.args.words.now in
-    subst (λ (file : Option Text). IfSome (text_given (g.R.Read.remaining c.args.input) (g.H.NamedFiles.holds c.args.rt.now) file) (λ text. EndsMigrate text c.answer.result (g.W.Write.contents c.args.output.now) (g.W.Write.contents c.answer.new.output)))
+    subst (λ (file : Option Text). IfSome (text_given (g.R.Read.remaining c.args.input) (g.H.NamedFiles.holds c.args.rt.now) file)
+    (λ text. EndsMigrate text c.answer.result (g.W.Write.contents c.args.output.now) (g.W.Write.contents c.answer.new.output)))
     (migrate-file words asks)
     (subst (λ (output : Option Text). EndsIn g.H.Made.Write.contents (g.H.NamedFiles.makes c.args.rt.now) output
-    (λ end before now. IfSome (text_given (g.R.Read.remaining c.args.input) (g.H.NamedFiles.holds c.args.rt.now) (file_in (options_in words))) (λ text. EndsMigrate text end before now)) c.answer.result (g.W.Write.contents c.args.output.now) (g.W.Write.contents c.answer.new.output))
+    (λ end before now. IfSome (text_given (g.R.Read.remaining c.args.input) (g.H.NamedFiles.holds c.args.rt.now) (file_in (options_in words)))
+    (λ text. EndsMigrate text end before now)) c.answer.result (g.W.Write.contents c.args.output.now) (g.W.Write.contents c.answer.new.output))
     (migrate-output words asks) (c.answer.ensures.ends Migrate (migrate-asks words asks)))
 
 -- ---- with files, and with options
@@ -43,7 +48,8 @@ returns-clause-runs_file g c asks = c.answer.ensures.ends Run asks
 
 pub returns-clause-audits_files : goal.returns-clause-audits_files
 returns-clause-audits_files g c asks name names are =
-    subst (λ (files : List Text). EndsAudits (g.R.Read.remaining c.args.input) (g.H.NamedFiles.holds c.args.rt.now) files c.answer.result (g.W.Write.contents c.args.output.now) (g.W.Write.contents c.answer.new.output)) are (c.answer.ensures.ends Audit asks)
+    subst (λ (files : List Text). EndsAudits (g.R.Read.remaining c.args.input) (g.H.NamedFiles.holds c.args.rt.now) files c.answer.result
+    (g.W.Write.contents c.args.output.now) (g.W.Write.contents c.answer.new.output)) are (c.answer.ensures.ends Audit asks)
 
 pub returns-clause-migrates_file : goal.returns-clause-migrates_file
 returns-clause-migrates_file g c asks = c.answer.ensures.ends Migrate asks

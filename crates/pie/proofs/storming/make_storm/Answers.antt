@@ -3,7 +3,10 @@ use Rattle.pie.proofs.StormEndFacts.{storm-ends}
 use Rattle.pie.proofs.storming.make_storm.Goals as goal
 
 pub returns-in-Ok-write_storm : goal.returns-in-Ok-write_storm
-returns-in-Ok-write_storm g c = storm-ends (rows_of (found_of c.args.options.now)) c.number_or-senders.result c.number_or-packets.result c.number_or-seed.result c.number_or-load.result c.in-Ok.made.plan
-    c.in-Ok.made.end.events.items c.as_slice-events.result.now c.in-Ok.made.end.too_soon c.in-Ok.made.end.too_many (g.W.Write.contents c.args.output.now) (g.W.Write.contents c.write_storm.new.output)
-    c.number_or-senders.ensures.given c.number_or-packets.ensures.given c.number_or-seed.ensures.given c.number_or-load.ensures.given c.in-Ok.ensures.planned c.in-Ok.ensures.made c.in-Ok.ensures.legal
+returns-in-Ok-write_storm g c = storm-ends (rows_of (found_of c.args.options.now)) c.number_or-senders.result c.number_or-packets.result
+    c.number_or-seed.result c.number_or-load.result c.in-Ok.made.plan
+    c.in-Ok.made.end.events.items c.as_slice-events.result.now c.in-Ok.made.end.too_soon c.in-Ok.made.end.too_many
+    (g.W.Write.contents c.args.output.now) (g.W.Write.contents c.write_storm.new.output)
+    c.number_or-senders.ensures.given c.number_or-packets.ensures.given c.number_or-seed.ensures.given c.number_or-load.ensures.given
+    c.in-Ok.ensures.planned c.in-Ok.ensures.made c.in-Ok.ensures.legal
     c.as_slice-events.ensures.value c.in-Ok-write_storm.ensures

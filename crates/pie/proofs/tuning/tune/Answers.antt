@@ -14,7 +14,8 @@ returns-in-Ok g c =
         asked = c.in-Some.asked;
         asks = c.in-Some.ensures;
         in_range = subst IsInRange c.params_for-params.ensures in_range;
-        written = subst (λ (params : RawParams). Appends (g.W.Write.contents c.args.output.now) (g.W.Write.contents c.write_opening.new.output) (opening_line c.in-Some.asked.packets params))
+        written = subst (λ (params : RawParams). Appends (g.W.Write.contents c.args.output.now) (g.W.Write.contents c.write_opening.new.output)
+            (opening_line c.in-Some.asked.packets params))
             c.params_for-params.ensures c.in-Ok.ensures;
       },
     )

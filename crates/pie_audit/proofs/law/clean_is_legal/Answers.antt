@@ -12,8 +12,10 @@ returns-clause-clean_is_legal c = λ text opening lines events told is.
     legal-of-clean opening lines events (ok-same (finding opening lines) _ (text_finding (records_of text)) (told-finding text opening lines told) is)
 
 pub returns-clause-first_is_named : goal.returns-clause-first_is_named
-returns-clause-first_is_named c = λ text opening lines event told first. told-as text opening lines _ told (differs-of-wrong opening lines event first)
+returns-clause-first_is_named c = λ text opening lines event told first. told-as text opening lines _ told
+    (differs-of-wrong opening lines event first)
 
 pub returns-clause-named_is_first : goal.returns-clause-named_is_first
 returns-clause-named_is_first c = λ text opening lines event told is.
-    wrong-of-differs opening lines event (ok-same (finding opening lines) _ (text_finding (records_of text)) (told-finding text opening lines told) is)
+    wrong-of-differs opening lines event (ok-same (finding opening lines) _ (text_finding (records_of text)) (told-finding text opening lines told)
+    is)

@@ -24,13 +24,16 @@ module _ (c : After-of_verdict) where
   taken : arrival_refusal c.args.queued c.args.size c.args.bits c.args.moment ≡ 0
   taken =
       let known : c.args.bits ≤ 3 = grind (c.in-Some.ensures.two, arith, nat_tests) in
-      arrival-taken c.args.queued c.args.size c.args.bits c.args.moment (omega arith) (sym c.is_bad_size.ensures ∙ c.if-is_bad_size.false) known (omega arith)
+      arrival-taken c.args.queued c.args.size c.args.bits c.args.moment (omega arith) (sym c.is_bad_size.ensures ∙ c.if-is_bad_size.false) known
+      (omega arith)
 
   left : c.keep_arrived.new.self ≡ with_arrival state (arrived (held_in state) arrival c.args.moment)
-  left = c.keep_arrived.ensures ∙ kept-later state _ _ _ c.args.moment _ _ c.reach.ensures c.raw-held.ensures c.arrive-verdict.ensures.after (ap with_ecn c.in-Some.ensures.value)
+  left = c.keep_arrived.ensures ∙ kept-later state _ _ _ c.args.moment _ _ c.reach.ensures c.raw-held.ensures c.arrive-verdict.ensures.after
+      (ap with_ecn c.in-Some.ensures.value)
 
   decided : c.arrive-verdict.result ≡ verdict (held_in state) arrival
-  decided = verdict-later state _ _ _ c.args.moment _ _ c.reach.ensures c.raw-held.ensures c.arrive-verdict.ensures.verdict (ap with_ecn c.in-Some.ensures.value)
+  decided = verdict-later state _ _ _ c.args.moment _ _ c.reach.ensures c.raw-held.ensures c.arrive-verdict.ensures.verdict
+      (ap with_ecn c.in-Some.ensures.value)
 
 pub keep_arrived-requires : goal.keep_arrived-requires
 keep_arrived-requires c = moment-later c.reach.new.self _ _ _ c.raw-held.ensures c.arrive-verdict.ensures.after
@@ -46,7 +49,9 @@ returns-clause-after c sound = rw (taken c) (left c ∙ arrived-state (state c) 
 
 pub returns-clause-sound : goal.returns-clause-sound
 unfolding arrival_refusal
-returns-clause-sound c sound = let a = c.args in stays-sound a.state.now _ (Arrive (arrival_of a.queued a.size a.room a.bits a.word) a.moment) _ sound (returns-clause-after c sound) (handed a.moment _)
+returns-clause-sound c sound = let a = c.args in stays-sound a.state.now _ (Arrive (arrival_of a.queued a.size a.room a.bits a.word) a.moment) _
+    sound (returns-clause-after c sound) (handed a.moment _)
 
 pub returns-clause-shows : goal.returns-clause-shows
-returns-clause-shows c opened events sound = let a = c.args in shows-call a.state.now _ (Arrive (arrival_of a.queued a.size a.room a.bits a.word) a.moment) _ sound (returns-clause-after c sound) opened events
+returns-clause-shows c opened events sound = let a = c.args in shows-call a.state.now _
+    (Arrive (arrival_of a.queued a.size a.room a.bits a.word) a.moment) _ sound (returns-clause-after c sound) opened events

@@ -14,4 +14,5 @@ returns-in-Some-clause-taken c did =
 pub returns-in-Some-clause-after : goal.returns-in-Some-clause-after
 returns-in-Some-clause-after c =
     let a = c.args in
-    rw (c.keep_counted.ensures, c.in-Some.ensures.1) (counted-state a.state.now a.size a.left a.moment (omega arith) (omega arith) c.in-Some.ensures.0)
+    rw (c.keep_counted.ensures, c.in-Some.ensures.1) (counted-state a.state.now a.size a.left a.moment (omega arith)
+    (omega arith) c.in-Some.ensures.0)

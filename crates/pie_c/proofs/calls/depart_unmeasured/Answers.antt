@@ -13,4 +13,5 @@ pub returns-clause-after : goal.returns-clause-after
 returns-clause-after c =
     let a = c.args in
     let unmeasured : (a.state.now.measuring == 1) ≡ false = grind (arith, nat_tests) in
-    rw c.keep_unmeasured.ensures (unmeasured-state a.state.now a.size a.left a.moment (omega arith) unmeasured (c.opens_cycle.ensures.passes c.if-opens_cycle.false))
+    rw c.keep_unmeasured.ensures (unmeasured-state a.state.now a.size a.left a.moment (omega arith) unmeasured
+    (c.opens_cycle.ensures.passes c.if-opens_cycle.false))

@@ -14,4 +14,5 @@ unfolding moment_refusal
 returns-clause-sound c sound = let a = c.args in stays-sound a.state.now _ (Pass a.moment) _ sound (returns-clause-after c sound) (handed a.moment _)
 
 pub returns-clause-shows : goal.returns-clause-shows
-returns-clause-shows c opened events sound = let a = c.args in shows-call a.state.now _ (Pass a.moment) _ sound (returns-clause-after c sound) opened events
+returns-clause-shows c opened events sound = let a = c.args in shows-call a.state.now _ (Pass a.moment) _ sound (returns-clause-after c sound) opened
+    events

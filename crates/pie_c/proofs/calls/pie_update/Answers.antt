@@ -37,7 +37,8 @@ returns-clause-after c = search rules
 pub returns-clause-sound : goal.returns-clause-sound
 returns-clause-sound c sound =
     let a = c.args in
-    stays-sound a.state.now _ (Update a.queued a.moment) (update_refusal a.state.now a.queued a.moment) sound (returns-clause-after c) (λ free. omega arith)
+    stays-sound a.state.now _ (Update a.queued a.moment) (update_refusal a.state.now a.queued a.moment) sound (returns-clause-after c)
+    (λ free. omega arith)
 
 pub returns-clause-shows : goal.returns-clause-shows
 returns-clause-shows c opened events free =

@@ -12,10 +12,14 @@ invariant-lines g l = record {
   choice : l.explainer.choice ≡ l.fn.explainer.choice;
   report : l.explainer.report ≡ l.fn.explainer.report;
   stands : (opening : Opening) (before : Option (List ℕ))
-      → Explains opening l.fn.explainer.choice (g.P.Report.so_far l.fn.explainer.report) (g.P.Report.shows l.fn.explainer.report l.fn.explainer.state) []
-      l.fn.explainer.auditor l.fn.explainer.set_by l.fn.explainer.explained before (append_known (g.W.Write.contents l.fn.writer) (string_bytes l.fn.explainer.page))
-      → IfSome l.fn.lines.coming (λ all. ExplainAt opening l.fn.explainer.choice (g.P.Report.so_far l.fn.explainer.report) (g.P.Report.shows l.fn.explainer.report l.explainer.state)
-      all l.lines l.explainer.auditor l.explainer.set_by l.explainer.explained before (append_known (g.W.Write.contents l.writer) (string_bytes l.explainer.page)));
+      → Explains opening l.fn.explainer.choice (g.P.Report.so_far l.fn.explainer.report)
+      (g.P.Report.shows l.fn.explainer.report l.fn.explainer.state) []
+      l.fn.explainer.auditor l.fn.explainer.set_by l.fn.explainer.explained before
+      (append_known (g.W.Write.contents l.fn.writer) (string_bytes l.fn.explainer.page))
+      → IfSome l.fn.lines.coming (λ all. ExplainAt opening l.fn.explainer.choice (g.P.Report.so_far l.fn.explainer.report)
+      (g.P.Report.shows l.fn.explainer.report l.explainer.state)
+      all l.lines l.explainer.auditor l.explainer.set_by l.explainer.explained before
+      (append_known (g.W.Write.contents l.writer) (string_bytes l.explainer.page)));
 }
 
 abbrev pub decreases-lines : goal.decreases-lines

@@ -17,13 +17,17 @@ loop-place-preserved g c =
     let names = map (λ name. name.now) c.args.names.now in
     let before = g.W.Write.contents c.args.output.now in
     let within : c.loop-place.place < length c.args.names.now = search rules in
-    let named : c.loop-place.place < length names = subst (λ (count : ℕ). c.loop-place.place < count) (sym (length-map c.args.names.now (λ name. name.now))) within in
-    let more = audits-more input files (take c.loop-place.place names) c.loop-place.unfound c.loop-place.different before (g.W.Write.contents c.loop-place.output)
+    let named : c.loop-place.place < length names = subst (λ (count : ℕ). c.loop-place.place < count)
+    (sym (length-map c.args.names.now (λ name. name.now))) within in
+    let more = audits-more input files (take c.loop-place.place names) c.loop-place.unfound c.loop-place.different before
+    (g.W.Write.contents c.loop-place.output)
     (g.W.Write.contents c.audit_named.new.output) c.name_at-name.result.now c.in-Ok.told c.loop-place.invariant.audits
-    (found-given g.R.Read.remaining c.args.input c.loop-place.given files c.name_at-name.result.now c.in-Ok.told c.loop-place.invariant.stays c.in-Ok.ensures.finds)
+    (found-given g.R.Read.remaining c.args.input c.loop-place.given files c.name_at-name.result.now c.in-Ok.told c.loop-place.invariant.stays
+    c.in-Ok.ensures.finds)
     c.in-Ok.ensures.written in
     record {
       stays = stays-on c.args.input c.loop-place.given c.audit_named.new.input c.loop-place.invariant.stays c.audit_named.ensures.input;
       audits = rw (c.any_unfound-unfound.ensures, c.any_different-different.ensures)
-          (audits-taken input files names c.loop-place.place c.name_at-name.result.now _ _ before (g.W.Write.contents c.audit_named.new.output) named c.name_at-name.ensures more);
+          (audits-taken input files names c.loop-place.place c.name_at-name.result.now _ _ before (g.W.Write.contents c.audit_named.new.output) named
+          c.name_at-name.ensures more);
     }

@@ -6,6 +6,7 @@ use Rattle.pie_files.proofs.auditing.audit_files.Given as goal
 abbrev pub invariant-loop-place : goal.invariant-loop-place
 invariant-loop-place g l = record {
   stays : Stays l.fn.input l.given;
-  audits : AuditsFiles (g.R.Read.remaining l.fn.input) (g.H.NamedFiles.holds l.fn.rt) (take l.place (map (λ name. name.now) l.names)) l.unfound l.different
+  audits : AuditsFiles (g.R.Read.remaining l.fn.input) (g.H.NamedFiles.holds l.fn.rt) (take l.place (map (λ name. name.now) l.names)) l.unfound
+      l.different
       (g.W.Write.contents l.fn.output) (g.W.Write.contents l.output);
 }

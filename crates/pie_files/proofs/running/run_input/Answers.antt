@@ -9,6 +9,8 @@ pub returns-clause-runs : goal.returns-clause-runs
 returns-clause-runs g c =
     let before = g.W.Write.contents c.args.output.now in
     let now = g.W.Write.contents c.run_trace-given.new.writer in
-    rw c.ended.ensures (subst (λ (known : Option (List ℕ)). IfSome known (λ text. EndsRun text (end_of c.run_trace-given.result) before now)) c.new-watched.ensures
-    (EndsRun-told (remaining_of g.R.Read.remaining c.new-watched.result) c.run_trace-given.result before now c.run_trace-given.ensures.ends c.run_trace-given.ensures.faults
+    rw c.ended.ensures (subst (λ (known : Option (List ℕ)). IfSome known (λ text. EndsRun text (end_of c.run_trace-given.result) before now))
+    c.new-watched.ensures
+    (EndsRun-told (remaining_of g.R.Read.remaining c.new-watched.result) c.run_trace-given.result before now c.run_trace-given.ensures.ends
+    c.run_trace-given.ensures.faults
     c.run_trace-given.ensures.writes))

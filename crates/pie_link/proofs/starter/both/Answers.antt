@@ -23,5 +23,6 @@ returns-clause-folds c = λ plan is folds.
     let s = behind_same c.args.work.caller last c.gather.new.caller one c.in-Ok.ensures.both in
     let same : entries_of (folder plan) c.gather.new.caller.front ≡ entries_of (folder plan) last.front =
     subst (λ n. entries_of n c.gather.new.caller.front ≡ entries_of n last.front) is s.1 in
-    folds_on c.args.link.now (folder plan) (c.args.last.folding.is_short_of_memory ≡ false) plan.folds.items c.args.last.folding.events.items last.front c.gather.new.caller.front
+    folds_on c.args.link.now (folder plan) (c.args.last.folding.is_short_of_memory ≡ false) plan.folds.items c.args.last.folding.events.items
+    last.front c.gather.new.caller.front
     c.args.last.folding.too_many s.0 same folds

@@ -14,9 +14,11 @@ returns-clause-legal g c =
     let folding = c.in-Some.work.folding in
     let book = c.in-Ok-close.book in
     let n : c.len.result + 5 ≡ senders plan + 5 = omega (arith, c.len.ensures) in
-    let e = ended plan _ c.in-Ok.opened.0 c.in-Ok.opened.1 caller book (folding.is_short_of_memory ≡ false) folding.events.items c.in-Some.work.too_soon folding.too_many c.end_of.result
+    let e = ended plan _ c.in-Ok.opened.0 c.in-Ok.opened.1 caller book (folding.is_short_of_memory ≡ false) folding.events.items
+    c.in-Some.work.too_soon folding.too_many c.end_of.result
     (c.is_sound.ensures.0 c.if-not-is_sound.false) n c.in-Ok.ensures.opening c.in-Ok.ensures.callers c.in-Ok.ensures.caller c.in-Some.ensures.stays
-    c.in-Ok-close.ensures.opening c.in-Ok-close.ensures.same c.in-Ok-close.ensures.numbered c.in-Some.ensures.made c.in-Some.ensures.alone c.in-Some.ensures.folds
+    c.in-Ok-close.ensures.opening c.in-Ok-close.ensures.same c.in-Ok-close.ensures.numbered c.in-Some.ensures.made c.in-Some.ensures.alone
+    c.in-Some.ensures.folds
     c.end_of.ensures.events c.end_of.ensures.counts in
     end_legal (opening_of plan) (events_in caller.front) c.end_of.result e.legal e.events
 
@@ -27,11 +29,14 @@ returns-clause-registers g c =
     let folding = c.in-Some.work.folding in
     let book = c.in-Ok-close.book in
     let n : c.len.result + 5 ≡ senders plan + 5 = omega (arith, c.len.ensures) in
-    let e = ended plan _ c.in-Ok.opened.0 c.in-Ok.opened.1 caller book (folding.is_short_of_memory ≡ false) folding.events.items c.in-Some.work.too_soon folding.too_many c.end_of.result
+    let e = ended plan _ c.in-Ok.opened.0 c.in-Ok.opened.1 caller book (folding.is_short_of_memory ≡ false) folding.events.items
+    c.in-Some.work.too_soon folding.too_many c.end_of.result
     (c.is_sound.ensures.0 c.if-not-is_sound.false) n c.in-Ok.ensures.opening c.in-Ok.ensures.callers c.in-Ok.ensures.caller c.in-Some.ensures.stays
-    c.in-Ok-close.ensures.opening c.in-Ok-close.ensures.same c.in-Ok-close.ensures.numbered c.in-Some.ensures.made c.in-Some.ensures.alone c.in-Some.ensures.folds
+    c.in-Ok-close.ensures.opening c.in-Ok-close.ensures.same c.in-Ok-close.ensures.numbered c.in-Some.ensures.made c.in-Some.ensures.alone
+    c.in-Some.ensures.folds
     c.end_of.ensures.events c.end_of.ensures.counts in
-    end_shows (λ (end : StormEnd). end.registers) registers_after (opening_of plan) book.opening (events_in caller.front) c.end_of.result e.opened e.events
+    end_shows (λ (end : StormEnd). end.registers) registers_after (opening_of plan) book.opening (events_in caller.front) c.end_of.result e.opened
+    e.events
     (c.end_of.ensures.registers (events_in caller.front) e.told)
 
 pub returns-clause-stats : goal.returns-clause-stats
@@ -41,9 +46,11 @@ returns-clause-stats g c =
     let folding = c.in-Some.work.folding in
     let book = c.in-Ok-close.book in
     let n : c.len.result + 5 ≡ senders plan + 5 = omega (arith, c.len.ensures) in
-    let e = ended plan _ c.in-Ok.opened.0 c.in-Ok.opened.1 caller book (folding.is_short_of_memory ≡ false) folding.events.items c.in-Some.work.too_soon folding.too_many c.end_of.result
+    let e = ended plan _ c.in-Ok.opened.0 c.in-Ok.opened.1 caller book (folding.is_short_of_memory ≡ false) folding.events.items
+    c.in-Some.work.too_soon folding.too_many c.end_of.result
     (c.is_sound.ensures.0 c.if-not-is_sound.false) n c.in-Ok.ensures.opening c.in-Ok.ensures.callers c.in-Ok.ensures.caller c.in-Some.ensures.stays
-    c.in-Ok-close.ensures.opening c.in-Ok-close.ensures.same c.in-Ok-close.ensures.numbered c.in-Some.ensures.made c.in-Some.ensures.alone c.in-Some.ensures.folds
+    c.in-Ok-close.ensures.opening c.in-Ok-close.ensures.same c.in-Ok-close.ensures.numbered c.in-Some.ensures.made c.in-Some.ensures.alone
+    c.in-Some.ensures.folds
     c.end_of.ensures.events c.end_of.ensures.counts in
     end_shows (λ (end : StormEnd). end.stats) stats_after (opening_of plan) book.opening (events_in caller.front) c.end_of.result e.opened e.events
     (c.end_of.ensures.stats (events_in caller.front) e.told)
@@ -55,8 +62,11 @@ returns-clause-made g c =
     let folding = c.in-Some.work.folding in
     let book = c.in-Ok-close.book in
     let n : c.len.result + 5 ≡ senders plan + 5 = omega (arith, c.len.ensures) in
-    let e = ended plan _ c.in-Ok.opened.0 c.in-Ok.opened.1 caller book (folding.is_short_of_memory ≡ false) folding.events.items c.in-Some.work.too_soon folding.too_many c.end_of.result
+    let e = ended plan _ c.in-Ok.opened.0 c.in-Ok.opened.1 caller book (folding.is_short_of_memory ≡ false) folding.events.items
+    c.in-Some.work.too_soon folding.too_many c.end_of.result
     (c.is_sound.ensures.0 c.if-not-is_sound.false) n c.in-Ok.ensures.opening c.in-Ok.ensures.callers c.in-Ok.ensures.caller c.in-Some.ensures.stays
-    c.in-Ok-close.ensures.opening c.in-Ok-close.ensures.same c.in-Ok-close.ensures.numbered c.in-Some.ensures.made c.in-Some.ensures.alone c.in-Some.ensures.folds
+    c.in-Ok-close.ensures.opening c.in-Ok-close.ensures.same c.in-Ok-close.ensures.numbered c.in-Some.ensures.made c.in-Some.ensures.alone
+    c.in-Some.ensures.folds
     c.end_of.ensures.events c.end_of.ensures.counts in
-    end_made plan (events_in caller.front) (folding.is_short_of_memory ≡ false) c.in-Some.work.too_soon folding.too_many c.end_of.result e.made e.events c.end_of.ensures.counts
+    end_made plan (events_in caller.front) (folding.is_short_of_memory ≡ false) c.in-Some.work.too_soon folding.too_many c.end_of.result e.made
+    e.events c.end_of.ensures.counts

@@ -25,20 +25,24 @@ loop-k-preserved g c =
     let one : c.in-Some.soon ≤ 1 = c.in-Some.ensures.few in record {
       stays = (next.0 ∙ mine.0, next.1 ∙ mine.1, next.2 ∙ mine.2);
       few = omega (arith, few, one);
-      goes = each_next c.args.link.now c.args.plan.now c.args.caller.first c.loop-k.k c.loop-k.too_soon c.in-Some.soon c.loop-k.mine (events_in c.ask_next.new.caller.front) mine.1
+      goes = each_next c.args.link.now c.args.plan.now c.args.caller.first c.loop-k.k c.loop-k.too_soon c.in-Some.soon c.loop-k.mine
+          (events_in c.ask_next.new.caller.front) mine.1
           (c.in-Some.ensures.goes c.loop-k.too_soon) c.loop-k.invariant.goes;
       only_made = subst (λ (n : ℕ). OnlyMadeAt c.args.link.now n c.ask_next.new.caller.front) mine.1
-          (c.ask_next.ensures.only_made (subst (λ (n : ℕ). OnlyMadeAt c.args.link.now n c.loop-k.mine.front) (sym mine.1) c.loop-k.invariant.only_made));
+          (c.ask_next.ensures.only_made (subst (λ (n : ℕ). OnlyMadeAt c.args.link.now n c.loop-k.mine.front) (sym mine.1)
+          c.loop-k.invariant.only_made));
     }
 
 pub returns-in-None-clause-made : goal.returns-in-None-clause-made
 returns-in-None-clause-made g c =
-    each_ended c.args.link.now c.args.plan.now c.args.caller.first c.loop-k.k c.loop-k.too_soon c.loop-k.mine (events_in c.ask_next.new.caller.front) c.loop-k.invariant.stays.1
+    each_ended c.args.link.now c.args.plan.now c.args.caller.first c.loop-k.k c.loop-k.too_soon c.loop-k.mine (events_in c.ask_next.new.caller.front)
+    c.loop-k.invariant.stays.1
     (c.in-None.ensures.goes c.loop-k.too_soon) c.loop-k.invariant.goes
 
 pub returns-in-None-clause-few : goal.returns-in-None-clause-few
 returns-in-None-clause-few g c =
-    let len : c.commands-commands.result ≡ length (commands_of c.args.plan.now c.args.caller.first) = c.commands-commands.ensures ∙ ap (λ n. length (commands_of c.args.plan.now n)) c.first.ensures.value in
+    let len : c.commands-commands.result ≡ length (commands_of c.args.plan.now c.args.caller.first) = c.commands-commands.ensures
+    ∙ ap (λ n. length (commands_of c.args.plan.now n)) c.first.ensures.value in
     omega (arith, c.loop-k.invariant.few, c.loop-k-test.true, len, fits c.args.plan.now c.args.caller.first, c.requires.few)
 
 pub returns-in-None-clause-only_made : goal.returns-in-None-clause-only_made
@@ -49,11 +53,14 @@ returns-in-None-clause-only_made g c =
 
 pub returns-clause-made : goal.returns-clause-made
 returns-clause-made g c =
-    let len : c.commands-commands.result ≡ length (commands_of c.args.plan.now c.args.caller.first) = c.commands-commands.ensures ∙ ap (λ n. length (commands_of c.args.plan.now n)) c.first.ensures.value in
-    came_to_end c.args.link.now c.args.plan.now c.args.caller.first c.loop-k.k c.loop-k.too_soon (events_in c.loop-k.mine.front) c.loop-k.invariant.goes
+    let len : c.commands-commands.result ≡ length (commands_of c.args.plan.now c.args.caller.first) = c.commands-commands.ensures
+    ∙ ap (λ n. length (commands_of c.args.plan.now n)) c.first.ensures.value in
+    came_to_end c.args.link.now c.args.plan.now c.args.caller.first c.loop-k.k c.loop-k.too_soon (events_in c.loop-k.mine.front)
+    c.loop-k.invariant.goes
     (omega (arith, c.loop-k-test.false, c.loop-k.auto.k-end, len))
 
 pub returns-clause-few : goal.returns-clause-few
 returns-clause-few g c =
-    let len : c.commands-commands.result ≡ length (commands_of c.args.plan.now c.args.caller.first) = c.commands-commands.ensures ∙ ap (λ n. length (commands_of c.args.plan.now n)) c.first.ensures.value in
+    let len : c.commands-commands.result ≡ length (commands_of c.args.plan.now c.args.caller.first) = c.commands-commands.ensures
+    ∙ ap (λ n. length (commands_of c.args.plan.now n)) c.first.ensures.value in
     omega (arith, c.loop-k.invariant.few, c.loop-k.auto.k-end, len, fits c.args.plan.now c.args.caller.first, c.requires.few)

@@ -9,5 +9,6 @@ invariant-loop-k g l = record {
   stays : StaysOne l.fn.caller l.mine;
   few : l.folding.too_many ≤ l.k;
   none : HasNoneAt l.link l.mine.first (events_in l.mine.front);
-  folds : FoldsGoAt l.link l.mine.first (l.folding.is_short_of_memory ≡ false) l.plan.folds.items l.k l.folding.events.items l.mine.front l.folding.too_many;
+  folds : FoldsGoAt l.link l.mine.first (l.folding.is_short_of_memory ≡ false) l.plan.folds.items l.k l.folding.events.items l.mine.front
+      l.folding.too_many;
 }

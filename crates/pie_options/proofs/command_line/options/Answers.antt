@@ -17,5 +17,6 @@ returns c =
     let four = adds_subcommand with_explain migrate_app three c.in_ok-migrate.ensures refl c.in_ok-subcommand-4.ensures in
     let with_storm = with_subcommand with_migrate storm_app.top in
     let five = adds_subcommand with_migrate storm_app four c.in_ok-storm.ensures refl c.in_ok-subcommand-5.ensures in
-    IfOk-weaker c.subcommand-6.result (λ whole. AddsSubcommand c.in_ok-subcommand-5.field-0 c.in_ok-params.params whole) (λ whole. app_of whole ≡ pie_app)
+    IfOk-weaker c.subcommand-6.result (λ whole. AddsSubcommand c.in_ok-subcommand-5.field-0 c.in_ok-params.params whole)
+    (λ whole. app_of whole ≡ pie_app)
     (λ whole adds. adds_subcommand with_storm params_app five c.in_ok-params.ensures refl adds) c.subcommand-6.ensures

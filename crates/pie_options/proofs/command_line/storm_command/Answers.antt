@@ -21,4 +21,5 @@ returns c =
     let three = adds_arg with_packets seed two c.number_option-seed.ensures.local c.number_option-seed.ensures.rule c.in_ok-arg-3.ensures in
     let four = adds_arg with_seed load three c.number_option-load.ensures.local c.number_option-load.ensures.rule c.in_ok-arg-4.ensures in
     IfOk-weaker c.arg-5.result (λ whole. AddsArg c.in_ok-arg-4.field-0 c.flag_option-count.result whole) (λ storm. app_of storm ≡ storm_app)
-    (λ whole added. adds_arg with_load (flag_rule (codes "count")) four c.flag_option-count.ensures.local c.flag_option-count.ensures.rule added) c.arg-5.ensures
+    (λ whole added. adds_arg with_load (flag_rule (codes "count")) four c.flag_option-count.ensures.local c.flag_option-count.ensures.rule added)
+    c.arg-5.ensures

@@ -11,5 +11,6 @@ pub returns : goal.returns
 returns c =
     let found = found_of c.args.options.now in
     let name = c.args.name.now in
-    c.unwrap_or.ensures ∙ flag-given ParsesBool (λ text read gives. gives) (one_text found name) c.get_one.result c.get_one.ensures.none c.get_one.ensures.value
+    c.unwrap_or.ensures ∙ flag-given ParsesBool (λ text read gives. gives) (one_text found name) c.get_one.result c.get_one.ensures.none
+    c.get_one.ensures.value
     ∙ ap (λ (given : Option (List ℕ)). option_map_or (λ text. bytes_eq text (codes "true")) given false) (one_text-rows found name)

@@ -13,5 +13,8 @@ loop-i-init c =
 pub loop-i-preserved : goal.loop-i-preserved
 loop-i-preserved c =
     let words = sender_words c.args.seed c.args.sender in
-    let drawn = c.next_arrival.ensures words c.loop-i.invariant.1 in
-    (arrivals-push c.args.sender words c.loop-i.i c.loop-i.arrivals.items c.push.new.self.items c.next_arrival.result c.loop-i.invariant.0 c.in_ok-push.ensures.items drawn.0, drawn.1)
+    let drawn = c.next_arrival.ensures words c.loop-i.invariant.1 in (
+      arrivals-push c.args.sender words c.loop-i.i c.loop-i.arrivals.items c.push.new.self.items c.next_arrival.result c.loop-i.invariant.0
+          c.in_ok-push.ensures.items drawn.0,
+      drawn.1,
+    )

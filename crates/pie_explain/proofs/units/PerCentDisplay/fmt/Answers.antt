@@ -6,4 +6,5 @@ use Rattle.pie_explain.proofs.units.PerCentDisplay.fmt.Goals as goal
 
 pub returns-clause-writes : goal.returns-clause-writes
 unfolding per_cent
-returns-clause-writes g c = λ plain ok. has_written_of_eq _ _ _ _ _ (rw (c.laid_out.ensures, four-digits) (simp append_assoc)) (c.write.ensures.writes plain ok)
+returns-clause-writes g c = λ plain ok. has_written_of_eq _ _ _ _ _ (rw (c.laid_out.ensures, four-digits) (simp append_assoc))
+    (c.write.ensures.writes plain ok)

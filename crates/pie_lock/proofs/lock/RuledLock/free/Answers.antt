@@ -19,9 +19,11 @@ store-requires g c =
     let state = c.requires.slot.0 in
     let leaving = c.requires.slot.1 in
     let P : Me (Option g.row.S.Denot) (Place g.row.S-Entry.Denot g.row.S-Origin.Denot) → Type 0 =
-    λ m. Allows (Ruled k.number_of k.origin_of k.tells origin key.numbers) slots seat.id m 0 (λ _. 0) (λ _. freed g.J.Adding.added (step slots 0 0 0 none) m 0) in
+    λ m. Allows (Ruled k.number_of k.origin_of k.tells origin key.numbers) slots seat.id m 0 (λ _. 0)
+    (λ _. freed g.J.Adding.added (step slots 0 0 0 none) m 0) in
     let at_seat : P (Holds p, (0, Some state) ∷ []) =
-    subst (λ a. Allows (Ruled k.number_of k.origin_of k.tells origin key.numbers) slots seat.id (Holds p, (0, Some state) ∷ []) 0 (λ _. 0) (λ _. freed a (step slots 0 0 0 none) (Holds p, (0, Some state) ∷ []) 0))
+    subst (λ a. Allows (Ruled k.number_of k.origin_of k.tells origin key.numbers) slots seat.id (Holds p, (0, Some state) ∷ []) 0 (λ _. 0)
+    (λ _. freed a (step slots 0 0 0 none) (Holds p, (0, Some state) ∷ []) 0))
     (sym c.requires.entry)
     (frees_keep k.number_of k.origin_of k.tells origin key.numbers slots seat.id p state c.args.entry.now leaving.origin leaving.told leaving.own) in
     (search rules, search rules, subst P (sym leaving.holds) at_seat)

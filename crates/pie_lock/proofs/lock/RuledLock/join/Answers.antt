@@ -39,7 +39,8 @@ load-requires g c =
     let q = pass_at other.me.0 in
     let seat = c.join_seat.new.seat in
     let P : Me (Option g.row.S.Denot) (Place g.row.S-Entry.Denot g.row.S-Origin.Denot) → Type 0 =
-    λ m. Allows (Ruled k.number_of k.origin_of k.tells origin key.numbers) slots seat.id m 0 (λ n. n) (merged k.number_of (step slots 0 0 0 none) m) in
+    λ m. Allows (Ruled k.number_of k.origin_of k.tells origin key.numbers) slots seat.id m 0 (λ n. n)
+    (merged k.number_of (step slots 0 0 0 none) m) in
     let at_seat : P (Meets p q, []) = merges_keep k.number_of k.origin_of k.tells origin key.numbers slots seat.id p q c.requires.beside in
     let at_slots : P (Meets p q, one.me.1) = subst (λ l. P (Meets p q, l)) (sym (ap (λ m. m.1) c.requires.waiting.0)) at_seat in
     (search rules, search rules, subst P (sym c.join_seat.ensures.2) at_slots)

@@ -13,7 +13,8 @@ free-requires-clause-slot g c =
     let state = c.held.inside.state in
     let p = pass_at seat.me.0 in
     let entry = c.args.entry in
-    let P : Me (Option g.row.S.Denot) (Place g.row.S-Entry.Denot g.row.S-Origin.Denot) → Type 0 = λ m. IsLeaving k.number_of k.origin_of k.tells entry state m in
+    let P : Me (Option g.row.S.Denot) (Place g.row.S-Entry.Denot g.row.S-Origin.Denot)
+    → Type 0 = λ m. IsLeaving k.number_of k.origin_of k.tells entry state m in
     let first_is : p.first ≡ c.args.held.first = c.held.invariant.has.first_is ∙ ap (λ h. h.first) c.held.view_is in
     let leaving : P (seat.me.0, (0, Some state) ∷ []) = record {
       holds = ap (λ v. (v, (0, Some state) ∷ [])) (ap (λ m. m.0) c.held.invariant.holds);

@@ -16,5 +16,9 @@ split_seat-seat-requires g c =
     let has = c.pass.invariant.has in
     let two : p.first + 1 < p.limit = omega (arith, has.first_is, has.limit_is, has.nonempty) in
     let P : Place g.row.S-Entry.Denot g.row.S-Origin.Denot → Type 0 =
-    λ v. Splits (Ruled k.number_of k.origin_of k.tells origin key.numbers) seat.id v (all_but_highest v) (highest v) in
-    (search rules, search rules, subst P (sym (ap (λ m. m.0) c.pass.invariant.waits)) (splits_keep k.number_of k.origin_of k.tells origin key.numbers seat.id p two))
+    λ v. Splits (Ruled k.number_of k.origin_of k.tells origin key.numbers) seat.id v (all_but_highest v) (highest v) in (
+      search rules,
+      search rules,
+      subst P (sym (ap (λ m. m.0) c.pass.invariant.waits))
+          (splits_keep k.number_of k.origin_of k.tells origin key.numbers seat.id p two),
+    )

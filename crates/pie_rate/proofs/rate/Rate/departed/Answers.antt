@@ -8,7 +8,8 @@ pub invariant_of-self : goal.invariant_of-self
 invariant_of-self c =
     let within : c.units.result < 2 ^ 60 = search rules in
     subst (λ (e : Estimate). IsWithin e) (sym c.departed.ensures)
-    (within_after c.args.threshold (departure c.args.size c.args.bytes_left c.units.result) c.requires within (estimate_of c.self.inside.raw) c.self.invariant)
+    (within_after c.args.threshold (departure c.args.size c.args.bytes_left c.units.result) c.requires within (estimate_of c.self.inside.raw)
+    c.self.invariant)
 
 pub returns-clause-shows : goal.returns-clause-shows
 returns-clause-shows c departures shown =

@@ -16,6 +16,7 @@ returns-clause-sums c = λ shown number sums.
     let before : c.if-ends_before.before ≡ sums_of (since c.args.every (Some period) shown) = elim c.if-ends_before.branch [
       | then-ends_before w ↦ w.before-is ∙ w.empty-before.ensures
           ∙ ap sums_of (sym (since-begun c.args.every period shown c.args.self.now.number number (sym tells ∙ w.if-ends_before.true)))
-      | else-ends_before w ↦ w.before-is ∙ sums ∙ ap sums_of (sym (since-same c.args.every period shown c.args.self.now.number number (sym tells ∙ w.if-ends_before.false)))
+      | else-ends_before w ↦ w.before-is ∙ sums ∙ ap sums_of (sym
+          (since-same c.args.every period shown c.args.self.now.number number (sym tells ∙ w.if-ends_before.false)))
     ] in
     c.with.ensures (since c.args.every (Some period) shown) before ∙ ap sums_of (sym (last_events-push c.args.every shown c.args.told.now))

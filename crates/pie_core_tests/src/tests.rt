@@ -1,10 +1,11 @@
 //! What no clause says and no program shows: texts, that there is memory for the largest ring, and calls that nothing else makes.
 
-use pie_book::{Book, FoldRefusal, Limits, OpenRefusal, Refusal};
+use pie_book::{Book, Choices, FoldRefusal, Limits, Mode, OpenRefusal, Opening, Profile, Refusal};
 use pie_fixed::{Accu, Prob};
-use pie_params::{BadParam, Field, Params};
+use pie_params::{BadParam, Field, Params, RawParams};
 use pie_queue::{ByteQueue, Ecn, Memory};
 use pie_record::TraceFault;
+use pie_trace::write_history;
 use std::alloc::Global;
 use std::fmt::Display;
 
@@ -66,14 +67,81 @@ fn a_ring_of_65536(rt: HostRuntime) {
     assert!(rt; is_largest_ring_made(rt.alloc()));
 }
 
-/// Whether a new book shows that it has no event, and when it was opened.
-fn shows_its_opening(alloc: Global) -> bool {
-    let limits = Limits {
+fn limits() -> Limits {
+    Limits {
         packets: 4,
         tail: 16,
         events: 100,
+    }
+}
+
+/// Whether this is the history without an event of a book that was opened so.
+fn is_history(alloc: Global, mode: Mode, profile: Profile, params: RawParams, want: &[u8]) -> bool {
+    let Ok(params) = Params::check(params) else {
+        return false;
     };
-    match Book::open(alloc, limits, Params::default_profile(), 3) {
+    let opening = Opening {
+        moment: 0,
+        limits: limits(),
+        params,
+        choices: Choices { mode, profile },
+    };
+    let mut out = Vec::new(alloc);
+    match write_history(alloc, &mut out, &opening, &[]) {
+        Ok(()) => out.as_slice() == want,
+        Err(_) => false,
+    }
+}
+
+/// Whether each opening with the default parameters is written: a writing that gives up for some openings meets its contract.
+fn are_openings_written(alloc: Global) -> bool {
+    let params = Params::default_profile().raw();
+    is_history(
+        alloc,
+        Mode::Bounded,
+        Profile::One,
+        params,
+        b"open,0,4,16,100\n",
+    ) && is_history(
+        alloc,
+        Mode::Rolling,
+        Profile::One,
+        params,
+        b"rolling,0,4,16,100\n",
+    ) && is_history(
+        alloc,
+        Mode::Bounded,
+        Profile::Two,
+        params,
+        b"open2,2,bounded,0,4,16,100\n",
+    ) && is_history(
+        alloc,
+        Mode::Rolling,
+        Profile::Two,
+        params,
+        b"open2,2,rolling,0,4,16,100\n",
+    )
+}
+
+/// Whether an opening with other parameters has all nine.
+fn are_params_written(alloc: Global) -> bool {
+    let params = RawParams {
+        target: 2,
+        ..Params::default_profile().raw()
+    };
+    let want = b"rolling,0,4,16,100,2,15000000,150000000,125,1250,1024,262144,100000000000,16384\n";
+    is_history(alloc, Mode::Rolling, Profile::One, params, want)
+}
+
+#[test]
+fn openings_of_each_kind(rt: HostRuntime) {
+    let alloc = rt.alloc();
+    assert!(rt; are_openings_written(alloc) && are_params_written(alloc));
+}
+
+/// Whether a new book shows that it has no event, and when it was opened.
+fn shows_its_opening(alloc: Global) -> bool {
+    match Book::open(alloc, limits(), Params::default_profile(), 3) {
         Ok(book) => book.event(0).is_none() && book.opening().moment == 3,
         Err(_) => false,
     }

@@ -1,8 +1,7 @@
 //! The command line of `pie`.
 ghost use Rattle.std.specs.Prelude.{◌≡◌, IfOk, false};
-ghost use Rattle.clap.specs.Words.{app_of, new_app, rule_of};
-ghost use Rattle.pie_options.specs.Words.{audit_app, choosing_app, explain_app, file_rule, files_rule, flag_rule, migrate_app, number_rule};
-ghost use Rattle.pie_options.specs.Words.{output_rule, params_app, pie_alone, pie_app, progress_rule, run_app, storm_app, text_rule, timed_app};
+ghost use Rattle.clap.specs.Words.{app_of, new_app, rule_of, with_rule};
+ghost use Rattle.pie_options.specs.Words.{audit_app, choosing_app, explain_app, file_rule, files_rule, flag_rule, migrate_app, number_rule, output_rule, params_app, pie_alone, pie_app, progress_rule, run_app, storm_app, text_rule, timed_app};
 
 use crate::help::{
     AUDIT_ABOUT, AUDIT_HELP, EXPLAIN_ABOUT, EXPLAIN_HELP, MIGRATE_ABOUT, MIGRATE_HELP,
@@ -101,213 +100,270 @@ fn plain<'a>(alloc: Global, name: &'a str, about: &'a str, help: &'a str) -> Com
     Command::new(alloc, name).about(about).after_help(help)
 }
 
+/// A command with one more option.
+fn with_option<'a>(command: Command<'a>, option: Arg<'a>) -> Result<Command<'a>, AllocError>
+    requires { option.global ≡ false }
+    ensures { IfOk result (λ whole. app_of whole ≡ with_rule (app_of command.entry) (rule_of option.entry)) }
+{
+    command.arg(option)
+}
+
 /// The subcommand `run` and its options.
 fn run_command<'a>(alloc: Global) -> Result<Command<'a>, AllocError>
     ensures { IfOk result (λ run. app_of run ≡ run_app) }
 {
-    let count = flag_option(
-        alloc,
-        "count",
-        "Say on standard error how many events and refused records there were",
-    );
-    plain(alloc, "run", RUN_ABOUT, RUN_HELP)
-        .arg(count)?
-        .arg(progress_option(alloc))?
-        .arg(output_option(alloc))?
-        .arg(file_argument(alloc))
+    let command = with_option(
+        plain(alloc, "run", RUN_ABOUT, RUN_HELP),
+        flag_option(
+            alloc,
+            "count",
+            "Say on standard error how many events and refused records there were",
+        ),
+    )?;
+    let command = with_option(command, progress_option(alloc))?;
+    let command = with_option(command, output_option(alloc))?;
+    with_option(command, file_argument(alloc))
 }
 
 /// The subcommand `audit`, its option and its files.
 fn audit_command<'a>(alloc: Global) -> Result<Command<'a>, AllocError>
     ensures { IfOk result (λ audit. app_of audit ≡ audit_app) }
 {
-    plain(alloc, "audit", AUDIT_ABOUT, AUDIT_HELP)
-        .arg(progress_option(alloc))?
-        .arg(files_argument(alloc))
+    let audit = with_option(
+        plain(alloc, "audit", AUDIT_ABOUT, AUDIT_HELP),
+        progress_option(alloc),
+    )?;
+    with_option(audit, files_argument(alloc))
 }
 
 /// The subcommand `migrate` and its options.
 fn migrate_command<'a>(alloc: Global) -> Result<Command<'a>, AllocError>
     ensures { IfOk result (λ migrate. app_of migrate ≡ migrate_app) }
 {
-    plain(alloc, "migrate", MIGRATE_ABOUT, MIGRATE_HELP)
-        .arg(progress_option(alloc))?
-        .arg(output_option(alloc))?
-        .arg(file_argument(alloc))
+    let migrate = with_option(
+        plain(alloc, "migrate", MIGRATE_ABOUT, MIGRATE_HELP),
+        progress_option(alloc),
+    )?;
+    let migrate = with_option(migrate, output_option(alloc))?;
+    with_option(migrate, file_argument(alloc))
 }
 
 /// The subcommand `explain` with the options that choose events.
 fn choosing_command<'a>(alloc: Global) -> Result<Command<'a>, AllocError>
     ensures { IfOk result (λ choosing. app_of choosing ≡ choosing_app) }
 {
-    let event = number_option(
-        alloc,
-        "event",
-        1,
-        u64::MAX,
-        "Explain the event with this number, counted from 1",
-    );
-    let tag = number_option(
-        alloc,
-        "tag",
-        0,
-        u64::MAX,
-        "Explain each event of the packets with this tag",
-    );
-    let lost = flag_option(
-        alloc,
-        "lost",
-        "Explain each arrival whose packet was dropped",
-    );
-    let marked = flag_option(
-        alloc,
-        "marked",
-        "Explain each arrival whose packet was marked",
-    );
-    let all = flag_option(alloc, "all", "Explain every event");
-    plain(alloc, "explain", EXPLAIN_ABOUT, EXPLAIN_HELP)
-        .arg(event)?
-        .arg(tag)?
-        .arg(lost)?
-        .arg(marked)?
-        .arg(all)
+    let choosing = with_option(
+        plain(alloc, "explain", EXPLAIN_ABOUT, EXPLAIN_HELP),
+        number_option(
+            alloc,
+            "event",
+            1,
+            u64::MAX,
+            "Explain the event with this number, counted from 1",
+        ),
+    )?;
+    let choosing = with_option(
+        choosing,
+        number_option(
+            alloc,
+            "tag",
+            0,
+            u64::MAX,
+            "Explain each event of the packets with this tag",
+        ),
+    )?;
+    let choosing = with_option(
+        choosing,
+        flag_option(
+            alloc,
+            "lost",
+            "Explain each arrival whose packet was dropped",
+        ),
+    )?;
+    let choosing = with_option(
+        choosing,
+        flag_option(
+            alloc,
+            "marked",
+            "Explain each arrival whose packet was marked",
+        ),
+    )?;
+    with_option(choosing, flag_option(alloc, "all", "Explain every event"))
 }
 
 /// .. and those for the moments of these events.
 fn timed_command<'a>(alloc: Global) -> Result<Command<'a>, AllocError>
     ensures { IfOk result (λ timed. app_of timed ≡ timed_app) }
 {
-    let from = text_option(
-        alloc,
-        "from",
-        "MOMENT",
-        "Only the chosen events at this moment and later, such as 1.5ms",
-    );
-    let to = text_option(
-        alloc,
-        "to",
-        "MOMENT",
-        "Only the chosen events at this moment and earlier",
-    );
-    choosing_command(alloc)?.arg(from)?.arg(to)
+    let choosing = choosing_command(alloc)?;
+    let timed = with_option(
+        choosing,
+        text_option(
+            alloc,
+            "from",
+            "MOMENT",
+            "Only the chosen events at this moment and later, such as 1.5ms",
+        ),
+    )?;
+    with_option(
+        timed,
+        text_option(
+            alloc,
+            "to",
+            "MOMENT",
+            "Only the chosen events at this moment and earlier",
+        ),
+    )
 }
 
 /// The subcommand `explain` and its options.
 fn explain_command<'a>(alloc: Global) -> Result<Command<'a>, AllocError>
     ensures { IfOk result (λ explain. app_of explain ≡ explain_app) }
 {
-    let summary = flag_option(
-        alloc,
-        "summary",
-        "Sum up the chosen events, in place of each; all of them where none are chosen",
-    );
-    let every = text_option(
-        alloc,
-        "every",
-        "TIME",
-        "Sum up the events of each period of this length, such as 100ms",
-    );
-    let csv = flag_option(
-        alloc,
-        "csv",
-        "Write CSV, a header and a record an event or a summary, in place of words",
-    );
-    timed_command(alloc)?
-        .arg(summary)?
-        .arg(every)?
-        .arg(csv)?
-        .arg(progress_option(alloc))?
-        .arg(output_option(alloc))?
-        .arg(file_argument(alloc))
+    let timed = timed_command(alloc)?;
+    let explain = with_option(
+        timed,
+        flag_option(
+            alloc,
+            "summary",
+            "Sum up the chosen events, in place of each; all of them where none are chosen",
+        ),
+    )?;
+    let explain = with_option(
+        explain,
+        text_option(
+            alloc,
+            "every",
+            "TIME",
+            "Sum up the events of each period of this length, such as 100ms",
+        ),
+    )?;
+    let explain = with_option(
+        explain,
+        flag_option(
+            alloc,
+            "csv",
+            "Write CSV, a header and a record an event or a summary, in place of words",
+        ),
+    )?;
+    let explain = with_option(explain, progress_option(alloc))?;
+    let explain = with_option(explain, output_option(alloc))?;
+    with_option(explain, file_argument(alloc))
 }
 
 /// The subcommand `storm` and its options.
 fn storm_command<'a>(alloc: Global) -> Result<Command<'a>, AllocError>
     ensures { IfOk result (λ storm. app_of storm ≡ storm_app) }
 {
-    let senders = number_option(
-        alloc,
-        "senders",
-        2,
-        8,
-        "How many senders there are, 2 to 8; 2 by default",
-    );
-    let packets = number_option(
-        alloc,
-        "packets",
-        1,
-        10_000,
-        "How many packets each sender has, 1 to 10000; 100 by default",
-    );
-    let seed = number_option(
-        alloc,
-        "seed",
-        0,
-        u64::MAX,
-        "What the random words are made of, 0 to 2^64 - 1; 1 by default",
-    );
-    let load = number_option(
-        alloc,
-        "load",
-        50,
-        200,
-        "How many packets come for each hundred that the link sends, 50 to 200; 100 by default",
-    );
-    let count = flag_option(
-        alloc,
-        "count",
-        "Say on standard error how many events and changes of caller there were",
-    );
-    plain(alloc, "storm", STORM_ABOUT, STORM_HELP)
-        .arg(senders)?
-        .arg(packets)?
-        .arg(seed)?
-        .arg(load)?
-        .arg(count)
+    let storm = with_option(
+        plain(alloc, "storm", STORM_ABOUT, STORM_HELP),
+        number_option(
+            alloc,
+            "senders",
+            2,
+            8,
+            "How many senders there are, 2 to 8; 2 by default",
+        ),
+    )?;
+    let storm = with_option(
+        storm,
+        number_option(
+            alloc,
+            "packets",
+            1,
+            10_000,
+            "How many packets each sender has, 1 to 10000; 100 by default",
+        ),
+    )?;
+    let storm = with_option(
+        storm,
+        number_option(
+            alloc,
+            "seed",
+            0,
+            u64::MAX,
+            "What the random words are made of, 0 to 2^64 - 1; 1 by default",
+        ),
+    )?;
+    let storm = with_option(
+        storm,
+        number_option(
+            alloc,
+            "load",
+            50,
+            200,
+            "How many packets come for each hundred that the link sends, 50 to 200; 100 by default",
+        ),
+    )?;
+    with_option(
+        storm,
+        flag_option(
+            alloc,
+            "count",
+            "Say on standard error how many events and changes of caller there were",
+        ),
+    )
 }
 
 /// The subcommand `params` and its options, which are named as those of `tc`.
 fn params_command<'a>(alloc: Global) -> Result<Command<'a>, AllocError>
     ensures { IfOk result (λ params. app_of params ≡ params_app) }
 {
-    let rate = text_option(
-        alloc,
-        "rate",
-        "RATE",
-        "The link's rate, as 100mbit, of which limit_bytes is 200 ms",
-    );
-    let target = text_option(alloc, "target", "TIME", "The wanted delay; 15ms by default");
-    let update = text_option(
-        alloc,
-        "tupdate",
-        "TIME",
-        "The time between two updates; 15ms by default",
-    );
-    let limit = text_option(
-        alloc,
-        "limit",
-        "PACKETS",
-        "How many packets may wait, as 1000p; 1000 by default",
-    );
-    let alpha = number_option(alloc, "alpha", 0, 32, "The gain alpha of tc; 2 by default");
-    let beta = number_option(alloc, "beta", 0, 32, "The gain beta of tc; 20 by default");
-    let ecn = flag_option(alloc, "ecn", "Mark packets of ECN-capable endpoints");
-    let bytemode = flag_option(alloc, "bytemode", "Is said to have no counterpart");
-    let estimator = flag_option(
-        alloc,
-        "dq_rate_estimator",
-        "Is so in any case; said where it is left out",
-    );
-    plain(alloc, "params", PARAMS_ABOUT, PARAMS_HELP)
-        .arg(rate)?
-        .arg(target)?
-        .arg(update)?
-        .arg(limit)?
-        .arg(alpha)?
-        .arg(beta)?
-        .arg(ecn)?
-        .arg(bytemode)?
-        .arg(estimator)
+    let params = with_option(
+        plain(alloc, "params", PARAMS_ABOUT, PARAMS_HELP),
+        text_option(
+            alloc,
+            "rate",
+            "RATE",
+            "The link's rate, as 100mbit, of which limit_bytes is 200 ms",
+        ),
+    )?;
+    let params = with_option(
+        params,
+        text_option(alloc, "target", "TIME", "The wanted delay; 15ms by default"),
+    )?;
+    let params = with_option(
+        params,
+        text_option(
+            alloc,
+            "tupdate",
+            "TIME",
+            "The time between two updates; 15ms by default",
+        ),
+    )?;
+    let params = with_option(
+        params,
+        text_option(
+            alloc,
+            "limit",
+            "PACKETS",
+            "How many packets may wait, as 1000p; 1000 by default",
+        ),
+    )?;
+    let params = with_option(
+        params,
+        number_option(alloc, "alpha", 0, 32, "The gain alpha of tc; 2 by default"),
+    )?;
+    let params = with_option(
+        params,
+        number_option(alloc, "beta", 0, 32, "The gain beta of tc; 20 by default"),
+    )?;
+    let params = with_option(
+        params,
+        flag_option(alloc, "ecn", "Mark packets of ECN-capable endpoints"),
+    )?;
+    let params = with_option(
+        params,
+        flag_option(alloc, "bytemode", "Is said to have no counterpart"),
+    )?;
+    with_option(
+        params,
+        flag_option(
+            alloc,
+            "dq_rate_estimator",
+            "Is so in any case; said where it is left out",
+        ),
+    )
 }
 
 /// `pie` without its subcommands.

@@ -1,24 +1,22 @@
 use Rattle.std.proofs.Common.{◌≡◌, codes}
 use Rattle.std.proofs.lemmas.Result.{IfOk-weaker}
-use Rattle.clap.specs.Words.{AddsArg, app_of, with_rule}
+use Rattle.clap.specs.Words.{app_of, rule_of, with_rule}
 use Rattle.pie_options.specs.Words.{explain_app, file_rule, flag_rule, output_rule, progress_rule, text_rule, timed_app}
-use Rattle.pie_options.proofs.CommandFacts.{adds_arg}
+use Rattle.pie_options.proofs.CommandFacts.{with_one}
 use Rattle.pie_options.proofs.command_line.explain_command.Goals as goal
 
 pub returns : goal.returns
 returns c =
-    let with_summary = with_rule timed_app (flag_rule (codes "summary")) in
-    let with_every = with_rule with_summary (text_rule (codes "every")) in
-    let with_csv = with_rule with_every (flag_rule (codes "csv")) in
-    let one = adds_arg timed_app (flag_rule (codes "summary")) c.in_ok-timed_command.ensures c.flag_option-summary.ensures.local
-    c.flag_option-summary.ensures.rule c.in_ok-arg.ensures in
-    let two = adds_arg with_summary (text_rule (codes "every")) one c.text_option-every.ensures.local c.text_option-every.ensures.rule
-    c.in_ok-arg-2.ensures in
-    let three = adds_arg with_every (flag_rule (codes "csv")) two c.flag_option-csv.ensures.local c.flag_option-csv.ensures.rule
-    c.in_ok-arg-3.ensures in
-    let with_progress = with_rule with_csv progress_rule in
-    let four = adds_arg with_csv progress_rule three c.progress_option.ensures.local c.progress_option.ensures.rule c.in_ok-arg-4.ensures in
-    let five = adds_arg with_progress output_rule four c.output_option.ensures.local c.output_option.ensures.rule c.in_ok-arg-5.ensures in
-    IfOk-weaker c.arg-6.result (λ whole. AddsArg c.in_ok-arg-5.field-0 c.file_argument.result whole) (λ explain. app_of explain ≡ explain_app)
-    (λ whole added. adds_arg (with_rule with_progress output_rule) file_rule five c.file_argument.ensures.local c.file_argument.ensures.rule added)
-    c.arg-6.ensures
+    let app_0 = timed_app in
+    let app_1 = with_rule app_0 (flag_rule (codes "summary")) in
+    let with_1 = with_one _ _ app_0 _ (flag_rule (codes "summary")) c.in_ok-timed.ensures c.flag_option.ensures.rule c.in_ok-explain.ensures in
+    let app_2 = with_rule app_1 (text_rule (codes "every")) in
+    let with_2 = with_one _ _ app_1 _ (text_rule (codes "every")) with_1 c.text_option.ensures.rule c.in_ok-explain-2.ensures in
+    let app_3 = with_rule app_2 (flag_rule (codes "csv")) in
+    let with_3 = with_one _ _ app_2 _ (flag_rule (codes "csv")) with_2 c.flag_option-2.ensures.rule c.in_ok-explain-3.ensures in
+    let app_4 = with_rule app_3 progress_rule in
+    let with_4 = with_one _ _ app_3 _ progress_rule with_3 c.progress_option.ensures.rule c.in_ok-explain-4.ensures in
+    let app_5 = with_rule app_4 output_rule in
+    let with_5 = with_one _ _ app_4 _ output_rule with_4 c.output_option.ensures.rule c.in_ok-explain-5.ensures in
+    IfOk-weaker c.with_option-6.result (λ whole. app_of whole ≡ with_rule (app_of c.in_ok-explain-5.explain) (rule_of c.file_argument.result)) (λ explain. app_of explain ≡ explain_app)
+    (λ whole made. with_one _ _ app_5 _ file_rule with_5 c.file_argument.ensures.rule made) c.with_option-6.ensures

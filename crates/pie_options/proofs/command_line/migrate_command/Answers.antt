@@ -1,16 +1,16 @@
 use Rattle.std.proofs.Common.{◌≡◌, codes}
 use Rattle.std.proofs.lemmas.Result.{IfOk-weaker}
-use Rattle.clap.specs.Words.{AddsArg, app_of, new_app, with_rule}
+use Rattle.clap.specs.Words.{app_of, new_app, rule_of, with_rule}
 use Rattle.pie_options.specs.Words.{file_rule, migrate_app, output_rule, progress_rule}
-use Rattle.pie_options.proofs.CommandFacts.{adds_arg}
+use Rattle.pie_options.proofs.CommandFacts.{with_one}
 use Rattle.pie_options.proofs.command_line.migrate_command.Goals as goal
 
 pub returns : goal.returns
 returns c =
-    let with_progress = with_rule (new_app (codes "migrate")) progress_rule in
-    let one = adds_arg (new_app (codes "migrate")) progress_rule c.plain.ensures c.progress_option.ensures.local c.progress_option.ensures.rule
-    c.in_ok-arg.ensures in
-    let two = adds_arg with_progress output_rule one c.output_option.ensures.local c.output_option.ensures.rule c.in_ok-arg-2.ensures in
-    IfOk-weaker c.arg-3.result (λ whole. AddsArg c.in_ok-arg-2.field-0 c.file_argument.result whole) (λ migrate. app_of migrate ≡ migrate_app)
-    (λ whole added. adds_arg (with_rule with_progress output_rule) file_rule two c.file_argument.ensures.local c.file_argument.ensures.rule added)
-    c.arg-3.ensures
+    let app_0 = new_app (codes "migrate") in
+    let app_1 = with_rule app_0 progress_rule in
+    let with_1 = with_one _ _ app_0 _ progress_rule c.plain.ensures c.progress_option.ensures.rule c.in_ok-migrate.ensures in
+    let app_2 = with_rule app_1 output_rule in
+    let with_2 = with_one _ _ app_1 _ output_rule with_1 c.output_option.ensures.rule c.in_ok-migrate-2.ensures in
+    IfOk-weaker c.with_option-3.result (λ whole. app_of whole ≡ with_rule (app_of c.in_ok-migrate-2.migrate) (rule_of c.file_argument.result)) (λ migrate. app_of migrate ≡ migrate_app)
+    (λ whole made. with_one _ _ app_2 _ file_rule with_2 c.file_argument.ensures.rule made) c.with_option-3.ensures

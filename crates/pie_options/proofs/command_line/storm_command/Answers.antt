@@ -1,25 +1,20 @@
 use Rattle.std.proofs.Common.{◌≡◌, ◌-◌, ◌^◌, codes}
 use Rattle.std.proofs.lemmas.Result.{IfOk-weaker}
-use Rattle.clap.specs.Words.{AddsArg, app_of, new_app, with_rule}
+use Rattle.clap.specs.Words.{app_of, new_app, rule_of, with_rule}
 use Rattle.pie_options.specs.Words.{flag_rule, number_rule, storm_app}
-use Rattle.pie_options.proofs.CommandFacts.{adds_arg}
+use Rattle.pie_options.proofs.CommandFacts.{with_one}
 use Rattle.pie_options.proofs.command_line.storm_command.Goals as goal
 
 pub returns : goal.returns
 returns c =
-    let senders = number_rule (codes "senders") 2 8 in
-    let packets = number_rule (codes "packets") 1 10_000 in
-    let seed = number_rule (codes "seed") 0 (2 ^ 64 - 1) in
-    let load = number_rule (codes "load") 50 200 in
-    let bare = new_app (codes "storm") in
-    let with_senders = with_rule bare senders in
-    let with_packets = with_rule with_senders packets in
-    let with_seed = with_rule with_packets seed in
-    let with_load = with_rule with_seed load in
-    let one = adds_arg bare senders c.plain.ensures c.number_option-senders.ensures.local c.number_option-senders.ensures.rule c.in_ok-arg.ensures in
-    let two = adds_arg with_senders packets one c.number_option-packets.ensures.local c.number_option-packets.ensures.rule c.in_ok-arg-2.ensures in
-    let three = adds_arg with_packets seed two c.number_option-seed.ensures.local c.number_option-seed.ensures.rule c.in_ok-arg-3.ensures in
-    let four = adds_arg with_seed load three c.number_option-load.ensures.local c.number_option-load.ensures.rule c.in_ok-arg-4.ensures in
-    IfOk-weaker c.arg-5.result (λ whole. AddsArg c.in_ok-arg-4.field-0 c.flag_option-count.result whole) (λ storm. app_of storm ≡ storm_app)
-    (λ whole added. adds_arg with_load (flag_rule (codes "count")) four c.flag_option-count.ensures.local c.flag_option-count.ensures.rule added)
-    c.arg-5.ensures
+    let app_0 = new_app (codes "storm") in
+    let app_1 = with_rule app_0 (number_rule (codes "senders") 2 8) in
+    let with_1 = with_one _ _ app_0 _ (number_rule (codes "senders") 2 8) c.plain.ensures c.number_option.ensures.rule c.in_ok-storm.ensures in
+    let app_2 = with_rule app_1 (number_rule (codes "packets") 1 10_000) in
+    let with_2 = with_one _ _ app_1 _ (number_rule (codes "packets") 1 10_000) with_1 c.number_option-2.ensures.rule c.in_ok-storm-2.ensures in
+    let app_3 = with_rule app_2 (number_rule (codes "seed") 0 (2 ^ 64 - 1)) in
+    let with_3 = with_one _ _ app_2 _ (number_rule (codes "seed") 0 (2 ^ 64 - 1)) with_2 c.number_option-3.ensures.rule c.in_ok-storm-3.ensures in
+    let app_4 = with_rule app_3 (number_rule (codes "load") 50 200) in
+    let with_4 = with_one _ _ app_3 _ (number_rule (codes "load") 50 200) with_3 c.number_option-4.ensures.rule c.in_ok-storm-4.ensures in
+    IfOk-weaker c.with_option-5.result (λ whole. app_of whole ≡ with_rule (app_of c.in_ok-storm-4.storm) (rule_of c.flag_option.result)) (λ storm. app_of storm ≡ storm_app)
+    (λ whole made. with_one _ _ app_4 _ (flag_rule (codes "count")) with_4 c.flag_option.ensures.rule made) c.with_option-5.ensures

@@ -16,7 +16,8 @@ third true false c d e = cc
 third false b c d e = cc
 
 -- one more subcommand, which is plain
-pub adds_subcommand : {above sub with_it : Command} (app sub_app : App) → app_of above ≡ app → app_of sub ≡ sub_app → sub_app.top.is_plain ≡ true → AddsSubcommand above sub with_it
+pub adds_subcommand : {above sub with_it : Command} (app sub_app : App) → app_of above ≡ app → app_of sub ≡ sub_app → sub_app.top.is_plain ≡ true
+    → AddsSubcommand above sub with_it
     → app_of with_it ≡ with_subcommand app sub_app.top
 adds_subcommand {above} {sub} app sub_app above_is sub_is plain added =
     added.shape (third _ _ _ _ (ap (λ (a : App). a.top.is_plain) sub_is ∙ plain)) ∙ ap (λ (a : App). with_subcommand a (app_of sub).top) above_is

@@ -1,7 +1,8 @@
 //! The command line of `pie`.
 ghost use Rattle.std.specs.Prelude.{◌≡◌, IfOk, false};
 ghost use Rattle.clap.specs.Words.{app_of, new_app, rule_of, with_rule};
-ghost use Rattle.pie_options.specs.Words.{audit_app, choosing_app, explain_app, file_rule, files_rule, flag_rule, migrate_app, number_rule, output_rule, params_app, pie_alone, pie_app, progress_rule, run_app, storm_app, text_rule, timed_app};
+ghost use Rattle.pie_options.specs.Words.{audit_app, choosing_app, explain_app, file_rule, files_rule, flag_rule, migrate_app, number_rule};
+ghost use Rattle.pie_options.specs.Words.{output_rule, params_app, pie_alone, pie_app, progress_rule, run_app, storm_app, text_rule, timed_app};
 
 use crate::help::{
     AUDIT_ABOUT, AUDIT_HELP, EXPLAIN_ABOUT, EXPLAIN_HELP, MIGRATE_ABOUT, MIGRATE_HELP,

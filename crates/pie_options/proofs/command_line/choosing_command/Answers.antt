@@ -9,12 +9,14 @@ pub returns : goal.returns
 returns c =
     let app_0 = new_app (codes "explain") in
     let app_1 = with_rule app_0 (number_rule (codes "event") 1 (2 ^ 64 - 1)) in
-    let with_1 = with_one _ _ app_0 _ (number_rule (codes "event") 1 (2 ^ 64 - 1)) c.plain.ensures c.number_option.ensures.rule c.in_ok-choosing.ensures in
+    let with_1 = with_one _ _ app_0 _ (number_rule (codes "event") 1 (2 ^ 64 - 1)) c.plain.ensures c.number_option.ensures.rule
+    c.in_ok-choosing.ensures in
     let app_2 = with_rule app_1 (number_rule (codes "tag") 0 (2 ^ 64 - 1)) in
     let with_2 = with_one _ _ app_1 _ (number_rule (codes "tag") 0 (2 ^ 64 - 1)) with_1 c.number_option-2.ensures.rule c.in_ok-choosing-2.ensures in
     let app_3 = with_rule app_2 (flag_rule (codes "lost")) in
     let with_3 = with_one _ _ app_2 _ (flag_rule (codes "lost")) with_2 c.flag_option.ensures.rule c.in_ok-choosing-3.ensures in
     let app_4 = with_rule app_3 (flag_rule (codes "marked")) in
     let with_4 = with_one _ _ app_3 _ (flag_rule (codes "marked")) with_3 c.flag_option-2.ensures.rule c.in_ok-choosing-4.ensures in
-    IfOk-weaker c.with_option-5.result (λ whole. app_of whole ≡ with_rule (app_of c.in_ok-choosing-4.choosing) (rule_of c.flag_option-3.result)) (λ choosing. app_of choosing ≡ choosing_app)
+    IfOk-weaker c.with_option-5.result (λ whole. app_of whole ≡ with_rule (app_of c.in_ok-choosing-4.choosing) (rule_of c.flag_option-3.result))
+    (λ choosing. app_of choosing ≡ choosing_app)
     (λ whole made. with_one _ _ app_4 _ (flag_rule (codes "all")) with_4 c.flag_option-3.ensures.rule made) c.with_option-5.ensures

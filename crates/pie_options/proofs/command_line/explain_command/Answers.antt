@@ -18,5 +18,6 @@ returns c =
     let with_4 = with_one _ _ app_3 _ progress_rule with_3 c.progress_option.ensures.rule c.in_ok-explain-4.ensures in
     let app_5 = with_rule app_4 output_rule in
     let with_5 = with_one _ _ app_4 _ output_rule with_4 c.output_option.ensures.rule c.in_ok-explain-5.ensures in
-    IfOk-weaker c.with_option-6.result (λ whole. app_of whole ≡ with_rule (app_of c.in_ok-explain-5.explain) (rule_of c.file_argument.result)) (λ explain. app_of explain ≡ explain_app)
+    IfOk-weaker c.with_option-6.result (λ whole. app_of whole ≡ with_rule (app_of c.in_ok-explain-5.explain) (rule_of c.file_argument.result))
+    (λ explain. app_of explain ≡ explain_app)
     (λ whole made. with_one _ _ app_5 _ file_rule with_5 c.file_argument.ensures.rule made) c.with_option-6.ensures

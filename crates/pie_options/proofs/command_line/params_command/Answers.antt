@@ -24,5 +24,6 @@ returns c =
     let with_7 = with_one _ _ app_6 _ (flag_rule (codes "ecn")) with_6 c.flag_option.ensures.rule c.in_ok-params-7.ensures in
     let app_8 = with_rule app_7 (flag_rule (codes "bytemode")) in
     let with_8 = with_one _ _ app_7 _ (flag_rule (codes "bytemode")) with_7 c.flag_option-2.ensures.rule c.in_ok-params-8.ensures in
-    IfOk-weaker c.with_option-9.result (λ whole. app_of whole ≡ with_rule (app_of c.in_ok-params-8.params) (rule_of c.flag_option-3.result)) (λ params. app_of params ≡ params_app)
+    IfOk-weaker c.with_option-9.result (λ whole. app_of whole ≡ with_rule (app_of c.in_ok-params-8.params) (rule_of c.flag_option-3.result))
+    (λ params. app_of params ≡ params_app)
     (λ whole made. with_one _ _ app_8 _ (flag_rule (codes "dq_rate_estimator")) with_8 c.flag_option-3.ensures.rule made) c.with_option-9.ensures

@@ -14,5 +14,6 @@ returns c =
     let with_2 = with_one _ _ app_1 _ progress_rule with_1 c.progress_option.ensures.rule c.in_ok-command-2.ensures in
     let app_3 = with_rule app_2 output_rule in
     let with_3 = with_one _ _ app_2 _ output_rule with_2 c.output_option.ensures.rule c.in_ok-command-3.ensures in
-    IfOk-weaker c.with_option-4.result (λ whole. app_of whole ≡ with_rule (app_of c.in_ok-command-3.command) (rule_of c.file_argument.result)) (λ run. app_of run ≡ run_app)
+    IfOk-weaker c.with_option-4.result (λ whole. app_of whole ≡ with_rule (app_of c.in_ok-command-3.command) (rule_of c.file_argument.result))
+    (λ run. app_of run ≡ run_app)
     (λ whole made. with_one _ _ app_3 _ file_rule with_3 c.file_argument.ensures.rule made) c.with_option-4.ensures

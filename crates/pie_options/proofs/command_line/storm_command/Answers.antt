@@ -16,5 +16,6 @@ returns c =
     let with_3 = with_one _ _ app_2 _ (number_rule (codes "seed") 0 (2 ^ 64 - 1)) with_2 c.number_option-3.ensures.rule c.in_ok-storm-3.ensures in
     let app_4 = with_rule app_3 (number_rule (codes "load") 50 200) in
     let with_4 = with_one _ _ app_3 _ (number_rule (codes "load") 50 200) with_3 c.number_option-4.ensures.rule c.in_ok-storm-4.ensures in
-    IfOk-weaker c.with_option-5.result (λ whole. app_of whole ≡ with_rule (app_of c.in_ok-storm-4.storm) (rule_of c.flag_option.result)) (λ storm. app_of storm ≡ storm_app)
+    IfOk-weaker c.with_option-5.result (λ whole. app_of whole ≡ with_rule (app_of c.in_ok-storm-4.storm) (rule_of c.flag_option.result))
+    (λ storm. app_of storm ≡ storm_app)
     (λ whole made. with_one _ _ app_4 _ (flag_rule (codes "count")) with_4 c.flag_option.ensures.rule made) c.with_option-5.ensures

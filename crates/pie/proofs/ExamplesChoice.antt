@@ -5,7 +5,7 @@ use Rattle.clap.proofs.OnLiterals.{clap_on_literals}
 use Rattle.pie_explain.specs.declared.choice.Choice.{Choice}
 use Rattle.pie_explain.specs.declared.which.Which.{Which}
 use Rattle.pie_explain.specs.declared.which.Which.TheVariants.{Number, Lost, All}
-use Rattle.pie_explain.specs.Moment.{digit_count, number_after}
+use Rattle.pie_moment.specs.Moment.{digit_count, number_after}
 use Rattle.pie_options.specs.Words.{options_in}
 use Rattle.pie.specs.Choice.{choice_of}
 

@@ -2,9 +2,9 @@
 use Rattle.std.proofs.Common.{◌≡◌, ℕ, List, Option, Some, None, refl, sym, ap}
 use Rattle.std.specs.Prelude.{Result, Ok, Err}
 use Rattle.clap.specs.Matches.{TriesOne}
-use Rattle.pie_explain.specs.declared.moment.Moment.{Moment}
-use Rattle.pie_explain.specs.declared.moment.MomentFault.{MomentFault}
-use Rattle.pie_explain.specs.Moment.{WritesMoment}
+use Rattle.pie_moment.specs.declared.moment.Moment.{Moment}
+use Rattle.pie_moment.specs.declared.moment.MomentFault.{MomentFault}
+use Rattle.pie_moment.specs.Moment.{WritesMoment}
 use Rattle.pie.specs.Choice.{moment_read, units_of, written}
 
 pub moment-given : (given : Option (List ℕ)) (result : Result (Option Moment) MomentFault) → (given ≡ None → result ≡ Ok None)

@@ -6,11 +6,11 @@ use Rattle.pie_explain.specs.declared.choice.Choice.{Choice}
 use Rattle.pie_explain.specs.declared.explainer.Form.{Form}
 use Rattle.pie_explain.specs.declared.explainer.Form.TheVariants.{Text as Words, Csv}
 use Rattle.pie_explain.specs.declared.explanation.Explained.{Explained}
-use Rattle.pie_explain.specs.declared.moment.Moment.{Moment}
-use Rattle.pie_explain.specs.declared.moment.MomentFault.{MomentFault}
+use Rattle.pie_moment.specs.declared.moment.Moment.{Moment}
+use Rattle.pie_moment.specs.declared.moment.MomentFault.{MomentFault}
 use Rattle.pie_explain.specs.declared.which.Which.{Which}
 use Rattle.pie_explain.specs.declared.which.Which.TheVariants.{Number, Tag, Lost, Marked, All}
-use Rattle.pie_explain.specs.Moment.{moment_in}
+use Rattle.pie_moment.specs.Moment.{moment_in}
 use Rattle.pie_explain.specs.Output.{pages}
 use Rattle.pie_summary.specs.Summary.{summary_of}
 

@@ -12,8 +12,9 @@ ghost use Rattle.pie.specs.Choice.{choice_of, chosen, every_of, form_of, is_summ
 ghost use Rattle.pie.specs.ExplainEnds.{EndsExplain, answer_status};
 
 use clap::ArgMatches;
-use pie_explain::{Choice, ExplainFault, Form, Moment, MomentFault, Which, explain};
+use pie_explain::{Choice, ExplainFault, Form, Which, explain};
 use pie_files::{DIFFERS, DONE, End, FAULT, NamedFiles, Screen, fault, made_named, shows_progress};
+use pie_moment::{Moment, MomentFault};
 use pie_options::{flag, number};
 use pie_progress::Watched;
 use pie_summary::Summary;

@@ -2,7 +2,6 @@ pub mod EndFacts
 pub mod ExplainFacts
 pub mod ExplanationFacts
 pub mod LineFacts
-pub mod MomentFacts
 pub mod RecordFacts
 pub mod WordFacts
 pub mod ReportFacts

@@ -1,6 +1,5 @@
 pub mod Which
 pub mod Choice
-pub mod Moment
 pub mod Explanation
 pub mod Record
 pub mod Words

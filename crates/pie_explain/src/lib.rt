@@ -5,7 +5,6 @@
 //! answers exactly what `answer` says of the text, and has written exactly its `output`: the record or the words of each chosen event, in
 //! order. `Explanation::of` answers, over every history that the core shows, exactly the look-back's numbers and the first case of the
 //! decision that holds there; `Explained::of` adds what the controller held after it; `Choice::picks` says which events are explained.
-//! `Moment::from_str` reads a moment as a person writes it, such as `1.5ms`.
 #![tactic(auto)]
 
 pub mod choice;
@@ -13,7 +12,6 @@ pub mod explainer;
 pub mod explanation;
 pub mod fault;
 mod held;
-pub mod moment;
 mod record;
 pub mod report;
 mod row;
@@ -25,7 +23,6 @@ pub use choice::Choice;
 pub use explainer::{Form, explain};
 pub use explanation::{Explained, Explanation};
 pub use fault::ExplainFault;
-pub use moment::{Moment, MomentFault};
 pub use report::Report;
 pub use units::{Millis, PerCent, Share};
 pub use which::Which;

@@ -1,7 +1,7 @@
 use Rattle.std.proofs.Common.{◌≡◌, ◌≤◌, ◌-◌, ◌^◌, drop}
 use Rattle.std.specs.Prelude.{min}
-use Rattle.pie_explain.specs.Moment.{number_after}
-use Rattle.pie_explain.proofs.moment.number_after.Given as goal
+use Rattle.pie_moment.specs.Moment.{number_after}
+use Rattle.pie_moment.proofs.moment.number_after.Given as goal
 
 abbrev pub invariant-more : goal.invariant-more
 invariant-more l =

@@ -1,6 +1,6 @@
 use Rattle.std.proofs.Common.{◌∙◌, ◌≤◌, arith, length}
-use Rattle.pie_explain.proofs.MomentFacts.{number-end, number-more}
-use Rattle.pie_explain.proofs.moment.number_after.Goals as goal
+use Rattle.pie_moment.proofs.MomentFacts.{number-end, number-more}
+use Rattle.pie_moment.proofs.moment.number_after.Goals as goal
 
 pub more-preserved : goal.more-preserved
 more-preserved c =

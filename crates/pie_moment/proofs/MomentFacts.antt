@@ -3,7 +3,7 @@ use Rattle.std.proofs.Common.{◌≡◌, ◌+◌, ◌*◌, ◌-◌, ◌<◌, ◌
 use Rattle.std.specs.Prelude.{min}
 use Rattle.std.specs.Char.{is_ascii_digit}
 use Rattle.std.proofs.lemmas.List.{drop_all, drop_more}
-use Rattle.pie_explain.specs.Moment.{digit_count, moment_at, number_after}
+use Rattle.pie_moment.specs.Moment.{digit_count, moment_at, number_after}
 
 -- ---- how many digits stand first
 

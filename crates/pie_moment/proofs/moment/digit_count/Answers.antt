@@ -1,7 +1,7 @@
 use Rattle.std.proofs.Common.{◌≡◌, ◌≤◌, arith, false, length, rules, slice_index, sym, true}
 use Rattle.std.specs.Char.{is_ascii_digit}
-use Rattle.pie_explain.proofs.MomentFacts.{count-end, count-more, count-stop}
-use Rattle.pie_explain.proofs.moment.digit_count.Goals as goal
+use Rattle.pie_moment.proofs.MomentFacts.{count-end, count-more, count-stop}
+use Rattle.pie_moment.proofs.moment.digit_count.Goals as goal
 
 pub returns-then-not-is_ascii_digit-clause-count : goal.returns-then-not-is_ascii_digit-clause-count
 returns-then-not-is_ascii_digit-clause-count c =

@@ -1,5 +1,5 @@
 use Rattle.std.proofs.Common.{arith}
-use Rattle.pie_explain.proofs.moment.with_digit.Goals as goal
+use Rattle.pie_moment.proofs.moment.with_digit.Goals as goal
 
 pub returns : goal.returns
 returns c =

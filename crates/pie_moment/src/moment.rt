@@ -1,6 +1,6 @@
 //! Moments as a person writes them: whole nanoseconds, or a number with a unit, such as `1.5ms`.
 ghost use Rattle.std.specs.Prelude.{◌≡◌, ◌≤◌, ◌+◌, ◌-◌, ◌*◌, ◌^◌, Some, IfSome, length, min};
-ghost use Rattle.pie_explain.specs.Moment.{decimals_in, digit_count, moment_at, moment_by, moment_in, moment_with, number_after, places_of, unit_in};
+ghost use Rattle.pie_moment.specs.Moment.{decimals_in, digit_count, moment_at, moment_by, moment_in, moment_with, number_after, places_of, unit_in};
 
 use std::str::FromStr;
 use thiserror::Error;
@@ -143,7 +143,7 @@ fn moment_in(text: &[u8]) -> Result<u64, MomentFault>
 impl FromStr for Moment {
     type Err = MomentFault;
 
-    ghost use Rattle.pie_explain.specs.Moment.{WritesMoment};
+    ghost use Rattle.pie_moment.specs.Moment.{WritesMoment};
 
     ghost from_str_gives = { λ text read. WritesMoment text read };
 

@@ -2,9 +2,9 @@
 use Rattle.std.specs.Prelude.{ℕ, ◌≡◌, ◌+◌, ◌-◌, ◌*◌, ◌^◌, ◌==◌, ◌||◌, List, [], ◌∷◌, ◌++◌, length, take, drop, Option, Some, None, Result, Ok, Err}
 use Rattle.std.specs.Prelude.{nat_lt, if◌then◌else◌, codes}
 use Rattle.std.specs.Char.{is_ascii_digit}
-use Rattle.pie_explain.specs.declared.moment.Moment.{Moment}
-use Rattle.pie_explain.specs.declared.moment.MomentFault.{MomentFault}
-use Rattle.pie_explain.specs.declared.moment.MomentFault.TheVariants.{NotAMoment, TooLate}
+use Rattle.pie_moment.specs.declared.moment.Moment.{Moment}
+use Rattle.pie_moment.specs.declared.moment.MomentFault.{MomentFault}
+use Rattle.pie_moment.specs.declared.moment.MomentFault.TheVariants.{NotAMoment, TooLate}
 
 -- how many digits stand first in a text
 unfoldable pub digit_count : List ℕ → ℕ

@@ -1,6 +1,6 @@
 use Rattle.std.proofs.Common.{◌≡◌, ◌+◌, drop}
-use Rattle.pie_explain.specs.Moment.{digit_count}
-use Rattle.pie_explain.proofs.moment.digit_count.Given as goal
+use Rattle.pie_moment.specs.Moment.{digit_count}
+use Rattle.pie_moment.proofs.moment.digit_count.Given as goal
 
 abbrev pub invariant-digits : goal.invariant-digits
 invariant-digits l = digit_count l.text ≡ l.i + digit_count (drop l.i l.text)

@@ -1,8 +1,8 @@
 use Rattle.std.proofs.Common.{◌≡◌, ◌==◌, ◌∙◌, false, length, rules}
 use Rattle.std.specs.Prelude.{nat_lt}
 use Rattle.std.proofs.lemmas.Bool.{le-ltb}
-use Rattle.pie_explain.proofs.MomentFacts.{moment-kept, number-joined}
-use Rattle.pie_explain.proofs.moment.moment_by.Goals as goal
+use Rattle.pie_moment.proofs.MomentFacts.{moment-kept, number-joined}
+use Rattle.pie_moment.proofs.moment.moment_by.Goals as goal
 
 pub returns : goal.returns
 returns c =

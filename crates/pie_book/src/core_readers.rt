@@ -37,6 +37,7 @@ impl Core {
     }
 
     /// What the core holds: what looking back over the whole history gives.
+    #[inline(always)]
     pub fn registers(&self) -> Registers
         ensures { (opening : Opening) (history : List Event) → Shows opening self.now history → result ≡ registers_after opening history }
     {

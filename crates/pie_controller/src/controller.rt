@@ -161,7 +161,7 @@ impl Controller {
     pub fn params(&self) -> Params
         ensures { result ≡ self.now.params }
     {
-        Params::from_raw(self.raw.params).unwrap()
+        Params::in_range(self.raw.params)
     }
 
     /// The effective moment: the greatest so far.

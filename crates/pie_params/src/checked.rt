@@ -132,9 +132,9 @@ impl Params {
         }
     }
 
-    /// The parameters of a record that is in its ranges.
+    /// The parameters of a record that is in its ranges: none is looked at.
     #[inline(always)]
-    fn in_range(raw: RawParams) -> Self
+    pub fn in_range(raw: RawParams) -> Self
         requires { IsInRange raw }
         ensures { result ≡ raw }
     {

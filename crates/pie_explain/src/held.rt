@@ -93,11 +93,11 @@ impl Held {
             && self.burst == held.burst
     }
 
-    /// The text.
-    pub(crate) fn as_str(&self) -> &str
+    /// The bytes of the text.
+    pub(crate) fn as_bytes(&self) -> &[u8]
         ensures text { result.now ≡ self.now }
         ensures long { length result.now ≤ 126 }
     {
-        self.text.as_str()
+        self.text.as_bytes()
     }
 }

@@ -1,11 +1,13 @@
 //! What is written of the explained events.
-ghost use Rattle.std.specs.Prelude.{◌≡◌, ◌++◌, ◌∷◌, [], ℕ, List, IfOk, OnOk, string_bytes};
+ghost use Rattle.std.specs.Prelude.{◌≡◌, ◌++◌, ◌∷◌, [], ℕ, List, IfOk, OnOk};
 ghost use Rattle.pie_explain.specs.declared.explanation.Explained.{Explained};
 ghost use Rattle.pie_explain.specs.Output.{header, said_of};
 ghost use Rattle.pie_explain.specs.Report.{Grows};
+ghost use Rattle.pie_explain.specs.Words.{words};
 
 use crate::explainer::Form;
 use crate::explanation::Explained;
+use crate::page::Page;
 use crate::record::{HEADER, RecordWriter};
 use crate::text::push_text;
 use std::alloc::AllocError;
@@ -25,31 +27,31 @@ pub trait Report: Drop {
     ghost whole: { Self → List Explained → List ℕ };
 
     /// Writes onto a page what stands before the first event.
-    fn begin(&self, page: &mut String) -> Result<Self::State, AllocError>
+    fn begin(&self, page: &mut Page) -> Result<Self::State, AllocError>
         ensures shown { IfOk result (λ state. shows self.now state []) }
-        ensures written { OnOk result (string_bytes page.new ≡ string_bytes page.old ++ so_far self.now []) };
+        ensures written { OnOk result (page.new ≡ page.old ++ so_far self.now []) };
 
     /// Writes onto a page what one more event adds.
     fn tell(
         &self,
         state: &mut Self::State,
         told: &Explained,
-        page: &mut String,
+        page: &mut Page,
     ) -> Result<(), AllocError>
         ensures { (all : List Explained) → shows self.now state.old all
             → OnOk result (shows self.now state.new (all ++ told.now ∷ [])
-            × Grows (so_far self.now all) (so_far self.now (all ++ told.now ∷ [])) (string_bytes page.old) (string_bytes page.new)) };
+            × Grows (so_far self.now all) (so_far self.now (all ++ told.now ∷ [])) page.old page.new) };
 
     /// Writes onto a page what stands behind the last event.
-    fn end(&self, state: &Self::State, page: &mut String) -> Result<(), AllocError>
+    fn end(&self, state: &Self::State, page: &mut Page) -> Result<(), AllocError>
         ensures { (all : List Explained) → shows self.now state.now all
-            → OnOk result (Grows (so_far self.now all) (whole self.now all) (string_bytes page.old) (string_bytes page.new)) };
+            → OnOk result (Grows (so_far self.now all) (whole self.now all) page.old page.new) };
 }
 
 /// Writes what stands before the first explanation: for CSV the header row.
 #[tactic(auto, unfolding(crate::specs::Output::header))]
-fn push_header(page: &mut String, form: Form) -> Result<(), AllocError>
-    ensures { OnOk result (string_bytes page.new ≡ string_bytes page.old ++ header form) }
+fn push_header(page: &mut Page, form: Form) -> Result<(), AllocError>
+    ensures { OnOk result (page.new ≡ page.old ++ header form) }
 {
     match form {
         Form::Text => Ok(()),
@@ -57,18 +59,27 @@ fn push_header(page: &mut String, form: Form) -> Result<(), AllocError>
     }
 }
 
+/// Writes an explanation in words onto the page.
+fn push_words(page: &mut Page, told: &Explained) -> Result<(), AllocError>
+    ensures { OnOk result (page.new ≡ page.old ++ words told.now) }
+{
+    let mut text = page.words();
+    push_text(&mut text, told)?;
+    page.put(text)
+}
+
 /// Writes an explanation onto the page.
 #[tactic(auto, unfolding(crate::specs::Output::said_of))]
 fn push_said(
-    page: &mut String,
+    page: &mut Page,
     records: &mut RecordWriter,
     form: Form,
     told: &Explained,
 ) -> Result<(), AllocError>
-    ensures { OnOk result (string_bytes page.new ≡ string_bytes page.old ++ said_of form told.now) }
+    ensures { OnOk result (page.new ≡ page.old ++ said_of form told.now) }
 {
     match form {
-        Form::Text => push_text(page, told),
+        Form::Text => push_words(page, told),
         Form::Csv => records.push(page, told),
     }
 }
@@ -85,7 +96,7 @@ impl Report for Form {
 
     ghost whole = { pages };
 
-    fn begin(&self, page: &mut String) -> Result<RecordWriter, AllocError> {
+    fn begin(&self, page: &mut Page) -> Result<RecordWriter, AllocError> {
         push_header(page, *self)?;
         Ok(RecordWriter::new())
     }
@@ -94,12 +105,12 @@ impl Report for Form {
         &self,
         state: &mut RecordWriter,
         told: &Explained,
-        page: &mut String,
+        page: &mut Page,
     ) -> Result<(), AllocError> {
         push_said(page, state, *self, told)
     }
 
-    fn end(&self, state: &RecordWriter, page: &mut String) -> Result<(), AllocError> {
+    fn end(&self, state: &RecordWriter, page: &mut Page) -> Result<(), AllocError> {
         Ok(())
     }
 }

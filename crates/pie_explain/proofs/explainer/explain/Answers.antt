@@ -1,5 +1,5 @@
 use Rattle.std.proofs.Common.{◌∙◌, sym}
-use Rattle.std.specs.Prelude.{Err, string_bytes}
+use Rattle.std.specs.Prelude.{Err}
 use Rattle.pie_audit.specs.Finding.{finding}
 use Rattle.pie_explain.specs.declared.fault.ExplainFault.TheVariants.{Trace}
 use Rattle.pie_explain.proofs.EndFacts.{fault-promises, heard-promises, promises-answers, promises-audited, promises-writes, same-answered}
@@ -18,11 +18,11 @@ returns-in-Ok-closed g c =
     c.explain_lines-outcome.new.explainer.auditor c.explain_lines-outcome.new.explainer.set_by
     c.explain_lines-outcome.new.explainer.explained c.explain_lines-outcome.result c.close-written.result c.finish.result old
     (g.W.Write.contents c.explain_lines-outcome.new.writer) now
-    (string_bytes c.explain_lines-outcome.new.explainer.page) c.in-Ok.ensures.opens
+    c.explain_lines-outcome.new.explainer.page c.in-Ok.ensures.opens
     (c.explain_lines-outcome.ensures.heard opening old
     (explains-begun opening c.args.choice (g.P.Report.so_far c.args.report) (g.P.Report.shows c.args.report c.in-Ok-begin.state) c.in-Ok-open.auditor
-    old (string_bytes c.begin.new.page)
-    c.in-Ok-begin.ensures.shown (rw c.new-page.ensures.bytes at c.in-Ok-begin.ensures.written) c.in-Ok-open.ensures.audits))
+    old c.begin.new.page
+    c.in-Ok-begin.ensures.shown (rw c.new-page.ensures at c.in-Ok-begin.ensures.written) c.in-Ok-open.ensures.audits))
     (rw c.explain_lines-outcome.ensures.kept.1 at c.close-written.ensures.written) (sym c.closed.ensures ∙ c.in-Ok-closed.is)
     (λ lines audits.
     c.finish.ensures opening lines (rw c.close-written.ensures.kept.0 audits)
@@ -47,11 +47,11 @@ returns g c =
     c.explain_lines-outcome.new.explainer.auditor c.explain_lines-outcome.new.explainer.set_by
     c.explain_lines-outcome.new.explainer.explained c.explain_lines-outcome.result c.close-written.result c.in-Err-closed.why old
     (g.W.Write.contents c.explain_lines-outcome.new.writer) now
-    (string_bytes c.explain_lines-outcome.new.explainer.page) c.in-Ok.ensures.opens
+    c.explain_lines-outcome.new.explainer.page c.in-Ok.ensures.opens
     (c.explain_lines-outcome.ensures.heard opening old
     (explains-begun opening c.args.choice (g.P.Report.so_far c.args.report) (g.P.Report.shows c.args.report c.in-Ok-begin.state) c.in-Ok-open.auditor
-    old (string_bytes c.begin.new.page)
-    c.in-Ok-begin.ensures.shown (rw c.new-page.ensures.bytes at c.in-Ok-begin.ensures.written) c.in-Ok-open.ensures.audits))
+    old c.begin.new.page
+    c.in-Ok-begin.ensures.shown (rw c.new-page.ensures at c.in-Ok-begin.ensures.written) c.in-Ok-open.ensures.audits))
     (rw c.explain_lines-outcome.ensures.kept.1 at c.close-written.ensures.written) c.close-written.ensures.device
     (sym c.closed.ensures ∙ c.in-Err-closed.is) in
     record {

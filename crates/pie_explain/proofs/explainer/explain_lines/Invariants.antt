@@ -1,5 +1,5 @@
 use Rattle.std.proofs.Common.{◌≡◌, ◌-◌, ◌^◌, [], ℕ, List}
-use Rattle.std.specs.Prelude.{IfSome, Option, string_bytes}
+use Rattle.std.specs.Prelude.{IfSome, Option}
 use Rattle.std.specs.Io.KnownBytes.{append_known}
 use Rattle.pie_book.specs.declared.opening.Opening.{Opening}
 use Rattle.pie_record.specs.declared.history.Course.TheVariants.{Going}
@@ -15,11 +15,11 @@ invariant-lines g l = record {
       → Explains opening l.fn.explainer.choice (g.P.Report.so_far l.fn.explainer.report)
       (g.P.Report.shows l.fn.explainer.report l.fn.explainer.state) []
       l.fn.explainer.auditor l.fn.explainer.set_by l.fn.explainer.explained before
-      (append_known (g.W.Write.contents l.fn.writer) (string_bytes l.fn.explainer.page))
+      (append_known (g.W.Write.contents l.fn.writer) l.fn.explainer.page)
       → IfSome l.fn.lines.coming (λ all. ExplainAt opening l.fn.explainer.choice (g.P.Report.so_far l.fn.explainer.report)
       (g.P.Report.shows l.fn.explainer.report l.explainer.state)
       all l.lines l.explainer.auditor l.explainer.set_by l.explainer.explained before
-      (append_known (g.W.Write.contents l.writer) (string_bytes l.explainer.page)));
+      (append_known (g.W.Write.contents l.writer) l.explainer.page));
 }
 
 abbrev pub decreases-lines : goal.decreases-lines

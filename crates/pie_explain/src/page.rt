@@ -1,0 +1,90 @@
+//! A page: what waits to be written out, as bytes, since rows of CSV are made of them.
+ghost use Rattle.std.specs.Prelude.{◌≡◌, ◌++◌, [], OnOk, string_bytes};
+
+use std::alloc::{AllocError, Global};
+use std::marker::Model;
+use std::mem;
+
+/// Text that waits to be written out.
+#[derive(Drop)]
+pub struct Page {
+    bytes: Vec<u8>,
+    // The memory of words on their way onto the page.
+    words: String,
+    alloc: Global,
+}
+
+impl Model for Page {
+    ghost use Rattle.std.specs.Prelude.{ℕ, List};
+
+    ghost Value = { List ℕ };
+
+    ghost view = { λ page. page.bytes.items };
+}
+
+impl Page {
+    /// An empty page. Takes no memory.
+    pub(crate) fn new(alloc: Global) -> Page
+        ensures { result ≡ [] }
+    {
+        Page {
+            bytes: Vec::new(alloc),
+            words: String::new(alloc),
+            alloc,
+        }
+    }
+
+    /// Adds a text.
+    #[inline(always)]
+    pub fn push_str(&mut self, text: &str) -> Result<(), AllocError>
+        ensures { OnOk result (self.new ≡ self.old ++ text.now) }
+    {
+        self.bytes.extend_from_slice(text.as_bytes())
+    }
+
+    /// Adds bytes.
+    #[inline(always)]
+    pub(crate) fn push(&mut self, bytes: &[u8]) -> Result<(), AllocError>
+        ensures { OnOk result (self.new ≡ self.old ++ bytes.now) }
+    {
+        self.bytes.extend_from_slice(bytes)
+    }
+
+    /// A text for words that come onto the page next: empty, with the memory of those before.
+    pub fn words(&mut self) -> String
+        ensures empty { string_bytes result ≡ [] }
+        ensures kept { self.new ≡ self.old }
+    {
+        let mut words = mem::replace(&mut self.words, String::new(self.alloc));
+        words.clear();
+        words
+    }
+
+    /// Adds words.
+    pub fn put(&mut self, words: String) -> Result<(), AllocError>
+        ensures { OnOk result (self.new ≡ self.old ++ string_bytes words) }
+    {
+        let put = self.push_str(words.as_str());
+        self.words = words;
+        put
+    }
+
+    /// All of it.
+    pub(crate) fn as_bytes(&self) -> &[u8]
+        ensures { result.now ≡ self.now }
+    {
+        self.bytes.as_slice()
+    }
+
+    /// Leaves nothing on it.
+    pub(crate) fn clear(&mut self)
+        ensures { self.new ≡ [] }
+    {
+        self.bytes.clear();
+    }
+
+    /// How many bytes wait.
+    pub(crate) fn len(&self) -> usize {
+        self.bytes.len()
+    }
+}

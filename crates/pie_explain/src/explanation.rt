@@ -84,6 +84,7 @@ impl Explanation {
 
     /// What there is to say of an event with this number that a core is about to decide, where `set_by` is the number of the event that
     /// last set the probability. The core is as it was.
+    #[inline(always)]
     pub fn of(core: &Core, number: u64, event: &Event, set_by: Option<u64>) -> Explanation
         ensures { (opening : Opening) (history : List Event) → Shows opening core.now history
             → result ≡ explanation opening history number event.now set_by }
@@ -105,17 +106,26 @@ impl Explanation {
 }
 
 impl Explained {
-    ghost use Rattle.pie_explain.specs.Explanation.{with_after};
+    ghost use Rattle.pie_explain.specs.Explanation.{explanation, with_after};
 
-    /// An explanation, with what a core holds that has decided its event.
-    pub fn of(core: &Core, told: &Explanation) -> Explained
-        ensures { (opening : Opening) (history : List Event) → Shows opening core.now history → result ≡ with_after opening history told.now }
+    /// What there is to say of an event that a core is about to decide, as `Explanation::of` says it, made where it stays: as long as
+    /// the core has not decided it, what it held before stands in the place of what it holds after.
+    #[inline(always)]
+    pub fn begin(core: &Core, number: u64, event: &Event, set_by: Option<u64>) -> Explained
+        ensures { (opening : Opening) (history : List Event) → Shows opening core.now history
+            → result.told ≡ explanation opening history number event.now set_by }
     {
-        let (after, delay) = (core.registers(), core.delay());
-        Explained {
-            told: *told,
-            after,
-            delay,
-        }
+        let told = Explanation::of(core, number, event, set_by);
+        let (after, delay) = (told.before, told.delay);
+        Explained { told, after, delay }
+    }
+
+    /// Takes what a core holds that has decided the event.
+    #[inline(always)]
+    pub fn end(&mut self, core: &Core)
+        ensures { (opening : Opening) (history : List Event) → Shows opening core.now history → self.new ≡ with_after opening history self.old.told }
+    {
+        self.after = core.registers();
+        self.delay = core.delay();
     }
 }

@@ -7,7 +7,7 @@ use crate::period::{Period, period_of};
 use crate::record::{HEADER, push_record};
 use crate::sums::Sums;
 use crate::words::push_words;
-use pie_explain::{Explained, Form, Report};
+use pie_explain::{Explained, Form, Page, Report};
 use std::alloc::AllocError;
 
 /// Summaries of the explained events: how many arrivals each verdict and each cause had, how long packets waited, what the updates
@@ -23,8 +23,8 @@ pub struct Summary {
 
 /// Writes what stands before the first summary: for CSV the header row.
 #[tactic(auto, unfolding(crate::specs::Summary::header))]
-fn push_header(page: &mut String, form: Form) -> Result<(), AllocError>
-    ensures { OnOk result (string_bytes page.new ≡ string_bytes page.old ++ header form) }
+fn push_header(page: &mut Page, form: Form) -> Result<(), AllocError>
+    ensures { OnOk result (page.new ≡ page.old ++ header form) }
 {
     match form {
         Form::Text => Ok(()),
@@ -32,19 +32,28 @@ fn push_header(page: &mut String, form: Form) -> Result<(), AllocError>
     }
 }
 
-/// Writes these numbers in words, or as CSV.
-fn push_said(page: &mut String, form: Form, sums: &Sums) -> Result<(), AllocError>
-    ensures { OnOk result (string_bytes page.new ≡ string_bytes page.old ++ said form sums.now) }
+/// Writes these numbers in words, or as CSV, behind a text.
+fn push_sums(text: &mut String, form: Form, sums: &Sums) -> Result<(), AllocError>
+    ensures { OnOk result (string_bytes text.new ≡ string_bytes text.old ++ said form sums.now) }
 {
     match form {
-        Form::Text => push_words(page, sums),
-        Form::Csv => push_record(page, sums),
+        Form::Text => push_words(text, sums),
+        Form::Csv => push_record(text, sums),
     }
 }
 
+/// Writes these numbers onto the page.
+fn push_said(page: &mut Page, form: Form, sums: &Sums) -> Result<(), AllocError>
+    ensures { OnOk result (page.new ≡ page.old ++ said form sums.now) }
+{
+    let mut text = page.words();
+    push_sums(&mut text, form, sums)?;
+    page.put(text)
+}
+
 /// Writes a summary of the events of a period, where the next event is in another one.
-fn push_ended(page: &mut String, form: Form, period: &Period, next: u64) -> Result<(), AllocError>
-    ensures { OnOk result (string_bytes page.new ≡ string_bytes page.old ++ ended form (begins period.now.number next) period.now.sums) }
+fn push_ended(page: &mut Page, form: Form, period: &Period, next: u64) -> Result<(), AllocError>
+    ensures { OnOk result (page.new ≡ page.old ++ ended form (begins period.now.number next) period.now.sums) }
 {
     if !period.ends_before(next) {
         return Ok(());
@@ -63,7 +72,7 @@ impl Report for Summary {
 
     ghost whole = { summary_of };
 
-    fn begin(&self, page: &mut String) -> Result<Period, AllocError> {
+    fn begin(&self, page: &mut Page) -> Result<Period, AllocError> {
         push_header(page, self.form)?;
         Ok(Period::empty())
     }
@@ -72,7 +81,7 @@ impl Report for Summary {
         &self,
         state: &mut Period,
         told: &Explained,
-        page: &mut String,
+        page: &mut Page,
     ) -> Result<(), AllocError> {
         let next = period_of(self.every, told.told.moment);
         push_ended(page, self.form, state, next)?;
@@ -80,7 +89,7 @@ impl Report for Summary {
         Ok(())
     }
 
-    fn end(&self, state: &Period, page: &mut String) -> Result<(), AllocError> {
+    fn end(&self, state: &Period, page: &mut Page) -> Result<(), AllocError> {
         push_said(page, self.form, &state.sums)
     }
 }

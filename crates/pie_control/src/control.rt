@@ -126,7 +126,7 @@ impl Control {
     pub fn prob(&self) -> Prob
         ensures { result ≡ self.now.prob }
     {
-        Prob::from_units(self.raw.prob).unwrap()
+        Prob::of_units(self.raw.prob)
     }
 
     /// The old delay, that of the last update, in nanoseconds, at most

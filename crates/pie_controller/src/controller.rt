@@ -158,6 +158,7 @@ impl Controller {
     }
 
     /// The parameters in force.
+    #[inline(always)]
     pub fn params(&self) -> Params
         ensures { result ≡ self.now.params }
     {

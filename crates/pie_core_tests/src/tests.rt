@@ -1,7 +1,7 @@
 //! What no clause says and no program shows: texts, that there is memory for the largest ring, and calls that nothing else makes.
 
 use pie_book::{Book, Choices, FoldRefusal, Limits, Mode, OpenRefusal, Opening, Profile, Refusal};
-use pie_fixed::{Accu, Prob};
+use pie_fixed::{Accu, Gain, Prob};
 use pie_params::{BadParam, Field, Params, RawParams};
 use pie_queue::{ByteQueue, Ecn, Memory};
 use pie_record::TraceFault;
@@ -153,9 +153,17 @@ fn accumulated() -> Option<u64> {
     Some(Accu::zero().plus(tenth).units())
 }
 
+/// Whether there is a gain of a thousand per second, and none above.
+fn are_gains_bounded() -> bool {
+    match Gain::from_units(1_000_000) {
+        Some(gain) => gain.units() == 1_000_000 && Gain::from_units(1_000_001).is_none(),
+        None => false,
+    }
+}
+
 #[test]
 fn calls_that_nothing_else_makes(rt: HostRuntime) {
     let is_shown = shows_its_opening(rt.alloc());
     let is_added = accumulated() == Some(100_000_000_000);
-    assert!(rt; is_shown && is_added && Ecn::Ect0.bits() == 0b10);
+    assert!(rt; is_shown && is_added && are_gains_bounded() && Ecn::Ect0.bits() == 0b10);
 }

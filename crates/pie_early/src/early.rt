@@ -161,6 +161,6 @@ impl Early {
             Shows (before ++ clearing ∷ replicate n (arrival true prob Choice.Enqueue)) self.now →
             result ≡ n * prob }
     {
-        Accu::from_units(self.accu).unwrap()
+        Accu::of_units(self.accu)
     }
 }

@@ -3,7 +3,7 @@ ghost use Rattle.std.specs.Option.{SomeIff};
 ghost use Rattle.pie_fixed.specs.declared.TheConstants.{ALWAYS_PICKED, MAX_ACCU, MAX_GAIN, MAX_NANOS, ONE};
 ghost use Rattle.pie_fixed.specs.Fixed.{bounded_of};
 
-use crate::{MAX_ACCU, MAX_GAIN, MAX_NANOS, ONE};
+use crate::{MAX_GAIN, MAX_NANOS, ONE};
 use std::marker::Model;
 
 /// A probability of drop or mark, 0 to [`ONE`], in units of `10^-12` (RFC 8033, section 4.2; the
@@ -33,6 +33,15 @@ impl Prob {
         } else {
             None
         }
+    }
+
+    /// The probability of that many units of `10^-12`, for a number that is known to be at most [`ONE`]: nothing is looked at.
+    #[inline(always)]
+    pub fn of_units(units: u64) -> Self
+        requires { units ≤ ONE }
+        ensures { result ≡ units }
+    {
+        Prob { trillionths: units }
     }
 
     /// The number of units of `10^-12`, 0 to [`ONE`].
@@ -89,6 +98,17 @@ impl Gain {
             })
         } else {
             None
+        }
+    }
+
+    /// The gain of that many thousandths per second, for a number that is known to be at most 10^6: nothing is looked at.
+    #[inline(always)]
+    pub fn of_units(units: u64) -> Self
+        requires { units ≤ MAX_GAIN }
+        ensures { result ≡ units }
+    {
+        Gain {
+            thousandths: units as u32,
         }
     }
 
@@ -172,16 +192,14 @@ impl Accu {
         Accu { sum: 0 }
     }
 
-    /// The accumulated probability of that many units of `10^-12`, `None` above
-    /// 9_500_000_000_000.
-    pub fn from_units(units: u64) -> Option<Self>
-        ensures { SomeIff result (units ≤ MAX_ACCU) units }
+    /// The accumulated probability of that many units of `10^-12`, for a number that is known to be at most 9_500_000_000_000: nothing is
+    /// looked at.
+    #[inline(always)]
+    pub fn of_units(units: u64) -> Self
+        requires { units ≤ MAX_ACCU }
+        ensures { result ≡ units }
     {
-        if units <= MAX_ACCU {
-            Some(Accu { sum: units })
-        } else {
-            None
-        }
+        Accu { sum: units }
     }
 
     /// The sum with one more probability, for an accumulated probability below 8.5.

@@ -139,14 +139,14 @@ impl Params {
         ensures { result ≡ raw }
     {
         Params {
-            target: Nanos::from_units(raw.target).unwrap(),
-            t_update: Nanos::from_units(raw.t_update).unwrap(),
-            max_burst: Nanos::from_units(raw.max_burst).unwrap(),
-            alpha: Gain::from_units(raw.alpha).unwrap(),
-            beta: Gain::from_units(raw.beta).unwrap(),
+            target: Nanos::of_units(raw.target),
+            t_update: Nanos::of_units(raw.t_update),
+            max_burst: Nanos::of_units(raw.max_burst),
+            alpha: Gain::of_units(raw.alpha),
+            beta: Gain::of_units(raw.beta),
             mean_pkt: raw.mean_pkt as u16,
             limit_bytes: raw.limit_bytes as u32,
-            mark_ecnth: Prob::from_units(raw.mark_ecnth).unwrap(),
+            mark_ecnth: Prob::of_units(raw.mark_ecnth),
             below_threshold: (raw.dq_threshold - 1) as u16,
         }
     }

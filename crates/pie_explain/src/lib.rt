@@ -4,7 +4,7 @@
 //! before them. The definitions that the contracts cite stand in `specs/`. Wherever no reader, writer or memory failed, `explain`
 //! answers exactly what `answer` says of the text, and has written exactly its `output`: the record or the words of each chosen event, in
 //! order. `Explanation::of` answers, over every history that the core shows, exactly the look-back's numbers and the first case of the
-//! decision that holds there; `Explained::of` adds what the controller held after it; `Choice::picks` says which events are explained.
+//! decision that holds there; `Explained` adds what the controller held after it; `Choice::picks` says which events are explained.
 #![tactic(auto)]
 
 pub mod choice;

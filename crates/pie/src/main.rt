@@ -7,6 +7,8 @@ mod storming;
 mod tuning;
 
 use command::command;
+use either::Left;
+use pie_files::Output;
 use std::env;
 use std::io::ErrorKind;
 use std::process::ExitCode;
@@ -16,12 +18,13 @@ fn main(rt: HostRuntime) -> ExitCode {
         Some(words) => words,
         None => return ExitCode::from(1),
     };
+    let mut output: Output = Left(rt.stdout());
     let end = command(
         &rt,
         rt.alloc(),
         words.as_slice(),
         rt.stdin(),
-        &mut rt.stdout(),
+        &mut output,
         &mut rt.stderr(),
     );
     ExitCode::from(end.status())

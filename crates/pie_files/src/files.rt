@@ -10,7 +10,11 @@ use clap::ArgMatches;
 use either::{Either, Left, Right};
 use std::fs::File;
 use std::io;
-use std::io::{Read, Write};
+use std::io::{Read, Stdout, Write};
+
+/// Where a program writes: standard output, or a file that it made. As one type of both, what writes to either is compiled once, and inlined as
+/// what has one caller is.
+pub type Output = Either<Stdout, File>;
 
 /// What opens files by their names. What a file holds is known where this says it.
 pub trait NamedFiles {
@@ -50,12 +54,12 @@ impl NamedFiles for HostRuntime {
         File::open(self, name)
     }
 
-    type Made = File;
+    type Made = Output;
 
     ghost makes = { λ _ _ _. ⊤ };
 
-    fn make_named(&self, name: &str) -> io::Result<File> {
-        File::create(self, name)
+    fn make_named(&self, name: &str) -> io::Result<Output> {
+        Ok(Right(File::create(self, name)?))
     }
 }
 

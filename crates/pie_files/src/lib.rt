@@ -16,6 +16,6 @@ mod running;
 pub use auditing::audit_given;
 pub use end::{DIFFERS, DONE, End, FAULT, failed};
 pub use faults::fault;
-pub use files::{NamedFiles, reader_of};
+pub use files::{NamedFiles, Output, reader_of};
 pub use outputs::{made_named, migrate_to, run_to};
 pub use progress::{Screen, shows_progress};

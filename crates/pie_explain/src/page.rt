@@ -34,17 +34,9 @@ impl Page {
         }
     }
 
-    /// Adds a text.
-    #[inline(always)]
-    pub fn push_str(&mut self, text: &str) -> Result<(), AllocError>
-        ensures { OnOk result (self.new ≡ self.old ++ text.now) }
-    {
-        self.bytes.extend_from_slice(text.as_bytes())
-    }
-
     /// Adds bytes.
     #[inline(always)]
-    pub(crate) fn push(&mut self, bytes: &[u8]) -> Result<(), AllocError>
+    pub fn push(&mut self, bytes: &[u8]) -> Result<(), AllocError>
         ensures { OnOk result (self.new ≡ self.old ++ bytes.now) }
     {
         self.bytes.extend_from_slice(bytes)
@@ -64,7 +56,7 @@ impl Page {
     pub fn put(&mut self, words: String) -> Result<(), AllocError>
         ensures { OnOk result (self.new ≡ self.old ++ string_bytes words) }
     {
-        let put = self.push_str(words.as_str());
+        let put = self.push(words.as_bytes());
         self.words = words;
         put
     }

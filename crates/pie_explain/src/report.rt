@@ -55,7 +55,7 @@ fn push_header(page: &mut Page, form: Form) -> Result<(), AllocError>
 {
     match form {
         Form::Text => Ok(()),
-        Form::Csv => page.push_str(HEADER),
+        Form::Csv => page.push(HEADER.as_bytes()),
     }
 }
 

@@ -1,6 +1,7 @@
 pub mod EndFacts
 pub mod ExplainFacts
 pub mod ExplanationFacts
+pub mod HeldFacts
 pub mod LineFacts
 pub mod RecordFacts
 pub mod WordFacts

@@ -144,6 +144,18 @@ abbrev pub onto : List (List ℕ) → List ℕ → List ℕ
 onto [] end = end
 onto (field ∷ fields) end = field ++ (44 ∷ onto fields end)
 
+-- when an event was handed in, and when it was
+abbrev pub moment_fields : ℕ → ℕ → List (List ℕ)
+moment_fields handed effective = decimal handed ∷ decimal effective ∷ []
+
+-- what mostly changes from one event to the next: how much waits, and how long
+abbrev pub moving_fields : ℕ → ℕ → ℕ → List (List ℕ)
+moving_fields bytes packets delay = decimal bytes ∷ decimal packets ∷ decimal delay ∷ []
+
+-- what often stays as it is
+abbrev pub steady_fields : ℕ → ℕ → ℕ → List (List ℕ)
+steady_fields prob accu burst = decimal prob ∷ decimal accu ∷ decimal burst ∷ []
+
 -- what a controller holds
 abbrev pub held_fields : Registers → ℕ → List (List ℕ)
 held_fields held delay =

@@ -74,7 +74,8 @@ fn lines(rt: &impl Print, alloc: Global) -> io::Result<()> {
             let count = count(&mut lines);
             let is_other = departed(1, Answer::Empty) == departed(1, Answer::Done);
             println!(rt;
-                "HistoryLines over a reader without an end: its opening: {is_wanted}, {count} lines are its event, and with another answer: {is_other}"
+                "HistoryLines over a reader without an end: its opening: {is_wanted}, {count} lines are its event, \
+                and with another answer: {is_other}"
             )
         }
         Err(why) => println!(rt; "HistoryLines over a reader without an end: {why:?}"),

@@ -64,18 +64,22 @@ explain_app = with_rule (with_rule (with_rule (with_rule (with_rule (with_rule t
     (flag_rule (codes "csv"))) progress_rule) output_rule) file_rule
 
 -- the subcommand `params`: four texts with units, two gains, and what `tc` has or hasn't
+abbrev pub measured_app : App
+measured_app = with_rule (with_rule (with_rule (with_rule (new_app (codes "params")) (text_rule (codes "rate")))
+    (text_rule (codes "target"))) (text_rule (codes "tupdate"))) (text_rule (codes "limit"))
+
 abbrev pub params_app : App
-params_app = with_rule (with_rule (with_rule (with_rule (with_rule
-    (with_rule (with_rule (with_rule (with_rule (new_app (codes "params")) (text_rule (codes "rate")))
-    (text_rule (codes "target"))) (text_rule (codes "tupdate"))) (text_rule (codes "limit"))) (number_rule (codes "alpha") 0 32))
+params_app = with_rule (with_rule (with_rule (with_rule (with_rule measured_app (number_rule (codes "alpha") 0 32))
     (number_rule (codes "beta") 0 32))
     (flag_rule (codes "ecn"))) (flag_rule (codes "bytemode"))) (flag_rule (codes "dq_rate_estimator"))
 
--- the subcommand `storm`, whose options are four numbers, and one that asks for counts
+-- the subcommand `storm`, whose options are the four numbers of its plan, and one that asks for counts
+abbrev pub planned_app : App
+planned_app = with_rule (with_rule (with_rule (with_rule (new_app (codes "storm")) (number_rule (codes "senders") 2 8))
+    (number_rule (codes "packets") 1 10_000)) (number_rule (codes "seed") 0 (2 ^ 64 - 1))) (number_rule (codes "load") 50 200)
+
 abbrev pub storm_app : App
-storm_app = with_rule (with_rule (with_rule (with_rule (with_rule (new_app (codes "storm")) (number_rule (codes "senders") 2 8))
-    (number_rule (codes "packets") 1 10_000)) (number_rule (codes "seed") 0 (2 ^ 64 - 1))) (number_rule (codes "load") 50 200))
-    (flag_rule (codes "count"))
+storm_app = with_rule planned_app (flag_rule (codes "count"))
 
 -- .. `pie` with its subcommands
 abbrev pub pie_app : App

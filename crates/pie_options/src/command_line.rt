@@ -1,8 +1,9 @@
 //! The command line of `pie`.
 ghost use Rattle.std.specs.Prelude.{◌≡◌, IfOk, false};
 ghost use Rattle.clap.specs.Words.{app_of, new_app, rule_of, with_rule};
-ghost use Rattle.pie_options.specs.Words.{audit_app, choosing_app, explain_app, file_rule, files_rule, flag_rule, migrate_app, number_rule};
-ghost use Rattle.pie_options.specs.Words.{output_rule, params_app, pie_alone, pie_app, progress_rule, run_app, storm_app, text_rule, timed_app};
+ghost use Rattle.pie_options.specs.Words.{audit_app, choosing_app, explain_app, file_rule, files_rule, flag_rule, measured_app, migrate_app};
+ghost use Rattle.pie_options.specs.Words.{number_rule, output_rule, params_app, pie_alone, pie_app, planned_app, progress_rule, run_app};
+ghost use Rattle.pie_options.specs.Words.{storm_app, text_rule, timed_app};
 
 use crate::help::{
     AUDIT_ABOUT, AUDIT_HELP, EXPLAIN_ABOUT, EXPLAIN_HELP, MIGRATE_ABOUT, MIGRATE_HELP,
@@ -252,11 +253,11 @@ fn explain_command<'a>(alloc: Global) -> Result<Command<'a>, AllocError>
     with_option(explain, file_argument(alloc))
 }
 
-/// The subcommand `storm` and its options.
-fn storm_command<'a>(alloc: Global) -> Result<Command<'a>, AllocError>
-    ensures { IfOk result (λ storm. app_of storm ≡ storm_app) }
+/// The subcommand `storm` with the numbers of its plan.
+fn planned_command<'a>(alloc: Global) -> Result<Command<'a>, AllocError>
+    ensures { IfOk result (λ planned. app_of planned ≡ planned_app) }
 {
-    let storm = with_option(
+    let planned = with_option(
         plain(alloc, "storm", STORM_ABOUT, STORM_HELP),
         number_option(
             alloc,
@@ -266,8 +267,8 @@ fn storm_command<'a>(alloc: Global) -> Result<Command<'a>, AllocError>
             "How many senders there are, 2 to 8; 2 by default",
         ),
     )?;
-    let storm = with_option(
-        storm,
+    let planned = with_option(
+        planned,
         number_option(
             alloc,
             "packets",
@@ -276,8 +277,8 @@ fn storm_command<'a>(alloc: Global) -> Result<Command<'a>, AllocError>
             "How many packets each sender has, 1 to 10000; 100 by default",
         ),
     )?;
-    let storm = with_option(
-        storm,
+    let planned = with_option(
+        planned,
         number_option(
             alloc,
             "seed",
@@ -286,8 +287,8 @@ fn storm_command<'a>(alloc: Global) -> Result<Command<'a>, AllocError>
             "What the random words are made of, 0 to 2^64 - 1; 1 by default",
         ),
     )?;
-    let storm = with_option(
-        storm,
+    with_option(
+        planned,
         number_option(
             alloc,
             "load",
@@ -295,9 +296,16 @@ fn storm_command<'a>(alloc: Global) -> Result<Command<'a>, AllocError>
             200,
             "How many packets come for each hundred that the link sends, 50 to 200; 100 by default",
         ),
-    )?;
+    )
+}
+
+/// The subcommand `storm` and its options.
+fn storm_command<'a>(alloc: Global) -> Result<Command<'a>, AllocError>
+    ensures { IfOk result (λ storm. app_of storm ≡ storm_app) }
+{
+    let planned = planned_command(alloc)?;
     with_option(
-        storm,
+        planned,
         flag_option(
             alloc,
             "count",
@@ -306,11 +314,11 @@ fn storm_command<'a>(alloc: Global) -> Result<Command<'a>, AllocError>
     )
 }
 
-/// The subcommand `params` and its options, which are named as those of `tc`.
-fn params_command<'a>(alloc: Global) -> Result<Command<'a>, AllocError>
-    ensures { IfOk result (λ params. app_of params ≡ params_app) }
+/// The subcommand `params` with the options that have units. All of its options are named as those of `tc`.
+fn measured_command<'a>(alloc: Global) -> Result<Command<'a>, AllocError>
+    ensures { IfOk result (λ measured. app_of measured ≡ measured_app) }
 {
-    let params = with_option(
+    let measured = with_option(
         plain(alloc, "params", PARAMS_ABOUT, PARAMS_HELP),
         text_option(
             alloc,
@@ -319,12 +327,12 @@ fn params_command<'a>(alloc: Global) -> Result<Command<'a>, AllocError>
             "The link's rate, as 100mbit, of which limit_bytes is 200 ms",
         ),
     )?;
-    let params = with_option(
-        params,
+    let measured = with_option(
+        measured,
         text_option(alloc, "target", "TIME", "The wanted delay; 15ms by default"),
     )?;
-    let params = with_option(
-        params,
+    let measured = with_option(
+        measured,
         text_option(
             alloc,
             "tupdate",
@@ -332,17 +340,24 @@ fn params_command<'a>(alloc: Global) -> Result<Command<'a>, AllocError>
             "The time between two updates; 15ms by default",
         ),
     )?;
-    let params = with_option(
-        params,
+    with_option(
+        measured,
         text_option(
             alloc,
             "limit",
             "PACKETS",
             "How many packets may wait, as 1000p; 1000 by default",
         ),
-    )?;
+    )
+}
+
+/// The subcommand `params` and its options.
+fn params_command<'a>(alloc: Global) -> Result<Command<'a>, AllocError>
+    ensures { IfOk result (λ params. app_of params ≡ params_app) }
+{
+    let measured = measured_command(alloc)?;
     let params = with_option(
-        params,
+        measured,
         number_option(alloc, "alpha", 0, 32, "The gain alpha of tc; 2 by default"),
     )?;
     let params = with_option(

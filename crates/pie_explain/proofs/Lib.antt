@@ -6,4 +6,3 @@ pub mod LineFacts
 pub mod RecordFacts
 pub mod WordFacts
 pub mod ReportFacts
-pub mod RowFacts

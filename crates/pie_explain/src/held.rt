@@ -3,8 +3,8 @@
 ghost use Rattle.std.specs.Prelude.{◌≡◌, ◌+◌, ◌≤◌, [], true, length};
 ghost use Rattle.pie_explain.specs.Record.{held_fields, moving_fields, onto, steady_fields};
 
-use crate::row::Row;
 use pie_book::Registers;
+use pie_page::Row;
 use std::marker::Model;
 
 /// Puts the probabilities and the burst allowance, each with a comma after it, before the rest of a row.

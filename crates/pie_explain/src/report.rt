@@ -7,9 +7,9 @@ ghost use Rattle.pie_explain.specs.Words.{words};
 
 use crate::explainer::Form;
 use crate::explanation::Explained;
-use crate::page::Page;
 use crate::record::{HEADER, RecordWriter};
 use crate::text::push_text;
+use pie_page::Page;
 use std::alloc::AllocError;
 
 /// What is written of the explained events, one after another.

@@ -7,7 +7,8 @@ use crate::period::{Period, period_of};
 use crate::record::{HEADER, push_record};
 use crate::sums::Sums;
 use crate::words::push_words;
-use pie_explain::{Explained, Form, Page, Report};
+use pie_explain::{Explained, Form, Report};
+use pie_page::Page;
 use std::alloc::AllocError;
 
 /// Summaries of the explained events: how many arrivals each verdict and each cause had, how long packets waited, what the updates

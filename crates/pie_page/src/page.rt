@@ -24,7 +24,7 @@ impl Model for Page {
 
 impl Page {
     /// An empty page. Takes no memory.
-    pub(crate) fn new(alloc: Global) -> Page
+    pub fn new(alloc: Global) -> Page
         ensures { result ≡ [] }
     {
         Page {
@@ -62,21 +62,21 @@ impl Page {
     }
 
     /// All of it.
-    pub(crate) fn as_bytes(&self) -> &[u8]
+    pub fn as_bytes(&self) -> &[u8]
         ensures { result.now ≡ self.now }
     {
         self.bytes.as_slice()
     }
 
     /// Leaves nothing on it.
-    pub(crate) fn clear(&mut self)
+    pub fn clear(&mut self)
         ensures { self.new ≡ [] }
     {
         self.bytes.clear();
     }
 
     /// How many bytes wait.
-    pub(crate) fn len(&self) -> usize {
+    pub fn len(&self) -> usize {
         self.bytes.len()
     }
 }

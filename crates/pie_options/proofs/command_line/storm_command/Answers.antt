@@ -9,4 +9,5 @@ pub returns : goal.returns
 returns c =
     IfOk-weaker c.with_option.result (λ whole. app_of whole ≡ with_rule (app_of c.in_ok-planned.planned) (rule_of c.flag_option.result))
     (λ storm. app_of storm ≡ storm_app)
-    (λ whole made. with_one _ _ planned_app _ (flag_rule (codes "count")) c.in_ok-planned.ensures c.flag_option.ensures.rule made) c.with_option.ensures
+    (λ whole made. with_one _ _ planned_app _ (flag_rule (codes "count")) c.in_ok-planned.ensures c.flag_option.ensures.rule made)
+    c.with_option.ensures

@@ -34,7 +34,9 @@ depart,2,30,empty
 
 /// What explains its events as CSV.
 pub(crate) const EXPLAINED: &[u8] =
-    b"number,kind,caller,moment,effective_moment,tag,size,verdict,cause,bytes,packets,delay,probability,accumulated_probability,burst_allowance,ecn,word,waited,active,set_by,bytes_after,packets_after,delay_after,probability_after,accumulated_probability_after,burst_allowance_after,active_after
+    b"number,kind,caller,moment,effective_moment,tag,size,verdict,cause,bytes,packets,delay,probability,accumulated_probability,burst_allowance,\
+    ecn,word,waited,active,set_by,bytes_after,packets_after,delay_after,probability_after,accumulated_probability_after,\
+    burst_allowance_after,active_after
 1,arrive,1,10,10,7,1500,enqueue,burst_allowed,0,0,0,0,0,150000000,ect0,0,,1,,1500,1,0,0,0,150000000,1
 2,depart,2,25,25,7,1500,left,,1500,1,0,0,0,150000000,ect0,,15,1,,0,0,0,0,0,150000000,1
 3,depart,2,30,30,,,empty,,0,0,0,0,0,150000000,,,,1,,0,0,0,0,0,150000000,1

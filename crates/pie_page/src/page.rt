@@ -1,5 +1,5 @@
 //! A page: what waits to be written out, as bytes, since rows of CSV are made of them.
-ghost use Rattle.std.specs.Prelude.{◌≡◌, ◌++◌, [], OnOk, string_bytes};
+ghost use Rattle.std.specs.Prelude.{◌≡◌, ◌++◌, [], OnOk, length, string_bytes};
 
 use std::alloc::{AllocError, Global};
 use std::marker::Model;
@@ -35,6 +35,10 @@ impl Page {
     }
 
     /// Adds bytes.
+    ///
+    /// # Errors
+    ///
+    /// `AllocError` where there is no memory for them.
     #[inline(always)]
     pub fn push(&mut self, bytes: &[u8]) -> Result<(), AllocError>
         ensures { OnOk result (self.new ≡ self.old ++ bytes.now) }
@@ -52,7 +56,11 @@ impl Page {
         words
     }
 
-    /// Adds words.
+    /// Adds words, which it takes to keep their memory.
+    ///
+    /// # Errors
+    ///
+    /// `AllocError` where there is no memory for them on the page.
     pub fn put(&mut self, words: String) -> Result<(), AllocError>
         ensures { OnOk result (self.new ≡ self.old ++ string_bytes words) }
     {
@@ -76,7 +84,9 @@ impl Page {
     }
 
     /// How many bytes wait.
-    pub fn len(&self) -> usize {
+    pub fn len(&self) -> usize
+        ensures { result ≡ length self.now }
+    {
         self.bytes.len()
     }
 }

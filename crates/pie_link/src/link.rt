@@ -57,7 +57,8 @@ impl Link {
             ≡ Some (record { moment = moment; limits = limits; params = params; choices = record { mode = Bounded; profile = One } })) }
         ensures callers { IfOk result (λ opened. opened.0.numbers ≡ callers) }
         ensures caller { IfOk result (λ opened. opened.1 ≡ first_pass opened.0 callers) }
-        ensures headline { IfOk result (λ opened. KeepsOneHistory ⟦<LockRule as TableRule<Option<KeptBook>, Place<Entry, Opening>, LockOpening<KeptBook>>>⟧.holds opened.0) }
+        ensures headline { IfOk result (λ opened. KeepsOneHistory
+            ⟦<LockRule as TableRule<Option<KeptBook>, Place<Entry, Opening>, LockOpening<KeptBook>>>⟧.holds opened.0) }
     {
         let choices = Choices {
             mode: Mode::Bounded,
@@ -87,7 +88,8 @@ impl Link {
             ≡ Some (record { moment = moment; limits = limits; params = params; choices = choices })) }
         ensures callers { IfOk result (λ opened. opened.0.numbers ≡ callers) }
         ensures caller { IfOk result (λ opened. opened.1 ≡ first_pass opened.0 callers) }
-        ensures headline { IfOk result (λ opened. KeepsOneHistory ⟦<LockRule as TableRule<Option<KeptBook>, Place<Entry, Opening>, LockOpening<KeptBook>>>⟧.holds opened.0) }
+        ensures headline { IfOk result (λ opened. KeepsOneHistory
+            ⟦<LockRule as TableRule<Option<KeptBook>, Place<Entry, Opening>, LockOpening<KeptBook>>>⟧.holds opened.0) }
     {
         let book = match Book::open_with(alloc, limits, params, moment, choices) {
             Ok(book) => book,

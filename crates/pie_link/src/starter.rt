@@ -62,7 +62,8 @@ fn work_in<'s, E: 's, R: Threads + Wait + Sync, G: Gate + Sync>(
     ensures alone { IfSome result (λ work. NoneElseFoldsAt link.now plan.now caller.limit work.caller.front) }
     ensures few { IfSome result (λ work. work.too_soon ≤ caller.limit * 2 ^ 20) }
     ensures folds { caller.limit ≡ senders plan.now + 5 → IfSome result (λ work.
-        AreFoldedAt link.now (folder plan.now) (work.folding.is_short_of_memory ≡ false) plan.now.folds.items work.folding.events.items work.caller.front work.folding.too_many) }
+        AreFoldedAt link.now (folder plan.now) (work.folding.is_short_of_memory ≡ false) plan.now.folds.items
+        work.folding.events.items work.caller.front work.folding.too_many) }
 {
     let mut rest = caller;
     let last = match link.share(&mut rest) {
@@ -114,7 +115,8 @@ fn work_at_once<R: Threads + Wait + Sync, G: Gate + Sync>(
     ensures made { IfSome result (λ work. AllCameAt link.now plan.now caller.limit (events_in work.caller.front) work.too_soon) }
     ensures alone { IfSome result (λ work. NoneElseFoldsAt link.now plan.now caller.limit work.caller.front) }
     ensures folds { caller.limit ≡ senders plan.now + 5 → IfSome result (λ work.
-        AreFoldedAt link.now (folder plan.now) (work.folding.is_short_of_memory ≡ false) plan.now.folds.items work.folding.events.items work.caller.front work.folding.too_many) }
+        AreFoldedAt link.now (folder plan.now) (work.folding.is_short_of_memory ≡ false) plan.now.folds.items
+        work.folding.events.items work.caller.front work.folding.too_many) }
 {
     thread::scope(
         thread::scope_env(),
@@ -126,7 +128,8 @@ fn work_at_once<R: Threads + Wait + Sync, G: Gate + Sync>(
             ensures made { IfSome result (λ work. AllCameAt link.entry.now plan.entry.now caller.limit (events_in work.caller.front) work.too_soon) }
             ensures alone { IfSome result (λ work. NoneElseFoldsAt link.entry.now plan.entry.now caller.limit work.caller.front) }
             ensures folds { caller.limit ≡ senders plan.entry.now + 5 → IfSome result (λ work.
-                AreFoldedAt link.entry.now (folder plan.entry.now) (work.folding.is_short_of_memory ≡ false) plan.entry.now.folds.items work.folding.events.items work.caller.front work.folding.too_many) }
+                AreFoldedAt link.entry.now (folder plan.entry.now) (work.folding.is_short_of_memory ≡ false) plan.entry.now.folds.items
+                work.folding.events.items work.caller.front work.folding.too_many) }
         { work_in(scope, rt, alloc, link, plan, gate, caller) },
     )
 }

@@ -86,7 +86,7 @@ class Follower:
 
         self.whole = whole(self.gate)
         is_rt = words_of(self.gate)[-1:] == ["ci"]
-        for part in [self.gate] if is_rt else below.get(self.gate, []):
+        for part in [self.gate] if is_rt else self.parts(below):
             words = words_of(part)
             if words[-1:] != ["ci"]:
                 self.note(part, known, ("", self.script(words)), whole(part))
@@ -96,6 +96,11 @@ class Follower:
                 if task:
                     self.note(pid, known, task, whole(pid), most_memory(pid))
         return True
+
+    def parts(self, below):
+        """The processes that the gate started; in place of tests/run.py the scripts that it started."""
+        for part in below.get(self.gate, []):
+            yield from below.get(part, []) if self.script(words_of(part)) == "tests/run.py" else [part]
 
     def script(self, words):
         return next((os.path.relpath(it, ROOT) if it.startswith("/") else it for it in words if it.endswith((".sh", ".py"))), "")

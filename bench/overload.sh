@@ -2,11 +2,8 @@
 # Draws queueing delay, probability, drops, marks and waiting bytes over time of the trace that bench/overload.py writes: a link that is
 # overloaded for four seconds. examples/plot.sh draws it from what `pie explain` tells.
 # usage: bench/overload.sh PIE [PICTURE]      PIE: the built program, as crates/pie/out/ has it after `rt run`
-set -eu
-here=$(cd "$(dirname "$0")" && pwd)
+. "$(dirname "$0")/shared.sh"
 program=$1
 picture=${2:-$here/../docs/overload.png}
-work=$(mktemp -d)
-trap 'rm -rf "$work"' EXIT
 python3 "$here/overload.py" | "$program" run > "$work/history"
 PIE=$program TITLE='sixty packets at once at 1; load 1.2 from 2 to 6, else 0.5' "$here/../examples/plot.sh" "$work/history" "$picture"

@@ -2,12 +2,9 @@
 # One event decided (and recorded) by pie_book, or one at a link, beside the same by an earlier one, both in turn, so many times (21),
 # and of each the least and the median, and their ratios. It ends with status 1 where the two come to other results.
 # usage: bench/pie_before.sh PIE_BENCH_OF_THE_EARLIER_COMMIT PIE_BENCH [RUNS] [book|link]
-set -eu
+. "$(dirname "$0")/shared.sh"
 runs=${3:-21}
 part=${4:-book}
-here=$(cd "$(dirname "$0")" && pwd)
-work=$(mktemp -d)
-trap 'rm -rf "$work"' EXIT
 for _ in $(seq "$runs"); do
     "$1" "$part" | sed 's/^/before_/'
     "$2" "$part"

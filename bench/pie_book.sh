@@ -2,12 +2,9 @@
 # One event decided (and recorded) by pie_book beside the same steps in C: both in turn, so many times (9), and of each the
 # least and the median, and their ratios. It ends with status 1 where the two come to other results.
 # usage: bench/pie_book.sh PIE_BENCH [RUNS]
-set -eu
+. "$(dirname "$0")/shared.sh"
 bench=$1
 runs=${2:-9}
-here=$(cd "$(dirname "$0")" && pwd)
-work=$(mktemp -d)
-trap 'rm -rf "$work"' EXIT
 ${CC:-cc} -O2 -o "$work/pie_book" "$here/pie_book.c"
 for _ in $(seq "$runs"); do
     "$bench" book

@@ -31,7 +31,7 @@
 enum which { NONE, LIBRARY, PLAIN, DPDK };
 static const char *const names[] = {"none", "library", "c", "dpdk"};
 
-static struct params plain_params = {15000000, 15000000, 150000000, 125, 1250, 1024, LIMIT, 100000000000ull, 16384};
+static struct params plain_params;
 
 struct plain {
     uint64_t accu, moment;
@@ -44,27 +44,35 @@ STEP void updated_by(struct plain *plain, const struct params *p, uint64_t queue
     plain->control = control_after(&plain->control, p, delay_by(queued, plain->rate.average, p->dq_threshold), moment);
 }
 
-/* An arrival of the library's scope in plain C: tail drop by bytes, then by packets, and then early drop. */
-STEP uint32_t arrived(struct plain *plain, const struct params *p, uint64_t queued, uint32_t size, uint32_t room,
-                      uint32_t ecn, uint64_t random, uint64_t moment) {
+/* The effective moment: the greatest so far. */
+static inline void come_by(struct plain *plain, uint64_t moment) {
     if (moment > plain->moment)
         plain->moment = moment;
-    if (queued + size > p->limit_bytes || room == 0) {
-        plain->accu = 0;
-        return queued + size > p->limit_bytes ? PIE_BYTES : PIE_PACKETS;
-    }
-    return consider(&plain->accu, p, &plain->control, queued, (int)ecn, random);
+}
+
+/* An arrival of the library's scope in plain C. */
+STEP uint32_t arrived(struct plain *plain, const struct params *p, uint64_t queued, uint32_t size, uint32_t room,
+                      uint32_t ecn, uint64_t random, uint64_t moment) {
+    come_by(plain, moment);
+    enum choice drop = tail_drop_by(&plain->accu, p, queued, size, room == 0);
+    return drop != ENQUEUE ? drop : consider(&plain->accu, p, &plain->control, queued, (int)ecn, random);
 }
 
 /* A departure of the library's scope in plain C: it keeps the greatest moment, as an arrival does. */
 STEP void left_at(struct plain *plain, const struct params *p, uint32_t size, uint64_t left, uint64_t moment) {
-    if (moment > plain->moment)
-        plain->moment = moment;
+    come_by(plain, moment);
     departed_by(&plain->rate, size, left, plain->moment, p->dq_threshold);
 }
 
-/* An arrival in plain C over the library's state, refused for what the library refuses. */
-STEP uint32_t checked_arrival(struct pie_state *s, uint64_t queued, uint32_t size, uint32_t room, uint32_t ecn, uint64_t random,
+/* The same with parameters and whether PIE is active beside it, as the library's state has them; its calls are refused for
+ * what the library refuses. */
+struct checked {
+    struct params params;
+    struct plain plain;
+    uint64_t active;
+};
+
+STEP uint32_t checked_arrival(struct checked *s, uint64_t queued, uint32_t size, uint32_t room, uint32_t ecn, uint64_t random,
                               uint64_t moment) {
     if (moment > PIE_MAX_MOMENT)
         return PIE_BAD_MOMENT;
@@ -74,55 +82,23 @@ STEP uint32_t checked_arrival(struct pie_state *s, uint64_t queued, uint32_t siz
         return PIE_BAD_ECN;
     if (queued > PIE_MAX_BYTES)
         return PIE_BAD_QUEUE;
-    if (moment > s->moment)
-        s->moment = moment;
-    if (queued + size > s->params.limit_bytes || room == 0) {
-        s->accu = 0;
-        return queued + size > s->params.limit_bytes ? PIE_BYTES : PIE_PACKETS;
-    }
-    if (!s->active || s->burst != 0 || queued <= 2 * s->params.mean_pkt ||
-        (2 * s->old_delay < s->params.target && s->prob < 200000000000))
-        return PIE_ENQUEUE;
-    uint64_t prob = s->prob, sum = s->accu + prob;
-    if (prob == 0) {
-        s->accu = 0;
-        return PIE_ENQUEUE;
-    }
-    if (sum < 850000000000 ||
-        (sum < 8500000000000 && !((unsigned __int128)random * ONE < (unsigned __int128)prob << 64))) {
-        s->accu = sum;
-        return PIE_ENQUEUE;
-    }
-    s->accu = 0;
-    return ecn != PIE_NOT_ECT && prob < s->params.mark_ecnth ? PIE_MARK : PIE_EARLY;
+    come_by(&s->plain, moment);
+    enum choice drop = tail_drop_by(&s->plain.accu, &s->params, queued, size, room == 0);
+    if (drop != ENQUEUE || !s->active)
+        return drop;
+    return consider_by(&s->plain.accu, &s->params, &s->plain.control, queued, (int)ecn, random);
 }
 
-/* The same of a departure. */
-STEP uint32_t checked_departure(struct pie_state *s, uint32_t size, uint64_t left, uint64_t moment) {
+STEP uint32_t checked_departure(struct checked *s, uint32_t size, uint64_t left, uint64_t moment) {
     if (moment > PIE_MAX_MOMENT)
         return PIE_BAD_MOMENT;
     if (size == 0 || size > PIE_MAX_SIZE)
         return PIE_BAD_SIZE;
     if (left > PIE_MAX_BYTES)
         return PIE_BAD_QUEUE;
-    if (moment > s->moment)
-        s->moment = moment;
-    if (!s->active)
-        return PIE_DONE;
-    uint64_t threshold = s->params.dq_threshold;
-    if (s->measuring) {
-        uint64_t count = s->cycle_count + size;
-        if (count < threshold) {
-            s->cycle_count = count;
-            return PIE_DONE;
-        }
-        uint64_t sample = s->moment > s->cycle_start ? s->moment - s->cycle_start : 1;
-        s->average = s->average == 0 ? sample : (uint64_t)(((unsigned __int128)sample * threshold +
-                                                           (unsigned __int128)s->average * (65536 - threshold)) / 65536);
-    }
-    s->measuring = left >= threshold;
-    s->cycle_start = left >= threshold ? s->moment : 0;
-    s->cycle_count = 0;
+    come_by(&s->plain, moment);
+    if (s->active)
+        departed_by(&s->plain.rate, size, left, s->plain.moment, s->params.dq_threshold);
     return PIE_DONE;
 }
 
@@ -258,8 +234,7 @@ static double keep_nanos(const char *name, double begin, int calls) {
 }
 
 /* The time of an arrival that is considered; the numbers that come out are the decisions. */
-static void arrive(struct pie_state *state, struct plain *plain) {
-    struct pie_state copy = *state;
+static void arrive(struct pie_state *state, struct plain *plain, struct checked *copy) {
     uint64_t library = 0, c = 0, checked = 0;
     for (int from = 0; from < INPUTS; from += TURN) {
         double begin = nanos();
@@ -271,15 +246,18 @@ static void arrive(struct pie_state *state, struct plain *plain) {
         begin = keep_nanos("arrive_c", begin, TURN);
         for (int i = from; i < from + TURN; i++)
             checked = checked * 31 +
-                      checked_arrival(&copy, arrivals[i].bytes, 1000, 1, arrivals[i].ecn, arrivals[i].word, (uint64_t)i);
+                      checked_arrival(copy, arrivals[i].bytes, 1000, 1, arrivals[i].ecn, arrivals[i].word, (uint64_t)i);
         keep_nanos("arrive_c_checked", begin, TURN);
     }
-    if (library != c || library != checked || state->accu != plain->accu || state->accu != copy.accu)
+    if (library != c || library != checked || state->accu != plain->accu || state->accu != copy->plain.accu)
         exit(2);
 }
 
-static void depart(struct pie_state *state, struct plain *plain) {
-    struct pie_state copy = *state;
+static int is_other(const struct rate *one, const struct rate *other) {
+    return one->average != other->average || one->begun != other->begun || one->start != other->start || one->count != other->count;
+}
+
+static void depart(struct pie_state *state, struct plain *plain, struct checked *copy) {
     struct plain kept = *plain;
     for (int from = 0; from < INPUTS; from += TURN) {
         double begin = nanos();
@@ -293,13 +271,14 @@ static void depart(struct pie_state *state, struct plain *plain) {
             left_at(&kept, &plain_params, departures[i].size, 100000, departures[i].moment);
         begin = keep_nanos("depart_c_moment", begin, TURN);
         for (int i = from; i < from + TURN; i++)
-            checked_departure(&copy, departures[i].size, 100000, departures[i].moment);
+            checked_departure(copy, departures[i].size, 100000, departures[i].moment);
         keep_nanos("depart_c_checked", begin, TURN);
     }
     if (state->average != plain->rate.average || state->measuring != (uint64_t)plain->rate.begun ||
         state->cycle_start != plain->rate.start || state->cycle_count != plain->rate.count)
         exit(3);
-    if (memcmp(state, &copy, sizeof copy) != 0 || memcmp(&plain->rate, &kept.rate, sizeof kept.rate) != 0 || state->moment != kept.moment)
+    if (is_other(&plain->rate, &kept.rate) || is_other(&plain->rate, &copy->plain.rate) || state->moment != kept.moment ||
+        state->moment != copy->plain.moment)
         exit(6);
 }
 
@@ -327,8 +306,9 @@ static void calls(void) {
     state.old_delay = 15000000;
     state.burst = 0;
     struct plain plain = {0, 0, {state.prob, state.old_delay, 0, 0}, {0, 0, 0, 0}};
-    arrive(&state, &plain);
-    depart(&state, &plain);
+    struct checked copy = {plain_params, plain, 1};
+    arrive(&state, &plain, &copy);
+    depart(&state, &plain, &copy);
     update(&state, &plain);
     for (int i = 0; i < times; i++)
         printf("%s %.3f ns\n", timed[i].name, timed[i].nanos);
@@ -351,6 +331,8 @@ int main(void) {
     stream = malloc(PACKETS * sizeof *stream);
     if (!stream)
         return 1;
+    plain_params = default_params;
+    plain_params.limit_bytes = LIMIT;
     make_inputs();
     make_stream();
 #ifdef WITH_DPDK

@@ -2,12 +2,9 @@
 # The ruled lock beside `std::sync::Mutex`: both in turn within each of so many runs (9), and of each the best and the median,
 # and their ratios. Threads that find no free processor run in turn and hardly meet: look at the load that it prints.
 # usage: bench/pie_lock.sh PIE_BENCH [RUNS]
-set -eu
+. "$(dirname "$0")/shared.sh"
 bench=$1
 runs=${2:-9}
-here=$(cd "$(dirname "$0")" && pwd)
-work=$(mktemp -d)
-trap 'rm -rf "$work"' EXIT
 for _ in $(seq "$runs"); do
     "$bench" lock
 done > "$work/lines"

@@ -2,12 +2,9 @@
 # The parts in memory, beside the same steps in C: both in turn, so many times (15), and of each the least and the median,
 # and their ratios. It ends with status 1 where the two come to other results.
 # usage: bench/pie_parts.sh PIE_BENCH [RUNS]
-set -eu
+. "$(dirname "$0")/shared.sh"
 bench=$1
 runs=${2:-15}
-here=$(cd "$(dirname "$0")" && pwd)
-work=$(mktemp -d)
-trap 'rm -rf "$work"' EXIT
 ${CC:-cc} -O2 -o "$work/pie_step" "$here/pie_step.c"
 for _ in $(seq "$runs"); do
     for part in rate control early; do

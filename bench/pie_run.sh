@@ -3,41 +3,26 @@
 # records a second, and the greatest resident memory. With PEER, a program that writes the same bytes (bench/peer), both run in
 # turn, and their ratio is printed too.
 # usage: bench/pie_run.sh PIE [RECORDS] [SEED] [plain|mixed] [PEER]     PIE: the built program, crates/pie/out/pie
-set -eu
-here=$(cd "$(dirname "$0")" && pwd)
+. "$(dirname "$0")/shared.sh"
 program=$1
 records=${2:-1000000}
 seed=${3:-1}
 kind=${4:-plain}
 peer=${5:-}
-work=$(mktemp -d)
-trap 'rm -rf "$work"' EXIT
 python3 "$here/trace.py" "$records" "$seed" "$kind" > "$work/trace"
 python3 - "$work" "$records" "$program" $peer <<'PY'
-import os, statistics, subprocess, sys, time
+import os, statistics, sys
+from timing import Took, resident, took
+
 RUNS = 9
 work, records, programs = sys.argv[1], int(sys.argv[2]), sys.argv[3:]
-
-
-def run(number):
-    words = [programs[number], "run"] if number == 0 else [programs[number]]
-    with open(f"{work}/trace", "rb") as trace, open(f"{work}/history{number}", "wb") as history:
-        begin = time.perf_counter()
-        child = subprocess.Popen(words, stdin=trace, stdout=history)
-        _, status, usage = os.wait4(child.pid, 0)
-        spent = time.perf_counter() - begin
-    if status != 0:
-        sys.exit(f"{programs[number]}: status {status}")
-    return {"seconds": spent, "processor_seconds": usage.ru_utime + usage.ru_stime, "user_seconds": usage.ru_utime}, usage.ru_maxrss
-
-
-found, memory = [{} for _ in programs], 0
+# A peer takes no words.
+calls = [([it, "run"] if number == 0 else [it], f"{work}/trace", f"{work}/history{number}") for number, it in enumerate(programs)]
+found, memory = [{name: [] for name in Took._fields} for _ in programs], resident(*calls[0])
 for _ in range(RUNS):
-    for number in range(len(programs)):
-        values, resident = run(number)
-        memory = max(memory, resident) if number == 0 else memory
-        for name, value in values.items():
-            found[number].setdefault(name, []).append(value)
+    for number, call in enumerate(calls):
+        for name, value in took(*call)._asdict().items():
+            found[number][name].append(value)
 load = " ".join(open("/proc/loadavg").read().split()[:2])
 print(f"load {load} (the last minute, the last five) on {os.cpu_count()} processors, {RUNS} runs in turn, {records} records")
 for name, ours in found[0].items():

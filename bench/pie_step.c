@@ -25,8 +25,6 @@ struct arrival {
     int ecn;
 };
 
-static const struct params defaults = {15000000, 15000000, 150000000, 125, 1250, 1024, 262144, 100000000000ull, 16384};
-
 static void print_nanos(const char *name, double begin) {
     printf("%s %.1f ns\n", name, (nanos() - begin) / ((double)INPUTS * ROUNDS));
 }
@@ -89,21 +87,21 @@ static void measure_control(void) {
     uint64_t sum = 0;
     double begin = nanos();
     for (int round = 0; round < ROUNDS; round++) {
-        struct control control = {0, 0, defaults.max_burst, 0};
+        struct control control = {0, 0, default_params.max_burst, 0};
         for (int i = 0; i < INPUTS; i++)
-            updated(&control, &defaults, updates[i].delay, updates[i].moment);
+            updated(&control, &default_params, updates[i].delay, updates[i].moment);
         sum += control.prob + control.burst;
     }
     print_nanos("c_control_update", begin);
     begin = nanos();
     for (int round = 0; round < ROUNDS; round++)
         for (int i = 0; i < INPUTS; i++)
-            sum += next_probability(&defaults, updates[i].prob, updates[i].delay, updates[i].old);
+            sum += next_probability(&default_params, updates[i].prob, updates[i].delay, updates[i].old);
     print_nanos("c_control_next_probability", begin);
     begin = nanos();
     for (int round = 0; round < ROUNDS; round++)
         for (int i = 0; i < INPUTS; i++)
-            sum += delay(updates[i].bytes, updates[i].average, defaults.dq_threshold);
+            sum += delay(updates[i].bytes, updates[i].average, default_params.dq_threshold);
     print_nanos("c_control_delay", begin);
     print_checksum("c_control_checksum", sum);
     free(updates);
@@ -114,7 +112,7 @@ static uint64_t arrive(const char *name, const struct arrival *arrivals, const s
     double begin = nanos();
     for (int round = 0; round < ROUNDS; round++)
         for (int i = 0; i < INPUTS; i++)
-            sum += consider(&accu, &defaults, control, arrivals[i].bytes, arrivals[i].ecn, arrivals[i].word);
+            sum += consider(&accu, &default_params, control, arrivals[i].bytes, arrivals[i].ecn, arrivals[i].word);
     print_nanos(name, begin);
     return sum + accu;
 }

@@ -1,5 +1,7 @@
-/* The steps of pie_rate, pie_control and pie_early in plain C, in the same whole numbers, and what the measurements over
- * them share: the words that stand for random ones, and the clock.
+/* PIE in plain C, by the steps of pie_rate, pie_control and pie_early in the same whole numbers: all that is measured in C
+ * beside this repository's code is made of these. A function whose name ends in `_by` or `_after` is a part of its caller,
+ * and a STEP is a call. And what those measurements share: the default parameters, the words that stand for random ones,
+ * and the clock.
  */
 #ifndef PIE_STEP_H
 #define PIE_STEP_H
@@ -17,11 +19,15 @@
 #define STEP __attribute__((noinline, unused)) static
 #endif
 
-enum choice { ENQUEUE, MARK, DROP };
+/* What is decided of an arrival: the numbers are those of pie.h. */
+enum choice { ENQUEUE, MARK, DROP_EARLY, DROP_BYTES, DROP_PACKETS };
 
 struct params {
     uint64_t target, t_update, max_burst, alpha, beta, mean_pkt, limit_bytes, mark_ecnth, dq_threshold;
 };
+
+__attribute__((unused)) static const struct params default_params = {15000000, 15000000, 150000000,      125,  1250,
+                                                                     1024,     262144,   100000000000ull, 16384};
 
 struct control {
     uint64_t prob, old_delay, burst, last;
@@ -33,8 +39,8 @@ struct rate {
 };
 
 /* Early drop (RFC 8033, sections 4.1, 5.1 and 5.4). */
-STEP enum choice consider(uint64_t *accu, const struct params *params, const struct control *control, uint64_t bytes,
-                          int ecn, uint64_t word) {
+static inline enum choice consider_by(uint64_t *accu, const struct params *params, const struct control *control,
+                                      uint64_t bytes, int ecn, uint64_t word) {
     if (control->burst != 0 || bytes <= 2 * params->mean_pkt ||
         (2 * control->old_delay < params->target && control->prob < 200000000000ull))
         return ENQUEUE;
@@ -50,7 +56,28 @@ STEP enum choice consider(uint64_t *accu, const struct params *params, const str
         return ENQUEUE;
     }
     *accu = 0;
-    return ecn != 0 && prob < params->mark_ecnth ? MARK : DROP;
+    return ecn != 0 && prob < params->mark_ecnth ? MARK : DROP_EARLY;
+}
+
+STEP enum choice consider(uint64_t *accu, const struct params *params, const struct control *control, uint64_t bytes,
+                          int ecn, uint64_t word) {
+    return consider_by(accu, params, control, bytes, ecn, word);
+}
+
+/* Tail drop by bytes, then by packets (appendix A); ENQUEUE where there is room for the packet. */
+static inline enum choice tail_drop_by(uint64_t *accu, const struct params *params, uint64_t bytes, uint32_t size,
+                                       int is_full) {
+    if (bytes + size <= params->limit_bytes && !is_full)
+        return ENQUEUE;
+    *accu = 0;
+    return bytes + size > params->limit_bytes ? DROP_BYTES : DROP_PACKETS;
+}
+
+/* An arrival: tail drop, and then early drop. */
+static inline enum choice arrived_by(uint64_t *accu, const struct params *params, const struct control *control,
+                                     uint64_t bytes, uint32_t size, int is_full, int ecn, uint64_t word) {
+    enum choice drop = tail_drop_by(accu, params, bytes, size, is_full);
+    return drop != ENQUEUE ? drop : consider_by(accu, params, control, bytes, ecn, word);
 }
 
 /* A departure, as the estimate of the departure rate is shown it (section 5.2). */

@@ -4,15 +4,14 @@
 # time of each, events a second, and the load. Then, for 2, 4 and 8 senders, the changes of caller in 20 storms, and the marks and the early
 # drops of one at a load of 1.2.
 # usage: bench/pie_storm.sh PIE [SENDERS] [PACKETS] [RUNS]      PIE: the built program, as crates/pie/out/ has it
-set -eu
+. "$(dirname "$0")/shared.sh"
 program=$1
 senders=${2:-8}
 packets=${3:-10000}
 runs=${4:-9}
-work=$(mktemp -d)
-trap 'rm -rf "$work"' EXIT
 python3 - "$program" "$work" "$senders" "$packets" "$runs" <<'PY'
-import os, statistics, subprocess, sys, time
+import os, statistics, subprocess, sys
+from timing import took
 
 program, work, senders, packets, runs = sys.argv[1], sys.argv[2], sys.argv[3], sys.argv[4], int(sys.argv[5])
 calls = {
@@ -20,29 +19,17 @@ calls = {
     "audit": (["audit"], "history", "finding"),
     "run": (["run"], "trace", "again"),
 }
-FIELDS = {"open": 5, "arrive": 7, "depart": 3, "update": 3}
-
-
-def seconds(words, source, target):
-    """The time by the clock and the processor's time of one run."""
-    with open(os.path.join(work, source), "rb") as reader, open(f"{work}/{target}", "wb") as writer:
-        begin = time.perf_counter()
-        child = subprocess.Popen([program, *words], stdin=reader, stdout=writer)
-        _, status, used = os.wait4(child.pid, 0)
-        child.returncode = status
-        assert status == 0, (words, status)
-        return time.perf_counter() - begin, used.ru_utime + used.ru_stime
-
+FIELDS = {"open": 5, "arrive": 7, "depart": 3, "update": 3, "params": 12}
 
 times = {word: [] for word in calls}
 for _ in range(runs):
-    for word, files in calls.items():
+    for word, (words, source, target) in calls.items():
         if word == "run":
             with open(f"{work}/history") as history, open(f"{work}/trace", "w") as trace:
                 for line in history:
                     fields = line.rstrip().split(",")
                     trace.write(",".join(fields[: FIELDS[fields[0]]]) + "\n")
-        times[word].append(seconds(*files))
+        times[word].append(took([program, *words], os.path.join(work, source), f"{work}/{target}"))
 with open(f"{work}/history", "rb") as history:
     events = sum(1 for _ in history) - 1
 with open(f"{work}/finding") as finding:

@@ -5,11 +5,11 @@ _pie() {
         words='run audit explain migrate storm params help --help --version'
     else
         case $subcommand in
-            run) words='--count --progress --output --help' ;;
+            run) words='--count --progress --output --force --help' ;;
             audit) words='--progress --help' ;;
-            migrate) words='--progress --output --help' ;;
-            explain) words='--event --tag --lost --marked --all --from --to --summary --every --csv --progress --output --help' ;;
-            storm) words='--senders --packets --seed --load --count --help' ;;
+            migrate) words='--progress --output --force --help' ;;
+            explain) words='--event --tag --lost --marked --all --from --to --summary --every --csv --progress --output --force --help' ;;
+            storm) words='--senders --packets --seed --load --changes --folds --count --help' ;;
             params) words='--rate --target --tupdate --limit --alpha --beta --ecn --bytemode --dq_rate_estimator --help' ;;
             help) words='run audit explain migrate storm params help' ;;
             *) words='' ;;

@@ -66,6 +66,7 @@
 #ifndef PIE_H
 #define PIE_H
 
+#include <stddef.h>
 #include <stdint.h>
 
 #ifdef __cplusplus
@@ -96,7 +97,11 @@ enum {
     PIE_BAD_STATE = 110,  /* a state out of its ranges, or whose fields do not fit one another */
     PIE_BAD_ECN = 111,    /* an ECN field above 3 */
     PIE_BAD_QUEUE = 112,  /* more than 2^30 bytes in the queue */
-    PIE_BAD_PROFILE = 113 /* a profile that is neither 1 nor 2 */
+    PIE_BAD_PROFILE = 113, /* a profile that is neither 1 nor 2 */
+
+    PIE_NOT_A_NUMBER = 114, /* a text that is no number with a unit of its kind */
+    PIE_TOO_PRECISE = 115,  /* a text that comes to no whole number, or has more than 18 decimals */
+    PIE_TOO_GREAT = 116     /* a text that comes to more than 2^60 - 1 */
 };
 
 /* The ECN field of an IP header (RFC 3168, section 5). */
@@ -204,6 +209,24 @@ uint32_t pie_set_params(struct pie_state *state, const struct pie_params *params
  * another, and else PIE_BAD_STATE. */
 uint32_t pie_check_state(const struct pie_state *state);
 
+/* Reads a number with a unit, as tc has them: the first `length` bytes of `text`, which needs no 0 behind them, so strlen(text) of a
+ * string. Units may be in letters of any case. A number has digits, may have a point before or among them, and at most 18
+ * decimals; it has no sign, exponent or space.
+ *
+ *   pie_read_time     into nanoseconds: ns us ms s, nsec usec msec sec, nsecs usecs msecs secs; a unit has to be there
+ *   pie_read_rate     into bits a second: bit kbit mbit gbit tbit, by 1024 kibit mibit gibit tibit; bytes a second as bps kbps .. tbps,
+ *                     kibps .. tibps; a unit has to be there
+ *   pie_read_size     into bytes: b, k kb, m mb, g gb, by 1024; kbit mbit gbit, eighths of these; bytes without a unit
+ *   pie_read_packets  into packets: p, or no unit
+ *
+ * So 1.5ms is 1500000, 100mbit 100000000, 1kbps 8000, 256kb 262144. Nothing is rounded: 1.5ns and 0.5bit are refused. Answers PIE_DONE,
+ * or else PIE_NOT_A_NUMBER, PIE_TOO_PRECISE or PIE_TOO_GREAT with the number left as it was. `text` is never NULL, not even
+ * with a length of 0. */
+uint32_t pie_read_time(const char *text, size_t length, uint64_t *nanoseconds);
+uint32_t pie_read_rate(const char *text, size_t length, uint64_t *bits);
+uint32_t pie_read_size(const char *text, size_t length, uint64_t *bytes);
+uint32_t pie_read_packets(const char *text, size_t length, uint64_t *packets);
+
 /* The moment from which the next update isn't too soon. */
 static inline uint64_t pie_due(const struct pie_state *state) {
     return state->last + state->params.t_update;
@@ -247,6 +270,12 @@ static inline const char *pie_text(uint64_t code) {
         return "refused: more than 2^30 bytes in the queue";
     case PIE_BAD_PROFILE:
         return "refused: a profile that is neither 1 nor 2";
+    case PIE_NOT_A_NUMBER:
+        return "refused: no number with a unit of its kind";
+    case PIE_TOO_PRECISE:
+        return "refused: no whole number, or more than 18 decimals";
+    case PIE_TOO_GREAT:
+        return "refused: a number above 2^60 - 1";
     default:
         return "a code that pie.h does not have";
     }

@@ -1,10 +1,12 @@
 #!/usr/bin/env bash
 # Audits the history that the example in C prints (check.sh compares it with the stored one): it is clean, and with one answer
 # changed it differs there.
-# usage: bindings/c/audit.sh PROGRAM      PROGRAM: crates/pie/out/pie, as the gate or `rt run` builds it there
+# usage: bindings/c/audit.sh [PROGRAM]      PROGRAM: crates/pie/out/pie where none is given
+# needs: program
 set -u
-program=$1
-history=$(dirname "$0")/example.history
+here=$(cd "$(dirname "$0")" && pwd)
+program=${1:-$here/../../crates/pie/out/pie}
+history=$here/example.history
 work=$(mktemp -d)
 trap 'rm -rf "$work"' EXIT
 events=$(grep -c -E '^(arrive|depart|update|reset|params),' "$history")

@@ -1,8 +1,9 @@
 #!/usr/bin/env bash
 # Builds the static library, and with it the worked rows, the traps that include/pie.h names and the example in C, plainly and with
-# the address and undefined behaviour sanitizers; runs them; and compares the example's history with the stored one, which reference.py
-# computed. Where python3 is there, the library is asked for each number of the header's comments, and reference.py computes the history
-# again. What cannot be run here, for want of a compiler say, is told on a line that begins with NOT RUN.
+# the address and undefined behaviour sanitizers; runs them; and compares the example's history with the stored one. Where python3 is
+# there, the library is asked for each number of the header's comments, and tests/shared/reference_texts.py computes the history again.
+# What cannot be run here, for want of a compiler say, is told on a line that begins with NOT RUN.
+# needs: library
 set -eu
 cd "$(dirname "$0")/../.."
 cc=${CC:-cc}
@@ -49,11 +50,11 @@ else
     echo "NOT RUN: bindings/c: no C++ compiler (c++) here, so the rows were not built as C++"
 fi
 if command -v python3 > /dev/null; then
-    tests/header.py --probes > "$work/probes.c"
+    tests/libraries/header.py --probes > "$work/probes.c"
     "$cc" $flags -o "$work/probes" "$work/probes.c" "$lib"
     "$work/probes"
     echo "bindings/c: the library has the ranges, defaults and bounds that the comments of include/pie.h tell"
-    "$work/example" trace | python3 bindings/c/reference.py | cmp - bindings/c/example.history
+    "$work/example" trace | python3 -B tests/shared/reference_texts.py run | cmp - bindings/c/example.history
     echo "bindings/c: the reference computes the example's history again"
 else
     echo "NOT RUN: bindings/c: no python3 here, so neither the numbers of the comments of include/pie.h nor the reference were tried"

@@ -46,6 +46,36 @@ static int same(const struct pie_state *a, const struct pie_state *b) {
     return memcmp(a, b, sizeof *a) == 0;
 }
 
+/* Texts with units: what tc(8) has of them, what is a byte and what a bit, what is refused. */
+static int texts(void) {
+    static const struct {
+        uint32_t (*read)(const char *, size_t, uint64_t *);
+        const char *text;
+        uint32_t code;
+        uint64_t number;
+    } rows[] = {
+        {pie_read_time, "1.5ms", PIE_DONE, 1500000},     {pie_read_time, "20MSecs", PIE_DONE, 20000000},
+        {pie_read_time, ".5us", PIE_DONE, 500},          {pie_read_time, "1.5ns", PIE_TOO_PRECISE, 0},
+        {pie_read_time, "20", PIE_NOT_A_NUMBER, 0},      {pie_read_time, "1152921504.606846976s", PIE_TOO_GREAT, 0},
+        {pie_read_time, "", PIE_NOT_A_NUMBER, 0},        {pie_read_time, "-1s", PIE_NOT_A_NUMBER, 0},
+        {pie_read_rate, "100mbit", PIE_DONE, 100000000}, {pie_read_rate, "1kbps", PIE_DONE, 8000},
+        {pie_read_rate, "1Kibit", PIE_DONE, 1024},       {pie_read_rate, "0.5tibps", PIE_DONE, UINT64_C(4398046511104)},
+        {pie_read_rate, "0.5bit", PIE_TOO_PRECISE, 0},   {pie_read_rate, "100", PIE_NOT_A_NUMBER, 0},
+        {pie_read_size, "256kb", PIE_DONE, 262144},      {pie_read_size, "1.5K", PIE_DONE, 1536},
+        {pie_read_size, "1500", PIE_DONE, 1500},         {pie_read_size, "8kbit", PIE_DONE, 1024},
+        {pie_read_packets, "1000p", PIE_DONE, 1000},     {pie_read_packets, "0.5p", PIE_TOO_PRECISE, 0},
+    };
+    for (size_t i = 0; i < sizeof rows / sizeof rows[0]; i++) {
+        uint64_t number = 7;
+        CHECK(rows[i].read(rows[i].text, strlen(rows[i].text), &number) == rows[i].code);
+        CHECK(number == (rows[i].code == PIE_DONE ? rows[i].number : 7));
+    }
+    uint64_t number = 7;
+    CHECK(pie_read_time("20ms", 3, &number) == PIE_NOT_A_NUMBER && number == 7);
+    CHECK(pie_read_time("20ms and more", 4, &number) == PIE_DONE && number == 20000000);
+    return 0;
+}
+
 static int parameters(void) {
     struct pie_params params;
     pie_default_params(&params);
@@ -462,7 +492,7 @@ static int what_stays(void) {
 int main(void) {
     int (*const rows[])(void) = {widths,          large_numbers, what_stays,    parameters, departure_rate, delays,
                                  probabilities,   early_drop,    considered,    tail_drop,  burst_allowance, moments,
-                                 marks_and_drops, on_and_off,    on_by_a_tail_drop, refusals,  any_state};
+                                 marks_and_drops, on_and_off,    on_by_a_tail_drop, refusals,  any_state,    texts};
     for (size_t k = 0; k < sizeof rows / sizeof *rows; k++)
         if (rows[k]() != 0)
             return 1;

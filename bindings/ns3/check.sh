@@ -1,13 +1,14 @@
 #!/usr/bin/env bash
 # Builds the queue discipline and the dumbbell, and runs three simulated seconds with ECN: packets are marked and dropped, and the
 # history is clean. Where ns-3 is not installed, a line that begins with NOT RUN says so.
-# usage: bindings/ns3/check.sh PIE      PIE: the built program, as crates/pie/out/ has it after `rt run`
+# usage: bindings/ns3/check.sh [PIE]      PIE: crates/pie/out/pie where none is given
+# needs: program, library, an early start
 set -u
-program=$1
 here=$(cd "$(dirname "$0")" && pwd)
 top=$here/../..
-if [ ! -e /usr/include/ns3/core-module.h ] || ! command -v c++ > /dev/null || ! command -v make > /dev/null; then
-    echo "NOT RUN: bindings/ns3: no simulation, for want of ns-3, a C++ compiler or make (examples/link/install.sh ns3)"
+program=$(realpath -m "${1:-$top/crates/pie/out/pie}")
+if ! missing=$("$here/missing.sh"); then
+    echo "NOT RUN: bindings/ns3: no simulation, for want of $(tr '\n' ' ' <<<"$missing")(bindings/ns3/install.sh)"
     exit 0
 fi
 work=$(mktemp -d)

@@ -1,4 +1,4 @@
-# For run.sh and tests/link.sh, which source this file: `measure` runs TCP and ping through the link, between network namespaces
+# For run.sh and tests/program/link.sh, which source this file: `measure` runs TCP and ping through the link, between network namespaces
 # that it makes. All that it starts and makes is gone when the script ends, also by a signal.
 # Traffic is IPv6 where LINK_FAMILY is 6, and else IPv4.
 

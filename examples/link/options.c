@@ -5,16 +5,12 @@
 #include <stdlib.h>
 #include <string.h>
 
+/* Probabilities in 10^-12, gains in thousandths per second: a number with decimals, and a unit that is so many. */
 struct unit {
     const char *name;
     double factor;
 };
 
-/* Rates in bits a second, times in ns, sizes in bytes, probabilities in 10^-12, gains in thousandths per second. The first is
- * what a number without a unit has. */
-static const struct unit rates[] = {{"bit", 1}, {"kbit", 1e3}, {"mbit", 1e6}, {"gbit", 1e9}, {0}};
-static const struct unit times[] = {{"s", 1e9}, {"ms", 1e6}, {"us", 1e3}, {"ns", 1}, {0}};
-static const struct unit sizes[] = {{"b", 1}, {"kb", 1024}, {"mb", 1048576}, {0}};
 static const struct unit parts[] = {{"", 1e12}, {"%", 1e10}, {0}};
 static const struct unit gains[] = {{"", 1e3}, {0}};
 static const struct unit numbers[] = {{"", 1}, {0}};
@@ -25,9 +21,9 @@ static const char help[] =
     "Makes two TUN devices and joins them: what is sent into the one comes out of the other at a given rate, through a queue that\n"
     "PIE (RFC 8033) manages; what is sent the other way is only delayed. Ends by SIGINT or SIGTERM, or after the time of --for.\n"
     "\n"
-    "  --rate 10mbit        rate of the link: bit, kbit, mbit, gbit\n"
+    "  --rate 10mbit        rate of the link: bit, kbit, mbit, gbit, tbit, and in bytes bps, kbps and so on\n"
     "  --delay 20ms         delay of the way back: s, ms, us, ns\n"
-    "  --limit 256kb        the queue's limit: b, kb (1024 bytes), mb\n"
+    "  --limit 256kb        the queue's limit: b, kb (1024 bytes), mb, gb\n"
     "  --packets 65536      how many packets the queue has room for\n"
     "  --queue pie          pie, or tail: only the limit drops (PIE with gains of 0, so that its history can be audited too)\n"
     "  --ecn                mark packets whose ECN field allows it\n"
@@ -37,11 +33,15 @@ static const char help[] =
     "  --history FILE       write every decision, for pie audit and pie explain\n"
     "  --for 60s            end after this time\n"
     "\n"
-    "A number without a unit counts bits a second, seconds or bytes. It has to be root, or to have CAP_NET_ADMIN. Example:\n"
+    "Times, rates and sizes are read as tc reads them, but never rounded; a time and a rate have a unit, and a size without one is in\n"
+    "bytes. It has to be root, or to have CAP_NET_ADMIN. Example:\n"
     "\n"
     "  link --from senders --to receivers --rate 10mbit --delay 20ms --limit 256kb --ecn --history /tmp/history\n"
     "\n"
     "run.sh beside it makes network namespaces, moves the devices into them, and sends TCP through.\n";
+
+/* The number in this text by one of the library's readers, which answers why there is none. */
+typedef uint32_t reader(const char *text, size_t length, uint64_t *value);
 
 /* The number in this text, with its unit; false where it is none. */
 static bool value_of(const char *text, const struct unit *units, uint64_t *value) {
@@ -58,34 +58,40 @@ static bool value_of(const char *text, const struct unit *units, uint64_t *value
     return true;
 }
 
-/* An option with a number; false where this word is no such option. */
-static bool read_number(const char *name, const char *text, struct options *options, bool *is_read) {
+/* An option with a number, and what is wrong with its text, NULL where nothing is; false where this word is no such option. */
+static bool read_number(const char *name, const char *text, struct options *options, const char **fault) {
     struct pie_params *p = &options->params;
     const struct {
         const char *name;
+        reader *read;
         const struct unit *units;
         uint64_t *value;
     } known[] = {
-        {"--rate", rates, &options->rate},        {"--delay", times, &options->delay},
-        {"--for", times, &options->lasts},        {"--packets", numbers, &options->packets},
-        {"--profile", numbers, &options->profile}, {"--target", times, &p->target},
-        {"--update", times, &p->t_update},        {"--burst", times, &p->max_burst},
-        {"--alpha", gains, &p->alpha},            {"--beta", gains, &p->beta},
-        {"--mean-packet", sizes, &p->mean_pkt},   {"--limit", sizes, &p->limit_bytes},
-        {"--mark-below", parts, &p->mark_ecnth},  {"--threshold", sizes, &p->dq_threshold},
+        {"--rate", pie_read_rate, NULL, &options->rate},        {"--delay", pie_read_time, NULL, &options->delay},
+        {"--for", pie_read_time, NULL, &options->lasts},        {"--packets", pie_read_packets, NULL, &options->packets},
+        {"--profile", NULL, numbers, &options->profile},        {"--target", pie_read_time, NULL, &p->target},
+        {"--update", pie_read_time, NULL, &p->t_update},        {"--burst", pie_read_time, NULL, &p->max_burst},
+        {"--alpha", NULL, gains, &p->alpha},                    {"--beta", NULL, gains, &p->beta},
+        {"--mean-packet", pie_read_size, NULL, &p->mean_pkt},   {"--limit", pie_read_size, NULL, &p->limit_bytes},
+        {"--mark-below", NULL, parts, &p->mark_ecnth},          {"--threshold", pie_read_size, NULL, &p->dq_threshold},
     };
     for (size_t i = 0; i < sizeof known / sizeof known[0]; i++) {
         if (strcmp(name, known[i].name) == 0) {
-            *is_read = value_of(text, known[i].units, known[i].value);
+            uint32_t code = PIE_DONE;
+            if (known[i].read != NULL)
+                code = known[i].read(text, strlen(text), known[i].value);
+            else if (!value_of(text, known[i].units, known[i].value))
+                code = PIE_NOT_A_NUMBER;
+            *fault = code == PIE_DONE ? NULL : pie_text(code);
             return true;
         }
     }
     return false;
 }
 
-/* An option with a name, of a device, a file or a queue; false where this word is no such option. */
-static bool read_name(const char *name, const char *text, struct options *options, bool *is_read) {
-    *is_read = *text != '\0';
+/* An option with a name, of a device, a file or a queue, and what is wrong with it; false where this word is no such option. */
+static bool read_name(const char *name, const char *text, struct options *options, const char **fault) {
+    bool is_read = *text != '\0';
     if (strcmp(name, "--from") == 0) {
         options->from = text;
     } else if (strcmp(name, "--to") == 0) {
@@ -94,10 +100,11 @@ static bool read_name(const char *name, const char *text, struct options *option
         options->history = text;
     } else if (strcmp(name, "--queue") == 0) {
         options->is_tail_drop = strcmp(text, "tail") == 0;
-        *is_read = options->is_tail_drop || strcmp(text, "pie") == 0;
+        is_read = options->is_tail_drop || strcmp(text, "pie") == 0;
     } else {
         return false;
     }
+    *fault = is_read ? NULL : "not a value of this option";
     return true;
 }
 
@@ -132,7 +139,7 @@ static void make_tail_drop(struct options *options) {
 int read_options(int count, char **words, struct options *options) {
     set_defaults(options);
     for (int i = 1; i < count; i++) {
-        bool is_read = false;
+        const char *fault = NULL;
         if (strcmp(words[i], "--help") == 0) {
             printf("%s", help);
             return OPTIONS_HELP;
@@ -142,9 +149,10 @@ int read_options(int count, char **words, struct options *options) {
             continue;
         }
         const char *text = i + 1 < count ? words[i + 1] : "";
-        bool is_known = read_number(words[i], text, options, &is_read) || read_name(words[i], text, options, &is_read);
-        if (!is_known || !is_read) {
-            fprintf(stderr, "link: %s %s: %s; see link --help\n", words[i], text, is_known ? "not a value of this option" : "unknown");
+        if (!read_number(words[i], text, options, &fault) && !read_name(words[i], text, options, &fault))
+            fault = "unknown";
+        if (fault != NULL) {
+            fprintf(stderr, "link: %s %s: %s; see link --help\n", words[i], text, fault);
             return OPTIONS_WRONG;
         }
         i++;

@@ -1,4 +1,4 @@
-//! What the library declares: `crates/pie_c/src` has the functions, and `tests/header.py` compares these declarations with them.
+//! What the library declares: `crates/pie_c/src` has the functions, and `tests/libraries/header.py` compares these declarations with them.
 
 use core::mem::{align_of, offset_of, size_of};
 

@@ -1,5 +1,0 @@
-mod ExamplesChoice
-mod ExplainFacts
-mod MomentFacts
-mod StormEndFacts
-mod SubcommandFacts

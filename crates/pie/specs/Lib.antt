@@ -1,5 +1,0 @@
-pub mod Choice
-pub mod ExplainEnds
-pub mod StormEnds
-pub mod Subcommands
-pub mod Tuning

@@ -1,31 +1,27 @@
 //! `pie`: runs traces of a PIE queue controller (RFC 8033), writes their histories, audits them and explains their events.
 #![tactic(auto)]
 
-mod command;
-mod explaining;
-mod storming;
-mod tuning;
-
-use command::command;
-use either::Left;
+use pie_commands::command;
 use pie_files::Output;
 use std::env;
 use std::io::ErrorKind;
 use std::process::ExitCode;
 
-fn main(rt: HostRuntime) -> ExitCode {
+fn main(mut rt: HostRuntime) -> ExitCode {
     let words: Vec<String> = match words(&rt) {
         Some(words) => words,
         None => return ExitCode::from(1),
     };
-    let mut output: Output = Left(rt.stdout());
+    let (alloc, input) = (rt.alloc(), rt.stdin());
+    let mut output = Output::standard(rt.stdout());
+    let mut errors = rt.stderr();
     let end = command(
-        &rt,
-        rt.alloc(),
+        &mut rt,
+        alloc,
         words.as_slice(),
-        rt.stdin(),
+        input,
         &mut output,
-        &mut rt.stderr(),
+        &mut errors,
     );
     ExitCode::from(end.status())
 }

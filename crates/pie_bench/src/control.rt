@@ -5,7 +5,7 @@ use crate::report::{CALLS, INPUTS, ROUNDS, checksum, nanos};
 use crate::words::Words;
 use pie_control::{Control, delay, next_probability};
 use pie_fixed::{Nanos, ONE, Prob};
-use pie_params::Params;
+use pie_params::{Params, Step};
 use std::alloc::{AllocError, Global};
 use std::io;
 use std::rt::Clock;
@@ -53,7 +53,7 @@ fn make_updates(params: &Params, start: Nanos, updates: &[Input]) -> u64 {
     for _ in 0..ROUNDS {
         let mut control = Control::opened(params, start);
         for update in updates {
-            control.update(params, update.delay, update.moment);
+            control.update(params, Step::Capped, update.delay, update.moment);
         }
         sum = sum.wrapping_add(control.prob().units());
         sum = sum.wrapping_add(control.burst());
@@ -65,7 +65,13 @@ fn compute_probabilities(params: &Params, updates: &[Input]) -> u64 {
     let mut sum: u64 = 0;
     for _ in 0..ROUNDS {
         for update in updates {
-            let prob = next_probability(params, update.prob, update.delay, update.old);
+            let prob = next_probability(
+                params,
+                Step::Capped,
+                update.prob,
+                update.delay,
+                update.old,
+            );
             sum = sum.wrapping_add(prob.units());
         }
     }

@@ -3,9 +3,9 @@
 use crate::report::{CALLS, INPUTS, ROUNDS, checksum, nanos};
 use crate::words::Words;
 use pie_control::Control;
-use pie_early::{Choice, Early};
+use pie_early::{Choice, Early, Offered};
 use pie_fixed::{Nanos, Prob};
-use pie_params::Params;
+use pie_params::{Elements, Params};
 use pie_queue::Ecn;
 use std::alloc::{AllocError, Global};
 use std::io;
@@ -15,21 +15,14 @@ use std::time::Instant;
 /// A twentieth, below which an arrival is considered by the old delay alone.
 const PROB: u64 = 50_000_000_000;
 
-#[derive(Clone, Copy)]
-struct Arrival {
-    bytes: u64,
-    ecn: Ecn,
-    word: u64,
-}
-
 /// Decides on one arrival, by a call that is not inlined, so that nothing of it is done once for many.
 #[inline(never)]
-fn decide(early: &mut Early, params: &Params, control: &Control, arrival: Arrival) -> Choice {
-    early.consider(params, control, arrival.bytes, arrival.ecn, arrival.word)
+fn decide(early: &mut Early, params: &Params, control: &Control, arrival: Offered) -> Choice {
+    early.consider(params, Elements::usual(), control, arrival)
 }
 
 /// Arrivals at a queue that holds more than two packets.
-fn arrivals(alloc: Global) -> Result<Vec<Arrival>, AllocError> {
+fn arrivals(alloc: Global) -> Result<Vec<Offered>, AllocError> {
     let mut words = Words::new();
     let mut arrivals = Vec::with_capacity(alloc, INPUTS as usize)?;
     for _ in 0..INPUTS {
@@ -41,12 +34,17 @@ fn arrivals(alloc: Global) -> Result<Vec<Arrival>, AllocError> {
             _ => Ecn::Ce,
         };
         let word = words.next();
-        arrivals.push(Arrival { bytes, ecn, word })?;
+        arrivals.push(Offered {
+            bytes,
+            size: 1024,
+            ecn,
+            word,
+        })?;
     }
     Ok(arrivals)
 }
 
-fn consider(params: &Params, control: &Control, arrivals: &[Arrival]) -> u64 {
+fn consider(params: &Params, control: &Control, arrivals: &[Offered]) -> u64 {
     let mut early = Early::opened();
     let mut sum: u64 = 0;
     for _ in 0..ROUNDS {

@@ -2,11 +2,11 @@
 use Rattle.std.proofs.Common.{◌≡◌, ℕ, List, [], ◌∷◌, ◌++◌, map, refl, sym, ap, ◌∙◌, All, None}
 use Rattle.std.proofs.lemmas.List.{map-append}
 use Rattle.pie_params.specs.Range.{first_bad}
-use Rattle.pie_controller.specs.Calls.{Call, after_call}
+use Rattle.pie_aqm.specs.Calls.{Call, after_call}
 use Rattle.pie_book.specs.Types.{Held, Command, Event, Opening}
-use Rattle.pie_controller.specs.Places.{Place, places}
-use Rattle.pie_controller.proofs.InRange.{threshold-holds}
-use Rattle.pie_controller.proofs.Places.{place_of, places-push}
+use Rattle.pie_aqm.specs.Places.{Place, places}
+use Rattle.pie_aqm.proofs.InRange.{threshold-holds}
+use Rattle.pie_aqm.proofs.Places.{place_of, places-push}
 use Rattle.pie_book.specs.Beside.{IsOpening, IsStep, after_calls, call_at, calls_of, held_after_calls, opened_by}
 use Rattle.pie_book.specs.Call.{call_of}
 use Rattle.pie_book.specs.Core.{CoreView, Shows, closed, refusal_of}

@@ -8,18 +8,19 @@ use Rattle.std.proofs.lemmas.List.Elements.{All-append, All-cons, All-head, All-
 use Rattle.std.proofs.lemmas.List.Sums.{sum_by-append}
 use Rattle.pie_book.specs.Types.{Packet, Waiting, One, Arrival, Verdict, Held, Command, Arrive, Depart, Update, Reset, SetParams, Answer, Enqueued}
 use Rattle.pie_book.specs.Types.{Event, Opening, Stats, Registers}
+use Rattle.pie_params.specs.Elements.{usual}
 use Rattle.pie_queue.specs.Queue.{bytes_of}
-use Rattle.pie_controller.specs.declared.verdict.Verdict.TheVariants as verdict
-use Rattle.pie_controller.specs.Calls.{after_call, shown_by}
-use Rattle.pie_controller.specs.Cause.{cause}
-use Rattle.pie_controller.specs.Events.{Arrived}
-use Rattle.pie_controller.specs.History as Controller
-use Rattle.pie_controller.specs.Places.{Place, places, after, greatest}
-use Rattle.pie_controller.specs.Steps as Steps
-use Rattle.pie_controller.specs.Steps.{anew, bytes_with, judged, now_at}
-use Rattle.pie_controller.proofs.Laws.{Shows-arrive, Shows-change, Shows-depart, Shows-pass, Shows-reset-call, Shows-update, Shows_opened, held_is}
-use Rattle.pie_controller.proofs.Looks.{one_is_active}
-use Rattle.pie_controller.proofs.Places.{place_of, places-push}
+use Rattle.pie_aqm.specs.declared.verdict.Verdict.TheVariants as verdict
+use Rattle.pie_aqm.specs.Calls.{after_call, shown_by}
+use Rattle.pie_aqm.specs.Cause.{cause}
+use Rattle.pie_aqm.specs.Events.{Arrived}
+use Rattle.pie_aqm.specs.History as Controller
+use Rattle.pie_aqm.specs.Places.{Place, places, after, greatest}
+use Rattle.pie_aqm.specs.Steps as Steps
+use Rattle.pie_aqm.specs.Steps.{anew, bytes_with, judged, now_at}
+use Rattle.pie_aqm.proofs.Laws.{Shows-arrive, Shows-change, Shows-depart, Shows-pass, Shows-reset-call, Shows-update, Shows_opened, held_is}
+use Rattle.pie_aqm.proofs.Looks.{one_is_active}
+use Rattle.pie_aqm.proofs.Places.{place_of, places-push}
 use Rattle.pie_book.specs.Beside.{opened_by}
 use Rattle.pie_book.specs.Call.{answer_of, arrival_of, departure_call}
 use Rattle.pie_book.specs.Cause.{cause_after}
@@ -30,7 +31,7 @@ use Rattle.pie_book.specs.Estimates.{active_after, delay_after, delay_answered, 
 use Rattle.pie_book.specs.History.{admitted, bytes_after, departed_count, effective_moment, waiting_after}
 use Rattle.pie_book.specs.Registers.{registers_after}
 use Rattle.pie_book.specs.Run.{event_of}
-use Rattle.pie_book.specs.Shown.{event_shown, opened_of, shown, shown_at}
+use Rattle.pie_book.specs.Shown.{arriving_size, event_shown, oldest_since, opened_of, shown, shown_at}
 use Rattle.pie_book.specs.Statistics.{age_of_oldest, largest_delay, largest_queue, no_stats, stats_after, waited}
 use Rattle.pie_book.specs.Step.{HasThreshold, after_command, answer_in, call_in, with_event}
 use Rattle.pie_book.proofs.HistoryFacts.{departed-push, effective_moment-push, waiting_after-push, waiting_next}
@@ -175,7 +176,7 @@ Shows-opened opening core packets events held count waiting stats = record {
   count = count;
   moment = let start : max opening.moment 0 ≡ opening.moment = omega arith in ap (λ (h : Held). h.moment) held ∙ sym start;
   waiting = waiting;
-  controller = rw held (Shows_opened opening.choices.profile opening.params opening.moment);
+  controller = rw held (Shows_opened opening.choices.profile usual opening.params opening.moment);
   stats = stats;
 }
 
@@ -187,17 +188,17 @@ bytes-more waiting one = let sum = sum_by-append (λ (w : Waiting). w.packet.siz
 
 -- an arrival as the controller is shown it
 arrival-shown : (packet : Packet) (now : ℕ) (waiting : List Waiting) (moment : ℕ) (v : Verdict)
-    → event_shown (arrival_deed packet (answer_of v)) (bytes_of waiting) (bytes_of (waiting_next waiting now (arrival_deed packet (answer_of v))))
-    moment
-    ≡ Arrived v (bytes_of waiting) (bytes_with v (bytes_of waiting) packet.size) moment
-arrival-shown packet now waiting moment verdict.Enqueued = ap (λ (n : ℕ). Arrived verdict.Enqueued (bytes_of waiting) n moment)
+    → event_shown (arrival_deed packet (answer_of v)) packet.size (oldest_since waiting) (bytes_of waiting)
+    (bytes_of (waiting_next waiting now (arrival_deed packet (answer_of v)))) moment
+    ≡ Arrived v packet.size (bytes_of waiting) (bytes_with v (bytes_of waiting) packet.size) moment
+arrival-shown packet now waiting moment verdict.Enqueued = ap (λ (n : ℕ). Arrived verdict.Enqueued packet.size (bytes_of waiting) n moment)
     (bytes-more waiting (record { packet = packet; since = now }))
-arrival-shown packet now waiting moment verdict.Marked = ap (λ (n : ℕ). Arrived verdict.Marked (bytes_of waiting) n moment)
+arrival-shown packet now waiting moment verdict.Marked = ap (λ (n : ℕ). Arrived verdict.Marked packet.size (bytes_of waiting) n moment)
     (bytes-more waiting (record { packet = with_ce packet; since = now }))
-arrival-shown packet now waiting moment v = ap (λ (w : List Waiting). Arrived v (bytes_of waiting) (bytes_of w) moment) (append-nil waiting)
+arrival-shown packet now waiting moment v = ap (λ (w : List Waiting). Arrived v packet.size (bytes_of waiting) (bytes_of w) moment) (append-nil waiting)
 
 departure-shown : (now : ℕ) (h : Held) (waiting : List Waiting) (moment : ℕ)
-    → event_shown (departure_deed (answer_to_departure waiting)) (bytes_of waiting)
+    → event_shown (departure_deed (answer_to_departure waiting)) 0 (oldest_since waiting) (bytes_of waiting)
     (bytes_of (waiting_next waiting now (departure_deed (answer_to_departure waiting)))) moment
     ≡ shown_by h (departure_call waiting moment)
 departure-shown now h [] moment = refl
@@ -205,7 +206,7 @@ departure-shown now h (oldest ∷ others) moment = refl
 
 -- each command's event is what its call shows the controller
 command-shown : (core : CoreView) (now : ℕ) (command : Command)
-    → event_shown (deed command (answer_in core command)) (bytes_of core.waiting)
+    → event_shown (deed command (answer_in core command)) (arriving_size command) (oldest_since core.waiting) (bytes_of core.waiting)
     (bytes_of (waiting_next core.waiting now (deed command (answer_in core command)))) (handed_in command)
     ≡ shown_by core.held (call_in core command)
 command-shown core now (Arrive moment packet word) =
@@ -297,7 +298,7 @@ module _ (opening : Opening) (core : CoreView) (history : List Event) (shows : S
           (after_call core.held (departure_call waiting moment))
       by [] none = Shows-pass (opened_of opening) (shown opening history) core.held shows.controller moment
       by (oldest ∷ others) waits =
-          Shows-depart (opened_of opening) (shown opening history) core.held shows.controller oldest.packet.size (bytes_of others) moment
+          Shows-depart (opened_of opening) (shown opening history) core.held shows.controller oldest.packet.size (bytes_of others) oldest.since moment
           (small oldest.packet moment refl (ap answer_to_departure waits))
   called (Update moment) small = Shows-update (opened_of opening) (shown opening history) core.held shows.controller (bytes_of core.waiting) moment
   called (Reset moment) small = Shows-reset-call (opened_of opening) (shown opening history) core.held shows.controller moment
@@ -318,8 +319,10 @@ module _ (opening : Opening) (core : CoreView) (history : List Event) (shows : S
       ∙ ap (λ (w : List Waiting). waiting_next w (max (effective_moment opening history) (handed_in command)) d) (sym shows.waiting)
       ∙ ap (λ (m : ℕ). waiting_next core.waiting (max m (handed_in command)) d) (sym shows.moment) in
       let told : shown_at opening (place_of history event) ≡ shown_by core.held (call_in core command) =
-      ap (λ (w : List Waiting). event_shown d (bytes_of w) (bytes_after opening (history ++ event ∷ [])) (handed_in command)) (sym shows.waiting)
-      ∙ ap (λ (w : List Waiting). event_shown d (bytes_of core.waiting) (bytes_of w) (handed_in command)) waiting
+      ap (λ (w : List Waiting). event_shown d (arriving_size command) (oldest_since w) (bytes_of w) (bytes_after opening (history ++ event ∷ []))
+      (handed_in command)) (sym shows.waiting)
+      ∙ ap (λ (w : List Waiting). event_shown d (arriving_size command) (oldest_since core.waiting) (bytes_of core.waiting) (bytes_of w)
+      (handed_in command)) waiting
       ∙ command-shown core now command in
       record {
         legal = rw (places-push history event)

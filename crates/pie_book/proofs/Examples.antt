@@ -14,9 +14,10 @@ use Rattle.pie_book.specs.declared.refusal.OpenRefusal.TheVariants as open_refus
 use Rattle.pie_book.specs.Opening.{are_in_range, opening_refusal}
 use Rattle.pie_book.specs.Deed.{Deed, deed, fits, handed_in, admission, departure, is_update, queued, marked, dropped_early, dropped_bytes}
 use Rattle.pie_book.specs.Deed.{dropped_packets, departed, found_none, updated, was_reset, set, nothing}
-use Rattle.pie_controller.specs.History.{active_of, arrivals_shown, control_of, delay_noted, departures_of, departures_shown, early_of, held_of}
-use Rattle.pie_controller.specs.History.{is_active, noted, noted_after, now_of, params_of, updates_shown}
-use Rattle.pie_controller.specs.Places.{Place, places, up_to, greatest, last_or}
+use Rattle.pie_aqm.specs.History.{active_of, arrivals_shown, control_of, delay_noted, departures_of, departures_shown, early_of, held_of}
+use Rattle.pie_aqm.specs.History.{waited_noted, waited_of}
+use Rattle.pie_aqm.specs.History.{is_active, noted, noted_after, now_of, params_of, updates_shown}
+use Rattle.pie_aqm.specs.Places.{Place, places, up_to, greatest, last_or}
 use Rattle.pie_rate.specs.Average.{average, samples}
 use Rattle.pie_rate.specs.Cycles.{cycles, begun, first_position, first_opening, first_closing, first_cycle, cycles_from}
 use Rattle.pie_control.specs.Delay.{delay_of}
@@ -24,8 +25,8 @@ use Rattle.pie_control.specs.History.{probability, last_delay, last_moment, gran
 use Rattle.pie_control.specs.Next.{raw_step, tuning_divisor, tuned_step, decayed, next}
 use Rattle.pie_early.specs.Decision.{is_considered, is_picked}
 use Rattle.pie_early.specs.History.{accumulated}
-use Rattle.pie_controller.specs.Cause.{cause, considered_cause, early_cause}
-use Rattle.pie_controller.specs.Steps.{verdict}
+use Rattle.pie_aqm.specs.Cause.{cause, considered_cause, early_cause}
+use Rattle.pie_aqm.specs.Steps.{verdict}
 use Rattle.pie_book.specs.Registers.{registers_after}
 use Rattle.pie_book.specs.Run.{answers, outcomes, progress_after}
 use Rattle.pie_book.specs.Statistics.{largest_queue, largest_delay, stats_after, waited}
@@ -36,7 +37,7 @@ use Rattle.pie_book.specs.Shown.{opened_of, shown}
 -- all that a theorem on a worked history computes with
 unfoldable pub worked : Type 0
 unfolding admitted places effective_moment greatest waiting_after departed_count held_after shown held_of now_of params_of active_of departures_shown
-    updates_shown arrivals_shown departures_of delay_noted control_of early_of is_active noted noted_after last_or average samples begun cycles
+    updates_shown arrivals_shown departures_of waited_of waited_noted delay_noted control_of early_of is_active noted noted_after last_or average samples begun cycles
     first_position first_opening first_closing first_cycle cycles_from delay_of probability last_delay last_moment granted_burst burst_allowance
     raw_step tuning_divisor tuned_step decayed next verdict accumulated is_considered is_picked registers_after stats_after largest_queue
     largest_delay waited cause early_cause considered_cause outcomes progress_after answers

@@ -4,7 +4,7 @@ use Rattle.pie_book.specs.Types.{Profile, One, Two, Arrive, Depart, Update, Rese
 use Rattle.pie_book.specs.Types.{Bounded, Opening}
 use Rattle.pie_book.specs.declared.refusal.Refusal.TheVariants.{TooSoon}
 use Rattle.pie_book.specs.Decision.{decision, refusal_by_rule}
-use Rattle.pie_controller.specs.Places.{Place, places}
+use Rattle.pie_aqm.specs.Places.{Place, places}
 use Rattle.pie_book.specs.Estimates.{active_after, average_after, measuring_after}
 use Rattle.pie_book.proofs.Examples.{limits, nine, packet, event, worked}
 

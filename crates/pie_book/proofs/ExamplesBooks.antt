@@ -4,13 +4,14 @@ use Rattle.std.proofs.Common.{ap, refl, ℕ, ◌≡◌, List, [], ◌∷◌, ◌
 use Rattle.std.proofs.lemmas.List.Elements.{All-cons, All-head, All-nil, All-take}
 use Rattle.pie_queue.specs.declared.ecn.Ecn.TheVariants.{Ce}
 use Rattle.pie_control.specs.Delay.{delay_of}
+use Rattle.pie_params.specs.Elements.{usual}
 use Rattle.pie_book.specs.Types.{One, Arrive, Depart, Update, Enqueued, Marked, Empty, Left, Updated, Event, Bounded, Rolling, Opening, Stats}
 use Rattle.pie_book.specs.declared.refusal.Refusal.TheVariants.{Size, TooSoon}
 use Rattle.pie_book.specs.Deed.{Deed, deed_of, queued, marked, dropped_early, dropped_bytes, dropped_packets, departed, found_none, updated}
 use Rattle.pie_book.specs.Deed.{was_reset, set, nothing}
 use Rattle.pie_queue.specs.Queue.{bytes_of}
-use Rattle.pie_controller.specs.Places.{Place, places}
-use Rattle.pie_controller.specs.Steps.{delay_in, no_estimate}
+use Rattle.pie_aqm.specs.Places.{Place, places}
+use Rattle.pie_aqm.specs.Steps.{delay_in, no_estimate}
 use Rattle.pie_book.specs.Registers.{registers_after}
 use Rattle.pie_book.specs.Statistics.{stats_after, no_stats}
 use Rattle.pie_book.specs.Decision.{IsLegal, IsLegalAt, decision, refusal_by_rule}
@@ -20,6 +21,7 @@ use Rattle.pie_book.proofs.Examples.{limits, opened, opened_with, packet, waits,
 use Rattle.pie_book.proofs.Examples.{worked}
 use Rattle.pie_book.proofs.ExamplesMarks.{no_burst, some_burst, opening, two_departed, first_update, updated_thrice, mark, change, restart, twelve}
 use Rattle.pie_book.proofs.ExamplesMarks.{fourteen, parts, tallied}
+use Rattle.pie_book.proofs.LegalFacts.{first_core, first-shows}
 
 -- at each place the command is taken and has its answer
 all-legal : (o : Opening) (ps : List (Place Event)) → map (λ (p : Place Event). refusal_by_rule o p.before p.event.command) ps
@@ -70,10 +72,12 @@ core_at_twelve = record {
   count = 12;
   held = record {
     profile = One;
+    elements = usual;
     params = no_burst;
     moment = 1001003;
     active = true;
     rate = record { average = 1000000; begun = Some (record { start = 1001000; count = 0 }) };
+    waited = 0;
     control = parts 903954174169 2000000 0 1001002;
     accu = 903954174169;
   };
@@ -86,7 +90,17 @@ core_at_twelve = record {
 abbrev core_at_fourteen : CoreView
 core_at_fourteen = record core_at_twelve {
   count = 14;
-  held = record { profile = One; params = some_burst; moment = 1001005; active = true; rate = no_estimate; control = parts 0 0 50 1001002; accu = 0 };
+  held = record {
+    profile = One;
+    elements = usual;
+    params = some_burst;
+    moment = 1001005;
+    active = true;
+    rate = no_estimate;
+    waited = 0;
+    control = parts 0 0 50 1001002;
+    accu = 0;
+  };
   stats = tallied 1 1;
 }
 
@@ -101,10 +115,12 @@ twelve-shown = record {
   waiting = refl;
   controller = record {
     profile = refl;
+    elements = refl;
     params = refl;
     moment = refl;
     active = refl;
     rate = record { average = refl; begun = refl };
+    waited = refl;
     control = record { prob = refl; old_delay = refl; burst = refl; last = refl };
     early = record { accu = refl };
   };
@@ -122,10 +138,12 @@ fourteen-shown = record {
   waiting = refl;
   controller = record {
     profile = refl;
+    elements = refl;
     params = refl;
     moment = refl;
     active = refl;
     rate = record { average = refl; begun = refl };
+    waited = refl;
     control = record { prob = refl; old_delay = refl; burst = refl; last = refl };
     early = record { accu = refl };
   };
@@ -147,16 +165,54 @@ cores-refusal : map (λ moment. refusal_of (record core_at_twelve { held = recor
     (1001002 ∷ 1001003 ∷ []) ≡ Some (TooSoon 1001003) ∷ None ∷ []
 cores-refusal = refl
 
--- after a fold of twelve a book tells the same fourteen events, with the last two in its tail
-abbrev pub folded_book : BookView
-folded_book = record { opening = opening; running = core_at_fourteen; checkpoint = core_at_twelve; tail = change ∷ restart ∷ [] }
+-- after a fold of twelve a book tells the same fourteen events, with the last two in its tail: where it keeps all of them, where its
+-- snapshot has the first twelve, and where it keeps no others
+abbrev pub folded_book : List Event → ℕ → ℕ → CoreView → CoreView → BookView
+folded_book kept gone ahead base snapshot = record {
+  opening = opening;
+  running = core_at_fourteen;
+  kept = kept;
+  gone = gone;
+  tail = change ∷ restart ∷ [];
+  base = base;
+  snapshot = snapshot;
+  ahead = ahead;
+  span = 14;
+}
 
-folded-told : Tells folded_book fourteen
-folded-told = record { tail = refl; running = fourteen-shown; checkpoint = twelve-shown }
+decided-told : Tells (folded_book (change ∷ restart ∷ []) 0 2 core_at_twelve core_at_fourteen) fourteen
+decided-told = record {
+  before = take 12 fourteen;
+  whole = refl;
+  split = refl;
+  tail = refl;
+  running = fourteen-shown;
+  base = twelve-shown;
+  snapshot = fourteen-shown;
+}
 
--- .. and with all of them folded, its two cores are one
-emptied-told : Tells (record folded_book { checkpoint = core_at_fourteen; tail = [] }) fourteen
-emptied-told = record { tail = refl; running = fourteen-shown; checkpoint = fourteen-shown }
+kept-told : Tells (folded_book fourteen 12 12 (first_core opening) core_at_twelve) fourteen
+kept-told = record {
+  before = [];
+  whole = refl;
+  split = refl;
+  tail = refl;
+  running = fourteen-shown;
+  base = first-shows opening;
+  snapshot = twelve-shown;
+}
+
+-- .. and with all of them folded
+emptied-told : Tells (record (folded_book fourteen 14 12 (first_core opening) core_at_twelve) { tail = [] }) fourteen
+emptied-told = record {
+  before = [];
+  whole = refl;
+  split = refl;
+  tail = refl;
+  running = fourteen-shown;
+  base = first-shows opening;
+  snapshot = twelve-shown;
+}
 
 -- the tail's events are the last ones, in order, and the checkpoint's the others
 tails : (last_events 0 three ≡ []) × (last_events 2 three ≡ departure_of_it ∷ late_departure ∷ []) × (last_events 3 three ≡ three)

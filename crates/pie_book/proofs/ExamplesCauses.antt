@@ -3,22 +3,28 @@ use Rattle.std.proofs.Common.{refl, ℕ, ◌≡◌, List, [], ◌∷◌, ◌++�
 use Rattle.pie_params.specs.Profile.{default_profile}
 use Rattle.pie_queue.specs.declared.ecn.Ecn.{Ecn}
 use Rattle.pie_queue.specs.declared.ecn.Ecn.TheVariants.{NotEct, Ect0, Ce}
-use Rattle.pie_controller.specs.declared.cause.Cause.{Cause}
-use Rattle.pie_controller.specs.declared.cause.Cause.TheVariants.{NoRoomInBytes, NoRoomInPackets, Inactive, BurstAllowed, LowDelay, ShortQueue}
-use Rattle.pie_controller.specs.declared.cause.Cause.TheVariants.{NoProbability, LittleAccumulated, PickedBySum, PickedByWord, WordNotBelow}
-use Rattle.pie_controller.specs.declared.cause.Fate.TheVariants.{Marked, NotCapable, NotBelow}
+use Rattle.pie_aqm.specs.declared.cause.Cause.{Cause}
+use Rattle.pie_aqm.specs.declared.cause.Cause.TheVariants.{NoRoomInBytes, NoRoomInPackets, Inactive, BurstAllowed, LowDelay, ShortQueue}
+use Rattle.pie_aqm.specs.declared.cause.Cause.TheVariants.{NoProbability, LittleAccumulated, PickedBySum, PickedByWord, WordNotBelow}
+use Rattle.pie_aqm.specs.declared.cause.Fate.TheVariants.{Marked, NotCapable, NotBelow}
 use Rattle.pie_book.specs.Types.{Two, Arrive, Depart, Update, Reset, SetParams, Event, Bounded, Opening}
 use Rattle.pie_book.specs.declared.command.Answer.TheVariants as answer
-use Rattle.pie_controller.specs.Cause.{considered_cause, early_cause}
+use Rattle.pie_aqm.specs.Cause.{considered_cause, early_cause}
+use Rattle.pie_params.specs.Elements.{usual}
+use Rattle.pie_early.specs.declared.decision.Offered.{Offered}
 use Rattle.pie_book.specs.Cause.{cause_after}
 use Rattle.pie_book.proofs.Examples.{limits, opened_with, packet, event, worked}
 use Rattle.pie_book.proofs.ExamplesMarks.{opening, parts, two_departed, updated_thrice, mark, drop_of_one, lone}
 
 -- ---- at single numbers: the default parameters, 3000 bytes that wait, an old delay of 15 ms, no burst allowance
 
+-- a packet of the mean size that meets so many bytes
+abbrev meets : ℕ → Ecn → ℕ → Offered
+meets bytes ecn word = record { bytes = bytes; size = 1024; ecn = ecn; word = word }
+
 -- an arrival at this probability, with this much accumulated
 abbrev at : ℕ → ℕ → Ecn → ℕ → Cause
-at prob accu ecn word = early_cause default_profile (parts prob 15000000 0 0) 3000 accu ecn word
+at prob accu ecn word = early_cause usual default_profile (parts prob 15000000 0 0) (meets 3000 ecn word) accu
 
 abbrev greatest_word : ℕ
 greatest_word = 18446744073709551615
@@ -51,26 +57,26 @@ unfolding early_cause considered_cause
 the_words = (refl, refl)
 
 -- two packets of the mean size are a short queue, one byte more is not
-short_queues : map (λ bytes. early_cause default_profile (parts 100000000000 15000000 0 0) bytes 0 NotEct 0) (2048 ∷ 2049 ∷ [])
+short_queues : map (λ bytes. early_cause usual default_profile (parts 100000000000 15000000 0 0) (meets bytes NotEct 0) 0) (2048 ∷ 2049 ∷ [])
     ≡ ShortQueue 2048 2048 ∷ LittleAccumulated 0 100000000000 ∷ []
 unfolding early_cause considered_cause
 short_queues = refl
 
 -- half the target, and a fifth
-low_delays : map (λ old. early_cause default_profile (parts 100000000000 old 0 0) 3000 0 NotEct 0) (7499999 ∷ 7500000 ∷ [])
+low_delays : map (λ old. early_cause usual default_profile (parts 100000000000 old 0 0) (meets 3000 NotEct 0) 0) (7499999 ∷ 7500000 ∷ [])
     ≡ LowDelay 7499999 15000000 100000000000 ∷ LittleAccumulated 0 100000000000 ∷ []
 unfolding early_cause considered_cause
 low_delays = refl
 
-low_probabilities : map (λ prob. early_cause default_profile (parts prob 0 0 0) 3000 0 NotEct 0) (199999999999 ∷ 200000000000 ∷ [])
+low_probabilities : map (λ prob. early_cause usual default_profile (parts prob 0 0 0) (meets 3000 NotEct 0) 0) (199999999999 ∷ 200000000000 ∷ [])
     ≡ LowDelay 0 15000000 199999999999 ∷ LittleAccumulated 0 200000000000 ∷ []
 unfolding early_cause considered_cause
 low_probabilities = refl
 
 -- a burst is looked at first, then the delay, then the queue; and probability 0 before what is accumulated
-the_order : (early_cause default_profile (parts 0 0 1 0) 0 0 NotEct 0 ≡ BurstAllowed 1)
-    × (early_cause default_profile (parts 0 0 0 0) 0 0 NotEct 0 ≡ LowDelay 0 15000000 0)
-    × (early_cause default_profile (parts 0 15000000 0 0) 0 0 NotEct 0 ≡ ShortQueue 0 2048)
+the_order : (early_cause usual default_profile (parts 0 0 1 0) (meets 0 NotEct 0) 0 ≡ BurstAllowed 1)
+    × (early_cause usual default_profile (parts 0 0 0 0) (meets 0 NotEct 0) 0 ≡ LowDelay 0 15000000 0)
+    × (early_cause usual default_profile (parts 0 15000000 0 0) (meets 0 NotEct 0) 0 ≡ ShortQueue 0 2048)
     × (at 0 8400000000000 NotEct 0 ≡ NoProbability)
 unfolding early_cause considered_cause
 the_order = (refl, refl, refl, refl)

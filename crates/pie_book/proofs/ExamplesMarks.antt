@@ -6,10 +6,12 @@ use Rattle.pie_book.specs.Types.{Bounded, Opening, Stats, Registers}
 use Rattle.pie_queue.specs.declared.ecn.Ecn.TheVariants.{Ce}
 use Rattle.pie_rate.specs.Departures.{departure}
 use Rattle.pie_rate.specs.Average.{average}
+use Rattle.pie_params.specs.declared.elements.Step.TheVariants.{Capped}
+use Rattle.pie_params.specs.declared.elements.Picking.TheVariants.{Derandomized}
 use Rattle.pie_control.specs.Events.{reset, update_at}
 use Rattle.pie_control.specs.Parts.{Parts}
 use Rattle.pie_early.specs.declared.early.Choice.TheVariants.{Enqueue, Mark, Drop}
-use Rattle.pie_early.specs.Events.{arrival, cleared}
+use Rattle.pie_early.specs.Events.{EarlyEvent, arrival, cleared}
 use Rattle.pie_book.specs.declared.refusal.Refusal.TheVariants.{TooSoon}
 use Rattle.pie_book.specs.Estimates.{delay_after, due_after, parts_after, accu_after}
 use Rattle.pie_book.specs.History.{waiting_after}
@@ -86,7 +88,7 @@ the_delays = refl
 
 -- each update has the parameters in force and its own delay, and a reset its parameters
 the_control_events : control_events opening fourteen
-    ≡ update_at no_burst 2000000 1001000 ∷ update_at no_burst 2000000 1001001 ∷ update_at no_burst 2000000 1001002 ∷ reset some_burst ∷ []
+    ≡ update_at no_burst Capped 2000000 1001000 ∷ update_at no_burst Capped 2000000 1001001 ∷ update_at no_burst Capped 2000000 1001002 ∷ reset some_burst ∷ []
 unfolding worked
 the_control_events = refl
 
@@ -103,10 +105,14 @@ the_due : due_after opening fourteen ≡ 1001003
 unfolding worked
 the_due = refl
 
+-- an arrival that is queued
+abbrev queued : Bool → ℕ → EarlyEvent
+queued considered prob = arrival considered prob Derandomized Enqueue
+
 -- of the first four arrivals none is considered, since the old delay and the probability are 0; of the last three all are
 the_early_events : early_events opening fourteen
-    ≡ arrival false 0 Enqueue ∷ arrival false 0 Enqueue ∷ arrival false 0 Enqueue ∷ arrival false 0 Enqueue ∷ arrival true 903954174169 Mark
-    ∷ arrival true 903954174169 Drop ∷ arrival true 903954174169 Enqueue ∷ cleared ∷ []
+    ≡ queued false 0 ∷ queued false 0 ∷ queued false 0 ∷ queued false 0 ∷ arrival true 903954174169 Derandomized Mark
+    ∷ arrival true 903954174169 Derandomized Drop ∷ queued true 903954174169 ∷ cleared ∷ []
 unfolding worked
 the_early_events = refl
 

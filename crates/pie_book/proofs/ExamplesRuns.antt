@@ -1,12 +1,13 @@
 -- The definitions on worked histories: each theorem computes. Refusals, and runs of steps with folds.
 use Rattle.std.proofs.Common.{Bool, refl, ℕ, ◌≡◌, List, [], ◌∷◌, ◌++◌, Some, None, Ok, Err, true, false, map}
 use Rattle.pie_params.specs.Profile.{default_profile}
+use Rattle.pie_params.specs.Elements.{usual}
 use Rattle.pie_book.specs.Types.{RawParams, One, Held, Command, Arrive, Depart, Update, Reset, SetParams, Answer, Enqueued, DroppedBytes}
 use Rattle.pie_book.specs.Types.{DroppedPackets, Empty, Left, Updated, Done, Event, Rolling, Opening, Refusal}
 use Rattle.pie_early.specs.Events.{cleared}
 use Rattle.pie_book.specs.declared.refusal.Refusal.TheVariants.{Moment, Size, TooSoon, Exhausted, HistoryFull}
 use Rattle.pie_book.specs.declared.refusal.FoldRefusal.TheVariants.{TooMany}
-use Rattle.pie_controller.specs.Steps as Steps
+use Rattle.pie_aqm.specs.Steps as Steps
 use Rattle.pie_book.specs.Estimates.{parts_after}
 use Rattle.pie_book.specs.Decision.{answer_by, refusal_by_rule, refusal_after}
 use Rattle.pie_book.specs.Run.{Step, asked, folded, Outcome, was_asked, was_folded, outcomes, progress_after, start, without_folds, answers}
@@ -56,7 +57,7 @@ order = (refl, refl, refl, refl, refl, refl, refl, refl)
 -- verdicts by the queue alone: beside a packet of 65535 bytes, 196609 more meet the limit exactly; in a ring of one packet there is no place
 -- for them
 abbrev holding : Bool → ℕ → ℕ → Held
-holding active prob burst = record (Steps.opened One default_profile 0)
+holding active prob burst = record (Steps.opened One usual default_profile 0)
     { active = active; control = record { prob = prob; old_delay = 0; burst = burst; last = 0 } }
 
 abbrev beside_one : Held → ℕ → ℕ → Answer

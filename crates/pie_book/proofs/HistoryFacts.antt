@@ -8,8 +8,8 @@ use Rattle.std.proofs.lemmas.List.Sums.{sum_by_push}
 use Rattle.pie_book.specs.Types.{Waiting, Event, Opening}
 use Rattle.pie_book.specs.Deed.{Deed, handed_in, deed_of, admission, departure, departed}
 use Rattle.pie_book.specs.History.{effective_moment, admitted_at, admitted, departed_count, waiting_after}
-use Rattle.pie_controller.proofs.Places.{from_places-push, greatest-push}
-use Rattle.pie_controller.specs.Places.{places}
+use Rattle.pie_aqm.proofs.Places.{from_places-push, greatest-push}
+use Rattle.pie_aqm.specs.Places.{places}
 
 -- the effective moment after one more event is the greater of the one before it and the moment handed in
 pub effective_moment-push : (opening : Opening) (history : List Event) (event : Event)

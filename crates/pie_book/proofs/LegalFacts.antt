@@ -4,11 +4,12 @@ use Rattle.std.proofs.lemmas.List.{append-nil, append_assoc}
 use Rattle.std.proofs.lemmas.List.Elements.{All-head, All-tail}
 use Rattle.pie_params.specs.Range.{first_bad}
 use Rattle.pie_book.specs.Types.{Waiting, Arrival, Held, Command, Arrive, Depart, Update, Reset, SetParams, Answer, Event, Opening}
-use Rattle.pie_controller.specs.Calls.{after_call}
-use Rattle.pie_controller.specs.Steps as Steps
-use Rattle.pie_controller.specs.Steps.{anew, bytes_with, judged}
-use Rattle.pie_controller.proofs.InRange.{threshold-holds}
-use Rattle.pie_controller.proofs.Places.{place_of}
+use Rattle.pie_aqm.specs.Calls.{after_call}
+use Rattle.pie_aqm.specs.Steps as Steps
+use Rattle.pie_aqm.specs.Steps.{anew, bytes_with, judged}
+use Rattle.pie_aqm.proofs.InRange.{threshold-holds}
+use Rattle.pie_aqm.proofs.Places.{place_of}
+use Rattle.pie_params.specs.Elements.{usual}
 use Rattle.pie_book.specs.Call.{arrival_of, departure_call}
 use Rattle.pie_book.specs.Core.{CoreView, Shows, closed, refusal_of}
 use Rattle.pie_book.specs.Decision.{IsLegal, IsLegalAt}
@@ -24,7 +25,7 @@ first_core opening = record {
   packets = opening.limits.packets;
   events = opening.limits.events;
   count = 0;
-  held = Steps.opened opening.choices.profile opening.params opening.moment;
+  held = Steps.opened opening.choices.profile usual opening.params opening.moment;
   waiting = [];
   stats = no_stats;
 }

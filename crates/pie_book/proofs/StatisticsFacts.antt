@@ -13,8 +13,8 @@ use Rattle.pie_book.specs.Statistics.{count_of, is_queued, is_marked, is_dropped
 use Rattle.pie_book.specs.Statistics.{is_found_none, is_reset, bytes_departed, age_of_oldest, wait_at, delay_at, largest_queue, largest_delay, waited}
 use Rattle.pie_book.specs.Statistics.{stats_after}
 use Rattle.pie_book.specs.Core.{counted, with_queue}
-use Rattle.pie_controller.specs.Places.{Place, places, up_to, greatest}
-use Rattle.pie_controller.proofs.Places.{place_of, places-push, from_places-push, greatest-push, greatest-push_option}
+use Rattle.pie_aqm.specs.Places.{Place, places, up_to, greatest}
+use Rattle.pie_aqm.proofs.Places.{place_of, places-push, from_places-push, greatest-push, greatest-push_option}
 
 -- one more, where there is one
 more_of : (b : Bool) (n m : ℕ) → n + cond b m 0 ≡ (if b then n + m else n)

@@ -4,8 +4,8 @@ use Rattle.std.specs.Prelude.{ℕ, Bool, List}
 use Rattle.std.specs.Option.{is_some}
 use Rattle.pie_book.specs.Types.{RawParams, Held, Event, Opening}
 use Rattle.pie_control.specs.Parts.{Parts}
-use Rattle.pie_controller.specs.History.{held_of}
-use Rattle.pie_controller.specs.Steps as Steps
+use Rattle.pie_aqm.specs.History.{held_of}
+use Rattle.pie_aqm.specs.Steps as Steps
 use Rattle.pie_book.specs.History.{bytes_after}
 use Rattle.pie_book.specs.Shown.{opened_of, shown}
 

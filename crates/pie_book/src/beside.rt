@@ -1,8 +1,8 @@
 //! The law of a controller beside a queue that is not the core's.
 ghost use Rattle.std.specs.Prelude.{◌≡◌, ℕ, List, All, None};
 ghost use Rattle.pie_params.specs.Range.{first_bad};
-ghost use Rattle.pie_controller.specs.Calls.{after_call};
-ghost use Rattle.pie_controller.specs.Steps.{due, due_of, now_at};
+ghost use Rattle.pie_aqm.specs.Calls.{after_call};
+ghost use Rattle.pie_aqm.specs.Steps.{due, due_of, now_at};
 ghost use Rattle.std.specs.Prelude.{nat_lt};
 ghost use Rattle.pie_book.specs.Types.{Command, Update, Event, Opening};
 ghost use Rattle.pie_book.specs.Beside.{IsOpening, IsStep, held_after_calls, opened_by};

@@ -1,2 +1,2 @@
 //! What decides an arrival: the controller's cause.
-pub use pie_controller::{Cause, Fate};
+pub use pie_aqm::{Cause, Fate};

@@ -3,13 +3,13 @@
 ghost use Rattle.std.specs.Prelude.{◌≡◌, ◌==◌, ◌≤◌, ◌<◌, ◌^◌, ◌+◌, ◌++◌, length, true, false};
 ghost use Rattle.std.specs.Option.{option_to_list};
 ghost use Rattle.pie_queue.specs.Queue.{IsSize, bytes_of};
-ghost use Rattle.pie_controller.specs.Steps.{is_queued};
+ghost use Rattle.pie_aqm.specs.Steps.{is_queued};
 ghost use Rattle.pie_book.specs.Types.{Arrive, Depart, Update, Reset, SetParams, Left};
 ghost use Rattle.pie_book.specs.Deed.{admission, arrival_deed};
 
 use crate::Answer;
-use crate::queue_core::Core;
-use pie_controller::{Arrival, Verdict};
+use crate::deciding_core::Core;
+use pie_aqm::{Arrival, Verdict};
 use pie_fixed::Nanos;
 use pie_params::Params;
 use pie_queue::{Ecn, Packet};
@@ -91,7 +91,7 @@ impl Core {
         };
         let packet = oldest.packet;
         self.controller
-            .depart(packet.size, self.queue.bytes(), moment);
+            .depart(packet.size, self.queue.bytes(), oldest.since, moment);
         let waited = now.units().saturating_sub(oldest.since.units());
         self.tally.departed(packet, waited);
         Answer::Left(packet)

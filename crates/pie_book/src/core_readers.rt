@@ -1,6 +1,6 @@
 //! What a core tells of itself.
 ghost use Rattle.std.specs.Prelude.{◌≡◌, List, slice_get, IfSome};
-ghost use Rattle.pie_controller.specs.Cause.{verdict_of};
+ghost use Rattle.pie_aqm.specs.Cause.{verdict_of};
 ghost use Rattle.pie_book.specs.Types.{Event, Opening};
 ghost use Rattle.pie_book.specs.Cause.{cause_after};
 ghost use Rattle.pie_book.specs.Decision.{decision};
@@ -8,7 +8,7 @@ ghost use Rattle.pie_book.specs.Estimates.{delay_after};
 ghost use Rattle.pie_book.specs.Registers.{registers_after};
 ghost use Rattle.pie_book.specs.Statistics.{stats_after};
 
-use crate::queue_core::Core;
+use crate::deciding_core::Core;
 use crate::{Cause, Command, Registers, Stats};
 use pie_queue::Waiting;
 

@@ -5,7 +5,7 @@ ghost use Rattle.pie_book.specs.Deed.{fits, handed_in};
 ghost use Rattle.pie_book.specs.Decision.{decision, refusal_by_rule};
 ghost use Rattle.pie_book.specs.Run.{event_of, refused_or};
 
-use crate::queue_core::Core;
+use crate::deciding_core::Core;
 use crate::{Answer, Command, Refusal};
 use pie_fixed::Nanos;
 use pie_queue::MAX_SIZE;

@@ -2,7 +2,7 @@
 
 ghost use Rattle.std.specs.Prelude.{◌≡◌};
 
-pub use pie_controller::Profile;
+pub use pie_aqm::Profile;
 use pie_params::Params;
 
 /// The limits of a book (this project's own), not yet looked at.

@@ -6,7 +6,7 @@ ghost use Rattle.pie_book.specs.Call.{answer_of};
 ghost use Rattle.pie_book.specs.Core.{counted, with_queue};
 
 use crate::Stats;
-use pie_controller::Verdict;
+use pie_aqm::Verdict;
 use pie_queue::Packet;
 use std::marker::Model;
 

@@ -5,9 +5,10 @@ use Rattle.pie_control.specs.Next.{raw_step, tuning_divisor, tuned_step, decayed
 use Rattle.pie_early.specs.Decision.{is_considered, is_picked}
 use Rattle.pie_c.specs.declared.params.PieParams.{PieParams}
 use Rattle.pie_c.specs.declared.state.PieState.{PieState}
-use Rattle.pie_controller.specs.declared.profile.Profile.TheVariants.{One}
-use Rattle.pie_controller.specs.Held.{Held}
-use Rattle.pie_controller.specs.Steps.{accu_left, arrived, capped, departed, opened, updated, verdict}
+use Rattle.pie_params.specs.Elements.{usual}
+use Rattle.pie_aqm.specs.declared.profile.Profile.TheVariants.{One}
+use Rattle.pie_aqm.specs.Held.{Held}
+use Rattle.pie_aqm.specs.Steps.{accu_left, arrived, capped, departed, opened, updated, verdict}
 use Rattle.pie_c.specs.Calls.{arrival_of, arrival_refusal, departure_refusal, moment_refusal, opening_refusal, reset_refusal, state_refusal}
 use Rattle.pie_c.specs.Calls.{update_refusal, verdict_number}
 use Rattle.pie_c.specs.Params.{raw_of}
@@ -28,11 +29,11 @@ defaults = record {
 }
 
 abbrev start : PieState
-start = state_of (opened One (raw_of defaults) 0)
+start = state_of (opened One usual (raw_of defaults) 0)
 
 -- with a probability of a tenth, an old delay at the target, no burst allowance, and this accumulated
 abbrev busy : ℕ → Held
-busy accu = record (opened One (raw_of defaults) 0) { control = record { prob = 10 ^ 11; old_delay = 15_000_000; burst = 0; last = 0 }; accu = accu }
+busy accu = record (opened One usual (raw_of defaults) 0) { control = record { prob = 10 ^ 11; old_delay = 15_000_000; burst = 0; last = 0 }; accu = accu }
 
 sound-states : (is_sound start ≡ true) × (is_sound (record start { last = 1 }) ≡ false) × (is_sound (record start { measuring = 2 }) ≡ false)
     × (is_sound (record start { measuring = 1; cycle_count = 16383 }) ≡ true)
@@ -54,7 +55,7 @@ state_refusals = (refl, refl, refl, refl, refl, refl)
 abbrev odd : PieState
 odd = record start { params = record defaults { dq_threshold = 2 ^ 17 }; measuring = 1; cycle_start = 7; cycle_count = 65535; profile = 9 }
 
-odd_states : (with_rate odd (departed (capped (held_in odd)) 1 0 8)
+odd_states : (with_rate odd (departed (capped (held_in odd)) 1 0 0 8)
     ≡ record odd { moment = 8; average = 1; measuring = 0; cycle_start = 0; cycle_count = 0 })
     × (with_arrival odd (arrived (held_in odd) (arrival_of 0 1500 1 0 0) 8) ≡ record odd { moment = 8 })
 unfolding held_in state_of verdict accu_left is_considered is_picked
@@ -99,10 +100,10 @@ accumulates = (refl, refl, refl)
 
 -- three departures: a cycle opens, closes and opens, and closes
 abbrev after_two : Held
-after_two = departed (departed (opened One (raw_of defaults) 0) 1500 20000 1000) 16384 16384 12_001_000
+after_two = departed (departed (opened One usual (raw_of defaults) 0) 1500 20000 0 1000) 16384 16384 0 12_001_000
 
 rates : ((state_of after_two).average ≡ 12_000_000) × ((state_of after_two).measuring ≡ 1)
-    × ((state_of (departed after_two 16384 0 32_001_000)).average ≡ 14_000_000) × ((state_of (departed after_two 16384 0 32_001_000)).cycle_start ≡ 0)
+    × ((state_of (departed after_two 16384 0 0 32_001_000)).average ≡ 14_000_000) × ((state_of (departed after_two 16384 0 0 32_001_000)).cycle_start ≡ 0)
 unfolding state_of
 rates = (refl, refl, refl, refl)
 

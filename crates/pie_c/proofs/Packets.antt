@@ -3,20 +3,21 @@ use Rattle.std.proofs.Common.{◌≡◌, ℕ, ◌+◌, ◌≤◌, ◌<◌, ◌^�
 use Rattle.std.proofs.Common.{◌++◌, arith, refl, sym, ap, ◌∙◌}
 use Rattle.std.proofs.lemmas.Bool.{eqb-true}
 use Rattle.std.proofs.lemmas.Bool.Decides.{nat_tests}
-use Rattle.pie_controller.specs.declared.verdict.Arrival.{Arrival}
-use Rattle.pie_controller.specs.declared.verdict.Verdict.{Verdict}
-use Rattle.pie_controller.specs.Calls.{Call, Depart, IsTaken, after_call, shown_by}
-use Rattle.pie_controller.specs.Events.{ControllerEvent, Opened}
+use Rattle.pie_aqm.specs.declared.verdict.Arrival.{Arrival}
+use Rattle.pie_aqm.specs.declared.verdict.Verdict.{Verdict}
+use Rattle.pie_params.specs.Elements.{usual}
+use Rattle.pie_aqm.specs.Calls.{Arrive, Call, Change, Depart, IsTaken, Pass, Restart, Update, after_call, shown_by}
+use Rattle.pie_aqm.specs.Events.{ControllerEvent, Opened}
 use Rattle.pie_params.specs.declared.raw.RawParams.{RawParams}
-use Rattle.pie_controller.specs.declared.profile.Profile.{Profile}
-use Rattle.pie_controller.specs.declared.profile.Profile.TheVariants.{One, Two}
-use Rattle.pie_controller.specs.Held.{Held}
-use Rattle.pie_controller.specs.History.{Shows}
-use Rattle.pie_controller.specs.Steps.{anew, accu_left, arrived, bytes_with, capped, changed, departed, judged, opened, passed, reset, turns_on}
-use Rattle.pie_controller.specs.Steps.{verdict}
-use Rattle.pie_controller.proofs.InRange.{threshold-holds}
-use Rattle.pie_controller.proofs.Laws.{Shows_call, moved}
-use Rattle.pie_controller.proofs.Sounds.{Sound_call}
+use Rattle.pie_aqm.specs.declared.profile.Profile.{Profile}
+use Rattle.pie_aqm.specs.declared.profile.Profile.TheVariants.{One, Two}
+use Rattle.pie_aqm.specs.Held.{Held}
+use Rattle.pie_aqm.specs.History.{Shows}
+use Rattle.pie_aqm.specs.Steps.{anew, accu_left, arrived, bytes_with, capped, changed, departed, judged, opened, passed, reset, turns_on}
+use Rattle.pie_aqm.specs.Steps.{verdict}
+use Rattle.pie_aqm.proofs.InRange.{threshold-holds}
+use Rattle.pie_aqm.proofs.Laws.{Shows_call, moved}
+use Rattle.pie_aqm.proofs.Sounds.{Sound_call}
 use Rattle.pie_c.specs.declared.params.PieParams.{PieParams}
 use Rattle.pie_c.specs.declared.state.PieState.{PieState}
 use Rattle.pie_c.specs.Calls.{arrival_refusal, departure_refusal, if_taken, is_bad_size, kept_if_refused, moment_refusal}
@@ -65,6 +66,22 @@ handed moment rest = by (nat_lt last_moment moment) refl
     by true is free = cc
     by false is free = grind (arith, nat_tests)
 
+-- a call leaves the usual choices, and no wait
+usual-after : (s : PieState) (call : Call) → ((after_call (held_in s) call).elements ≡ usual) × ((after_call (held_in s) call).waited ≡ 0)
+unfolding held_in
+usual-after s (Arrive a moment) = by (turns_on (held_in s) (bytes_with (verdict (held_in s) a) a.queued a.size))
+  where
+    by : (on : Bool)
+        → ((if on then record (anew (judged (held_in s) a moment)) { active = true } else judged (held_in s) a moment).elements ≡ usual)
+        × ((if on then record (anew (judged (held_in s) a moment)) { active = true } else judged (held_in s) a moment).waited ≡ 0)
+    by true = (refl, refl)
+    by false = (refl, refl)
+usual-after s (Depart size left since moment) = (refl, refl)
+usual-after s (Pass moment) = (refl, refl)
+usual-after s (Update queued moment) = (refl, refl)
+usual-after s (Restart moment) = (refl, refl)
+usual-after s (Change params moment) = (refl, refl)
+
 module _ (s t : PieState) (call : Call) (refusal : ℕ) (sound : is_sound s ≡ true)
     (left : t ≡ kept_if_refused refusal s (after_call (held_in s) call)) where
   pub stays-sound : (refusal ≡ 0 → IsTaken call) → is_sound t ≡ true
@@ -77,7 +94,7 @@ module _ (s t : PieState) (call : Call) (refusal : ℕ) (sound : is_sound s ≡ 
   pub shows-call : (o : Opened) (events : List ControllerEvent) → refusal ≡ 0 → Shows o events (held_in s)
       → Shows o (events ++ shown_by (held_in s) call ∷ []) (held_in t)
   shows-call o events free shows =
-      rw (left, free) (moved _ _ _ _ (held-state _) (Shows_call o events (held_in s) shows (threshold-held s sound) call))
+      rw (left, free) (moved _ _ _ _ (held-state _ (usual-after s call).0 (usual-after s call).1) (Shows_call o events (held_in s) shows (threshold-held s sound) call))
 
 -- ---- the state after it
 
@@ -114,22 +131,22 @@ capped-is : (h : Held) → h.params.dq_threshold ≤ 65536 → capped h ≡ h
 capped-is h t = ap (λ (n : ℕ). record h { params = record h.params { dq_threshold = n } }) (grind arith)
 
 pub departed-state : (s : PieState) (size left moment : ℕ) → is_sound s ≡ true
-    → with_rate s (departed (capped (held_in s)) size left moment) ≡ state_of (departed (held_in s) size left moment)
+    → with_rate s (departed (capped (held_in s)) size left 0 moment) ≡ state_of (departed (held_in s) size left 0 moment)
 unfolding held_in
 departed-state s size left moment sound =
-    ap (λ (h : Held). with_rate s (departed h size left moment)) (capped-is (held_in s) (threshold-of s sound))
-    ∙ kept-departed s (departed (held_in s) size left moment) sound refl
+    ap (λ (h : Held). with_rate s (departed h size left 0 moment)) (capped-is (held_in s) (threshold-of s sound))
+    ∙ kept-departed s (departed (held_in s) size left 0 moment) sound refl
 
 -- what a departure leaves of each field
 pub departed-after : (s t : PieState) (size left moment : ℕ)
-    → t ≡ if_taken (departure_refusal size left moment) s (with_rate s (departed (capped (held_in s)) size left moment)) → is_sound s ≡ true
-    → t ≡ kept_if_refused (departure_refusal size left moment) s (after_call (held_in s) (Depart size left moment))
+    → t ≡ if_taken (departure_refusal size left moment) s (with_rate s (departed (capped (held_in s)) size left 0 moment)) → is_sound s ≡ true
+    → t ≡ kept_if_refused (departure_refusal size left moment) s (after_call (held_in s) (Depart size left 0 moment))
 departed-after s t size left moment is sound =
     is ∙ ap (λ (u : PieState). if_taken (departure_refusal size left moment) s u) (departed-state s size left moment sound)
 
 -- a packet that leaves the open cycle open changes its count and the moment alone
 pub counted-state : (s : PieState) (size left moment : ℕ) → s.active ≡ 1 → s.measuring ≡ 1 → s.cycle_count + size < min s.params.dq_threshold 65536
-    → record s { moment = max s.moment moment; cycle_count = s.cycle_count + size } ≡ with_rate s (departed (capped (held_in s)) size left moment)
+    → record s { moment = max s.moment moment; cycle_count = s.cycle_count + size } ≡ with_rate s (departed (capped (held_in s)) size left 0 moment)
 unfolding held_in
 counted-state s size left moment active measuring few =
     let below : nat_lt (s.cycle_count + size) (min s.params.dq_threshold 65536) ≡ true = grind (arith, nat_tests) in
@@ -138,7 +155,7 @@ counted-state s size left moment active measuring few =
 -- .. and one that meets no cycle and opens none the moment
 pub unmeasured-state : (s : PieState) (size left moment : ℕ) → s.active ≡ 1 → (s.measuring == 1) ≡ false → left < min s.params.dq_threshold 65536
     → record s { moment = max s.moment moment; measuring = 0; cycle_start = 0; cycle_count = 0 }
-    ≡ with_rate s (departed (capped (held_in s)) size left moment)
+    ≡ with_rate s (departed (capped (held_in s)) size left 0 moment)
 unfolding held_in
 unmeasured-state s size left moment active measuring few =
     let below : nat_lt left (min s.params.dq_threshold 65536) ≡ true = grind (arith, nat_tests) in
@@ -201,11 +218,11 @@ changed-state s params raw h g moment sound held after =
 
 pub opened-state : (s : PieState) (params : PieParams) (raw : RawParams) (g : Held) (moment number profile : ℕ) (kind : Profile)
     → ((profile == 1) || (profile == 2)) ≡ true
-    → number ≡ profile → kind ≡ profile_of number → raw ≡ raw_of params → g ≡ opened kind raw moment
-    → with_registers (record s { params = params; profile = number }) g ≡ state_of (opened (profile_of profile) (raw_of params) moment)
+    → number ≡ profile → kind ≡ profile_of number → raw ≡ raw_of params → g ≡ opened kind usual raw moment
+    → with_registers (record s { params = params; profile = number }) g ≡ state_of (opened (profile_of profile) usual (raw_of params) moment)
 opened-state s params raw g moment number profile kind known same of is after =
     rw (after, of, is, same)
-    (registers-state (record s { params = params; profile = profile }) (opened (profile_of profile) (raw_of params) moment) refl
+    (registers-state (record s { params = params; profile = profile }) (opened (profile_of profile) usual (raw_of params) moment) refl
     (by (profile == 2) refl))
   where
     by : (two : Bool) → (profile == 2) ≡ two → profile_number (if two then Two else One) ≡ profile

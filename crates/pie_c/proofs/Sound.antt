@@ -2,11 +2,12 @@
 use Rattle.std.proofs.Common.{◌≡◌, ℕ, ◌<◌, ◌≤◌, ◌^◌, ◌==◌, if◌then◌else◌, Bool, true, false, Option, Some, None, is_none, arith, refl, sym, ap, ◌∙◌}
 use Rattle.std.proofs.lemmas.Bool.Decides.{nat_tests}
 use Rattle.pie_params.specs.declared.raw.RawParams.{RawParams}
+use Rattle.pie_params.specs.Elements.{usual}
 use Rattle.pie_params.specs.Range.{first_bad}
 use Rattle.pie_rate.specs.Estimate.{Begun}
-use Rattle.pie_controller.specs.declared.profile.Profile.{Profile}
-use Rattle.pie_controller.specs.declared.profile.Profile.TheVariants.{One, Two}
-use Rattle.pie_controller.specs.Held.{Held, IsSound, IsWithin}
+use Rattle.pie_aqm.specs.declared.profile.Profile.{Profile}
+use Rattle.pie_aqm.specs.declared.profile.Profile.TheVariants.{One, Two}
+use Rattle.pie_aqm.specs.Held.{Held, IsSound, IsWithin}
 use Rattle.pie_c.specs.declared.params.PieParams.{PieParams}
 use Rattle.pie_c.specs.declared.state.PieState.{PieState}
 use Rattle.pie_c.specs.Params.{params_of, raw_of}
@@ -27,26 +28,32 @@ begun-is : (o : Option Begun) → begun_in (flag_of o) (start_of o) (count_of o)
 begun-is None = refl
 begun-is (Some cycle) = refl
 
-pub held-state : (h : Held) → held_in (state_of h) ≡ h
+pub held-state : (h : Held) → h.elements ≡ usual → h.waited ≡ 0 → held_in (state_of h) ≡ h
 unfolding held_in state_of
-held-state h =
+held-state h chosen never =
     ap (λ (p : Profile). record {
       profile = p;
+      elements = usual;
       params = h.params;
       moment = h.moment;
       active = flag h.active == 1;
       rate = record { average = h.rate.average; begun = begun_in (flag_of h.rate.begun) (start_of h.rate.begun) (count_of h.rate.begun) };
+      waited = 0;
       control = h.control;
       accu = h.accu;
     }) (profile-is h.profile)
     ∙ ap (λ (a : Bool). record h {
+      elements = usual;
+      waited = 0;
       active = a;
       rate = record {
         average = h.rate.average;
         begun = begun_in (flag_of h.rate.begun) (start_of h.rate.begun) (count_of h.rate.begun);
       };
     }) (active-is h.active)
-    ∙ ap (λ (o : Option Begun). record h { rate = record { average = h.rate.average; begun = o } }) (begun-is h.rate.begun)
+    ∙ ap (λ (o : Option Begun). record h { elements = usual; waited = 0; rate = record { average = h.rate.average; begun = o } })
+    (begun-is h.rate.begun)
+    ∙ (λ i. record h { elements = sym chosen i; waited = sym never i })
 
 -- ---- sound
 
@@ -149,6 +156,7 @@ held-sound s h =
       accu = parts.accu;
       average = average-from s parts.rate;
       cycle = within-at (s.measuring == 1) s refl parts.rate;
+      waited = omega arith;
       active = one-at (s.profile == 2) s refl parts.activity;
     }
 

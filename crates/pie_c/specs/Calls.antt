@@ -2,11 +2,11 @@
 use Rattle.std.specs.Prelude.{ℕ, ◌^◌, ◌==◌, ◌||◌, Bool, nat_lt, not, if◌then◌else◌}
 use Rattle.pie_queue.specs.declared.ecn.Ecn.{Ecn}
 use Rattle.pie_queue.specs.declared.ecn.Ecn.TheVariants.{NotEct, Ect1, Ect0, Ce}
-use Rattle.pie_controller.specs.declared.verdict.Arrival.{Arrival}
-use Rattle.pie_controller.specs.declared.verdict.Verdict.{Verdict}
-use Rattle.pie_controller.specs.declared.verdict.Verdict.TheVariants.{Enqueued, Marked, DroppedEarly, DroppedBytes, DroppedPackets}
-use Rattle.pie_controller.specs.Held.{Held}
-use Rattle.pie_controller.specs.Steps.{delay_answered, due, now_at, updated}
+use Rattle.pie_aqm.specs.declared.verdict.Arrival.{Arrival}
+use Rattle.pie_aqm.specs.declared.verdict.Verdict.{Verdict}
+use Rattle.pie_aqm.specs.declared.verdict.Verdict.TheVariants.{Enqueued, Marked, DroppedEarly, DroppedBytes, DroppedPackets}
+use Rattle.pie_aqm.specs.Held.{Held}
+use Rattle.pie_aqm.specs.Steps.{delay_answered, due, now_at, updated}
 use Rattle.pie_c.specs.declared.params.PieParams.{PieParams}
 use Rattle.pie_c.specs.declared.state.PieState.{PieState}
 use Rattle.pie_c.specs.declared.updated.PieUpdated.{PieUpdated}

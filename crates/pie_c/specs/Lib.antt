@@ -1,3 +1,4 @@
 pub mod Params
 pub mod State
 pub mod Calls
+pub mod Reading

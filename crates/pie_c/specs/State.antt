@@ -1,11 +1,12 @@
 -- What a state says that a controller holds, and which states are sound.
 use Rattle.std.specs.Prelude.{ℕ, ◌^◌, ◌-◌, Bool, not, ◌&&◌, ◌==◌, nat_lt, nat_le, is_none, Option, Some, None, if◌then◌else◌}
+use Rattle.pie_params.specs.Elements.{usual}
 use Rattle.pie_params.specs.Range.{first_bad}
 use Rattle.pie_rate.specs.Estimate.{Begun, Estimate}
 use Rattle.pie_control.specs.Parts.{Parts}
-use Rattle.pie_controller.specs.declared.profile.Profile.{Profile}
-use Rattle.pie_controller.specs.declared.profile.Profile.TheVariants.{One, Two}
-use Rattle.pie_controller.specs.Held.{Held}
+use Rattle.pie_aqm.specs.declared.profile.Profile.{Profile}
+use Rattle.pie_aqm.specs.declared.profile.Profile.TheVariants.{One, Two}
+use Rattle.pie_aqm.specs.Held.{Held}
 use Rattle.pie_c.specs.declared.params.PieParams.{PieParams}
 use Rattle.pie_c.specs.declared.state.PieState.{PieState}
 use Rattle.pie_c.specs.Params.{params_of, raw_of}
@@ -54,14 +55,16 @@ control_in s = record { prob = s.prob; old_delay = s.old_delay; burst = s.burst;
 abbrev pub rate_in : PieState → Estimate
 rate_in s = record { average = s.average; begun = begun_in s.measuring s.cycle_start s.cycle_count }
 
--- what a controller holds, by this state
+-- what a controller holds, by this state: the usual choices of the optional elements, so what a packet had waited plays no part
 unfoldable pub held_in : PieState → Held
 held_in s = record {
   profile = profile_of s.profile;
+  elements = usual;
   params = raw_of s.params;
   moment = s.moment;
   active = s.active == 1;
   rate = rate_in s;
+  waited = 0;
   control = control_in s;
   accu = s.accu;
 }

@@ -2,10 +2,10 @@
 //! is checked. The others refuse a state that isn't sound. Each refuses what it is handed out of its range, lets the controller
 //! make its step, and writes back what that changed.
 ghost use Rattle.std.specs.Prelude.{◌≡◌, ◌^◌, ◌<◌, ◌∷◌, [], ◌++◌, List, if◌then◌else◌, max, true};
-ghost use Rattle.pie_controller.specs.Calls.{Arrive, Change, Depart, Pass, Restart, Update, after_call, shown_by};
-ghost use Rattle.pie_controller.specs.Events.{ControllerEvent, Opened};
-ghost use Rattle.pie_controller.specs.History.{Shows};
-ghost use Rattle.pie_controller.specs.Steps.{arrived, capped, departed, verdict};
+ghost use Rattle.pie_aqm.specs.Calls.{Arrive, Change, Depart, Pass, Restart, Update, after_call, shown_by};
+ghost use Rattle.pie_aqm.specs.Events.{ControllerEvent, Opened};
+ghost use Rattle.pie_aqm.specs.History.{Shows};
+ghost use Rattle.pie_aqm.specs.Steps.{arrived, capped, departed, verdict};
 ghost use Rattle.pie_c.specs.Params.{raw_of};
 ghost use Rattle.pie_c.specs.State.{held_in, is_sound, with_arrival, with_rate};
 ghost use Rattle.pie_c.specs.Calls.{arrival_of, arrival_refusal, departure_refusal, if_taken, kept_if_refused, moment_refusal, params_refusal};
@@ -18,7 +18,7 @@ use crate::code::{
 use crate::params::PieParams;
 use crate::state::PieState;
 use crate::updated::PieUpdated;
-use pie_controller::{Arrival, counted, opens_cycle};
+use pie_aqm::{Arrival, counted, opens_cycle};
 use pie_fixed::MAX_NANOS;
 use pie_params::Params;
 
@@ -144,20 +144,20 @@ fn arrive_apart(
 }
 
 /// Takes in a packet that left the queue, with `left` bytes after it (RFC 8033, section 5.2). An inactive controller takes in the
-/// moment alone.
+/// moment alone. The delay comes from the departure rate, so since when the packet waited plays no part.
 #[unsafe(no_mangle)]
 pub extern "C" fn pie_depart(state: &mut PieState, size: u32, left: u64, moment: u64) -> u32
     ensures answer { result ≡ departure_refusal size left moment }
     ensures fields { state.new ≡ if_taken (departure_refusal size left moment) state.old
-        (with_rate state.old (departed (capped (held_in state.old)) size left moment)) }
+        (with_rate state.old (departed (capped (held_in state.old)) size left 0 moment)) }
 
     // a sound state: it is then what the controller holds, in every field
     ensures after { is_sound state.old ≡ true → state.new ≡ kept_if_refused (departure_refusal size left moment) state.old
-        (after_call (held_in state.old) (Depart size left moment)) }
+        (after_call (held_in state.old) (Depart size left 0 moment)) }
     ensures sound { is_sound state.old ≡ true → is_sound state.new ≡ true }
     ensures shows { (opened : Opened) (events : List ControllerEvent) → is_sound state.old ≡ true → departure_refusal size left moment ≡ 0
         → Shows opened events (held_in state.old)
-        → Shows opened (events ++ shown_by (held_in state.old) (Depart size left moment) ∷ []) (held_in state.new) }
+        → Shows opened (events ++ shown_by (held_in state.old) (Depart size left 0 moment) ∷ []) (held_in state.new) }
 {
     if depart_counted(state, size, left, moment) {
         return DONE;
@@ -171,7 +171,7 @@ pub extern "C" fn pie_depart(state: &mut PieState, size: u32, left: u64, moment:
 fn depart_counted(state: &mut PieState, size: u32, left: u64, moment: u64) -> bool
     ensures taken { result ≡ true → departure_refusal size left moment ≡ 0 }
     ensures within { result ≡ true → moment < 2 ^ 60 }
-    ensures after { state.new ≡ (if result then with_rate state.old (departed (capped (held_in state.old)) size left moment) else state.old) }
+    ensures after { state.new ≡ (if result then with_rate state.old (departed (capped (held_in state.old)) size left 0 moment) else state.old) }
 {
     if left <= MAX_QUEUED
         && state.active == 1
@@ -192,7 +192,7 @@ fn depart_counted(state: &mut PieState, size: u32, left: u64, moment: u64) -> bo
 fn depart_otherwise(state: &mut PieState, moment: u64, size: u32, left: u64) -> u32
     ensures answer { result ≡ departure_refusal size left moment }
     ensures fields { state.new ≡ if_taken (departure_refusal size left moment) state.old
-        (with_rate state.old (departed (capped (held_in state.old)) size left moment)) }
+        (with_rate state.old (departed (capped (held_in state.old)) size left 0 moment)) }
 {
     if depart_unmeasured(state, size, left, moment) {
         return DONE;
@@ -205,7 +205,7 @@ fn depart_otherwise(state: &mut PieState, moment: u64, size: u32, left: u64) -> 
 fn depart_unmeasured(state: &mut PieState, size: u32, left: u64, moment: u64) -> bool
     ensures taken { result ≡ true → departure_refusal size left moment ≡ 0 }
     ensures within { result ≡ true → moment < 2 ^ 60 }
-    ensures after { state.new ≡ (if result then with_rate state.old (departed (capped (held_in state.old)) size left moment) else state.old) }
+    ensures after { state.new ≡ (if result then with_rate state.old (departed (capped (held_in state.old)) size left 0 moment) else state.old) }
 {
     if moment > MAX_NANOS
         || is_bad_size(size)
@@ -225,7 +225,7 @@ fn depart_unmeasured(state: &mut PieState, size: u32, left: u64, moment: u64) ->
 fn depart(state: &mut PieState, size: u32, left: u64, moment: u64) -> u32
     ensures answer { result ≡ departure_refusal size left moment }
     ensures fields { state.new ≡ if_taken (departure_refusal size left moment) state.old
-        (with_rate state.old (departed (capped (held_in state.old)) size left moment)) }
+        (with_rate state.old (departed (capped (held_in state.old)) size left 0 moment)) }
 {
     if moment > MAX_NANOS {
         return BAD_MOMENT;
@@ -237,7 +237,7 @@ fn depart(state: &mut PieState, size: u32, left: u64, moment: u64) -> u32
         return BAD_QUEUE;
     }
     let mut held = raw(state);
-    held.depart(size, left, moment);
+    held.depart(size, left, 0, moment);
     state.keep_departed(&held);
     DONE
 }

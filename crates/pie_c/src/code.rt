@@ -2,7 +2,7 @@
 ghost use Rattle.std.specs.Prelude.{◌≡◌};
 ghost use Rattle.pie_c.specs.Calls.{verdict_number};
 
-use pie_controller::Verdict;
+use pie_aqm::Verdict;
 
 /// The call is done. Of an arrival: the packet is to be queued as it is.
 pub(crate) const DONE: u32 = 0;
@@ -42,6 +42,15 @@ pub(crate) const BAD_QUEUE: u32 = 112;
 
 /// Refused: a profile that is neither 1 nor 2.
 pub(crate) const BAD_PROFILE: u32 = 113;
+
+/// Refused: a text that is no number with a unit of its kind.
+pub(crate) const NOT_A_NUMBER: u32 = 114;
+
+/// Refused: a text that is more precise than the whole number that is asked for.
+pub(crate) const TOO_PRECISE: u32 = 115;
+
+/// Refused: a text of a number above `2^60 - 1`.
+pub(crate) const TOO_GREAT: u32 = 116;
 
 /// The number of a verdict.
 pub(crate) fn of_verdict(verdict: Verdict) -> u32

@@ -1,10 +1,10 @@
 ghost use Rattle.std.specs.Prelude.{◌≡◌, ◌==◌, max, true};
 ghost use Rattle.pie_control.specs.Parts.{parts_of};
-ghost use Rattle.pie_controller.specs.Held.{held_by};
+ghost use Rattle.pie_aqm.specs.Held.{held_by};
 ghost use Rattle.pie_c.specs.State.{held_in, is_sound, state_of, with_arrival, with_rate, with_registers};
 
 use crate::params::PieParams;
-use pie_controller::RawController;
+use pie_aqm::RawController;
 
 /// The controller's state, which its caller owns: the parameters in force, the registers, the profile and whether the controller is
 /// active. Times are in nanoseconds, probabilities in units of `10^-12` (RFC 8033, sections 4.2, 4.4, 5.2, 5.3 and 5.4; the scales

@@ -1,8 +1,8 @@
 ghost use Rattle.std.specs.Prelude.{◌≡◌};
-ghost use Rattle.pie_controller.specs.Held.{IsSound, held_by};
+ghost use Rattle.pie_aqm.specs.Held.{IsSound, held_by};
 ghost use Rattle.pie_c.specs.Calls.{nothing_updated, updated_with};
 
-use pie_controller::RawController;
+use pie_aqm::RawController;
 
 /// What an update answers.
 #[repr(C)]

@@ -1,8 +1,10 @@
 -- The probability after an update (RFC 8033, sections 4.2 and 5.5).
-use Rattle.std.specs.Prelude.{ℕ, ℤ, pos, ◌+ℤ◌, ◌-ℤ◌, ◌*ℤ◌, ◌^◌, ◌&&◌, ◌==◌, nat_lt, int_div, if◌then◌else◌}
+use Rattle.std.specs.Prelude.{ℕ, ℤ, pos, ◌+ℤ◌, ◌-ℤ◌, ◌*ℤ◌, ◌^◌, ◌&&◌, ◌==◌, nat_le, nat_lt, int_div, if◌then◌else◌}
 use Rattle.std.specs.Int.{int_min}
 use Rattle.pie_fixed.specs.Fixed.{bounded_of}
 use Rattle.pie_params.specs.declared.raw.RawParams.{RawParams}
+use Rattle.pie_params.specs.declared.elements.Step.{Step}
+use Rattle.pie_params.specs.Elements.{is_capped}
 
 -- by how much the probability would change: alpha times the delay's distance from the target, and
 -- beta times the delay's change
@@ -20,16 +22,16 @@ tuning_divisor prob =
     (if nat_lt prob (10 ^ 10) then 8 else
     (if nat_lt prob (10 ^ 11) then 2 else 1)))))
 
--- the change after auto-tuning: divided toward zero, and from a tenth on at most two hundredths
-unfoldable pub tuned_step : ℕ → ℤ → ℤ
-tuned_step prob step =
+-- the change after auto-tuning: divided toward zero, and where steps are capped, from a tenth on at most two hundredths
+unfoldable pub tuned_step : Step → ℕ → ℤ → ℤ
+tuned_step choice prob step =
     let tuned = int_div step (pos (tuning_divisor prob)) in
-    if nat_lt prob (10 ^ 11) then tuned else int_min tuned (pos 20_000_000_000)
+    if is_capped choice && nat_le (10 ^ 11) prob then int_min tuned (pos 20_000_000_000) else tuned
 
 -- the sum after the decay: 98 hundredths, toward zero, while both delays are 0
 unfoldable pub decayed : ℕ → ℕ → ℤ → ℤ
 decayed delay old sum = if (delay == 0) && (old == 0) then int_div (sum *ℤ pos 98) (pos 100) else sum
 
--- the probability after an update with this delay, the one before it and the old delay given
-unfoldable pub next : RawParams → ℕ → ℕ → ℕ → ℕ
-next params prob delay old = bounded_of (decayed delay old (pos prob +ℤ tuned_step prob (raw_step params delay old)))
+-- the probability after an update with this delay, its rise capped or not, the one before it and the old delay given
+unfoldable pub next : Step → RawParams → ℕ → ℕ → ℕ → ℕ
+next choice params prob delay old = bounded_of (decayed delay old (pos prob +ℤ tuned_step choice prob (raw_step params delay old)))

@@ -7,7 +7,7 @@ ghost use Rattle.pie_control.specs.Next.{next};
 ghost use Rattle.pie_control.specs.Parts.{parts_of};
 
 use crate::update::next;
-use pie_params::RawParams;
+use pie_params::{RawParams, Step};
 
 /// The control law's registers as plain numbers, each in its range or not: their rules are [`Control`](crate::Control)'s.
 #[derive(Clone, Copy, Debug, PartialEq, Eq)]
@@ -53,21 +53,21 @@ impl RawControl {
     }
 
     /// Makes an update, as [`Control::update`](crate::Control::update) does, where probability and old delay are in their ranges.
-    pub fn update(&mut self, params: &RawParams, delay: u64, moment: u64) -> bool
+    pub fn update(&mut self, params: &RawParams, choice: Step, delay: u64, moment: u64) -> bool
         requires params { IsInRange params.now }
         requires prob { self.old.prob ≤ 10 ^ 12 }
         requires old { self.old.old_delay ≤ MAX_DELAY }
         requires delay { delay ≤ MAX_DELAY }
         ensures calm { result ≡ ends_calm params.now self.new.prob delay self.old.old_delay }
         ensures after { parts_of self.new ≡ record {
-          prob = next params.now self.old.prob delay self.old.old_delay;
+          prob = next choice params.now self.old.prob delay self.old.old_delay;
           old_delay = delay;
-          burst = burst_after params.now (parts_of self.old) delay;
+          burst = burst_after choice params.now (parts_of self.old) delay;
           last = moment;
         } }
         ensures within { self.new.prob ≤ 10 ^ 12 }
     {
-        let prob = next(params, self.prob, delay, self.old_delay).units();
+        let prob = next(params, choice, self.prob, delay, self.old_delay).units();
         let calm = is_calm(params, prob, delay, self.old_delay);
         let reduced = self.burst.saturating_sub(params.t_update);
         *self = RawControl {

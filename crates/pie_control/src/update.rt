@@ -3,14 +3,15 @@ ghost use Rattle.pie_fixed.specs.declared.TheConstants.{ONE};
 ghost use Rattle.pie_params.specs.Range.{IsInRange};
 ghost use Rattle.pie_control.specs.Delay.{delay_of};
 ghost use Rattle.pie_control.specs.Next.{decayed, next, raw_step, tuned_step, tuning_divisor};
+ghost use Rattle.pie_params.specs.declared.elements.Step.TheVariants.{Capped};
 
 use pie_fixed::{Prob, bounded};
-use pie_params::{Params, RawParams};
+use pie_params::{Params, RawParams, Step};
 
 /// The greatest delay, `2^40` nanoseconds, at which an estimate is cut off (this project's own).
 pub const MAX_DELAY: u64 = 1 << 40;
 
-/// A tenth, the probability from which a step upward is capped (RFC 8033, section 5.5).
+/// A tenth, the probability from which a step upward is capped, where steps are (RFC 8033, section 5.5).
 const CAPPED_FROM: u64 = 100_000_000_000;
 
 /// Two hundredths, the largest step upward from there (RFC 8033, section 5.5).
@@ -73,21 +74,20 @@ fn tuning_divisor(prob: u64) -> u32
     }
 }
 
-/// The step after auto-tuning and the cap, at the probability before the update.
+/// The step after auto-tuning, and after the cap where that is chosen, at the probability before the update.
 #[tactic(auto, using(crate::proofs::Quotients::quotients), unfolding(crate::specs::Next::tuned_step))]
-fn tuned_step(prob: u64, step: i64) -> i64
+fn tuned_step(choice: Step, prob: u64, step: i64) -> i64
     requires above { negsuc (2 ^ 62) ≤ℤ step }
     requires below { step ≤ℤ pos (2 ^ 62) }
-    ensures value { result ≡ tuned_step prob step }
+    ensures value { result ≡ tuned_step choice prob step }
     ensures above { negsuc (2 ^ 62) ≤ℤ result }
     ensures below { result ≤ℤ pos (2 ^ 62) }
-    ensures cap { 10 ^ 11 ≤ prob → result ≤ℤ pos 20_000_000_000 }
+    ensures cap { choice ≡ Capped → 10 ^ 11 ≤ prob → result ≤ℤ pos 20_000_000_000 }
 {
     let tuned = step / i64::from(tuning_divisor(prob));
-    if prob < CAPPED_FROM {
-        tuned
-    } else {
-        tuned.min(LARGEST_STEP)
+    match choice {
+        Step::Capped if prob >= CAPPED_FROM => tuned.min(LARGEST_STEP),
+        Step::Capped | Step::Uncapped => tuned,
     }
 }
 
@@ -107,29 +107,29 @@ fn decayed(delay: u64, old: u64, sum: i128) -> i128
 }
 
 /// The probability after an update with the given delay, from that before it and the old delay (RFC
-/// 8033, sections 4.2 and 5.5). Delays are in nanoseconds, at most [`MAX_DELAY`].
+/// 8033, sections 4.2 and 5.5), with its rise capped or not. Delays are in nanoseconds, at most [`MAX_DELAY`].
 #[inline(always)]
-pub fn next_probability(params: &Params, prob: Prob, delay: u64, old: u64) -> Prob
+pub fn next_probability(params: &Params, choice: Step, prob: Prob, delay: u64, old: u64) -> Prob
     requires delay { delay ≤ MAX_DELAY }
     requires old { old ≤ MAX_DELAY }
-    ensures value { result ≡ next params.now prob delay old }
+    ensures value { result ≡ next choice params.now prob delay old }
     ensures within { result ≤ ONE }
-    ensures cap { 10 ^ 11 ≤ prob → result ≤ prob + 20_000_000_000 }
+    ensures cap { choice ≡ Capped → 10 ^ 11 ≤ prob → result ≤ prob + 20_000_000_000 }
 {
-    next(&params.raw(), prob.units(), delay, old)
+    next(&params.raw(), choice, prob.units(), delay, old)
 }
 
 /// The same over plain numbers that are in their ranges.
 #[tactic(auto, unfolding(crate::specs::Next::next))]
-pub(crate) fn next(params: &RawParams, prob: u64, delay: u64, old: u64) -> Prob
+pub(crate) fn next(params: &RawParams, choice: Step, prob: u64, delay: u64, old: u64) -> Prob
     requires params { IsInRange params.now }
     requires prob { prob ≤ 10 ^ 12 }
     requires delay { delay ≤ MAX_DELAY }
     requires old { old ≤ MAX_DELAY }
-    ensures value { result ≡ next params.now prob delay old }
+    ensures value { result ≡ next choice params.now prob delay old }
     ensures within { result ≤ ONE }
-    ensures cap { 10 ^ 11 ≤ prob → result ≤ prob + 20_000_000_000 }
+    ensures cap { choice ≡ Capped → 10 ^ 11 ≤ prob → result ≤ prob + 20_000_000_000 }
 {
-    let step = tuned_step(prob, raw_step(params, delay, old));
+    let step = tuned_step(choice, prob, raw_step(params, delay, old));
     bounded(decayed(delay, old, i128::from(prob) + i128::from(step)))
 }

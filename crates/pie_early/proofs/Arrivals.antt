@@ -2,12 +2,15 @@
 use Rattle.std.proofs.Common.{◌≡◌, ℕ, ◌+◌, ◌<◌, ◌==◌, ◌||◌, not, if◌then◌else◌, Bool, true, false, List, [], ◌∷◌, ◌++◌, refl, arith}
 use Rattle.std.proofs.lemmas.Bool.Decides.{nat_tests}
 use Rattle.pie_params.specs.declared.raw.RawParams.{RawParams}
+use Rattle.pie_params.specs.declared.elements.Picking.{Picking}
+use Rattle.pie_params.specs.declared.elements.Picking.TheVariants.{Derandomized, Random}
 use Rattle.pie_control.specs.Parts.{Parts}
 use Rattle.pie_queue.specs.declared.ecn.Ecn.{Ecn}
-use Rattle.pie_early.specs.Decision.{accu_after, always_picked, choice_of, is_considered, is_picked, picked_choice}
+use Rattle.pie_early.specs.Decision.{accu_at, always_picked, choice_at, is_considered, is_picked, joined, picked_choice}
+use Rattle.pie_early.specs.declared.early.Choice.TheVariants.{Enqueue}
 use Rattle.pie_early.specs.Events.{EarlyEvent, arrival}
 use Rattle.pie_early.specs.History.{Shows}
-use Rattle.pie_early.proofs.Laws.{shows-unconsidered, shows-zero, shows-grown, shows-pick}
+use Rattle.pie_early.proofs.Laws.{shows-alone, shows-unconsidered, shows-zero, shows-grown, shows-pick}
 use Rattle.pie_early.proofs.Picking.{below_always, is_pick-picked_choice, picked_zero_at}
 
 zero_is : (n : ℕ) → (n == 0) ≡ true → n ≡ 0
@@ -16,55 +19,69 @@ zero_is n e = grind (arith, nat_tests)
 some_is : (n : ℕ) → (n == 0) ≡ false → 0 < n
 some_is n e = grind (arith, nat_tests)
 
-module _ (params : RawParams) (control : Parts) (bytes word held : ℕ) where
+module _ (picking : Picking) (params : RawParams) (control : Parts) (prob bytes word held : ℕ) where
   abbrev considered : Bool
   considered = is_considered params control bytes
 
   abbrev picked_now : Bool
-  picked_now = is_picked control.prob (held + control.prob) word
+  picked_now = is_picked picking prob (held + prob) word
 
   -- it is 0 after a picked arrival, and else grown
-  pub accu-picked : is_considered params control bytes ≡ true → is_picked control.prob (held + control.prob) word ≡ true
-      → 0 ≡ accu_after params control bytes word held
-  accu-picked e g = by (control.prob == 0)
+  pub accu-picked : is_considered params control bytes ≡ true → is_picked picking prob (held + prob) word ≡ true
+      → 0 ≡ accu_at picking params control prob bytes word held
+  accu-picked e g = by (prob == 0)
     where
-      by : (z : Bool) → 0 ≡ (if not (is_considered params control bytes) then held else if z || is_picked control.prob
-          (held + control.prob) word then 0 else held + control.prob)
+      by : (z : Bool) → 0 ≡ (if not (is_considered params control bytes) then held else if z || is_picked picking prob
+          (held + prob) word then 0 else joined picking held prob)
       by true = rw e refl
       by false = rw (e, g) refl
 
-  pub accu-unpicked : is_considered params control bytes ≡ true → 0 < control.prob → is_picked control.prob (held + control.prob) word ≡ false
-      → held + control.prob ≡ accu_after params control bytes word held
+  pub accu-unpicked : is_considered params control bytes ≡ true → 0 < prob → is_picked picking prob (held + prob) word ≡ false
+      → joined picking held prob ≡ accu_at picking params control prob bytes word held
   accu-unpicked e some g =
-      let z : (control.prob == 0) ≡ false = grind (arith, nat_tests) in
+      let z : (prob == 0) ≡ false = grind (arith, nat_tests) in
       rw (e, z, g) refl
 
+-- with one that isn't picked it stays below 8.5
+joined_below : (picking : Picking) (prob held word : ℕ) → 0 < prob → is_picked picking prob (held + prob) word ≡ false → held < always_picked
+    → joined picking held prob < always_picked
+joined_below Derandomized prob held word some g h = below_always prob (held + prob) word some g
+joined_below Random prob held word some g h = h
+
+-- what is shown with it
+shows_joined : (picking : Picking) (prob held : ℕ) (events : List EarlyEvent) → Shows events held → 0 < prob
+    → Shows (events ++ arrival true prob picking Enqueue ∷ []) (joined picking held prob)
+shows_joined Derandomized prob held events shown some = shows-grown events held shown true prob refl some
+shows_joined Random prob held events shown some = shows-alone events held shown prob some
+
+module _ (picking : Picking) (params : RawParams) (control : Parts) (prob bytes word held : ℕ) where
   -- it stays below 8.5
-  below_by : (b z p : Bool) → is_considered params control bytes ≡ b → (control.prob == 0) ≡ z → is_picked control.prob (held + control.prob) word ≡ p
-      → held < always_picked → accu_after params control bytes word held < always_picked
+  below_by : (b z p : Bool) → is_considered params control bytes ≡ b → (prob == 0) ≡ z → is_picked picking prob (held + prob) word ≡ p
+      → held < always_picked → accu_at picking params control prob bytes word held < always_picked
   below_by false z p e f g h = rw e h
   below_by true true p e f g h = rw (e, f) (omega arith)
   below_by true false true e f g h = rw (e, f, g) (omega arith)
-  below_by true false false e f g h = rw (e, f, g) (below_always control.prob (held + control.prob) word (some_is control.prob f) g)
+  below_by true false false e f g h = rw (e, f, g) (joined_below picking prob held word (some_is prob f) g h)
 
-  pub accu_below : held < always_picked → accu_after params control bytes word held < always_picked
-  accu_below h = below_by considered (control.prob == 0) picked_now refl refl refl h
+  pub accu_below : held < always_picked → accu_at picking params control prob bytes word held < always_picked
+  accu_below h = below_by (is_considered params control bytes) (prob == 0) (is_picked picking prob (held + prob) word) refl refl refl h
 
   -- what is shown with the arrival at the end
-  shows_by : (events : List EarlyEvent) (ecn : Ecn) (b z p : Bool) → is_considered params control bytes ≡ b → (control.prob == 0) ≡ z
-      → is_picked control.prob (held + control.prob) word ≡ p → Shows events held
-      → Shows (events ++ arrival (is_considered params control bytes) control.prob (choice_of params control bytes ecn word held) ∷ [])
-      (accu_after params control bytes word held)
-  shows_by events ecn false z p e f g shown = rw e (shows-unconsidered events held shown false control.prob refl)
+  shows_by : (events : List EarlyEvent) (ecn : Ecn) (b z p : Bool) → is_considered params control bytes ≡ b → (prob == 0) ≡ z
+      → is_picked picking prob (held + prob) word ≡ p → Shows events held
+      → Shows (events ++ arrival (is_considered params control bytes) prob picking (choice_at picking params control prob bytes ecn word held) ∷ [])
+      (accu_at picking params control prob bytes word held)
+  shows_by events ecn false z p e f g shown = rw e (shows-unconsidered events held shown false prob picking refl)
   shows_by events ecn true true p e f g shown =
-      let zero = zero_is control.prob f in
-      rw (e, f, picked_zero_at control.prob (held + control.prob) word zero) (shows-zero events held shown true control.prob refl zero)
+      let zero = zero_is prob f in
+      rw (e, f, picked_zero_at picking prob (held + prob) word zero) (shows-zero events held shown true prob picking refl zero)
   shows_by events ecn true false true e f g shown =
-      rw (e, f, g) (shows-pick events held shown true control.prob (picked_choice params control.prob ecn)
+      rw (e, f, g) (shows-pick events held shown true prob picking (picked_choice params control.prob ecn)
       (is_pick-picked_choice params control.prob ecn))
-  shows_by events ecn true false false e f g shown = rw (e, f, g) (shows-grown events held shown true control.prob refl (some_is control.prob f))
+  shows_by events ecn true false false e f g shown = rw (e, f, g) (shows_joined picking prob held events shown (some_is prob f))
 
   pub shows_arrival : (events : List EarlyEvent) (ecn : Ecn) → Shows events held
-      → Shows (events ++ arrival (is_considered params control bytes) control.prob (choice_of params control bytes ecn word held) ∷ [])
-      (accu_after params control bytes word held)
-  shows_arrival events ecn shown = shows_by events ecn considered (control.prob == 0) picked_now refl refl refl shown
+      → Shows (events ++ arrival (is_considered params control bytes) prob picking (choice_at picking params control prob bytes ecn word held) ∷ [])
+      (accu_at picking params control prob bytes word held)
+  shows_arrival events ecn shown =
+      shows_by events ecn (is_considered params control bytes) (prob == 0) (is_picked picking prob (held + prob) word) refl refl refl shown

@@ -2,12 +2,18 @@
 use Rattle.std.specs.Prelude.{◌≡◌, ℕ, ◌^◌, ◌*◌, ◌-◌, true, false, List, [], ◌∷◌, ◌++◌, map, replicate, refl}
 use Rattle.pie_fixed.specs.declared.TheConstants.{ALWAYS_PICKED, ONE}
 use Rattle.pie_params.specs.Profile.{default_profile}
+use Rattle.pie_params.specs.declared.elements.Elements.{Elements}
+use Rattle.pie_params.specs.declared.elements.Picking.TheVariants.{Derandomized, Random}
+use Rattle.pie_params.specs.declared.elements.Size.TheVariants.{Unscaled, Scaled}
+use Rattle.pie_params.specs.Elements.{usual}
 use Rattle.pie_control.specs.Parts.{Parts}
+use Rattle.pie_queue.specs.declared.ecn.Ecn.{Ecn}
 use Rattle.pie_queue.specs.declared.ecn.Ecn.TheVariants.{NotEct, Ect0}
+use Rattle.pie_early.specs.declared.decision.Offered.{Offered}
 use Rattle.pie_early.specs.declared.early.TheConstants.{LOW_PROB, NEVER_PICKED}
 use Rattle.pie_early.specs.declared.early.Choice.{Choice}
 use Rattle.pie_early.specs.declared.early.Choice.TheVariants.{Enqueue, Mark, Drop}
-use Rattle.pie_early.specs.Decision.{a_fifth, accu_after, always_picked, choice_of, is_considered, is_picked, never_picked}
+use Rattle.pie_early.specs.Decision.{a_fifth, accu_after, always_picked, choice_of, counted_as, is_considered, is_picked, never_picked}
 use Rattle.pie_early.specs.Events.{EarlyEvent, arrival, cleared}
 use Rattle.pie_early.specs.History.{accumulated}
 
@@ -30,11 +36,15 @@ control prob old = record { prob = prob; old_delay = old; burst = 0; last = 0 }
 
 -- so many considered arrivals at a tenth that were queued
 abbrev queued : ℕ → List EarlyEvent
-queued n = replicate n (arrival true (10 ^ 11) Enqueue)
+queued n = replicate n (arrival true (10 ^ 11) Derandomized Enqueue)
+
+-- a packet of so many bytes at a queue of so many, with its random word
+abbrev packet : ℕ → ℕ → Ecn → ℕ → Offered
+packet size bytes ecn word = record { bytes = bytes; size = size; ecn = ecn; word = word }
 
 -- the choice after so many of them, with 3000 bytes in the queue
 abbrev after : ℕ → ℕ → Choice
-after n word = choice_of default_profile (control (10 ^ 11) 15000000) 3000 NotEct word (accumulated (queued n))
+after n word = choice_of usual default_profile (control (10 ^ 11) 15000000) (packet 1024 3000 NotEct word) (accumulated (queued n))
 
 -- the greatest word picks none before the 85th, where the accumulated probability is exactly 8.5, and the least word none while it is below 0.85
 choices : (map (λ n. after n (2 ^ 64 - 1)) (1 ∷ 83 ∷ 84 ∷ []) ≡ Enqueue ∷ Enqueue ∷ Drop ∷ [])
@@ -43,15 +53,15 @@ unfolding accumulated is_considered is_picked
 choices = (refl, refl)
 
 -- a packet whose endpoints understand a mark is dropped at the marking threshold, and marked below it
-marks : map (λ prob. choice_of default_profile (control prob 15000000) 3000 Ect0 0 (accumulated (queued 8))) ((10 ^ 11) ∷ (10 ^ 11 - 1) ∷ [])
+marks : map (λ prob. choice_of usual default_profile (control prob 15000000) (packet 1024 3000 Ect0 0) (accumulated (queued 8))) ((10 ^ 11) ∷ (10 ^ 11 - 1) ∷ [])
     ≡ Drop ∷ Mark ∷ []
 unfolding accumulated is_considered is_picked
 marks = refl
 
 -- a pick, a clear and an arrival considered at probability 0 each leave nothing accumulated; one that isn't considered changes nothing
 accumulations : map (λ events. accumulated (queued 8 ++ events))
-    ([] ∷ (arrival true (10 ^ 11) Mark ∷ []) ∷ (arrival true (10 ^ 11) Drop ∷ queued 2) ∷ (cleared ∷ queued 1)
-    ∷ (arrival true 0 Enqueue ∷ []) ∷ (arrival false (10 ^ 11) Enqueue ∷ []) ∷ [])
+    ([] ∷ (arrival true (10 ^ 11) Derandomized Mark ∷ []) ∷ (arrival true (10 ^ 11) Derandomized Drop ∷ queued 2) ∷ (cleared ∷ queued 1)
+    ∷ (arrival true 0 Derandomized Enqueue ∷ []) ∷ (arrival false (10 ^ 11) Derandomized Enqueue ∷ []) ∷ [])
     ≡ 800_000_000_000 ∷ 0 ∷ 200_000_000_000 ∷ 100_000_000_000 ∷ 0 ∷ 800_000_000_000 ∷ []
 unfolding accumulated
 accumulations = refl
@@ -66,9 +76,47 @@ considerations = (refl, refl, refl, refl)
 
 -- the accumulated probability after an arrival that isn't considered, one that is queued, one that is
 -- picked, and one that is considered at probability 0
-accus : (accu_after default_profile (control (10 ^ 11) 15000000) 2048 0 5 ≡ 5)
-    × (accu_after default_profile (control (10 ^ 11) 15000000) 3000 0 5 ≡ 100_000_000_005)
-    × (accu_after default_profile (control (10 ^ 11) 15000000) 3000 0 750_000_000_000 ≡ 0)
-    × (accu_after default_profile (control 0 15000000) 3000 0 5 ≡ 0)
+accus : (accu_after usual default_profile (control (10 ^ 11) 15000000) (packet 1024 2048 NotEct 0) 5 ≡ 5)
+    × (accu_after usual default_profile (control (10 ^ 11) 15000000) (packet 1024 3000 NotEct 0) 5 ≡ 100_000_000_005)
+    × (accu_after usual default_profile (control (10 ^ 11) 15000000) (packet 1024 3000 NotEct 0) 750_000_000_000 ≡ 0)
+    × (accu_after usual default_profile (control 0 15000000) (packet 1024 3000 NotEct 0) 5 ≡ 0)
 unfolding is_considered is_picked
 accus = (refl, refl, refl, refl)
+
+-- ---- random picking: by the word alone, whatever was accumulated, and nothing is added
+
+abbrev random : Elements
+random = record usual { picking = Random }
+
+-- a tenth of 2^64, rounded up, is the first word that is not below a tenth
+picks_at_random : map (λ word. choice_of random default_profile (control (10 ^ 11) 15000000) (packet 1024 3000 NotEct word) 0)
+    (1_844_674_407_370_955_161 ∷ 1_844_674_407_370_955_162 ∷ []) ≡ Drop ∷ Enqueue ∷ []
+unfolding is_considered is_picked
+picks_at_random = refl
+
+adds_nothing : (accu_after random default_profile (control (10 ^ 11) 15000000) (packet 1024 3000 NotEct (2 ^ 64 - 1)) 0 ≡ 0)
+    × (accu_after random default_profile (control 0 15000000) (packet 1024 3000 NotEct 0) 0 ≡ 0)
+    × (choice_of random default_profile (control 0 15000000) (packet 1024 3000 NotEct 0) 0 ≡ Enqueue)
+    × (accumulated (arrival true (10 ^ 11) Random Enqueue ∷ arrival true (10 ^ 11) Random Enqueue ∷ []) ≡ 0)
+unfolding accumulated is_considered is_picked
+adds_nothing = (refl, refl, refl, refl)
+
+-- ---- scaled: a packet smaller than the mean by its size, rounded down
+
+abbrev scaled : Elements
+scaled = record usual { size = Scaled }
+
+counts_as : (map (λ size. counted_as Scaled default_profile size (10 ^ 11)) (1 ∷ 512 ∷ 1023 ∷ 1024 ∷ 65535 ∷ [])
+    ≡ 97_656_250 ∷ 50_000_000_000 ∷ 99_902_343_750 ∷ 100_000_000_000 ∷ 100_000_000_000 ∷ [])
+    × (counted_as Scaled default_profile 64 15 ≡ 0) × (counted_as Unscaled default_profile 64 15 ≡ 15)
+counts_as = (refl, refl, refl)
+
+-- half the mean: half the probability joins the sum, and is beside the word; one that comes to nothing clears, as probability 0 does; and
+-- whether it is marked goes by the probability itself
+scales : (accu_after scaled default_profile (control (10 ^ 11) 15000000) (packet 512 3000 NotEct 0) 5 ≡ 50_000_000_005)
+    × (accu_after scaled default_profile (control 15 15000000) (packet 64 3000 NotEct 0) 5 ≡ 0)
+    × (map (λ word. choice_of scaled default_profile (control (10 ^ 11) 15000000) (packet 512 3000 NotEct word) 850_000_000_000)
+    (922_337_203_685_477_580 ∷ 922_337_203_685_477_581 ∷ []) ≡ Drop ∷ Enqueue ∷ [])
+    × (choice_of scaled default_profile (control (10 ^ 11) 15000000) (packet 512 3000 Ect0 0) 850_000_000_000 ≡ Drop)
+unfolding is_considered is_picked
+scales = (refl, refl, refl, refl)

@@ -7,10 +7,12 @@ use Rattle.std.proofs.lemmas.List.{drop-append-le, drop_all, length_push, revers
 use Rattle.std.proofs.lemmas.Bool.{ne_eqb, or_left}
 use Rattle.std.proofs.lemmas.List.Elements.{filter-append}
 use Rattle.std.proofs.lemmas.List.Sums.{sum_by-append, suffix_len-le-length}
+use Rattle.pie_params.specs.declared.elements.Picking.{Picking}
+use Rattle.pie_params.specs.declared.elements.Picking.TheVariants.{Derandomized, Random}
 use Rattle.pie_early.specs.Decision.{is_pick}
 use Rattle.pie_early.specs.declared.early.Choice.{Choice}
 use Rattle.pie_early.specs.declared.early.Choice.TheVariants.{Enqueue}
-use Rattle.pie_early.specs.Events.{EarlyEvent, arrival, cleared, is_clearing, is_considered_arrival, prob_of}
+use Rattle.pie_early.specs.Events.{EarlyEvent, arrival, cleared, is_clearing, joins, prob_of}
 use Rattle.pie_early.specs.History.{accumulated, Shows}
 
 suffix_len-push : {X : Type 0} (p : X → Bool) (xs : List X) (x : X) → suffix_len p (xs ++ x ∷ []) ≡ cond (p x) (1 + suffix_len p xs) 0
@@ -42,29 +44,29 @@ considered_sum event true = zero-add (prob_of event)
 considered_sum event false = refl
 
 pub accumulated-push : (events : List EarlyEvent) (event : EarlyEvent) → is_clearing event ≡ false
-    → accumulated (events ++ event ∷ []) ≡ accumulated events + cond (is_considered_arrival event) (prob_of event) 0
+    → accumulated (events ++ event ∷ []) ≡ accumulated events + cond (joins event) (prob_of event) 0
 unfolding accumulated
 accumulated-push events event e =
-    let kept = filter is_considered_arrival (after_last is_clearing events) in
+    let kept = filter joins (after_last is_clearing events) in
     rw (after_last-push_no is_clearing events event e, filter-append)
-    (sum_by-append prob_of (filter is_considered_arrival (after_last is_clearing events)) (filter is_considered_arrival (event ∷ []))
-    ∙ ap (λ n. sum_by prob_of (filter is_considered_arrival (after_last is_clearing events)) + n)
-    (considered_sum event (is_considered_arrival event)))
+    (sum_by-append prob_of (filter joins (after_last is_clearing events)) (filter joins (event ∷ []))
+    ∙ ap (λ n. sum_by prob_of (filter joins (after_last is_clearing events)) + n)
+    (considered_sum event (joins event)))
 
 -- after a clearing event and n more arrivals, considered at one probability and queued, it is n
 -- times that
 pub accumulated-run : (before : List EarlyEvent) (clearing : EarlyEvent) (n prob : ℕ) → is_clearing clearing ≡ true → 0 < prob
-    → accumulated (before ++ clearing ∷ replicate n (arrival true prob Enqueue)) ≡ n * prob
+    → accumulated (before ++ clearing ∷ replicate n (arrival true prob Derandomized Enqueue)) ≡ n * prob
 accumulated-run before clearing zero prob e some = accumulated-clearing before clearing e ∙ omega arith
 accumulated-run before clearing (suc n) prob e some =
-    let y : EarlyEvent = arrival true prob Enqueue in
-    let quiet : is_clearing (arrival true prob Enqueue) ≡ false = ne_eqb prob 0 (λ z. omega arith) in
-    let more : before ++ clearing ∷ replicate (suc n) (arrival true prob Enqueue)
-    ≡ (before ++ clearing ∷ replicate n (arrival true prob Enqueue)) ++ arrival true prob Enqueue ∷ []
-    = ap (λ xs. before ++ clearing ∷ xs) (ap (λ k. replicate k (arrival true prob Enqueue)) (sym (add-one n))
-    ∙ sym (replicate_more n (arrival true prob Enqueue)))
-    ∙ sym (append_assoc before (clearing ∷ replicate n (arrival true prob Enqueue)) (arrival true prob Enqueue ∷ [])) in
-    rw more (accumulated-push (before ++ clearing ∷ replicate n (arrival true prob Enqueue)) (arrival true prob Enqueue) quiet
+    let y : EarlyEvent = arrival true prob Derandomized Enqueue in
+    let quiet : is_clearing (arrival true prob Derandomized Enqueue) ≡ false = ne_eqb prob 0 (λ z. omega arith) in
+    let more : before ++ clearing ∷ replicate (suc n) (arrival true prob Derandomized Enqueue)
+    ≡ (before ++ clearing ∷ replicate n (arrival true prob Derandomized Enqueue)) ++ arrival true prob Derandomized Enqueue ∷ []
+    = ap (λ xs. before ++ clearing ∷ xs) (ap (λ k. replicate k (arrival true prob Derandomized Enqueue)) (sym (add-one n))
+    ∙ sym (replicate_more n (arrival true prob Derandomized Enqueue)))
+    ∙ sym (append_assoc before (clearing ∷ replicate n (arrival true prob Derandomized Enqueue)) (arrival true prob Derandomized Enqueue ∷ [])) in
+    rw more (accumulated-push (before ++ clearing ∷ replicate n (arrival true prob Derandomized Enqueue)) (arrival true prob Derandomized Enqueue) quiet
     ∙ ap (λ k. k + prob) (accumulated-run before clearing n prob e some) ∙ omega arith)
 
 -- what is held after one more event
@@ -72,22 +74,32 @@ module _ (events : List EarlyEvent) (held : ℕ) (shown : Shows events held) whe
   pub shows-clear : Shows (events ++ cleared ∷ []) 0
   shows-clear = record { accu = sym (accumulated-clearing events cleared refl) }
 
-  pub shows-unconsidered : (considered : Bool) (prob : ℕ) → considered ≡ false → Shows (events ++ arrival considered prob Enqueue ∷ []) held
-  shows-unconsidered considered prob e = rw e (record {
-    accu = shown.accu ∙ sym (add-zero (accumulated events)) ∙ sym (accumulated-push events (arrival false prob Enqueue) refl);
+  pub shows-unconsidered : (considered : Bool) (prob : ℕ) (picking : Picking) → considered ≡ false
+      → Shows (events ++ arrival considered prob picking Enqueue ∷ []) held
+  shows-unconsidered considered prob picking e = rw e (record {
+    accu = shown.accu ∙ sym (add-zero (accumulated events)) ∙ sym (accumulated-push events (arrival false prob picking Enqueue) refl);
   })
 
-  pub shows-zero : (considered : Bool) (prob : ℕ) → considered ≡ true → prob ≡ 0 → Shows (events ++ arrival considered prob Enqueue ∷ []) 0
-  shows-zero considered prob e z = rw (e, z) (record { accu = sym (accumulated-clearing events (arrival true 0 Enqueue) refl) })
+  pub shows-zero : (considered : Bool) (prob : ℕ) (picking : Picking) → considered ≡ true → prob ≡ 0
+      → Shows (events ++ arrival considered prob picking Enqueue ∷ []) 0
+  shows-zero considered prob picking e z = rw (e, z) (record { accu = sym (accumulated-clearing events (arrival true 0 picking Enqueue) refl) })
+
+  -- where probabilities don't accumulate
+  pub shows-alone : (prob : ℕ) → 0 < prob → Shows (events ++ arrival true prob Random Enqueue ∷ []) held
+  shows-alone prob some = record {
+    accu = shown.accu ∙ sym (add-zero (accumulated events))
+        ∙ sym (accumulated-push events (arrival true prob Random Enqueue) (ne_eqb prob 0 (λ z. omega arith)));
+  }
 
   pub shows-grown : (considered : Bool) (prob : ℕ) → considered ≡ true → 0 < prob
-      → Shows (events ++ arrival considered prob Enqueue ∷ []) (held + prob)
+      → Shows (events ++ arrival considered prob Derandomized Enqueue ∷ []) (held + prob)
   shows-grown considered prob e some = rw e (record {
-    accu = ap (λ k. k + prob) shown.accu ∙ sym (accumulated-push events (arrival true prob Enqueue) (ne_eqb prob 0 (λ z. omega arith)));
+    accu = ap (λ k. k + prob) shown.accu ∙ sym (accumulated-push events (arrival true prob Derandomized Enqueue) (ne_eqb prob 0 (λ z. omega arith)));
   })
 
-  pub shows-pick : (considered : Bool) (prob : ℕ) (choice : Choice) → is_pick choice ≡ true → Shows (events ++ arrival considered prob choice ∷ []) 0
-  shows-pick considered prob choice e = record {
-    accu = sym (accumulated-clearing events (arrival considered prob choice)
+  pub shows-pick : (considered : Bool) (prob : ℕ) (picking : Picking) (choice : Choice) → is_pick choice ≡ true
+      → Shows (events ++ arrival considered prob picking choice ∷ []) 0
+  shows-pick considered prob picking choice e = record {
+    accu = sym (accumulated-clearing events (arrival considered prob picking choice)
         (or_left (is_pick choice) (considered && eqb prob 0) e));
   }

@@ -1,4 +1,5 @@
 mod Examples
+pub mod Scaling
 pub mod Laws
 pub mod Picking
 pub mod Arrivals

@@ -1,16 +1,19 @@
 -- What the tests of the decision say in facts.
-use Rattle.std.proofs.Common.{ltb, ◌≡◌, ℕ, ◌+◌, ◌*◌, ◌<◌, ◌≤◌, ◌⊎◌, ◌↔◌, Bool, true, false, cond, ◌&&◌, refl, sym, ap, ◌∙◌, arith}
+use Rattle.std.proofs.Common.{inl, inr, ltb, ◌≡◌, ℕ, ◌+◌, ◌*◌, ◌<◌, ◌≤◌, ◌⊎◌, ◌↔◌, Bool, true, false, cond, ◌&&◌, refl, sym, ap, ◌∙◌, arith}
 use Rattle.std.specs.Prelude.{IsTrue}
 use Rattle.std.proofs.lemmas.Bool.Decides.{nat_tests}
 use Rattle.std.proofs.lemmas.Bool.{and_parts, and_from}
 use Rattle.pie_fixed.specs.Fixed.{Picks}
 use Rattle.pie_params.specs.declared.raw.RawParams.{RawParams}
+use Rattle.pie_params.specs.declared.elements.Picking.{Picking}
+use Rattle.pie_params.specs.declared.elements.Picking.TheVariants.{Derandomized, Random}
+use Rattle.pie_params.specs.Elements.{accumulates}
 use Rattle.pie_control.specs.Parts.{Parts}
 use Rattle.pie_queue.specs.declared.ecn.Ecn.{Ecn}
 use Rattle.pie_queue.specs.Ecn.{is_capable}
 use Rattle.pie_early.specs.declared.early.Choice.{Choice}
 use Rattle.pie_early.specs.declared.early.Choice.TheVariants.{Enqueue, Mark, Drop}
-use Rattle.pie_early.specs.Decision.{a_fifth, never_picked, always_picked, is_considered, is_picked, picked_choice, choice_of, is_pick, IsPicked}
+use Rattle.pie_early.specs.Decision.{a_fifth, never_picked, always_picked, is_considered, is_picked, picked_choice, choice_at, is_pick, IsPicked}
 
 considered_facts : (params : RawParams) (control : Parts) (bytes : ℕ) → is_considered params control bytes ≡ true
     → (control.burst ≡ 0) × (2 * params.mean_pkt < bytes) × ((params.target ≤ 2 * control.old_delay) ⊎ (a_fifth ≤ control.prob))
@@ -22,20 +25,59 @@ considered_from : (params : RawParams) (control : Parts) (bytes : ℕ) → contr
 unfolding is_considered
 considered_from params control bytes b m o = grind (arith, nat_tests)
 
-picked_facts : (prob sum word : ℕ) → is_picked prob sum word ≡ true → (0 < prob) × (never_picked ≤ sum) × ((always_picked ≤ sum) ⊎ Picks prob word)
-unfolding is_picked
-picked_facts prob sum word e = grind (arith, nat_tests)
+-- what a picked arrival's sum and word are
+record Facts (picking : Picking) (prob sum word : ℕ) : Type 0 where
+  some : 0 < prob
+  enough : accumulates picking ≡ true → never_picked ≤ sum
+  by : ((accumulates picking ≡ true) × (always_picked ≤ sum)) ⊎ Picks prob word
 
-picked_from : (prob sum word : ℕ) → 0 < prob → never_picked ≤ sum → (always_picked ≤ sum) ⊎ Picks prob word → is_picked prob sum word ≡ true
-unfolding is_picked
-picked_from prob sum word p n w = grind (arith, nat_tests)
+by_sum : (sum : ℕ) (P : Type 0) → (always_picked ≤ sum) ⊎ P → ((true ≡ true) × (always_picked ≤ sum)) ⊎ P
+by_sum sum P (inl much) = inl (refl, much)
+by_sum sum P (inr word) = inr word
 
-pub picked-zero : (sum word : ℕ) → is_picked 0 sum word ≡ false
-unfolding is_picked
-picked-zero sum word = refl
+from_sum : (sum : ℕ) (P : Type 0) → ((true ≡ true) × (always_picked ≤ sum)) ⊎ P → (always_picked ≤ sum) ⊎ P
+from_sum sum P (inl much) = inl much.1
+from_sum sum P (inr word) = inr word
 
--- below 8.5 without a pick
-pub below_always : (prob sum word : ℕ) → 0 < prob → is_picked prob sum word ≡ false → sum < always_picked
+from_word : (sum : ℕ) (P : Type 0) → ((false ≡ true) × (always_picked ≤ sum)) ⊎ P → P
+from_word sum P (inl much) = let never = much.0 in cc
+from_word sum P (inr word) = word
+
+both : (prob sum word : ℕ) → is_picked Derandomized prob sum word ≡ true
+    → (0 < prob) × (never_picked ≤ sum) × ((always_picked ≤ sum) ⊎ Picks prob word)
+unfolding is_picked
+both prob sum word e = grind (arith, nat_tests)
+
+alone : (prob sum word : ℕ) → is_picked Random prob sum word ≡ true → (0 < prob) × Picks prob word
+unfolding is_picked
+alone prob sum word e = grind (arith, nat_tests)
+
+picked_facts : (picking : Picking) (prob sum word : ℕ) → is_picked picking prob sum word ≡ true → Facts picking prob sum word
+picked_facts Derandomized prob sum word e =
+    let f = both prob sum word e in record { some = f.0; enough = λ _. f.1; by = by_sum sum (Picks prob word) f.2 }
+picked_facts Random prob sum word e =
+    let f = alone prob sum word e in record { some = f.0; enough = λ never. cc; by = inr f.1 }
+
+from_both : (prob sum word : ℕ) → 0 < prob → never_picked ≤ sum → (always_picked ≤ sum) ⊎ Picks prob word
+    → is_picked Derandomized prob sum word ≡ true
+unfolding is_picked
+from_both prob sum word p n w = grind (arith, nat_tests)
+
+from_alone : (prob sum word : ℕ) → 0 < prob → Picks prob word → is_picked Random prob sum word ≡ true
+unfolding is_picked
+from_alone prob sum word p w = grind (arith, nat_tests)
+
+picked_from : (picking : Picking) (prob sum word : ℕ) → Facts picking prob sum word → is_picked picking prob sum word ≡ true
+picked_from Derandomized prob sum word f = from_both prob sum word f.some (f.enough refl) (from_sum sum (Picks prob word) f.by)
+picked_from Random prob sum word f = from_alone prob sum word f.some (from_word sum (Picks prob word) f.by)
+
+pub picked-zero : (picking : Picking) (sum word : ℕ) → is_picked picking 0 sum word ≡ false
+unfolding is_picked
+picked-zero Derandomized sum word = refl
+picked-zero Random sum word = refl
+
+-- below 8.5 without a pick, where probabilities accumulate
+pub below_always : (prob sum word : ℕ) → 0 < prob → is_picked Derandomized prob sum word ≡ false → sum < always_picked
 unfolding is_picked
 below_always prob sum word p e = grind (arith, nat_tests)
 
@@ -51,33 +93,31 @@ is_pick-at : (params : RawParams) (prob : ℕ) (ecn : Ecn) (b : Bool) → is_pic
 is_pick-at params prob ecn true = is_pick-picked_choice params prob ecn
 is_pick-at params prob ecn false = refl
 
--- a packet is marked or dropped exactly where it is picked
-pub picked : (params : RawParams) (control : Parts) (bytes : ℕ) (ecn : Ecn) (word accu : ℕ) (choice : Choice)
-    → choice ≡ choice_of params control bytes ecn word accu → IsTrue (is_pick choice) ↔ IsPicked params control bytes word accu
-picked params control bytes ecn word accu choice e =
-    let both = is_considered params control bytes && is_picked control.prob (accu + control.prob) word in
-    let same : is_pick choice ≡ (is_considered params control bytes && is_picked control.prob (accu + control.prob) word)
-    = ap is_pick e ∙ is_pick-at params control.prob ecn (is_considered params control bytes && is_picked control.prob (accu + control.prob) word) in (
-      λ t.
-          let parts = and_parts _ _ (sym same ∙ t) in
-          let c = considered_facts params control bytes parts.0 in
-          let p = picked_facts control.prob (accu + control.prob) word parts.1 in
-          record { no_burst = c.0; above_two_packets = c.1; not_calm = c.2; some_prob = p.0; enough = p.1; by_sum_or_word = p.2 },
-      λ p. same
-          ∙ and_from _ _ (considered_from params control bytes p.no_burst p.above_two_packets p.not_calm)
-          (picked_from control.prob (accu + control.prob) word p.some_prob p.enough p.by_sum_or_word),
-    )
+module _ (picking : Picking) (params : RawParams) (control : Parts) (prob bytes : ℕ) (ecn : Ecn) (word accu : ℕ) where
+  -- a packet is marked or dropped exactly where it is picked
+  pub picked : (choice : Choice) → choice ≡ choice_at picking params control prob bytes ecn word accu
+      → IsTrue (is_pick choice) ↔ IsPicked picking params control prob bytes word accu
+  picked choice e =
+      let same : is_pick choice ≡ (is_considered params control bytes && is_picked picking prob (accu + prob) word)
+      = ap is_pick e ∙ is_pick-at params control.prob ecn (is_considered params control bytes && is_picked picking prob (accu + prob) word) in (
+        λ t.
+            let parts = and_parts _ _ (sym same ∙ t) in
+            let c = considered_facts params control bytes parts.0 in
+            let p = picked_facts picking prob (accu + prob) word parts.1 in
+            record { no_burst = c.0; above_two_packets = c.1; not_calm = c.2; some_prob = p.some; enough = p.enough; by_sum_or_word = p.by },
+        λ p. same
+            ∙ and_from _ _ (considered_from params control bytes p.no_burst p.above_two_packets p.not_calm)
+            (picked_from picking prob (accu + prob) word (record { some = p.some_prob; enough = p.enough; by = p.by_sum_or_word })),
+      )
 
--- the choice on each way through the code
-pub choice-unpicked : (params : RawParams) (control : Parts) (bytes : ℕ) (ecn : Ecn) (word accu : ℕ)
-    → is_considered params control bytes ≡ true → is_picked control.prob (accu + control.prob) word ≡ false
-    → Enqueue ≡ choice_of params control bytes ecn word accu
-choice-unpicked params control bytes ecn word accu e p = rw (e, p) refl
+  -- the choice on each way through the code
+  pub choice-unpicked : is_considered params control bytes ≡ true → is_picked picking prob (accu + prob) word ≡ false
+      → Enqueue ≡ choice_at picking params control prob bytes ecn word accu
+  choice-unpicked e p = rw (e, p) refl
 
-pub choice-picked : (params : RawParams) (control : Parts) (bytes : ℕ) (ecn : Ecn) (word accu : ℕ)
-    → is_considered params control bytes ≡ true → is_picked control.prob (accu + control.prob) word ≡ true
-    → picked_choice params control.prob ecn ≡ choice_of params control bytes ecn word accu
-choice-picked params control bytes ecn word accu e p = rw (e, p) refl
+  pub choice-picked : is_considered params control bytes ≡ true → is_picked picking prob (accu + prob) word ≡ true
+      → picked_choice params control.prob ecn ≡ choice_at picking params control prob bytes ecn word accu
+  choice-picked e p = rw (e, p) refl
 
-pub picked_zero_at : (prob sum word : ℕ) → prob ≡ 0 → is_picked prob sum word ≡ false
-picked_zero_at prob sum word z = rw z (picked-zero sum word)
+pub picked_zero_at : (picking : Picking) (prob sum word : ℕ) → prob ≡ 0 → is_picked picking prob sum word ≡ false
+picked_zero_at picking prob sum word z = rw z (picked-zero picking sum word)

@@ -1,11 +1,18 @@
--- Which arrivals early drop considers, which of these it picks, and what becomes of a picked packet
--- (RFC 8033, sections 4.1, 5.1 and 5.4; the comparison by a random word of 64 bits is this project's own).
-use Rattle.std.specs.Prelude.{◌≡◌, ℕ, ◌+◌, ◌*◌, ◌^◌, ◌<◌, ◌≤◌, ◌⊎◌, Bool, true, false, not, ◌&&◌, ◌||◌, ◌==◌, nat_lt, nat_le, if◌then◌else◌}
+-- Which arrivals early drop considers, what the probability counts as for each, which of these it picks, and what becomes of a picked
+-- packet (RFC 8033, sections 4.1, 5.1 and 5.4; the comparison by a random word of 64 bits is this project's own).
+use Rattle.std.specs.Prelude.{◌≡◌, ℕ, ◌+◌, ◌*◌, ◌/◌, ◌^◌, ◌<◌, ◌≤◌, ◌⊎◌, Bool, true, false, not, ◌&&◌, ◌||◌, ◌==◌, nat_lt, nat_le, if◌then◌else◌}
 use Rattle.pie_fixed.specs.Fixed.{Picks}
 use Rattle.pie_params.specs.declared.raw.RawParams.{RawParams}
+use Rattle.pie_params.specs.declared.elements.Elements.{Elements}
+use Rattle.pie_params.specs.declared.elements.Picking.{Picking}
+use Rattle.pie_params.specs.declared.elements.Picking.TheVariants.{Derandomized, Random}
+use Rattle.pie_params.specs.declared.elements.Size.{Size}
+use Rattle.pie_params.specs.declared.elements.Size.TheVariants.{Unscaled, Scaled}
+use Rattle.pie_params.specs.Elements.{accumulates}
 use Rattle.pie_control.specs.Parts.{Parts}
 use Rattle.pie_queue.specs.declared.ecn.Ecn.{Ecn}
 use Rattle.pie_queue.specs.Ecn.{is_capable}
+use Rattle.pie_early.specs.declared.decision.Offered.{Offered}
 use Rattle.pie_early.specs.declared.early.Choice.{Choice}
 use Rattle.pie_early.specs.declared.early.Choice.TheVariants.{Enqueue, Mark, Drop}
 
@@ -26,42 +33,71 @@ is_considered params control bytes =
     (control.burst == 0) && nat_lt (2 * params.mean_pkt) bytes
     && not (nat_lt (2 * control.old_delay) params.target && nat_lt control.prob a_fifth)
 
+-- what a probability counts as for a packet of this size: where sizes are scaled, for a packet smaller than the mean in proportion to
+-- its size, rounded down
+abbrev pub counted_as : Size → RawParams → ℕ → ℕ → ℕ
+counted_as Unscaled params size prob = prob
+counted_as Scaled params size prob = if nat_lt size params.mean_pkt then prob * size / params.mean_pkt else prob
+
+-- the random word, as a fraction of 2^64, is below this probability
+abbrev pub is_below : ℕ → ℕ → Bool
+is_below word prob = nat_lt (word * 10 ^ 12) (prob * 2 ^ 64)
+
 -- a considered arrival is picked, at this probability, the sum of the accumulated probability and
--- this one, and a random word: not at probability 0; not while the sum is below 0.85; always once
--- it is at least 8.5; and between the two by the random word
-unfoldable pub is_picked : ℕ → ℕ → ℕ → Bool
-is_picked prob sum word =
-    not (prob == 0) && nat_le never_picked sum
-    && (nat_le always_picked sum || nat_lt (word * 10 ^ 12) (prob * 2 ^ 64))
+-- this one, and a random word: not at probability 0; where probabilities accumulate, not while the
+-- sum is below 0.85, and always once it is at least 8.5; and else by the random word
+unfoldable pub is_picked : Picking → ℕ → ℕ → ℕ → Bool
+is_picked Derandomized prob sum word =
+    not (prob == 0) && nat_le never_picked sum && (nat_le always_picked sum || is_below word prob)
+is_picked Random prob sum word = not (prob == 0) && is_below word prob
+
+-- the accumulated probability with this one
+abbrev pub joined : Picking → ℕ → ℕ → ℕ
+joined Derandomized accu prob = accu + prob
+joined Random accu prob = accu
 
 -- a picked packet is marked, if its endpoints understand a mark and the probability is below the
 -- parameter's, and else it is dropped
 abbrev pub picked_choice : RawParams → ℕ → Ecn → Choice
 picked_choice params prob ecn = if is_capable ecn && nat_lt prob params.mark_ecnth then Mark else Drop
 
--- what becomes of an arrival that the queue has room for
-abbrev pub choice_of : RawParams → Parts → ℕ → Ecn → ℕ → ℕ → Choice
-choice_of params control bytes ecn word accu =
-    if is_considered params control bytes && is_picked control.prob (accu + control.prob) word
+-- what becomes of an arrival that the queue has room for, where the probability counts as this one; a picked packet is marked or
+-- dropped by the probability itself
+abbrev pub choice_at : Picking → RawParams → Parts → ℕ → ℕ → Ecn → ℕ → ℕ → Choice
+choice_at picking params control prob bytes ecn word accu =
+    if is_considered params control bytes && is_picked picking prob (accu + prob) word
     then picked_choice params control.prob ecn
     else Enqueue
 
 -- the accumulated probability after such an arrival: as it was where it isn't considered, 0 where it
 -- is considered at probability 0 or picked, and else grown by the probability
-abbrev pub accu_after : RawParams → Parts → ℕ → ℕ → ℕ → ℕ
-accu_after params control bytes word accu =
+abbrev pub accu_at : Picking → RawParams → Parts → ℕ → ℕ → ℕ → ℕ → ℕ
+accu_at picking params control prob bytes word accu =
     if not (is_considered params control bytes) then accu
-    else if (control.prob == 0) || is_picked control.prob (accu + control.prob) word then 0
-    else accu + control.prob
+    else if (prob == 0) || is_picked picking prob (accu + prob) word then 0
+    else joined picking accu prob
 
--- the same in facts: the arrival is considered and picked
-pub record IsPicked (params : RawParams) (control : Parts) (bytes word accu : ℕ) : Type 0 where
+-- what the probability counts as for this arrival
+abbrev pub counted : Elements → RawParams → Parts → Offered → ℕ
+counted elements params control offered = counted_as elements.size params offered.size control.prob
+
+-- what becomes of this arrival, and the accumulated probability after it
+abbrev pub choice_of : Elements → RawParams → Parts → Offered → ℕ → Choice
+choice_of elements params control offered accu =
+    choice_at elements.picking params control (counted elements params control offered) offered.bytes offered.ecn offered.word accu
+
+abbrev pub accu_after : Elements → RawParams → Parts → Offered → ℕ → ℕ
+accu_after elements params control offered accu =
+    accu_at elements.picking params control (counted elements params control offered) offered.bytes offered.word accu
+
+-- the same in facts: the arrival is considered and picked, where the probability counts as this one
+pub record IsPicked (picking : Picking) (params : RawParams) (control : Parts) (prob bytes word accu : ℕ) : Type 0 where
   pub no_burst : control.burst ≡ 0
   pub above_two_packets : 2 * params.mean_pkt < bytes
   pub not_calm : (params.target ≤ 2 * control.old_delay) ⊎ (a_fifth ≤ control.prob)
-  pub some_prob : 0 < control.prob
-  pub enough : never_picked ≤ accu + control.prob
-  pub by_sum_or_word : (always_picked ≤ accu + control.prob) ⊎ Picks control.prob word
+  pub some_prob : 0 < prob
+  pub enough : accumulates picking ≡ true → never_picked ≤ accu + prob
+  pub by_sum_or_word : ((accumulates picking ≡ true) × (always_picked ≤ accu + prob)) ⊎ Picks prob word
 
 -- whether a choice is that of a picked packet
 abbrev pub is_pick : Choice → Bool

@@ -1,13 +1,16 @@
 -- What an `Early` is shown: arrivals and clears, in the order in which they came.
 use Rattle.std.specs.Prelude.{ℕ, Bool, true, false, ◌&&◌, ◌||◌, ◌==◌}
+use Rattle.pie_params.specs.declared.elements.Picking.{Picking}
+use Rattle.pie_params.specs.Elements.{accumulates}
 use Rattle.pie_early.specs.declared.early.Choice.{Choice}
 use Rattle.pie_early.specs.Decision.{is_pick}
 
--- an arrival that was no tail drop: whether it was considered, the probability then, and what
--- became of it
+-- an arrival that was no tail drop: whether it was considered, what the probability counted as then,
+-- how it was picked, and what became of it
 pub record Arrival : Type 0 where
   pub considered : Bool
   pub prob : ℕ
+  pub picking : Picking
   pub choice : Choice
 
 -- an arrival, or a clear, as at a tail drop or a reset
@@ -15,8 +18,8 @@ pub data EarlyEvent : Type 0 where
   arrived : Arrival → EarlyEvent
   cleared : EarlyEvent
 
-abbrev pub arrival : Bool → ℕ → Choice → EarlyEvent
-arrival considered prob choice = arrived (record { considered = considered; prob = prob; choice = choice })
+abbrev pub arrival : Bool → ℕ → Picking → Choice → EarlyEvent
+arrival considered prob picking choice = arrived (record { considered = considered; prob = prob; picking = picking; choice = choice })
 
 -- an event that clears the accumulated probability: a clear, a marked or dropped arrival, or an
 -- arrival that is considered at probability 0
@@ -24,12 +27,12 @@ abbrev pub is_clearing : EarlyEvent → Bool
 is_clearing cleared = true
 is_clearing (arrived a) = is_pick a.choice || (a.considered && (a.prob == 0))
 
--- a considered arrival
-abbrev pub is_considered_arrival : EarlyEvent → Bool
-is_considered_arrival cleared = false
-is_considered_arrival (arrived a) = a.considered
+-- a considered arrival whose probability accumulates
+abbrev pub joins : EarlyEvent → Bool
+joins cleared = false
+joins (arrived a) = a.considered && accumulates a.picking
 
--- the probability at an arrival
+-- what the probability counted as at an arrival
 abbrev pub prob_of : EarlyEvent → ℕ
 prob_of cleared = 0
 prob_of (arrived a) = a.prob

@@ -1,11 +1,11 @@
 -- The accumulated probability, looking back over all that was shown (RFC 8033, section 5.4).
 use Rattle.std.specs.Prelude.{◌≡◌, ℕ, List, filter, sum_by}
 use Rattle.std.specs.List.{after_last}
-use Rattle.pie_early.specs.Events.{EarlyEvent, is_clearing, is_considered_arrival, prob_of}
+use Rattle.pie_early.specs.Events.{EarlyEvent, is_clearing, joins, prob_of}
 
--- the sum of the probabilities at the considered arrivals after the last clearing event
+-- the sum of the probabilities at the considered arrivals after the last clearing event, of those that accumulate
 unfoldable pub accumulated : List EarlyEvent → ℕ
-accumulated events = sum_by prob_of (filter is_considered_arrival (after_last is_clearing events))
+accumulated events = sum_by prob_of (filter joins (after_last is_clearing events))
 
 -- an early drop that was shown these events holds this accumulated probability
 pub record Shows (events : List EarlyEvent) (held : ℕ) : Type 0 where

@@ -1,12 +1,25 @@
 ghost use Rattle.std.specs.Prelude.{◌≡◌, ◌+◌, ◌*◌, ◌^◌, ◌<◌, ◌≤◌, nat_lt};
 ghost use Rattle.pie_control.specs.Parts.{parts_of};
-ghost use Rattle.pie_early.specs.Decision.{accu_after, choice_of, is_considered, is_picked, picked_choice};
+ghost use Rattle.pie_early.specs.Decision.{accu_after, choice_of, counted_as, is_below, is_considered, is_picked, picked_choice};
 
 use crate::early::{Choice, LOW_PROB, NEVER_PICKED};
 use pie_control::RawControl;
 use pie_fixed::{ALWAYS_PICKED, picks};
-use pie_params::RawParams;
+use pie_params::{Elements, Picking, RawParams, Size};
 use pie_queue::Ecn;
+
+/// An arriving packet that the queue has room for, and the bytes that it meets there.
+#[derive(Clone, Copy, Debug, PartialEq, Eq)]
+pub struct Offered {
+    /// The bytes in the queue, without the packet.
+    pub bytes: u64,
+    /// The packet's size, in bytes.
+    pub size: u32,
+    /// Its ECN field.
+    pub ecn: Ecn,
+    /// A random word, every `u64` as likely as any other.
+    pub word: u64,
+}
 
 /// What becomes of an arriving packet, and the accumulated probability after it.
 #[derive(Clone, Copy, Debug, PartialEq, Eq)]
@@ -24,35 +37,38 @@ pub struct Decision {
 #[inline(always)]
 pub fn decide(
     params: &RawParams,
+    elements: Elements,
     control: &RawControl,
-    bytes: u64,
-    ecn: Ecn,
-    word: u64,
+    offered: Offered,
     accu: u64,
 ) -> Decision
-    ensures choice { result.choice ≡ choice_of params.now (parts_of control.now) bytes ecn word accu }
-    ensures accu { result.accu ≡ accu_after params.now (parts_of control.now) bytes word accu }
+    ensures choice { result.choice ≡ choice_of elements params.now (parts_of control.now) offered accu }
+    ensures accu { result.accu ≡ accu_after elements params.now (parts_of control.now) offered accu }
 {
-    if !is_considered(params, control, bytes) {
+    if !is_considered(params, control, offered.bytes) {
         return Decision {
             choice: Choice::Enqueue,
             accu,
         };
     }
-    if control.prob == 0 {
+    let prob = counted_as(elements.size, params, offered.size, control.prob);
+    if prob == 0 {
         return Decision {
             choice: Choice::Enqueue,
             accu: 0,
         };
     }
-    if !is_picked(control.prob, accu, word) {
+    if !is_picked(elements.picking, prob, accu, offered.word) {
         return Decision {
             choice: Choice::Enqueue,
-            accu: accu + control.prob,
+            accu: match elements.picking {
+                Picking::Derandomized => accu + prob,
+                Picking::Random => accu,
+            },
         };
     }
     Decision {
-        choice: picked_choice(params, control.prob, ecn),
+        choice: picked_choice(params, control.prob, offered.ecn),
         accu: 0,
     }
 }
@@ -77,24 +93,45 @@ fn half(number: u64) -> u64
     number - number / 2
 }
 
-/// Whether a considered arrival is picked, at a probability which isn't 0 and that joins the accumulated one (RFC 8033, section
-/// 5.4). A sum that no `u64` holds is above 8.5.
+/// What a probability, in units of `10^-12`, counts as for a packet of so many bytes: where sizes are scaled, for one smaller than
+/// `mean_pkt` in proportion to its size, rounded down (this project's own; Linux's `bytemode` where `mean_pkt` is the link's MTU).
+#[inline(always)]
+#[tactic(auto, using(std::proofs::lemmas::Bool::Decides::nat_tests, crate::proofs::Scaling::scaled_below))]
+pub fn counted_as(sizes: Size, params: &RawParams, size: u32, prob: u64) -> u64
+    ensures value { result ≡ counted_as sizes params.now size prob }
+    ensures at_most { result ≤ prob }
+{
+    match sizes {
+        Size::Scaled if u64::from(size) < params.mean_pkt => {
+            (u128::from(prob) * u128::from(size) / u128::from(params.mean_pkt)) as u64
+        }
+        Size::Scaled | Size::Unscaled => prob,
+    }
+}
+
+/// Whether a considered arrival is picked, at a probability which isn't 0: by the sum, which it joins, and the word (RFC 8033, section
+/// 5.4), or by the word alone (section 4.1). A sum that no `u64` holds is above 8.5.
 #[inline(always)]
 #[tactic(auto, using(std::proofs::lemmas::Bool::Decides::nat_tests), unfolding(crate::specs::Decision::is_picked))]
-fn is_picked(prob: u64, accu: u64, word: u64) -> bool
+fn is_picked(picking: Picking, prob: u64, accu: u64, word: u64) -> bool
     requires { 0 < prob }
-    ensures { result ≡ is_picked prob (accu + prob) word }
+    ensures { result ≡ is_picked picking prob (accu + prob) word }
 {
-    let Some(sum) = accu.checked_add(prob) else {
-        return true;
-    };
-    sum >= NEVER_PICKED && (sum >= ALWAYS_PICKED || is_chosen(prob, word))
+    match picking {
+        Picking::Random => is_below(word, prob),
+        Picking::Derandomized => {
+            let Some(sum) = accu.checked_add(prob) else {
+                return true;
+            };
+            sum >= NEVER_PICKED && (sum >= ALWAYS_PICKED || is_below(word, prob))
+        }
+    }
 }
 
 /// Whether a random word picks a packet at a probability.
 #[inline(always)]
-fn is_chosen(prob: u64, word: u64) -> bool
-    ensures { result ≡ nat_lt (word * 10 ^ 12) (prob * 2 ^ 64) }
+fn is_below(word: u64, prob: u64) -> bool
+    ensures { result ≡ is_below word prob }
 {
     picks(prob, word)
 }

@@ -1,14 +1,14 @@
 ghost use Rattle.std.specs.Prelude.{◌≡◌, ℕ, ◌+◌, ◌*◌, ◌<◌, ◌↔◌, List, [], ◌∷◌, ◌++◌, true, replicate, IsTrue};
 ghost use Rattle.pie_fixed.specs.declared.TheConstants.{ALWAYS_PICKED};
-ghost use Rattle.pie_early.specs.Decision.{accu_after, choice_of, is_considered, is_pick, IsPicked};
+ghost use Rattle.pie_params.specs.declared.elements.Picking.TheVariants.{Derandomized};
+ghost use Rattle.pie_early.specs.Decision.{accu_after, choice_of, counted, is_considered, is_pick, IsPicked};
 ghost use Rattle.pie_early.specs.Events.{EarlyEvent, arrival, cleared, is_clearing};
 ghost use Rattle.pie_early.specs.History.{Shows, accumulated};
 
-use crate::decision::decide;
+use crate::decision::{Offered, decide};
 use pie_control::Control;
 use pie_fixed::Accu;
-use pie_params::Params;
-use pie_queue::Ecn;
+use pie_params::{Elements, Params};
 use std::marker::Model;
 
 /// A fifth, in units of `10^-12`: below it a packet is let through while the old delay is below half
@@ -79,9 +79,8 @@ impl Early {
         Early { accu }
     }
 
-    /// Decides on an arriving packet that is no tail drop: `bytes` are in the queue without it, `ecn`
-    /// is its ECN field, and `word` is a random word, every `u64` as likely as any other (RFC 8033,
-    /// sections 4.1, 5.1 and 5.4; the comparison by a random word of 64 bits is this project's own).
+    /// Decides on an arriving packet that is no tail drop (RFC 8033, sections 4.1, 5.1 and 5.4; the
+    /// comparison by a random word of 64 bits is this project's own).
     ///
     /// An arrival isn't considered while a burst is allowed, while the queue holds at most two packets
     /// of the mean size, or while the old delay is below half the target and the probability below a
@@ -92,38 +91,43 @@ impl Early {
     /// word lies below the probability. A picked packet is marked where its endpoints understand a mark
     /// and the probability is below `mark_ecnth`, and dropped otherwise; either clears the accumulated
     /// probability.
+    ///
+    /// Where picking is random, a considered arrival at a probability above 0 is picked exactly where the word lies below it, and
+    /// nothing accumulates. Where sizes are scaled, the probability counts as its part for a packet smaller than `mean_pkt`: in the
+    /// sum, beside the word, and where it is asked whether it is 0.
     #[inline(always)]
     pub fn consider(
         &mut self,
         params: &Params,
+        elements: Elements,
         control: &Control,
-        bytes: u64,
-        ecn: Ecn,
-        word: u64,
+        offered: Offered,
     ) -> Choice
-        ensures choice { result ≡ choice_of params.now control.now bytes ecn word self.old }
-        ensures picked { IsTrue (is_pick result) ↔ IsPicked params.now control.now bytes word self.old }
+        ensures choice { result ≡ choice_of elements params.now control.now offered self.old }
+        ensures picked { IsTrue (is_pick result) ↔ IsPicked elements.picking params.now control.now (counted elements params.now control.now offered)
+            offered.bytes offered.word self.old }
 
         // told from the accumulated probability before it, whichever arrivals that shows
-        ensures accu { self.new ≡ accu_after params.now control.now bytes word self.old }
+        ensures accu { self.new ≡ accu_after elements params.now control.now offered self.old }
 
         // looking back over all that it was shown
         ensures look_back { (events : List EarlyEvent) →
             Shows events self.old →
-            result ≡ choice_of params.now control.now bytes ecn word (accumulated events) }
+            result ≡ choice_of elements params.now control.now offered (accumulated events) }
         ensures shows { (events : List EarlyEvent) →
-            let considered = is_considered params.now control.now bytes in
+            let considered = is_considered params.now control.now offered.bytes in
             Shows events self.old →
-            Shows (events ++ arrival considered control.now.prob result ∷ []) self.new }
+            Shows (events ++ arrival considered (counted elements params.now control.now offered) elements.picking result ∷ []) self.new }
 
-        // between two picks it grows by the probability at each arrival that is considered at a
-        // probability above 0
-        ensures grows { IsTrue (is_considered params.now control.now bytes) →
-            0 < control.now.prob →
+        // where probabilities accumulate, it grows between two picks by the probability at each
+        // arrival that is considered at a probability above 0
+        ensures grows { elements.picking ≡ Derandomized →
+            IsTrue (is_considered params.now control.now offered.bytes) →
+            0 < counted elements params.now control.now offered →
             result ≡ Choice.Enqueue →
-            self.new ≡ self.old + control.now.prob }
+            self.new ≡ self.old + counted elements params.now control.now offered }
     {
-        let decision = decide(&params.raw(), &control.raw(), bytes, ecn, word, self.accu);
+        let decision = decide(&params.raw(), elements, &control.raw(), offered, self.accu);
         self.accu = decision.accu;
         decision.choice
     }
@@ -153,12 +157,12 @@ impl Early {
         ensures look_back { (events : List EarlyEvent) →
             Shows events self.now → result ≡ accumulated events }
 
-        // after a clearing event and n arrivals, considered at one probability above 0 and queued,
-        // it is n times that
+        // after a clearing event and n arrivals, considered at one probability above 0 that
+        // accumulates, and queued, it is n times that
         ensures run { (before : List EarlyEvent) (clearing : EarlyEvent) (n prob : ℕ) →
             IsTrue (is_clearing clearing) →
             0 < prob →
-            Shows (before ++ clearing ∷ replicate n (arrival true prob Choice.Enqueue)) self.now →
+            Shows (before ++ clearing ∷ replicate n (arrival true prob Derandomized Choice.Enqueue)) self.now →
             result ≡ n * prob }
     {
         Accu::of_units(self.accu)

@@ -9,5 +9,5 @@
 mod decision;
 mod early;
 
-pub use decision::{Decision, decide};
+pub use decision::{Decision, Offered, counted_as, decide};
 pub use early::{Choice, Early, LOW_PROB, NEVER_PICKED};

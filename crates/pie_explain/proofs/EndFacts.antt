@@ -4,15 +4,15 @@ use Rattle.std.specs.Prelude.{Option, Some, None, Result, Ok, Err, IfSome, IfErr
 use Rattle.std.specs.Io.KnownBytes.{Appends, append_known}
 use Rattle.pie_book.specs.declared.opening.Opening.{Opening}
 use Rattle.pie_record.specs.declared.fault.TraceFault.{TraceFault}
-use Rattle.pie_record.specs.declared.history.Line.{Line}
+use Rattle.pie_record.specs.declared.history_record.Line.{Line}
 use Rattle.pie_record.specs.Fault.{IsWrite, is_device, closed}
-use Rattle.pie_record.specs.Lines.{Coming, coming_after, history_lines, history_opening, later_fault}
+use Rattle.pie_record.specs.HistoryLines.{Coming, coming_after, history_lines, history_opening, later_fault}
 use Rattle.pie_record.specs.Text.{Row, records_of}
 use Rattle.pie_audit.specs.declared.auditor.Finding.{Finding}
 use Rattle.pie_audit.specs.declared.auditor.Finding.TheVariants.{Clean, Differs}
 use Rattle.pie_audit.specs.Auditor.{Audits, AuditorView}
 use Rattle.pie_audit.specs.Text.{finding_after, judged, text_finding}
-use Rattle.pie_record.specs.Lines.{event_count}
+use Rattle.pie_record.specs.HistoryLines.{event_count}
 use Rattle.pie_audit.specs.Finding.{finding, finding_by, first_difference}
 use Rattle.pie_explain.specs.declared.explanation.Explained.{Explained}
 use Rattle.pie_explain.specs.declared.fault.ExplainFault.{ExplainFault}

@@ -3,15 +3,15 @@ use Rattle.std.specs.Prelude.{ℕ, ◌≡◌, ◌^◌, ◌==◌, ◌≤◌, List
 use Rattle.std.specs.Io.KnownBytes.{Appends}
 use Rattle.pie_book.specs.declared.opening.Opening.{Opening}
 use Rattle.pie_record.specs.declared.fault.TraceFault.{TraceFault}
-use Rattle.pie_record.specs.declared.history.Line.{Line}
+use Rattle.pie_record.specs.declared.history_record.Line.{Line}
 use Rattle.pie_record.specs.Fault.{is_device}
-use Rattle.pie_record.specs.Lines.{Coming, LinesView, history_lines, history_opening, later_fault}
+use Rattle.pie_record.specs.HistoryLines.{Coming, LinesView, history_lines, history_opening, later_fault}
 use Rattle.pie_record.specs.Text.{Row}
 use Rattle.pie_audit.specs.declared.auditor.Finding.{Finding}
 use Rattle.pie_audit.specs.declared.auditor.Finding.TheVariants.{Clean}
 use Rattle.pie_audit.specs.declared.auditor.Finding.TheVariants as finding
 use Rattle.pie_audit.specs.Auditor.{Audits, AuditorView}
-use Rattle.pie_record.specs.Lines.{event_count}
+use Rattle.pie_record.specs.HistoryLines.{event_count}
 use Rattle.pie_audit.specs.Finding.{finding as finding_of}
 use Rattle.pie_explain.specs.declared.explanation.Explained.{Explained}
 use Rattle.pie_explain.specs.declared.fault.ExplainFault.{ExplainFault}

@@ -11,9 +11,9 @@ use Rattle.pie_book.specs.Estimates.{active_after, delay_after}
 use Rattle.pie_book.specs.Registers.{registers_after}
 use Rattle.pie_book.specs.Statistics.{count_of, wait_of}
 use Rattle.pie_book.specs.Cause.{cause_after}
-use Rattle.pie_record.specs.declared.history.Line.{Line}
-use Rattle.pie_record.specs.declared.history.Line.TheVariants.{Made, Unmakeable, Note}
-use Rattle.pie_record.specs.Lines.{event_count}
+use Rattle.pie_record.specs.declared.history_record.Line.{Line}
+use Rattle.pie_record.specs.declared.history_record.Line.TheVariants.{Made, Unmakeable, Note}
+use Rattle.pie_record.specs.HistoryLines.{event_count}
 use Rattle.pie_audit.specs.Finding.{LinePlace, events_of, first_difference, line_places, number_of}
 use Rattle.pie_explain.specs.declared.explanation.Explained.{Explained}
 use Rattle.pie_explain.specs.declared.explanation.Explanation.{Explanation}

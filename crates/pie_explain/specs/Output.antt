@@ -3,7 +3,7 @@ use Rattle.std.specs.Prelude.{ℕ, ◌^◌, List, [], ◌∷◌, ◌++◌, Resul
 use Rattle.std.specs.List.{flat_map}
 use Rattle.pie_book.specs.declared.opening.Opening.{Opening}
 use Rattle.pie_record.specs.declared.fault.TraceFault.{TraceFault}
-use Rattle.pie_record.specs.Lines.{history_lines, history_opening}
+use Rattle.pie_record.specs.HistoryLines.{history_lines, history_opening}
 use Rattle.pie_record.specs.Text.{Row}
 use Rattle.pie_explain.specs.declared.explainer.Form.{Form}
 use Rattle.pie_explain.specs.declared.explainer.Form.TheVariants.{Text, Csv}

@@ -106,14 +106,18 @@ impl Explanation {
 }
 
 impl Explained {
+    ghost use Rattle.pie_book.specs.Estimates.{delay_after};
+    ghost use Rattle.pie_book.specs.Registers.{registers_after};
     ghost use Rattle.pie_explain.specs.Explanation.{explanation, with_after};
 
     /// What there is to say of an event that a core is about to decide, as `Explanation::of` says it, made where it stays: as long as
     /// the core has not decided it, what it held before stands in the place of what it holds after.
     #[inline(always)]
     pub fn begin(core: &Core, number: u64, event: &Event, set_by: Option<u64>) -> Explained
-        ensures { (opening : Opening) (history : List Event) → Shows opening core.now history
+        ensures told { (opening : Opening) (history : List Event) → Shows opening core.now history
             → result.told ≡ explanation opening history number event.now set_by }
+        ensures held { (opening : Opening) (history : List Event) → Shows opening core.now history
+            → (result.after ≡ registers_after opening history) × (result.delay ≡ delay_after opening history) }
     {
         let told = Explanation::of(core, number, event, set_by);
         let (after, delay) = (told.before, told.delay);

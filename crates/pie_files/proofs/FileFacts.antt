@@ -2,10 +2,9 @@
 use Rattle.std.proofs.Common.{◌≡◌, ℕ, List, Bool, true, false, Option, Some, None, codes, refl, inl, inr}
 use Rattle.std.specs.Prelude.{◌⊎◌, IfSome, if◌then◌else◌}
 use Rattle.std.specs.Str.{bytes_eq}
-use Rattle.clap.specs.Words.{Text}
 use Rattle.either.specs.declared.Either.{Either}
 use Rattle.either.specs.Either.{either}
-use Rattle.pie_files.specs.Files.{ReadsNamed, reads_by, text_given}
+use Rattle.pie_files.specs.Files.{Name, ReadsNamed, reads_by, text_given}
 
 -- the reader that was handed in is there, or was taken
 abbrev pub Stays : {R : Type 0} → R → Option R → Type 0
@@ -16,7 +15,7 @@ stays-on first old new (inl is) (inl same) = inl (cc)
 stays-on first old new (inr is) (inl same) = inr (cc)
 stays-on first old new stays (inr none) = inr none
 
-pub reads-given : {R : Type 0} (remaining : R → Option (List ℕ)) (first : R) (input : Option R) (files : Text → Option (List ℕ)) (name : Text)
+pub reads-given : {R : Type 0} (remaining : R → Option (List ℕ)) (first : R) (input : Option R) (files : Name → Option (List ℕ)) (name : Name)
     (known : Option (List ℕ))
     → Stays first input → ReadsNamed remaining input files name known → known ≡ text_given (remaining first) files (Some name)
 reads-given {R} remaining first input files name known stays reads = go (bytes_eq name (codes "-")) input stays reads
@@ -29,8 +28,8 @@ reads-given {R} remaining first input files name known stays reads = go (bytes_e
     go true (Some reader) (inr none) reads = cc
 
 -- the reader of a subcommand that takes one file
-pub reader-given : {R F : Type 0} (remaining : R → Option (List ℕ)) (held : F → Option (List ℕ)) (input : R) (files : Text → Option (List ℕ))
-    (name : Text) (file : Option Text)
+pub reader-given : {R F : Type 0} (remaining : R → Option (List ℕ)) (held : F → Option (List ℕ)) (input : R) (files : Name → Option (List ℕ))
+    (name : Name) (file : Option Name)
     (reader : Option (Either R F)) → file ≡ Some name → IfSome reader (λ r. ReadsNamed remaining (Some input) files name (either remaining held r))
     → IfSome reader (λ r. either remaining held r ≡ text_given (remaining input) files file)
 reader-given remaining held input files name file None is reads = tt

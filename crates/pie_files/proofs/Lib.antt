@@ -1,4 +1,1 @@
-mod AuditFacts
-pub mod EndFacts
-mod FileFacts
-pub mod OutputFacts
+pub mod FileFacts

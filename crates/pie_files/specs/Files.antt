@@ -1,10 +1,13 @@
 -- What is read of the files that the words name.
 use Rattle.std.specs.Prelude.{ℕ, ◌≡◌, List, Bool, true, false, Option, Some, None, codes, if◌then◌else◌}
 use Rattle.std.specs.Str.{bytes_eq}
-use Rattle.clap.specs.Words.{Text}
+
+-- the bytes of a name
+abbrev pub Name : Type 0
+Name = List ℕ
 
 -- what is known of the text that is read: with no file, and for the file `-`, that of the reader that is handed in, and else that of the file
-abbrev pub text_given : Option (List ℕ) → (Text → Option (List ℕ)) → Option Text → Option (List ℕ)
+abbrev pub text_given : Option (List ℕ) → (Name → Option (List ℕ)) → Option Name → Option (List ℕ)
 text_given input files None = input
 text_given input files (Some name) = if bytes_eq name (codes "-") then input else files name
 
@@ -14,5 +17,5 @@ reads_by false remaining input held known = known ≡ held
 reads_by true remaining None held known = ⊥
 reads_by true remaining (Some reader) held known = known ≡ remaining reader
 
-abbrev pub ReadsNamed : {R : Type 0} → (R → Option (List ℕ)) → Option R → (Text → Option (List ℕ)) → Text → Option (List ℕ) → Type 0
+abbrev pub ReadsNamed : {R : Type 0} → (R → Option (List ℕ)) → Option R → (Name → Option (List ℕ)) → Name → Option (List ℕ) → Type 0
 ReadsNamed remaining input files name known = reads_by (bytes_eq name (codes "-")) remaining input (files name) known

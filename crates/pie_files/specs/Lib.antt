@@ -1,4 +1,2 @@
-pub mod AuditEnds
-pub mod Ends
 pub mod Files
-pub mod Outputs
+pub mod Output

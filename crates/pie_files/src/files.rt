@@ -1,22 +1,11 @@
-//! The files that the words name.
-ghost use Rattle.std.specs.Prelude.{◌≡◌, ◌⊎◌, ℕ, ⊤, List, Option, None, IfOk, IfSome};
-ghost use Rattle.either.specs.Either.{either};
-ghost use Rattle.clap.specs.Words.{found_of, rows_of};
-ghost use Rattle.pie_files.specs.Files.{ReadsNamed, text_given};
-ghost use Rattle.pie_options.specs.Words.{file_in};
+//! What opens, makes and moves files by their names.
+ghost use Rattle.std.specs.Prelude.{◌≡◌, ℕ, true, List, Option, IfErr, IfOk, IfSome, IsSome};
+ghost use Rattle.pie_files.specs.Output.{IsEmpty, Keeps, KeepsBut};
 
-use crate::faults::{fault, named_fault};
-use clap::ArgMatches;
-use either::{Either, Left, Right};
-use std::fs::File;
 use std::io;
-use std::io::{Read, Stdout, Write};
+use std::io::{Read, Write};
 
-/// Where a program writes: standard output, or a file that it made. As one type of both, what writes to either is compiled once, and inlined as
-/// what has one caller is.
-pub type Output = Either<Stdout, File>;
-
-/// What opens files by their names. What a file holds is known where this says it.
+/// What opens, makes and moves files by their names. What a file holds is known where this says it.
 pub trait NamedFiles {
     /// A file that was opened to be read.
     type File: Read + Drop;
@@ -31,83 +20,33 @@ pub trait NamedFiles {
     fn open_named(&self, name: &str) -> io::Result<Self::File>
         ensures { IfOk result (λ file. Self.File.remaining file ≡ holds self.now name.now) };
 
+    /// Whether both names lead to one file, by this name or another, where `-` is standard input.
+    fn is_one(&self, name: &str, other: &str) -> bool
+        ensures { IsSome (holds self.now name.now) → other.now ≡ name.now → result ≡ true };
+
     /// A file that was made to be written.
     type Made: Write + Drop;
 
-    ghost makes: { Self → List ℕ → Self.Made → Type 0 };
-
-    /// Makes the file of this name to write it. One that is there already is emptied.
+    /// Makes an empty file that `place` can move onto this name, and changes no other. A pipe or a device of this name is opened as it is.
     ///
     /// # Errors
     ///
-    /// Where it can't be made.
-    fn make_named(&self, name: &str) -> io::Result<Self::Made>
-        ensures { IfOk result (λ file. makes self.now name.now file) };
-}
+    /// Where a file of this name is there that must not be replaced, or the new one can't be made.
+    fn make(&mut self, name: &str, is_forced: bool) -> io::Result<Self::Made>
+        ensures empty { IfOk result (λ made. IsEmpty (Self.Made.contents made)) }
+        ensures keeps { Keeps (holds self.old) (holds self.new) };
 
-impl NamedFiles for HostRuntime {
-    type File = File;
+    /// Moves what was made onto this name, whose file, if there is one, has to be one that may be replaced.
+    ///
+    /// # Errors
+    ///
+    /// Where such a file is there that must not be, or what was made can't be kept or moved.
+    fn place(&mut self, made: &mut Self::Made, name: &str, is_forced: bool) -> io::Result<()>
+        ensures placed { IfOk result (λ _. IfSome (Self.Made.contents made.old) (λ text. holds self.new name.now ≡ Some text)) }
+        ensures keeps { KeepsBut is_forced name.now (holds self.old) (holds self.new) }
+        ensures fails { IfErr result (λ _. Keeps (holds self.old) (holds self.new)) };
 
-    ghost holds = { λ _ _. None };
-
-    fn open_named(&self, name: &str) -> io::Result<File> {
-        File::open(self, name)
-    }
-
-    type Made = Output;
-
-    ghost makes = { λ _ _ _. ⊤ };
-
-    fn make_named(&self, name: &str) -> io::Result<Output> {
-        Ok(Right(File::create(self, name)?))
-    }
-}
-
-/// The reader of the file of this name, where `-` is the one that is handed in, which can be taken but once; or none, with a line on
-/// `errors`, where the file can't be opened.
-pub(crate) fn reader_named<H: NamedFiles, R: Read + Drop, E: Write>(
-    rt: &H,
-    name: &str,
-    input: &mut Option<R>,
-    errors: &mut E,
-) -> Option<Either<R, H::File>>
-    ensures reads { IfSome result (λ reader. ReadsNamed R.remaining input.old (H.holds rt.now) name.now
-        (either R.remaining H.File.remaining reader)) }
-    ensures input { (input.new ≡ input.old) ⊎ (input.new ≡ None) }
-{
-    if name == "-" {
-        return match input.take() {
-            Some(reader) => Some(Left(reader)),
-            None => {
-                let _ = fault(errors, "-: standard input was read already");
-                None
-            }
-        };
-    }
-    match rt.open_named(name) {
-        Ok(file) => Some(Right(file)),
-        Err(why) => {
-            named_fault(errors, name, why);
-            None
-        }
-    }
-}
-
-/// What a subcommand reads that takes one file: that file, or with none the reader that is handed in.
-pub fn reader_of<H: NamedFiles, R: Read + Drop, E: Write>(
-    rt: &H,
-    options: &ArgMatches<'_>,
-    input: R,
-    errors: &mut E,
-) -> Option<Either<R, H::File>>
-    ensures { IfSome result (λ reader. either R.remaining H.File.remaining reader
-        ≡ text_given (R.remaining input) (H.holds rt.now) (file_in (rows_of (found_of options.now)))) }
-{
-    match options.get_str("file") {
-        Some(name) => {
-            let mut given = Some(input);
-            reader_named(rt, name, &mut given, errors)
-        }
-        None => Some(Left(input)),
-    }
+    /// Leaves what was made where it is, and answers the name that it has there; or removes it, where nothing was written.
+    fn leave(&mut self, made: Self::Made) -> Option<String>
+        ensures { Keeps (holds self.old) (holds self.new) };
 }

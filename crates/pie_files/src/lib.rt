@@ -1,21 +1,17 @@
-//! `pie run`, `pie migrate` and `pie audit`: over standard input or files, and how they end.
+//! The files that the words of `pie` name: those that are read, and the one that is written.
 //!
-//! `reader_of` has what a subcommand reads, `run_to` and `migrate_to` run or migrate it to the output that the options name, and `audit_given`
-//! audits all files that they name. Each answers an `End`, which says what was read, what was written and what the exit status is. While they read
-//! they tell on the error stream how far they have come, where that is asked for, or a terminal (`shows_progress`).
+//! `NamedFiles` is what opens, makes and moves files, and `HostRuntime` does it. An output is made under another name in the folder of its own
+//! (`make_for`), and moved onto its own once all of it was written (`settle`): so what was there is there until then, whatever happens.
 #![tactic(auto)]
 
-mod auditing;
-mod end;
 mod faults;
 mod files;
-mod outputs;
-mod progress;
-mod running;
+mod host;
+mod output;
+mod reading;
 
-pub use auditing::audit_given;
-pub use end::{DIFFERS, DONE, End, FAULT, failed};
-pub use faults::fault;
-pub use files::{NamedFiles, Output, reader_of};
-pub use outputs::{made_named, migrate_to, run_to};
-pub use progress::{Screen, shows_progress};
+pub use faults::{fault, named_fault};
+pub use files::NamedFiles;
+pub use host::Output;
+pub use output::{make_for, settle};
+pub use reading::{reader_named, reader_of};

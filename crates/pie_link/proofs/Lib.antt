@@ -4,9 +4,3 @@ pub mod Outcomes
 pub mod Headline
 pub mod Folding
 pub mod Examples
-pub mod Planning
-pub mod Working
-pub mod FoldsMade
-pub mod Gathering
-pub mod Closing
-pub mod Counting

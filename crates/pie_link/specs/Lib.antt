@@ -1,5 +1,6 @@
 pub mod FoldCount
 pub mod Entries
+pub mod EntryLaws
 pub mod Kept
 pub mod Views
 pub mod Opening
@@ -7,5 +8,3 @@ pub mod Commands
 pub mod Folds
 pub mod Readings
 pub mod Headline
-pub mod Plans
-pub mod Storms

@@ -15,34 +15,24 @@
 //! order, and ends with the stored tail, and looking back over it gives all that the book holds. In a bounded link no event is
 //! lost: what all folds handed out, in their order, and then the tail are all events.
 //!
-//! `storm` runs a `Plan` under many threads at once and answers what was recorded, which is the planned calls, each caller's in
-//! order, in one history that is legal from the opening.
-//!
 //! Not promised: that a waiting call returns, that anyone is served, or how often `Busy` comes where several have numbers; what a
 //! caller that was dropped had been shown.
 #![tactic(auto)]
 
 pub mod caller;
 mod calls;
-pub mod ending;
 pub mod entry;
 mod fold_count;
-pub mod gate;
 mod kept_book;
+mod law;
 pub mod link;
-pub mod plan;
 pub mod refusal;
-mod starter;
 pub mod told;
 mod turn;
-mod worker;
 
 pub use caller::Caller;
-pub use ending::{StormEnd, StormFault};
 pub use entry::Entry;
-pub use gate::{Gate, NoGate};
+pub use law::entries_look_back;
 pub use link::Link;
-pub use plan::{Arrival, Change, Plan};
 pub use refusal::LinkRefusal;
-pub use starter::storm;
 pub use told::{Told, Tried};

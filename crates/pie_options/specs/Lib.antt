@@ -1,2 +1,3 @@
+pub mod Arguments
 pub mod Subcommands
 pub mod Words

@@ -8,6 +8,9 @@ use Rattle.clap.specs.ValueTests.{accepts}
 use Rattle.clap.specs.Words.{App, Row, Rule, Text, all_of, first_of, new_app, new_rule, one_of, subcommand_of, takes, with_rule, with_subcommand}
 use Rattle.clap.specs.declared.builder.action.ArgAction.TheVariants.{Append, SetTrue}
 use Rattle.clap.specs.declared.builder.value_parser.ValueParser.TheVariants.{Unsigned}
+use Rattle.pie_options.specs.declared.subcommand.Subcommand.{Subcommand}
+use Rattle.pie_options.specs.declared.subcommand.Subcommand.TheVariants.{Run, Audit, Explain, Migrate, Storm, Params}
+use Rattle.pie_options.specs.Subcommands.{word_of}
 
 -- `pie`, which has a version and wants a subcommand
 abbrev pub pie_alone : App
@@ -25,14 +28,6 @@ flag_rule name = record (new_rule name) { long = Some name; action = Some SetTru
 abbrev pub text_rule : Text → Rule
 text_rule name = record (new_rule name) { long = Some name; value_names = 1 }
 
--- the option that asks to be told how far reading has come
-abbrev pub progress_rule : Rule
-progress_rule = flag_rule (codes "progress")
-
--- the file to write in place of standard output
-abbrev pub output_rule : Rule
-output_rule = record (new_rule (codes "output")) { long = Some (codes "output"); short = Some 111; value_names = 1 }
-
 -- a file, which may be named
 abbrev pub file_rule : Rule
 file_rule = record (new_rule (codes "file")) { value_names = 1 }
@@ -41,51 +36,46 @@ file_rule = record (new_rule (codes "file")) { value_names = 1 }
 abbrev pub files_rule : Rule
 files_rule = record (new_rule (codes "file")) { value_names = 1; action = Some Append }
 
--- the subcommands `run`, `audit` and `migrate`
-abbrev pub run_app : App
-run_app = with_rule (with_rule (with_rule (with_rule (new_app (codes "run")) (flag_rule (codes "count"))) progress_rule) output_rule) file_rule
+-- the options of what tells how far reading has come, and of what may write to a file: which, and that one which is there may be replaced
+abbrev pub progress_rule : Rule
+progress_rule = flag_rule (codes "progress")
 
-abbrev pub audit_app : App
-audit_app = with_rule (with_rule (new_app (codes "audit")) progress_rule) files_rule
+abbrev pub output_rule : Rule
+output_rule = record (new_rule (codes "output")) { long = Some (codes "output"); short = Some 111; value_names = 1 }
 
-abbrev pub migrate_app : App
-migrate_app = with_rule (with_rule (with_rule (new_app (codes "migrate")) progress_rule) output_rule) file_rule
+abbrev pub force_rule : Rule
+force_rule = flag_rule (codes "force")
 
--- the subcommand `explain`: five options that choose events, two for their moments, three for what is told of them, one for progress, and two files
-abbrev pub choosing_app : App
-choosing_app = with_rule (with_rule (with_rule (with_rule (with_rule (new_app (codes "explain")) (number_rule (codes "event") 1 (2 ^ 64 - 1)))
-    (number_rule (codes "tag") 0 (2 ^ 64 - 1))) (flag_rule (codes "lost"))) (flag_rule (codes "marked"))) (flag_rule (codes "all"))
+-- a command with these rules, one after the other
+abbrev pub with_rules : App → List Rule → App
+with_rules app [] = app
+with_rules app (rule ∷ rules) = with_rules (with_rule app rule) rules
 
-abbrev pub timed_app : App
-timed_app = with_rule (with_rule choosing_app (text_rule (codes "from"))) (text_rule (codes "to"))
+-- what each subcommand takes
+abbrev pub rules_for : Subcommand → List Rule
+rules_for Run = flag_rule (codes "count") ∷ progress_rule ∷ output_rule ∷ force_rule ∷ file_rule ∷ []
+rules_for Audit = progress_rule ∷ files_rule ∷ []
+rules_for Explain = number_rule (codes "event") 1 (2 ^ 64 - 1) ∷ number_rule (codes "tag") 0 (2 ^ 64 - 1) ∷ flag_rule (codes "lost")
+    ∷ flag_rule (codes "marked") ∷ flag_rule (codes "all") ∷ text_rule (codes "from") ∷ text_rule (codes "to") ∷ flag_rule (codes "summary")
+    ∷ text_rule (codes "every") ∷ flag_rule (codes "csv") ∷ progress_rule ∷ output_rule ∷ force_rule ∷ file_rule ∷ []
+rules_for Migrate = progress_rule ∷ output_rule ∷ force_rule ∷ file_rule ∷ []
+rules_for Storm = number_rule (codes "senders") 2 8 ∷ number_rule (codes "packets") 1 10_000 ∷ number_rule (codes "seed") 0 (2 ^ 64 - 1)
+    ∷ number_rule (codes "load") 50 200 ∷ number_rule (codes "changes") 0 100 ∷ number_rule (codes "folds") 0 100
+    ∷ flag_rule (codes "count") ∷ []
+rules_for Params = text_rule (codes "rate") ∷ text_rule (codes "target") ∷ text_rule (codes "tupdate") ∷ text_rule (codes "limit")
+    ∷ number_rule (codes "alpha") 0 32 ∷ number_rule (codes "beta") 0 32 ∷ flag_rule (codes "ecn") ∷ flag_rule (codes "bytemode")
+    ∷ flag_rule (codes "dq_rate_estimator") ∷ []
 
-abbrev pub explain_app : App
-explain_app = with_rule (with_rule (with_rule (with_rule (with_rule (with_rule timed_app (flag_rule (codes "summary"))) (text_rule (codes "every")))
-    (flag_rule (codes "csv"))) progress_rule) output_rule) file_rule
+abbrev pub app_for : Subcommand → App
+app_for subcommand = with_rules (new_app (word_of subcommand)) (rules_for subcommand)
 
--- the subcommand `params`: four texts with units, two gains, and what `tc` has or hasn't
-abbrev pub measured_app : App
-measured_app = with_rule (with_rule (with_rule (with_rule (new_app (codes "params")) (text_rule (codes "rate")))
-    (text_rule (codes "target"))) (text_rule (codes "tupdate"))) (text_rule (codes "limit"))
+-- `pie` with these subcommands, one after the other, and with all of them
+abbrev pub with_subcommands : App → List Subcommand → App
+with_subcommands app [] = app
+with_subcommands app (subcommand ∷ subcommands) = with_subcommands (with_subcommand app (app_for subcommand).top) subcommands
 
-abbrev pub params_app : App
-params_app = with_rule (with_rule (with_rule (with_rule (with_rule measured_app (number_rule (codes "alpha") 0 32))
-    (number_rule (codes "beta") 0 32))
-    (flag_rule (codes "ecn"))) (flag_rule (codes "bytemode"))) (flag_rule (codes "dq_rate_estimator"))
-
--- the subcommand `storm`, whose options are the four numbers of its plan, and one that asks for counts
-abbrev pub planned_app : App
-planned_app = with_rule (with_rule (with_rule (with_rule (new_app (codes "storm")) (number_rule (codes "senders") 2 8))
-    (number_rule (codes "packets") 1 10_000)) (number_rule (codes "seed") 0 (2 ^ 64 - 1))) (number_rule (codes "load") 50 200)
-
-abbrev pub storm_app : App
-storm_app = with_rule planned_app (flag_rule (codes "count"))
-
--- .. `pie` with its subcommands
 abbrev pub pie_app : App
-pie_app = with_subcommand (with_subcommand (with_subcommand
-    (with_subcommand (with_subcommand (with_subcommand pie_alone run_app.top) audit_app.top) explain_app.top) migrate_app.top)
-    storm_app.top) params_app.top
+pie_app = with_subcommands pie_alone (Run ∷ Audit ∷ Explain ∷ Migrate ∷ Storm ∷ Params ∷ [])
 
 -- ---- subcommands
 
@@ -132,11 +122,15 @@ file_in options = first_of (codes "file") options
 abbrev pub files_in : List Row → List Text
 files_in options = unwrap_or (all_of (codes "file") options) []
 
+-- a file that is there may be replaced
+abbrev pub is_forced : List Row → Bool
+is_forced options = flag_given (codes "force") options
+
 -- the file that is to be made, where the options name one
 abbrev pub output_in : List Row → Option Text
 output_in options = first_of (codes "output") options
 
--- the four numbers of `pie storm`
+-- the six numbers of `pie storm`
 abbrev pub senders_in : List Row → ℕ
 senders_in options = number_or (codes "senders") 2 8 2 options
 
@@ -148,3 +142,9 @@ seed_in options = number_or (codes "seed") 0 (2 ^ 64 - 1) 1 options
 
 abbrev pub load_in : List Row → ℕ
 load_in options = number_or (codes "load") 50 200 100 options
+
+abbrev pub changes_in : List Row → ℕ
+changes_in options = number_or (codes "changes") 0 100 0 options
+
+abbrev pub folds_in : List Row → ℕ
+folds_in options = number_or (codes "folds") 0 100 0 options

@@ -1,7 +1,7 @@
 //! What the words give the options of a subcommand.
-ghost use Rattle.std.specs.Prelude.{◌≡◌, ◌≤◌};
+ghost use Rattle.std.specs.Prelude.{◌≡◌, ◌≤◌, option_map};
 ghost use Rattle.clap.specs.Words.{found_of, rows_of};
-ghost use Rattle.pie_options.specs.Words.{flag_given, number_given, number_or};
+ghost use Rattle.pie_options.specs.Words.{file_in, flag_given, number_given, number_or, output_in};
 
 use clap::ArgMatches;
 
@@ -30,4 +30,18 @@ pub fn flag(options: &ArgMatches<'_>, name: &str) -> bool
     ensures { result ≡ flag_given name.now (rows_of (found_of options.now)) }
 {
     options.get_one::<bool>(name).unwrap_or(false)
+}
+
+/// The file that the words name to be read, where they name one.
+pub fn file<'a>(options: &ArgMatches<'a>) -> Option<&'a str>
+    ensures { option_map (λ name. name.now) result ≡ file_in (rows_of (found_of options.now)) }
+{
+    options.get_str("file")
+}
+
+/// The file that the words name to be written, where they name one.
+pub fn output<'a>(options: &ArgMatches<'a>) -> Option<&'a str>
+    ensures { option_map (λ name. name.now) result ≡ output_in (rows_of (found_of options.now)) }
+{
+    options.get_str("output")
 }

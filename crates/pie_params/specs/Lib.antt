@@ -1,3 +1,4 @@
 pub mod Name
 pub mod Profile
 pub mod Range
+pub mod Elements

@@ -1,11 +1,13 @@
 //! The parameters of the PIE controller, checked against their ranges.
 //!
 //! `Params::check` accepts exactly the ranges (clause `accepts`) and else names the first bad field in order (`refuses`).
-//! The readers and `default_profile` are exact.
+//! The readers and `default_profile` are exact. `Elements` are RFC 8033's optional elements, as choices.
 #![tactic(auto)]
 
 mod checked;
+mod elements;
 mod raw;
 
 pub use checked::Params;
+pub use elements::{Delay, Elements, Picking, Size, Step};
 pub use raw::{BadParam, Field, RawParams};

@@ -1,8 +1,8 @@
--- The record of an opening and of an event is read back as that opening and that event.
-use Rattle.std.proofs.Common.{◌≡◌, ◌≤◌, ◌<◌, ◌^◌, ℕ, List, [], ◌∷◌, ◌++◌, true, decimal, refl, arith}
+-- A command that was read is read with its answer as that event, and a command that was written is read back.
+use Rattle.std.proofs.Common.{◌≡◌, ◌≤◌, ◌<◌, ◌^◌, ℕ, List, [], ◌∷◌, ◌++◌, length, true, decimal, refl, sym, ap, subst, ◌∙◌}
+use Rattle.std.proofs.Common.{arith, length-append}
 use Rattle.std.specs.Prelude.{Some, Ok, codes}
 use Rattle.csv.specs.Records.{field_at}
-use Rattle.pie_params.specs.declared.raw.RawParams.{RawParams}
 use Rattle.pie_queue.specs.declared.ecn.Ecn.{Ecn}
 use Rattle.pie_queue.specs.declared.ecn.Ecn.TheVariants as ecn
 use Rattle.pie_queue.specs.declared.packet.Packet.{Packet}
@@ -12,14 +12,23 @@ use Rattle.pie_book.specs.declared.command.Answer.TheVariants.{Enqueued, Marked,
 use Rattle.pie_book.specs.declared.command.Answer.TheVariants.{Done}
 use Rattle.pie_book.specs.declared.command.Command.{Command}
 use Rattle.pie_book.specs.declared.command.Command.TheVariants.{Arrive, Depart, Update, Reset, SetParams}
+use Rattle.pie_record.specs.declared.command.Asked.TheVariants as asked
+use Rattle.pie_record.specs.declared.command.CommandKind.{CommandKind}
+use Rattle.pie_record.specs.declared.command.CommandKind.TheVariants as kind
+use Rattle.pie_record.specs.declared.trace_record.Request.TheVariants as request
 use Rattle.pie_record.specs.declared.version.Version.{Version}
-use Rattle.pie_record.specs.Line.{arrival_line, departure_line, line_of, made, packet_at, params_line, reset_line, update_line, verdict_of}
-use Rattle.pie_record.specs.Record.{call_at, ecn_of, most_u16, most_u32, most_u64, params_at}
+use Rattle.pie_record.specs.Command.{arrival_at, change_at, command_at, command_kind, command_length}
+use Rattle.pie_record.specs.Field.{ecn_of, most_u16, most_u32, most_u64, packet_at, params_at}
+use Rattle.pie_record.specs.HistoryRecord.{answer_at, departure_at, event_line, has_length, line_of, made, update_at, verdict_of}
 use Rattle.pie_record.specs.Number.{number}
-use Rattle.pie_book.specs.Ranges.{AnswerFits, CommandFits, PacketFits, ParamsFit}
+use Rattle.pie_record.specs.TraceRecord.{command_request, request_of}
+use Rattle.pie_book.specs.Ranges.{AnswerFits, CommandFits, PacketFits}
 use Rattle.pie_record.specs.Answer.{answer_fields}
+use Rattle.pie_record.specs.Text.{Row}
 use Rattle.pie_record.specs.Words.{ecn_word}
 use Rattle.pie_record.specs.Write.{command_fields}
+use Rattle.pie_record.proofs.CommandFacts.{asks-command, command-kept, command-kind, kind-kept, kind_of}
+use Rattle.pie_record.proofs.FieldFacts.{field-after}
 use Rattle.pie_record.proofs.NumberFacts.{number-decimal}
 
 -- ---- numbers and words
@@ -40,87 +49,149 @@ back_ecn ecn.Ect1 = refl
 back_ecn ecn.Ect0 = refl
 back_ecn ecn.Ce = refl
 
+-- ---- an answer after a command
+
+-- an answer that is written after the fields of a command of this kind
+record Answers (row : Row) (kind : CommandKind) (answer : Answer) : Type 0 where
+  pub long : has_length kind (length (row ++ answer_fields answer)) ≡ true
+  pub reads : answer_at (row ++ answer_fields answer) kind ≡ Ok answer
+
+verdict-after : (row : Row) (answer : Answer) (verdict : List ℕ) → length row ≡ 7 → answer_fields answer ≡ verdict ∷ []
+    → verdict_of verdict ≡ Some answer → Answers row kind.Arrive answer
+unfolding answer_at field_at
+verdict-after row answer verdict e said is =
+    let all : length (row ++ verdict ∷ []) ≡ 8 = omega (arith, length-append row (verdict ∷ []), e) in
+    let there : field_at (row ++ verdict ∷ []) 7 ≡ Some verdict = field-after row (verdict ∷ []) 0 7 (omega arith) in
+    record { long = rw (said, all) refl; reads = rw (said, there, is) refl }
+
+empty-after : (row : Row) → length row ≡ 3 → Answers row kind.Depart Empty
+unfolding answer_at answer_fields departure_at field_at
+empty-after row e =
+    let more : Row = codes "empty" ∷ [] in
+    let all : length (row ++ more) ≡ 4 = omega (arith, length-append row more, e) in
+    let there : field_at (row ++ more) 3 ≡ Some (codes "empty") = field-after row more 0 3 (omega arith) in
+    record { long = rw all refl; reads = rw (all, there) refl }
+
+left-after : (row : Row) (packet : Packet) → length row ≡ 3 → PacketFits packet → Answers row kind.Depart (Left packet)
+unfolding answer_at answer_fields departure_at packet_at field_at
+left-after row packet e left =
+    let more : Row = codes "left" ∷ decimal packet.tag ∷ decimal packet.size ∷ ecn_word packet.ecn ∷ [] in
+    let all : length (row ++ more) ≡ 7 = omega (arith, length-append row more, e) in
+    let word : field_at (row ++ more) 3 ≡ Some (codes "left") = field-after row more 0 3 (omega arith) in
+    let tag : field_at (row ++ more) 4 ≡ Some (decimal packet.tag) = field-after row more 1 4 (omega arith) in
+    let size : field_at (row ++ more) 5 ≡ Some (decimal packet.size) = field-after row more 2 5 (omega arith) in
+    let ecn : field_at (row ++ more) 6 ≡ Some (ecn_word packet.ecn) = field-after row more 3 6 (omega arith) in
+    record {
+      long = rw all refl;
+      reads = rw (all, word, tag, size, ecn, back_u64 packet.tag left.tag, back_u32 packet.size left.size, back_ecn packet.ecn) refl;
+    }
+
+updated-after : (row : Row) (delay prob burst : ℕ) → length row ≡ 3 → AnswerFits (Updated delay prob burst)
+    → Answers row kind.Update (Updated delay prob burst)
+unfolding answer_at answer_fields update_at field_at
+updated-after row delay prob burst e fits =
+    let more : Row = decimal delay ∷ decimal prob ∷ decimal burst ∷ [] in
+    let all : length (row ++ more) ≡ 6 = omega (arith, length-append row more, e) in
+    let first : field_at (row ++ more) 3 ≡ Some (decimal delay) = field-after row more 0 3 (omega arith) in
+    let second : field_at (row ++ more) 4 ≡ Some (decimal prob) = field-after row more 1 4 (omega arith) in
+    let third : field_at (row ++ more) 5 ≡ Some (decimal burst) = field-after row more 2 5 (omega arith) in
+    record {
+      long = rw all refl;
+      reads = rw (first, second, third, back_u64 delay fits.0, back_u64 prob fits.1, back_u64 burst fits.2) refl;
+    }
+
+reset-after : (row : Row) → length row ≡ 3 → Answers row kind.Reset Done
+unfolding answer_at answer_fields field_at
+reset-after row e =
+    let more : Row = codes "done" ∷ [] in
+    let all : length (row ++ more) ≡ 4 = omega (arith, length-append row more, e) in
+    let there : field_at (row ++ more) 3 ≡ Some (codes "done") = field-after row more 0 3 (omega arith) in
+    record { long = rw all refl; reads = rw there refl }
+
+set-after : (row : Row) → length row ≡ 12 → Answers row kind.Params Done
+unfolding answer_at answer_fields field_at
+set-after row e =
+    let more : Row = codes "done" ∷ [] in
+    let all : length (row ++ more) ≡ 13 = omega (arith, length-append row more, e) in
+    let there : field_at (row ++ more) 12 ≡ Some (codes "done") = field-after row more 0 12 (omega arith) in
+    record { long = rw all refl; reads = rw there refl }
+
+answer-after : (row : Row) (command : Command) (answer : Answer) → fits command answer ≡ true → AnswerFits answer
+    → length row ≡ command_length (kind_of command) → Answers row (kind_of command) answer
+unfolding answer_fields verdict_of
+answer-after row (Arrive moment packet word) Enqueued kind said e = verdict-after row Enqueued (codes "enqueue") e refl refl
+answer-after row (Arrive moment packet word) Marked kind said e = verdict-after row Marked (codes "mark") e refl refl
+answer-after row (Arrive moment packet word) DroppedEarly kind said e = verdict-after row DroppedEarly (codes "early") e refl refl
+answer-after row (Arrive moment packet word) DroppedBytes kind said e = verdict-after row DroppedBytes (codes "bytes") e refl refl
+answer-after row (Arrive moment packet word) DroppedPackets kind said e = verdict-after row DroppedPackets (codes "packets") e refl refl
+answer-after row (Depart moment) Empty kind said e = empty-after row e
+answer-after row (Depart moment) (Left packet) kind said e = left-after row packet e said
+answer-after row (Update moment) (Updated delay prob burst) kind said e = updated-after row delay prob burst e said
+answer-after row (Reset moment) Done kind said e = reset-after row e
+answer-after row (SetParams moment params) Done kind said e = set-after row e
+answer-after row command answer kind said e = cc
+
 -- ---- events
 
-line-arrive : (version : Version) (caller moment : ℕ) (packet : Packet) (word : ℕ) (answer : Answer) (verdict : List ℕ) → caller ≤ most_u16
-    → CommandFits (Arrive moment packet word)
-    → answer_fields answer ≡ verdict ∷ [] → verdict_of verdict ≡ Some answer
-    → line_of version (command_fields caller (Arrive moment packet word) ++ answer_fields answer)
-    ≡ Ok (made caller (Arrive moment packet word) answer)
-unfolding line_of arrival_line call_at packet_at field_at command_fields
-line-arrive version caller moment packet word answer verdict called fits said is =
-    rw said (rw (
+event-read : (version : Version) (row : Row) (k : CommandKind) (caller : ℕ) (command : Command) (answer : Answer) → command_kind row ≡ Some k
+    → length row ≡ command_length k → command_at row k ≡ Ok (asked.Command caller command) → Answers row k answer
+    → line_of version (row ++ answer_fields answer) ≡ Ok (made caller command answer)
+unfolding line_of event_line
+event-read version row k caller command answer is long reads answers =
+    rw (
+      kind-kept row (answer_fields answer) k is,
+      answers.long,
+      command-kept row (answer_fields answer) k long,
+      reads,
+      answers.reads,
+    ) refl
+
+-- the record of a trace that asks a command, with an answer that the command can have
+pub answered-back : (version : Version) (row : Row) (caller : ℕ) (command : Command) (answer : Answer)
+    → request_of row ≡ Ok (request.Ask caller command) → fits command answer ≡ true → AnswerFits answer
+    → line_of version (row ++ answer_fields answer) ≡ Ok (made caller command answer)
+answered-back version row caller command answer e can said =
+    let asks = asks-command row caller command e in
+    let same = command-kind row asks.kind caller command asks.reads in
+    event-read version row asks.kind caller command answer asks.is asks.long asks.reads
+    (subst (λ (k : CommandKind). Answers row k answer) (sym same)
+    (answer-after row command answer can said (asks.long ∙ ap command_length same)))
+
+-- the fields of a command are read as that command
+pub command-back : (caller : ℕ) (command : Command) → caller ≤ most_u16 → CommandFits command
+    → request_of (command_fields caller command) ≡ Ok (request.Ask caller command)
+unfolding request_of command_request command_kind command_at arrival_at change_at packet_at params_at field_at command_fields
+command-back caller (Arrive moment packet word) called fits =
+    rw (
       back_u16 caller called,
       back_u64 moment fits.0,
       back_u64 packet.tag fits.1.tag,
       back_u32 packet.size fits.1.size,
-      back_ecn
-          packet.ecn,
+      back_ecn packet.ecn,
       back_u64 word fits.2,
-      is,
-    ) refl)
-
-line-left : (version : Version) (caller moment : ℕ) (packet : Packet) → caller ≤ most_u16 → moment < 2 ^ 64 → PacketFits packet
-    → line_of version (command_fields caller (Depart moment) ++ answer_fields (Left packet)) ≡ Ok (made caller (Depart moment) (Left packet))
-unfolding line_of departure_line call_at packet_at field_at command_fields answer_fields
-line-left version caller moment packet called fits left =
-    rw (back_u16 caller called, back_u64 moment fits, back_u64 packet.tag left.tag, back_u32 packet.size left.size, back_ecn packet.ecn) refl
-
-line-empty : (version : Version) (caller moment : ℕ) → caller ≤ most_u16 → moment < 2 ^ 64
-    → line_of version (command_fields caller (Depart moment) ++ answer_fields Empty) ≡ Ok (made caller (Depart moment) Empty)
-unfolding line_of departure_line call_at field_at command_fields answer_fields
-line-empty version caller moment called fits = rw (back_u16 caller called, back_u64 moment fits) refl
-
-line-updated : (version : Version) (caller moment delay prob burst : ℕ) → caller ≤ most_u16 → moment < 2 ^ 64 → AnswerFits (Updated delay prob burst)
-    → line_of version (command_fields caller (Update moment) ++ answer_fields (Updated delay prob burst))
-    ≡ Ok (made caller (Update moment) (Updated delay prob burst))
-unfolding line_of update_line call_at field_at command_fields answer_fields
-line-updated version caller moment delay prob burst called fits answer =
-    rw (back_u16 caller called, back_u64 moment fits, back_u64 delay answer.0, back_u64 prob answer.1, back_u64 burst answer.2) refl
-
-line-reset : (version : Version) (caller moment : ℕ) → caller ≤ most_u16 → moment < 2 ^ 64
-    → line_of version (command_fields caller (Reset moment) ++ answer_fields Done) ≡ Ok (made caller (Reset moment) Done)
-unfolding line_of reset_line call_at field_at command_fields answer_fields
-line-reset version caller moment called fits = rw (back_u16 caller called, back_u64 moment fits) refl
-
-line-params : (version : Version) (caller moment : ℕ) (params : RawParams) → caller ≤ most_u16 → moment < 2 ^ 64 → ParamsFit params
-    → line_of version (command_fields caller (SetParams moment params) ++ answer_fields Done) ≡ Ok (made caller (SetParams moment params) Done)
-unfolding line_of params_line call_at params_at field_at command_fields answer_fields
-line-params version caller moment params called fits set =
+    ) refl
+command-back caller (Depart moment) called fits = rw (back_u16 caller called, back_u64 moment fits) refl
+command-back caller (Update moment) called fits = rw (back_u16 caller called, back_u64 moment fits) refl
+command-back caller (Reset moment) called fits = rw (back_u16 caller called, back_u64 moment fits) refl
+command-back caller (SetParams moment params) called fits =
     rw (
       back_u16 caller called,
-      back_u64 moment fits,
-      back_u64 params.target set.target,
-      back_u64 params.t_update set.t_update,
-      back_u64 params.max_burst set.max_burst,
-      back_u64 params.alpha set.alpha,
-      back_u64 params.beta set.beta,
-      back_u64 params.mean_pkt set.mean_pkt,
-      back_u64 params.limit_bytes set.limit_bytes,
-      back_u64 params.mark_ecnth set.mark_ecnth,
-      back_u64 params.dq_threshold set.dq_threshold,
-      set.in_range,
+      back_u64 moment fits.0,
+      back_u64 params.target fits.1.target,
+      back_u64 params.t_update fits.1.t_update,
+      back_u64 params.max_burst fits.1.max_burst,
+      back_u64 params.alpha fits.1.alpha,
+      back_u64 params.beta fits.1.beta,
+      back_u64 params.mean_pkt fits.1.mean_pkt,
+      back_u64 params.limit_bytes fits.1.limit_bytes,
+      back_u64 params.mark_ecnth fits.1.mark_ecnth,
+      back_u64 params.dq_threshold fits.1.dq_threshold,
+      fits.1.in_range,
     ) refl
 
 -- the record of a command with its answer
 pub line-back : (version : Version) (caller : ℕ) (command : Command) (answer : Answer) → fits command answer ≡ true → caller ≤ most_u16
     → CommandFits command → AnswerFits answer
     → line_of version (command_fields caller command ++ answer_fields answer) ≡ Ok (made caller command answer)
-unfolding verdict_of answer_fields
-line-back version caller (Arrive moment packet word) Enqueued kind called fits said = line-arrive version caller moment packet word Enqueued
-    (codes "enqueue") called fits refl refl
-line-back version caller (Arrive moment packet word) Marked kind called fits said = line-arrive version caller moment packet word Marked
-    (codes "mark") called fits refl refl
-line-back version caller (Arrive moment packet word) DroppedEarly kind called fits said = line-arrive version caller moment packet word DroppedEarly
-    (codes "early") called fits refl refl
-line-back version caller (Arrive moment packet word) DroppedBytes kind called fits said = line-arrive version caller moment packet word DroppedBytes
-    (codes "bytes") called fits refl refl
-line-back version caller (Arrive moment packet word) DroppedPackets kind called fits said = line-arrive version caller moment packet word
-    DroppedPackets (codes "packets") called fits refl refl
-line-back version caller (Depart moment) Empty kind called fits said = line-empty version caller moment called fits
-line-back version caller (Depart moment) (Left packet) kind called fits said = line-left version caller moment packet called fits said
-line-back version caller (Update moment) (Updated delay prob burst) kind called fits said = line-updated version caller moment delay prob burst
-    called fits said
-line-back version caller (Reset moment) Done kind called fits said = line-reset version caller moment called fits
-line-back version caller (SetParams moment params) Done kind called fits said = line-params version caller moment params called fits.0 fits.1
-line-back version caller command answer kind called fits said = cc
+line-back version caller command answer kind called fits said =
+    answered-back version (command_fields caller command) caller command answer (command-back caller command called fits) kind said

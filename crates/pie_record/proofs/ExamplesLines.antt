@@ -19,22 +19,23 @@ use Rattle.pie_book.specs.declared.command.Event.{Event}
 use Rattle.pie_book.specs.declared.opening.Mode.{Mode}
 use Rattle.pie_book.specs.declared.opening.Mode.TheVariants.{Bounded, Rolling}
 use Rattle.pie_book.specs.declared.opening.Opening.{Opening}
-use Rattle.pie_controller.specs.declared.profile.Profile.{Profile}
-use Rattle.pie_controller.specs.declared.profile.Profile.TheVariants.{One, Two}
+use Rattle.pie_aqm.specs.declared.profile.Profile.{Profile}
+use Rattle.pie_aqm.specs.declared.profile.Profile.TheVariants.{One, Two}
 use Rattle.pie_record.specs.declared.fault.TraceFault.{TraceFault}
 use Rattle.pie_record.specs.declared.fault.TraceFault.TheVariants as fault
-use Rattle.pie_record.specs.declared.history.Line.{Line}
-use Rattle.pie_record.specs.declared.history.Line.TheVariants.{Made, Unmakeable, Note}
+use Rattle.pie_record.specs.declared.history_record.Line.{Line}
+use Rattle.pie_record.specs.declared.history_record.Line.TheVariants.{Made, Unmakeable, Note}
 use Rattle.pie_record.specs.declared.version.Version.TheVariants as version
 use Rattle.pie_record.specs.Number.{number}
 use Rattle.pie_record.specs.FirstRecord.{draft_at, first_kind, limits_at, mode_of, profile_of, version_of, version_one_fields, version_two_fields}
-use Rattle.pie_record.specs.Record.{ecn_of, params_at, call_at}
+use Rattle.pie_record.specs.Field.{ecn_of, packet_at, params_at}
+use Rattle.pie_record.specs.Command.{arrival_at, change_at, command_at, command_kind}
+use Rattle.pie_record.specs.HistoryRecord.{answer_at, departure_at, event_line, line_of, note_line, numbers_at, registers_at, shown_line, update_at}
+use Rattle.pie_record.specs.HistoryRecord.{verdict_of}
 use Rattle.pie_record.specs.Answer.{answer_fields}
 use Rattle.pie_record.specs.Opening.{opening_of}
 use Rattle.pie_record.specs.Text.{rows_text, records_of}
-use Rattle.pie_record.specs.Line.{arrival_line, departure_line, line_of, note_line, numbers_at, packet_at, params_line, registers_at, reset_line}
-use Rattle.pie_record.specs.Line.{shown_line, update_line, verdict_of}
-use Rattle.pie_record.specs.Lines.{after_opening, fault_from, history_lines, history_opening, history_version, later_fault, lines_from, told_by}
+use Rattle.pie_record.specs.HistoryLines.{after_opening, fault_from, history_lines, history_opening, history_version, later_fault, lines_from, told_by}
 use Rattle.pie_record.specs.Write.{command_fields, opening_row, written_rows}
 
 -- ---- reading
@@ -70,11 +71,10 @@ one_arrival = codes "open,0,4,16,100\narrive,1,10,7,1500,ect0,0,enqueue\ndepart,
 one_arrival-lines : (history_opening (records_of one_arrival) ≡ Ok (opened_as Bounded default_profile))
     × (lines_of one_arrival ≡ Made (arrival Enqueued) ∷ Made (event 2 (Depart 25) (Left (packet ecn.Ect0))) ∷ Made (event 2 (Depart 30) Empty) ∷ [])
     × (fault_in one_arrival ≡ None)
-unfolding records_from next_record strip_bom field_at digits fields_text is_blank number ecn_of params_at first_kind version_of profile_of mode_of
-    limits_at draft_at version_one_fields version_two_fields
-    opening_of rows_text answer_fields verdict_of call_at packet_at arrival_line departure_line update_line reset_line params_line numbers_at
-    registers_at
-    note_line shown_line line_of told_by lines_from fault_from history_opening history_version after_opening opening_row command_fields
+unfolding records_from next_record strip_bom field_at digits fields_text is_blank number ecn_of params_at first_kind version_of profile_of
+    mode_of limits_at draft_at version_one_fields version_two_fields opening_of rows_text answer_fields verdict_of command_at packet_at
+    command_kind arrival_at event_line answer_at departure_at update_at change_at numbers_at registers_at note_line shown_line line_of
+    told_by lines_from fault_from history_opening history_version after_opening opening_row command_fields
 one_arrival-lines = (refl, refl, refl)
 
 -- updates, resets, parameters, verdicts and notes; parameters of which one is out of its range cannot be made
@@ -95,11 +95,10 @@ kinds-lines : lines_of (
     ≡ Made (event 3 (Update 4) (Updated 5 6 7)) ∷ Made (event 1 (Reset 2) Done) ∷ Made (event 1 (SetParams 2 default_profile) Done) ∷ Unmakeable
     ∷ Made (arrival Marked) ∷ Made (arrival DroppedEarly) ∷ Made (arrival DroppedBytes) ∷ Made (arrival DroppedPackets) ∷ Note ∷ Note ∷ Note ∷ Note
     ∷ []
-unfolding records_from next_record strip_bom field_at digits fields_text is_blank number ecn_of params_at first_kind version_of profile_of mode_of
-    limits_at draft_at version_one_fields version_two_fields
-    opening_of rows_text answer_fields verdict_of call_at packet_at arrival_line departure_line update_line reset_line params_line numbers_at
-    registers_at
-    note_line shown_line line_of told_by lines_from fault_from history_opening history_version after_opening opening_row command_fields
+unfolding records_from next_record strip_bom field_at digits fields_text is_blank number ecn_of params_at first_kind version_of profile_of
+    mode_of limits_at draft_at version_one_fields version_two_fields opening_of rows_text answer_fields verdict_of command_at packet_at
+    command_kind arrival_at event_line answer_at departure_at update_at change_at numbers_at registers_at note_line shown_line line_of
+    told_by lines_from fault_from history_opening history_version after_opening opening_row command_fields
 kinds-lines = refl
 
 -- the fault of a record of a history
@@ -119,11 +118,10 @@ faults-in : map (λ last. fault_in (codes "open,0,4,16,100\ndepart,1,1,empty\n" 
     ∷ [])
     ≡ Some (fault.Kind 3) ∷ Some (fault.Kind 3) ∷ Some (fault.Fields 3) ∷ Some (fault.Word 3) ∷ Some (fault.Word 3) ∷ Some (fault.Word 3)
     ∷ Some (fault.Number 3) ∷ Some (fault.Word 3) ∷ Some (fault.Word 3) ∷ Some (fault.Number 3) ∷ Some (fault.Number 3) ∷ Some (fault.Number 3) ∷ []
-unfolding records_from next_record strip_bom field_at digits fields_text is_blank number ecn_of params_at first_kind version_of profile_of mode_of
-    limits_at draft_at version_one_fields version_two_fields
-    opening_of rows_text answer_fields verdict_of call_at packet_at arrival_line departure_line update_line reset_line params_line numbers_at
-    registers_at
-    note_line shown_line line_of told_by lines_from fault_from history_opening history_version after_opening opening_row command_fields
+unfolding records_from next_record strip_bom field_at digits fields_text is_blank number ecn_of params_at first_kind version_of profile_of
+    mode_of limits_at draft_at version_one_fields version_two_fields opening_of rows_text answer_fields verdict_of command_at packet_at
+    command_kind arrival_at event_line answer_at departure_at update_at change_at numbers_at registers_at note_line shown_line line_of
+    told_by lines_from fault_from history_opening history_version after_opening opening_row command_fields
 faults-in = refl
 
 -- lines before a fault stand; a record past the greatest number is that fault
@@ -132,11 +130,10 @@ faulty-lines : (lines_of (codes "open,0,4,16,100\nrefused,1,1\ndep\nrefused,1,1\
     × (fault_from version.One 3 2 (records_of (codes "refused,1,1\nrefused,1,1\ndep\n")) ≡ Some fault.TooLong)
     × (fault_from version.One 4 2 (records_of (codes "refused,1,1\nrefused,1,1\ndep\n")) ≡ Some (fault.Kind 4))
     × (history_opening [] ≡ Err fault.NoOpen)
-unfolding records_from next_record strip_bom field_at digits fields_text is_blank number ecn_of params_at first_kind version_of profile_of mode_of
-    limits_at draft_at version_one_fields version_two_fields
-    opening_of rows_text answer_fields verdict_of call_at packet_at arrival_line departure_line update_line reset_line params_line numbers_at
-    registers_at
-    note_line shown_line line_of told_by lines_from fault_from history_opening history_version after_opening opening_row command_fields
+unfolding records_from next_record strip_bom field_at digits fields_text is_blank number ecn_of params_at first_kind version_of profile_of
+    mode_of limits_at draft_at version_one_fields version_two_fields opening_of rows_text answer_fields verdict_of command_at packet_at
+    command_kind arrival_at event_line answer_at departure_at update_at change_at numbers_at registers_at note_line shown_line line_of
+    told_by lines_from fault_from history_opening history_version after_opening opening_row command_fields
 faulty-lines = (refl, refl, refl, refl, refl)
 
 -- `shown` has one field more in version two; a later `open2` is no kind
@@ -149,11 +146,10 @@ shown-lines : map (λ last. fault_in (codes "open2,2,bounded,0,4,16,100\n" ++ la
     ∷ codes "open2,2,bounded,0,4,16,100\n"
     ∷ [])
     ≡ None ∷ None ∷ Some (fault.Fields 2) ∷ Some (fault.Number 2) ∷ Some (fault.Number 2) ∷ Some (fault.Kind 2) ∷ []
-unfolding records_from next_record strip_bom field_at digits fields_text is_blank number ecn_of params_at first_kind version_of profile_of mode_of
-    limits_at draft_at version_one_fields version_two_fields
-    opening_of rows_text answer_fields verdict_of call_at packet_at arrival_line departure_line update_line reset_line params_line numbers_at
-    registers_at
-    note_line shown_line line_of told_by lines_from fault_from history_opening history_version after_opening opening_row command_fields
+unfolding records_from next_record strip_bom field_at digits fields_text is_blank number ecn_of params_at first_kind version_of profile_of
+    mode_of limits_at draft_at version_one_fields version_two_fields opening_of rows_text answer_fields verdict_of command_at packet_at
+    command_kind arrival_at event_line answer_at departure_at update_at change_at numbers_at registers_at note_line shown_line line_of
+    told_by lines_from fault_from history_opening history_version after_opening opening_row command_fields
 shown-lines = refl
 
 -- ---- writing
@@ -176,11 +172,10 @@ kinds-written : rows_text (written_rows (opened_as Bounded default_profile) (
     ++ codes "update,3,4,5,6,7\n"
     ++ codes "reset,65535,2,done\n"
     ++ codes "params,0,2,15000000,15000000,150000000,125,1250,1024,262144,100000000000,16384,done\n"
-unfolding records_from next_record strip_bom field_at digits fields_text is_blank number ecn_of params_at first_kind version_of profile_of mode_of
-    limits_at draft_at version_one_fields version_two_fields
-    opening_of rows_text answer_fields verdict_of call_at packet_at arrival_line departure_line update_line reset_line params_line numbers_at
-    registers_at
-    note_line shown_line line_of told_by lines_from fault_from history_opening history_version after_opening opening_row command_fields
+unfolding records_from next_record strip_bom field_at digits fields_text is_blank number ecn_of params_at first_kind version_of profile_of
+    mode_of limits_at draft_at version_one_fields version_two_fields opening_of rows_text answer_fields verdict_of command_at packet_at
+    command_kind arrival_at event_line answer_at departure_at update_at change_at numbers_at registers_at note_line shown_line line_of
+    told_by lines_from fault_from history_opening history_version after_opening opening_row command_fields
 kinds-written = refl
 
 abbrev with_beta : ℕ → RawParams
@@ -205,11 +200,10 @@ openings-written : map (λ opening. rows_text (opening_row opening ∷ []))
     ∷ codes "rolling,0,4,16,100\n"
     ∷ codes "rolling,0,4,16,100,15000000,15000000,150000000,125,0,1024,262144,100000000000,16384\n"
     ∷ []
-unfolding records_from next_record strip_bom field_at digits fields_text is_blank number ecn_of params_at first_kind version_of profile_of mode_of
-    limits_at draft_at version_one_fields version_two_fields
-    opening_of rows_text answer_fields verdict_of call_at packet_at arrival_line departure_line update_line reset_line params_line numbers_at
-    registers_at
-    note_line shown_line line_of told_by lines_from fault_from history_opening history_version after_opening opening_row command_fields
+unfolding records_from next_record strip_bom field_at digits fields_text is_blank number ecn_of params_at first_kind version_of profile_of
+    mode_of limits_at draft_at version_one_fields version_two_fields opening_of rows_text answer_fields verdict_of command_at packet_at
+    command_kind arrival_at event_line answer_at departure_at update_at change_at numbers_at registers_at note_line shown_line line_of
+    told_by lines_from fault_from history_opening history_version after_opening opening_row command_fields
 openings-written = refl
 
 -- version two exactly where the profile is two
@@ -227,9 +221,8 @@ versions-written : map (λ opening. rows_text (opening_row opening ∷ []))
     ∷ codes "open2,2,bounded,0,4,16,100\n"
     ∷ codes "open2,2,rolling,0,4,16,100,15000000,15000000,150000000,125,0,1024,262144,100000000000,16384\n"
     ∷ []
-unfolding records_from next_record strip_bom field_at digits fields_text is_blank number ecn_of params_at first_kind version_of profile_of mode_of
-    limits_at draft_at version_one_fields version_two_fields
-    opening_of rows_text answer_fields verdict_of call_at packet_at arrival_line departure_line update_line reset_line params_line numbers_at
-    registers_at
-    note_line shown_line line_of told_by lines_from fault_from history_opening history_version after_opening opening_row command_fields
+unfolding records_from next_record strip_bom field_at digits fields_text is_blank number ecn_of params_at first_kind version_of profile_of
+    mode_of limits_at draft_at version_one_fields version_two_fields opening_of rows_text answer_fields verdict_of command_at packet_at
+    command_kind arrival_at event_line answer_at departure_at update_at change_at numbers_at registers_at note_line shown_line line_of
+    told_by lines_from fault_from history_opening history_version after_opening opening_row command_fields
 versions-written = refl

@@ -11,27 +11,28 @@ use Rattle.pie_book.specs.declared.command.Event.{Event}
 use Rattle.pie_book.specs.declared.opening.Mode.{Mode}
 use Rattle.pie_book.specs.declared.opening.Mode.TheVariants.{Bounded, Rolling}
 use Rattle.pie_book.specs.declared.opening.Opening.{Opening}
-use Rattle.pie_controller.specs.declared.profile.Profile.{Profile}
-use Rattle.pie_controller.specs.declared.profile.Profile.TheVariants.{One, Two}
+use Rattle.pie_aqm.specs.declared.profile.Profile.{Profile}
+use Rattle.pie_aqm.specs.declared.profile.Profile.TheVariants.{One, Two}
 use Rattle.pie_book.specs.Opening.{opening_refusal}
 use Rattle.pie_record.specs.declared.fault.TraceFault.{TraceFault}
 use Rattle.pie_record.specs.declared.first_record.FirstKind.{FirstKind}
 use Rattle.pie_record.specs.declared.first_record.FirstKind.TheVariants as kinds
-use Rattle.pie_record.specs.declared.history.Line.{Line}
-use Rattle.pie_record.specs.declared.history.Line.TheVariants.{Made}
+use Rattle.pie_record.specs.declared.history_record.Line.{Line}
+use Rattle.pie_record.specs.declared.history_record.Line.TheVariants.{Made}
 use Rattle.pie_record.specs.declared.version.Version.{Version}
 use Rattle.pie_record.specs.Opening.{opening_of}
 use Rattle.pie_record.specs.Text.{HasField, rows_text, Row}
-use Rattle.pie_record.specs.Line.{line_of}
+use Rattle.pie_record.specs.Command.{command_kind}
+use Rattle.pie_record.specs.HistoryRecord.{line_of}
 use Rattle.pie_record.specs.FirstRecord.{kind_word, version_of}
-use Rattle.pie_record.specs.Lines.{Coming, after_opening, coming_after, coming_from, fault_from, history_opening, history_version, lines_from}
-use Rattle.pie_record.specs.Lines.{told_by}
+use Rattle.pie_record.specs.HistoryLines.{Coming, after_opening, coming_after, coming_from, fault_from, history_opening, history_version, lines_from}
+use Rattle.pie_record.specs.HistoryLines.{told_by}
 use Rattle.pie_book.specs.Ranges.{ParamsFit}
 use Rattle.pie_record.specs.ReadBack.{Begins, EventFits, TellEach, TellsHistory}
 use Rattle.pie_record.specs.Write.{choices_row, command_fields, event_row, opening_row, written_rows}
 use Rattle.pie_record.specs.Words.{mode_word, profile_number}
 use Rattle.pie_record.proofs.EventBack.{line-back}
-use Rattle.pie_record.proofs.LinesFacts.{told_by-line}
+use Rattle.pie_record.proofs.HistoryFacts.{told_by-line}
 use Rattle.pie_record.proofs.OpeningBack.{opening-back}
 use Rattle.pie_record.proofs.TextBack.{records_of-written}
 
@@ -175,6 +176,6 @@ ltb-false a b e = grind (arith, nat_tests)
 
 -- a row that tells a line has a field
 pub told-field : (version : Version) (row : Row) (line : Line) → line_of version row ≡ Ok line → HasField row
-unfolding line_of field_at
+unfolding line_of command_kind field_at
 told-field version [] line e = cc
 told-field version (field ∷ rest) line e = omega arith

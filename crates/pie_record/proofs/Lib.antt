@@ -3,13 +3,14 @@ mod RowFacts
 mod RecordFacts
 mod ReadFacts
 mod LineFacts
-mod LinesFacts
+mod HistoryFacts
 mod Appended
 mod TextBack
+mod FieldFacts
+mod CommandFacts
 mod EventBack
 mod OpeningBack
 mod HistoryBack
 mod NotesBack
-mod RequestBack
 mod ExamplesLines
 pub mod Laws

@@ -11,12 +11,13 @@ use Rattle.csv.specs.Records.{field_at}
 use Rattle.pie_book.specs.declared.registers.Registers.{Registers}
 use Rattle.pie_book.specs.declared.stats.Stats.{Stats}
 use Rattle.pie_book.specs.Ranges.{RegistersFit, StatsFit}
-use Rattle.pie_record.specs.declared.history.Line.TheVariants as line
+use Rattle.pie_record.specs.declared.history_record.Line.TheVariants as line
 use Rattle.pie_record.specs.declared.version.Version.{Version}
 use Rattle.pie_record.specs.declared.version.Version.TheVariants.{One, Two}
-use Rattle.pie_record.specs.Line.{line_of, most_u128, note_line, numbers_at, registers_at, shown_line}
+use Rattle.pie_record.specs.Field.{most_u128, most_u32, most_u64}
+use Rattle.pie_record.specs.Command.{command_kind}
+use Rattle.pie_record.specs.HistoryRecord.{line_of, note_line, numbers_at, registers_at, shown_line}
 use Rattle.pie_record.specs.Number.{number}
-use Rattle.pie_record.specs.Record.{most_u32, most_u64}
 use Rattle.pie_record.specs.Answer.{flag, folded_row, refused_row, shown_row, tallied_row}
 use Rattle.pie_record.proofs.NumberFacts.{number-decimal, number-value}
 
@@ -54,11 +55,11 @@ back-long n fits =
 
 pub refused-note : (version : Version) (record_number code : ℕ) → record_number < 2 ^ 64 → code < 2 ^ 64
     → line_of version (refused_row record_number code) ≡ Ok line.Note
-unfolding line_of note_line numbers_at field_at refused_row
+unfolding line_of command_kind note_line numbers_at field_at refused_row
 refused-note version record_number code a b = rw (back record_number a, back code b) refl
 
 pub folded-note : (version : Version) (n : ℕ) → n < 2 ^ 64 → line_of version (folded_row n) ≡ Ok line.Note
-unfolding line_of note_line numbers_at field_at folded_row
+unfolding line_of command_kind note_line numbers_at field_at folded_row
 folded-note version n a = rw (back n a) refl
 
 back-flag : (b : Bool) → number 1 (decimal (flag b)) ≡ Some (flag b)
@@ -66,7 +67,7 @@ back-flag true = number-decimal 1 1 (omega arith) (omega arith)
 back-flag false = number-decimal 1 0 (omega arith) (omega arith)
 
 pub shown-note : (version : Version) (r : Registers) → RegistersFit r → line_of version (shown_row version r) ≡ Ok line.Note
-unfolding line_of shown_line registers_at numbers_at field_at shown_row
+unfolding line_of command_kind shown_line registers_at numbers_at field_at shown_row
 shown-note One r f =
     rw (
       back r.count f.count,
@@ -98,7 +99,7 @@ shown-note Two r f =
     ) refl
 
 pub tallied-note : (version : Version) (s : Stats) → StatsFit s → line_of version (tallied_row s) ≡ Ok line.Note
-unfolding line_of note_line numbers_at field_at tallied_row
+unfolding line_of command_kind note_line numbers_at field_at tallied_row
 tallied-note version s f =
     rw (
       back s.arrivals f.arrivals,

@@ -1,7 +1,7 @@
 -- The record of an opening is read back as that opening.
-use Rattle.std.proofs.Common.{◌≡◌, ◌≤◌, ◌<◌, ◌^◌, ◌==◌, ◌&&◌, nat_le, ℕ, List, [], ◌∷◌, ◌++◌, map, Bool, true, false, decimal, refl, sym, ap, ◌∙◌}
+use Rattle.std.proofs.Common.{◌≡◌, ◌≤◌, ◌<◌, ◌^◌, ◌==◌, ◌&&◌, nat_le, ℕ, [], ◌∷◌, ◌++◌, map, Bool, true, false, decimal, refl, sym, ap, ◌∙◌}
 use Rattle.std.proofs.Common.{arith, if◌then◌else◌}
-use Rattle.std.specs.Prelude.{Some, None, Result, Ok, codes}
+use Rattle.std.specs.Prelude.{Some, None, Result, Ok}
 use Rattle.std.proofs.lemmas.Bool.{eqb-true}
 use Rattle.std.proofs.lemmas.Bool.Decides.{nat_tests}
 use Rattle.csv.specs.Records.{field_at}
@@ -13,8 +13,8 @@ use Rattle.pie_book.specs.declared.opening.Limits.{Limits}
 use Rattle.pie_book.specs.declared.opening.Mode.{Mode}
 use Rattle.pie_book.specs.declared.opening.Mode.TheVariants.{Bounded, Rolling}
 use Rattle.pie_book.specs.declared.opening.Opening.{Opening}
-use Rattle.pie_controller.specs.declared.profile.Profile.{Profile}
-use Rattle.pie_controller.specs.declared.profile.Profile.TheVariants.{One, Two}
+use Rattle.pie_aqm.specs.declared.profile.Profile.{Profile}
+use Rattle.pie_aqm.specs.declared.profile.Profile.TheVariants.{One, Two}
 use Rattle.pie_book.specs.declared.refusal.OpenRefusal.TheVariants as refusal
 use Rattle.pie_book.specs.Opening.{are_in_range, last_moment, opening_refusal}
 use Rattle.pie_book.specs.Ranges.{ParamsFit}
@@ -23,7 +23,7 @@ use Rattle.pie_record.specs.declared.fault.TraceFault.{TraceFault}
 use Rattle.pie_record.specs.declared.first_record.Draft.{Draft}
 use Rattle.pie_record.specs.FirstRecord.{draft_at, first_kind, limits_at, mode_of, profile_of, version_one_fields, version_two_fields}
 use Rattle.pie_record.specs.Opening.{opening_of, opening_read}
-use Rattle.pie_record.specs.Record.{params_at}
+use Rattle.pie_record.specs.Field.{params_at}
 use Rattle.pie_record.specs.Text.{Row}
 use Rattle.pie_record.specs.Write.{are_default, choices_row, nine_of, opening_row}
 use Rattle.pie_record.proofs.EventBack.{back_u32, back_u64}
@@ -117,11 +117,11 @@ numbers_row moment limits params = map decimal (moment ∷ limits.packets ∷ li
 abbrev drafted : ℕ → Limits → RawParams → Choices → Result Draft Flaw
 drafted moment limits params choices = Ok (record { moment = moment; limits = limits; params = params; choices = choices })
 
--- .. after one field, which is the kind
-long-one : (kind : List ℕ) (choices : Choices) (moment : ℕ) (limits : Limits) (params : RawParams) → OpeningFits limits moment → ParamsFit params
-    → draft_at (kind ∷ numbers_row moment limits (map decimal (nine_of params))) 1 choices ≡ drafted moment limits params choices
+-- they read so wherever they begin: the fields before them are passed over by computing (`long-back`)
+long-draft : (choices : Choices) (moment : ℕ) (limits : Limits) (params : RawParams) → OpeningFits limits moment → ParamsFit params
+    → draft_at (numbers_row moment limits (map decimal (nine_of params))) 0 choices ≡ drafted moment limits params choices
 unfolding draft_at limits_at params_at field_at
-long-one kind choices moment limits params fits set =
+long-draft choices moment limits params fits set =
     rw (
       back_u64 moment (let m = fits.within in omega arith),
       back_u32 limits.packets fits.packets,
@@ -138,44 +138,10 @@ long-one kind choices moment limits params fits set =
       back_u64 params.dq_threshold set.dq_threshold,
     ) refl
 
-short-one : (kind : List ℕ) (choices : Choices) (moment : ℕ) (limits : Limits) → OpeningFits limits moment
-    → draft_at (kind ∷ numbers_row moment limits []) 1 choices ≡ drafted moment limits default_profile choices
+short-draft : (choices : Choices) (moment : ℕ) (limits : Limits) → OpeningFits limits moment
+    → draft_at (numbers_row moment limits []) 0 choices ≡ drafted moment limits default_profile choices
 unfolding draft_at limits_at field_at
-short-one kind choices moment limits fits =
-    rw (
-      back_u64 moment (let m = fits.within in omega arith),
-      back_u32 limits.packets fits.packets,
-      back_u32 limits.tail fits.tail,
-      back_u64
-          limits.events (let m = fits.events in omega arith),
-    ) refl
-
--- .. after the kind, the profile and the mode
-long-two : (kind profile mode : List ℕ) (choices : Choices) (moment : ℕ) (limits : Limits) (params : RawParams) → OpeningFits limits moment
-    → ParamsFit params
-    → draft_at (kind ∷ profile ∷ mode ∷ numbers_row moment limits (map decimal (nine_of params))) 3 choices ≡ drafted moment limits params choices
-unfolding draft_at limits_at params_at field_at
-long-two kind profile mode choices moment limits params fits set =
-    rw (
-      back_u64 moment (let m = fits.within in omega arith),
-      back_u32 limits.packets fits.packets,
-      back_u32 limits.tail fits.tail,
-      back_u64 limits.events (let m = fits.events in omega arith),
-      back_u64 params.target set.target,
-      back_u64 params.t_update set.t_update,
-      back_u64 params.max_burst set.max_burst,
-      back_u64 params.alpha set.alpha,
-      back_u64 params.beta set.beta,
-      back_u64 params.mean_pkt set.mean_pkt,
-      back_u64 params.limit_bytes set.limit_bytes,
-      back_u64 params.mark_ecnth set.mark_ecnth,
-      back_u64 params.dq_threshold set.dq_threshold,
-    ) refl
-
-short-two : (kind profile mode : List ℕ) (choices : Choices) (moment : ℕ) (limits : Limits) → OpeningFits limits moment
-    → draft_at (kind ∷ profile ∷ mode ∷ numbers_row moment limits []) 3 choices ≡ drafted moment limits default_profile choices
-unfolding draft_at limits_at field_at
-short-two kind profile mode choices moment limits fits =
+short-draft choices moment limits fits =
     rw (
       back_u64 moment (let m = fits.within in omega arith),
       back_u32 limits.packets fits.packets,
@@ -199,23 +165,19 @@ Reads profile mode rest draft = opening_of (choices_row profile mode ++ rest) �
 
 long-back : (profile : Profile) (mode : Mode) (moment : ℕ) (limits : Limits) (params : RawParams) → OpeningFits limits moment → ParamsFit params
     → Reads profile mode (numbers_row moment limits (map decimal (nine_of params))) (drafted moment limits params (chosen profile mode))
-unfolding opening_of first_kind version_one_fields version_two_fields profile_of mode_of field_at
-long-back One Bounded moment limits params fits set = ap opening_read (long-one (codes "open") (chosen One Bounded) moment limits params fits set)
-long-back One Rolling moment limits params fits set = ap opening_read (long-one (codes "rolling") (chosen One Rolling) moment limits params fits set)
-long-back Two Bounded moment limits params fits set = ap opening_read
-    (long-two (codes "open2") (codes "2") (codes "bounded") (chosen Two Bounded) moment limits params fits set)
-long-back Two Rolling moment limits params fits set = ap opening_read
-    (long-two (codes "open2") (codes "2") (codes "rolling") (chosen Two Rolling) moment limits params fits set)
+unfolding opening_of first_kind version_one_fields version_two_fields profile_of mode_of draft_at limits_at params_at field_at
+long-back One Bounded moment limits params fits set = ap opening_read (long-draft (chosen One Bounded) moment limits params fits set)
+long-back One Rolling moment limits params fits set = ap opening_read (long-draft (chosen One Rolling) moment limits params fits set)
+long-back Two Bounded moment limits params fits set = ap opening_read (long-draft (chosen Two Bounded) moment limits params fits set)
+long-back Two Rolling moment limits params fits set = ap opening_read (long-draft (chosen Two Rolling) moment limits params fits set)
 
 short-back : (profile : Profile) (mode : Mode) (moment : ℕ) (limits : Limits) → OpeningFits limits moment
     → Reads profile mode (numbers_row moment limits []) (drafted moment limits default_profile (chosen profile mode))
-unfolding opening_of first_kind version_one_fields version_two_fields profile_of mode_of field_at
-short-back One Bounded moment limits fits = ap opening_read (short-one (codes "open") (chosen One Bounded) moment limits fits)
-short-back One Rolling moment limits fits = ap opening_read (short-one (codes "rolling") (chosen One Rolling) moment limits fits)
-short-back Two Bounded moment limits fits = ap opening_read
-    (short-two (codes "open2") (codes "2") (codes "bounded") (chosen Two Bounded) moment limits fits)
-short-back Two Rolling moment limits fits = ap opening_read
-    (short-two (codes "open2") (codes "2") (codes "rolling") (chosen Two Rolling) moment limits fits)
+unfolding opening_of first_kind version_one_fields version_two_fields profile_of mode_of draft_at limits_at field_at
+short-back One Bounded moment limits fits = ap opening_read (short-draft (chosen One Bounded) moment limits fits)
+short-back One Rolling moment limits fits = ap opening_read (short-draft (chosen One Rolling) moment limits fits)
+short-back Two Bounded moment limits fits = ap opening_read (short-draft (chosen Two Bounded) moment limits fits)
+short-back Two Rolling moment limits fits = ap opening_read (short-draft (chosen Two Rolling) moment limits fits)
 
 -- this opening with these parameters
 abbrev made : Opening → RawParams → Opening

@@ -2,11 +2,13 @@ pub mod Words
 pub mod Number
 pub mod Fault
 pub mod Text
-pub mod Record
+pub mod Field
+pub mod Command
+pub mod TraceRecord
 pub mod FirstRecord
 pub mod Opening
-pub mod Line
-pub mod Lines
+pub mod HistoryRecord
+pub mod HistoryLines
 pub mod Rows
 pub mod Records
 pub mod Answer

@@ -2,7 +2,8 @@
 //! explaining and migrating stand on this crate.
 //!
 //! The definitions that the contracts cite stand in `specs/`: the records of a text (`records_of`), what its first record opens, what a
-//! record of a trace asks and what a record of a history tells, and the text of records.
+//! record of a trace asks and what a record of a history tells, and the text of records. A record of an event is a command's record with its
+//! answer, so both read the command by one reader (`command_at`).
 //!
 //! `Records` reads one record after another from any reader, and `HistoryLines` the opening and the lines of a history. `Rows` writes records to any
 //! writer, many at a time. Both take memory for one record and one page. A reader never answers `Write`, and a writer never `Read` (clauses
@@ -12,20 +13,22 @@
 #![tactic(auto)]
 
 pub mod answer;
+pub mod command;
 pub mod fault;
-pub mod fields;
+pub mod field;
 pub mod first_record;
-pub mod history;
-pub mod lines;
+pub mod history_reader;
+pub mod history_record;
 pub mod long;
 pub mod make;
 pub mod number;
 pub mod records;
 pub mod rows;
+pub mod trace_record;
 pub mod version;
 pub mod words;
 
 pub use fault::{Flaw, OpenFault, TraceFault};
-pub use history::Line;
-pub use lines::HistoryLines;
+pub use history_reader::HistoryLines;
+pub use history_record::Line;
 pub use version::Version;

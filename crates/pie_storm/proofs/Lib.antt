@@ -1,2 +1,9 @@
+mod OwnEvents
+mod PlanCommands
+mod Working
+mod FoldsMade
+mod Gathering
+mod Counting
+mod Closing
 mod PlanFacts
 mod StormFacts

@@ -6,7 +6,7 @@ use Rattle.std.specs.declared.alloc.Global.{Global}
 use Rattle.std.proofs.lemmas.List.{map-append}
 use Rattle.std.proofs.lemmas.List.FromFn.{map-range_with_len_more}
 use Rattle.rand_core.specs.Stream.{Stream, next_u64}
-use Rattle.pie_link.specs.declared.plan.Arrival.{Arrival}
+use Rattle.pie_storm.specs.declared.plan.Arrival.{Arrival}
 use Rattle.pie_storm.specs.StormPlan.{arrival_at, arrival_by, arrivals_of, held_by, word_at, words_after}
 
 -- ---- lists
@@ -15,11 +15,9 @@ pub list-push : (f : ℕ → ℕ) (j : ℕ) (list later : List ℕ) → list ≡
     → later ≡ map f (range_with_len 0 (j + 1))
 list-push f j list later before pushed = rw (pushed, before) (sym (map-range_with_len_more f 0 j j (omega arith)))
 
-pub arrivals-push : (sender : ℕ) (words : Stream) (i : ℕ) (list later : List Arrival) (arrival : Arrival)
-    → list ≡ map (arrival_at sender words) (range_with_len 0 i)
-    → later ≡ list ++ arrival ∷ [] → arrival ≡ arrival_at sender words i → later ≡ map (arrival_at sender words) (range_with_len 0 (i + 1))
-arrivals-push sender words i list later arrival before pushed is =
-    rw (pushed, before, is) (sym (map-range_with_len_more (arrival_at sender words) 0 i i (omega arith)))
+pub item-push : {A : Type 0} (f : ℕ → A) (j : ℕ) (list later : List A) (item : A) → list ≡ map f (range_with_len 0 j)
+    → later ≡ list ++ item ∷ [] → item ≡ f j → later ≡ map f (range_with_len 0 (j + 1))
+item-push f j list later item before pushed is = rw (pushed, before, is) (sym (map-range_with_len_more f 0 j j (omega arith)))
 
 pub lists-push : (packets seed before : ℕ) (lists later : List (Vec Arrival Global)) (list : Vec Arrival Global)
     → map held_by lists ≡ map (arrivals_of packets seed) (range_with_len 1 before) → later ≡ lists ++ list ∷ []

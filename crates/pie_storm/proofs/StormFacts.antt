@@ -20,28 +20,28 @@ use Rattle.pie_book.specs.declared.command.Event.{Event}
 use Rattle.pie_book.specs.declared.opening.Limits.{Limits}
 use Rattle.pie_book.specs.declared.opening.Opening.{Opening}
 use Rattle.pie_book.specs.Opening.{opening_refusal}
-use Rattle.pie_controller.specs.declared.verdict.Verdict.{Verdict}
-use Rattle.pie_controller.specs.declared.verdict.Verdict.TheVariants as verdict
+use Rattle.pie_aqm.specs.declared.verdict.Verdict.{Verdict}
+use Rattle.pie_aqm.specs.declared.verdict.Verdict.TheVariants as verdict
 use Rattle.pie_book.specs.Call.{answer_of}
 use Rattle.pie_book.specs.Decision.{IsLegal, IsLegalAt, answer_to_departure, decision}
-use Rattle.pie_controller.specs.Places.{Place, after, places}
+use Rattle.pie_aqm.specs.Places.{Place, after, places}
 use Rattle.pie_record.specs.declared.fault.TraceFault.{TraceFault}
-use Rattle.pie_record.specs.declared.history.Line.{Line}
-use Rattle.pie_record.specs.declared.history.Line.TheVariants.{Made}
+use Rattle.pie_record.specs.declared.history_record.Line.{Line}
+use Rattle.pie_record.specs.declared.history_record.Line.TheVariants.{Made}
 use Rattle.pie_record.specs.Text.{rows_text}
-use Rattle.pie_record.specs.Lines.{Coming}
+use Rattle.pie_record.specs.HistoryLines.{Coming}
 use Rattle.pie_record.specs.ReadBack.{TellsHistory}
 use Rattle.pie_record.specs.Text.{records_of}
 use Rattle.pie_record.specs.Write.{written_rows}
 use Rattle.pie_audit.specs.declared.auditor.Finding.{Finding}
 use Rattle.pie_audit.specs.declared.auditor.Finding.TheVariants.{Clean, Differs}
 use Rattle.pie_audit.specs.Auditor.{Audits, AuditorView}
-use Rattle.pie_record.specs.Lines.{event_count, is_event}
+use Rattle.pie_record.specs.HistoryLines.{event_count, is_event}
 use Rattle.pie_audit.specs.Finding.{LinePlace, after_line, agrees, differs_at, events_of, finding, first_difference, is_same_answer, is_same_ecn}
 use Rattle.pie_audit.specs.Finding.{line_places}
 use Rattle.pie_audit.specs.Text.{finding_after, judged, text_finding}
-use Rattle.pie_link.specs.declared.plan.Plan.{Plan}
-use Rattle.pie_link.specs.Plans.{opening_of}
+use Rattle.pie_storm.specs.declared.plan.Plan.{Plan}
+use Rattle.pie_storm.specs.Plans.{opening_of}
 use Rattle.pie_storm.specs.StormHistory.{WritesHistory}
 
 -- ---- an answer is the same as itself

@@ -1,2 +1,4 @@
+pub mod Plans
+pub mod Storms
 pub mod StormHistory
 pub mod StormPlan

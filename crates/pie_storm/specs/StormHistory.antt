@@ -8,9 +8,9 @@ use Rattle.pie_record.specs.Text.{records_of}
 use Rattle.pie_record.specs.Write.{written_rows}
 use Rattle.pie_audit.specs.declared.auditor.Finding.TheVariants.{Clean}
 use Rattle.pie_audit.specs.Text.{text_finding}
-use Rattle.pie_link.specs.declared.plan.Plan.{Plan}
-use Rattle.pie_link.specs.Plans.{opening_of}
-use Rattle.pie_link.specs.Storms.{IsStorm}
+use Rattle.pie_storm.specs.declared.plan.Plan.{Plan}
+use Rattle.pie_storm.specs.Plans.{opening_of}
+use Rattle.pie_storm.specs.Storms.{IsStorm}
 
 -- the history of these events, from the opening of this plan, was written
 pub record WritesHistory (plan : Plan) (events : List Event) (before now : Option (List ℕ)) : Type 0 where

@@ -1,5 +1,5 @@
 -- The plan of a storm: what each of its callers does, with random words from a generator for each sender.
-use Rattle.std.specs.Prelude.{ℕ, ◌≡◌, ◌+◌, ◌*◌, ◌/◌, ◌%◌, ◌^◌, List, [], Vec, map, zero, suc}
+use Rattle.std.specs.Prelude.{ℕ, ◌≡◌, ◌≤◌, ◌==◌, ◌+◌, ◌*◌, ◌/◌, ◌%◌, ◌^◌, List, Vec, map, zero, suc, if◌then◌else◌}
 use Rattle.std.specs.List.{range_with_len}
 use Rattle.std.specs.declared.alloc.Global.{Global}
 use Rattle.rand_core.specs.Steps.{steps_u64_low, stream_of}
@@ -9,8 +9,11 @@ use Rattle.rand_pcg.specs.Pcg.{multiplier_128, pcg64}
 use Rattle.pie_queue.specs.declared.ecn.Ecn.{Ecn}
 use Rattle.pie_queue.specs.declared.ecn.Ecn.TheVariants.{NotEct, Ect1, Ect0, Ce}
 use Rattle.pie_params.specs.Profile.{default_profile}
-use Rattle.pie_link.specs.declared.plan.Arrival.{Arrival}
-use Rattle.pie_link.specs.declared.plan.Plan.{Plan}
+use Rattle.pie_params.specs.declared.raw.RawParams.{RawParams}
+use Rattle.pie_storm.specs.declared.numbers.StormNumbers.{StormNumbers}
+use Rattle.pie_storm.specs.declared.plan.Arrival.{Arrival}
+use Rattle.pie_storm.specs.declared.plan.Change.{Change}
+use Rattle.pie_storm.specs.declared.plan.Plan.{Plan}
 
 -- ---- random words
 
@@ -65,9 +68,24 @@ departs_of senders packets load = map (λ j. (j + 1) * load * 10_000 / senders) 
 abbrev pub updates_of : ℕ → List ℕ
 updates_of packets = map (λ j. (j + 1) * 15_000_000) (range_with_len 0 (packets / 15 + 1))
 
+-- the parameters of a change, counted from 0: a reference delay of 5 ms, and at each second change those by default again
+abbrev pub params_at : ℕ → RawParams
+params_at k = if k % 2 == 0 then record default_profile { target = 5_000_000 } else default_profile
+
+-- the changes, spread evenly over the time in which packets arrive
+abbrev pub change_at : ℕ → ℕ → ℕ → Change
+change_at packets changes k = record { moment = (k + 1) * packets * 1_000_000 / (changes + 1); params = params_at k }
+
+abbrev pub changes_of : ℕ → ℕ → List Change
+changes_of packets changes = map (change_at packets changes) (range_with_len 0 changes)
+
+-- the folds: together of as many events as there are packets, or a few less
+abbrev pub folds_of : ℕ → ℕ → ℕ → List ℕ
+folds_of senders packets folds = map (λ k. senders * packets / folds) (range_with_len 0 folds)
+
 -- how many commands there are in all
-abbrev pub command_count : ℕ → ℕ → ℕ
-command_count senders packets = 2 * senders * packets + packets / 15 + 1
+abbrev pub command_count : StormNumbers → ℕ
+command_count n = 2 * n.senders * n.packets + n.packets / 15 + 1 + n.changes
 
 -- ---- the plan
 
@@ -75,13 +93,23 @@ command_count senders packets = 2 * senders * packets + packets / 15 + 1
 abbrev pub held_by : Vec Arrival Global → List Arrival
 held_by list = list.items
 
--- the plan of so many senders, each with so many packets, this seed and this load
-pub record IsStormPlan (senders packets seed load : ℕ) (plan : Plan) : Type 0 where
-  pub limits : plan.limits ≡ record { packets = 1024; tail = command_count senders packets; events = command_count senders packets }
+-- the ranges of a storm's numbers
+pub record HasStormRange (n : StormNumbers) : Type 0 where
+  pub two : 2 ≤ n.senders
+  pub senders : n.senders ≤ 8
+  pub one : 1 ≤ n.packets
+  pub packets : n.packets ≤ 10_000
+  pub load : n.load ≤ 200
+  pub changes : n.changes ≤ 100
+  pub folds : n.folds ≤ 100
+
+-- the plan of these numbers
+pub record IsStormPlan (n : StormNumbers) (plan : Plan) : Type 0 where
+  pub limits : plan.limits ≡ record { packets = 1024; tail = command_count n; events = command_count n }
   pub params : plan.params ≡ default_profile
   pub moment : plan.moment ≡ 0
-  pub arrivals : map held_by plan.arrivals.items ≡ map (arrivals_of packets seed) (range_with_len 1 senders)
-  pub departs : plan.departs.items ≡ departs_of senders packets load
-  pub updates : plan.updates.items ≡ updates_of packets
-  pub changes : plan.changes.items ≡ []
-  pub folds : plan.folds.items ≡ []
+  pub arrivals : map held_by plan.arrivals.items ≡ map (arrivals_of n.packets n.seed) (range_with_len 1 n.senders)
+  pub departs : plan.departs.items ≡ departs_of n.senders n.packets n.load
+  pub updates : plan.updates.items ≡ updates_of n.packets
+  pub changes : plan.changes.items ≡ changes_of n.packets n.changes
+  pub folds : plan.folds.items ≡ folds_of n.senders n.packets n.folds

@@ -1,13 +1,27 @@
-//! Storms: a plan of calls that many threads make at one controller, and the history that they leave (this project's own).
+//! Storms: a link under many threads at once, whose history is what a plan asked for (this project's own).
 //!
-//! `storm_plan` makes the plan of four numbers; `make_storm` runs it under the threads of the runtime, which start together and stay close to
-//! one another (`Pace`), and answers events that are legal and those that the plan asks for; `write_storm` audits such events and writes
-//! their history, which as a text of its own is clean.
+//! `storm` makes the calls of a `Plan` at a link, each list in a thread of its own, and answers what was recorded: the planned calls, each
+//! caller's in order, in one history that is legal from the opening. `storm_plan` makes the plan of some numbers; `make_storm` runs it under
+//! the threads of the runtime, which start together and stay close to one another (`Pace`); `write_storm` audits such events and writes their
+//! history, which as a text of its own is clean.
+//!
+//! Not promised: that a thread runs, that a storm ends, or in which order the calls of two callers come.
 #![tactic(auto)]
 
+pub mod ending;
+pub mod gate;
+pub mod numbers;
 mod pace;
-mod plan;
+pub mod plan;
+mod planning;
+mod starter;
 mod storming;
+mod worker;
 
-pub use plan::storm_plan;
+pub use ending::{StormEnd, StormFault};
+pub use gate::{Gate, NoGate};
+pub use numbers::StormNumbers;
+pub use plan::{Arrival, Change, Plan};
+pub use planning::storm_plan;
+pub use starter::storm;
 pub use storming::{MadeStorm, make_storm, write_storm};

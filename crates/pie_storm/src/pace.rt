@@ -1,6 +1,7 @@
 //! The pace of a storm: its callers start together, and none runs far ahead of another.
 
-use pie_link::{Gate, Plan};
+use crate::gate::Gate;
+use crate::plan::Plan;
 use std::sync::atomic::{AtomicBool, AtomicU64, Ordering};
 use std::thread::yield_now;
 
@@ -20,8 +21,8 @@ const GONE: u64 = u64::MAX;
 pub(crate) struct Pace<'a> {
     /// The plan of the storm.
     plan: &'a Plan,
-    /// The moment of the next call of each caller: of the senders, of the one that departs and of the one that updates.
-    next: [AtomicU64; 10],
+    /// The moment of the next call of each caller: of the senders, and of those that depart, update, change and fold.
+    next: [AtomicU64; 12],
     /// One has waited in vain.
     is_over: AtomicBool,
 }
@@ -34,7 +35,7 @@ fn shown_first(caller: usize, callers: usize) -> AtomicU64 {
 impl<'a> Pace<'a> {
     /// The pace of a storm of this plan.
     pub(crate) fn new(plan: &'a Plan) -> Pace<'a> {
-        let callers = plan.arrivals.len().saturating_add(2);
+        let callers = plan.arrivals.len().saturating_add(4);
         Pace {
             plan,
             next: [
@@ -48,6 +49,8 @@ impl<'a> Pace<'a> {
                 shown_first(8, callers),
                 shown_first(9, callers),
                 shown_first(10, callers),
+                shown_first(11, callers),
+                shown_first(12, callers),
             ],
             is_over: AtomicBool::new(false),
         }
@@ -61,12 +64,33 @@ impl<'a> Pace<'a> {
         let caller = usize::from(caller).wrapping_sub(1);
         let moment = match self.plan.arrivals.get(caller) {
             Some(arrivals) => arrivals.get(place).map(|arrival| arrival.moment),
-            None if caller == self.plan.arrivals.len() => self.plan.departs.get(place).copied(),
-            None => self.plan.updates.get(place).copied(),
+            None => self.moment_beside(caller.saturating_sub(self.plan.arrivals.len()), place),
         };
         match moment {
             Some(moment) => moment.max(1),
             None => GONE,
+        }
+    }
+
+    /// The moment of a call of the caller that comes so many after the last sender, both counted from 0.
+    fn moment_beside(&self, after: usize, place: usize) -> Option<u64> {
+        match after {
+            0 => self.plan.departs.get(place).copied(),
+            1 => self.plan.updates.get(place).copied(),
+            2 => self.plan.changes.get(place).map(|change| change.moment),
+            _ => self.moment_of_fold(place),
+        }
+    }
+
+    /// The moment of a fold, counted from 0: the folds are spread evenly over the time until the last update.
+    fn moment_of_fold(&self, place: usize) -> Option<u64> {
+        let folds = self.plan.folds.len() as u64;
+        let place = place as u64;
+        let last = self.plan.updates.last().copied().unwrap_or(0);
+        if place < folds {
+            Some((last / folds).saturating_mul(place.saturating_add(1)))
+        } else {
+            None
         }
     }
 

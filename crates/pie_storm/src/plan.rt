@@ -1,170 +1,202 @@
-//! The plan of a storm.
-ghost use Rattle.std.specs.Prelude.{◌≡◌, ◌+◌, ◌*◌, ◌<◌, ◌≤◌, IfOk, map};
-ghost use Rattle.std.specs.List.{range_with_len};
-ghost use Rattle.rand_core.specs.Stream.{Stream};
-ghost use Rattle.pie_storm.specs.StormPlan.{IsStormPlan, arrival_at, arrivals_of, departs_of, ecn_of, held_by, updates_of, words_after, words_of};
+//! What a storm is asked to do.
+ghost use Rattle.std.specs.Prelude.{◌≡◌, ◌≤◌, ◌^◌, ◌-◌, ◌↔◌, IsTrue, All, Option, length, map, min, slice_get};
+ghost use Rattle.pie_storm.specs.Plans.{IsMoment, IsSoundArrival, IsSound, arrive, change, commands_of, count_of, planned, senders};
+ghost use Rattle.pie_book.specs.declared.command.Command.TheVariants.{Depart, Update};
 
-use pie_book::Limits;
-use pie_link::{Arrival, Plan};
+use pie_book::{Command, Limits};
 use pie_params::Params;
-use pie_queue::{Ecn, Memory, Packet};
-use rand_core::Rng;
-use rand_pcg::Lcg128Xsl64;
-use std::alloc::{AllocError, Global};
+use pie_queue::Packet;
 
-/// The nanoseconds from one packet of a sender to its next.
-const PACKET_TIME: u64 = 1_000_000;
-/// A hundredth of that, for each packet that comes while the link sends a hundred.
-const LOAD_TIME: u64 = 10_000;
-/// How many tags each sender has.
-const SENDER_TAGS: u64 = 1 << 32;
-/// The nanoseconds from one update to the next: the default `t_update`.
-const UPDATE_TIME: u64 = 15_000_000;
+/// A packet that a sender sends (this project's own).
+#[derive(Clone, Copy, Debug, PartialEq, Eq)]
+pub struct Arrival {
+    /// The moment that the sender hands in, in nanoseconds: at most `2^60 - 1`.
+    pub moment: u64,
+    /// The packet, of 1 to 65535 bytes.
+    pub packet: Packet,
+    /// A random word, any of the 2^64, by which an early drop is decided.
+    pub word: u64,
+}
 
-/// The ECN field of two bits (RFC 3168, section 5).
-fn ecn_of(bits: u64) -> Ecn
-    requires { bits < 4 }
-    ensures { result ≡ ecn_of bits }
-{
-    match bits {
-        0 => Ecn::NotEct,
-        1 => Ecn::Ect1,
-        2 => Ecn::Ect0,
-        _ => Ecn::Ce,
+/// New parameters from a moment on (this project's own).
+#[derive(Clone, Copy, Debug, PartialEq, Eq)]
+pub struct Change {
+    /// The moment that is handed in, in nanoseconds: at most `2^60 - 1`.
+    pub moment: u64,
+    /// The new parameters.
+    pub params: Params,
+}
+
+/// What each worker of a storm does, call by call (this project's own). Moments are nanoseconds, at most `2^60 - 1`, and
+/// those of a list may fall. With N lists of arrivals the callers 1 to N send them, caller N + 1 makes the departures, N + 2
+/// the updates, N + 3 the changes of the parameters, and N + 4 the folds.
+#[derive(Debug, Drop)]
+pub struct Plan {
+    /// The limits of the book. Tail and events have room for all arrivals, departures, updates and changes.
+    pub limits: Limits,
+    /// The parameters that the book is opened with.
+    pub params: Params,
+    /// The moment that the book is opened at.
+    pub moment: u64,
+    /// The packets of each sender: 2 to 8 lists.
+    pub arrivals: Vec<Vec<Arrival>>,
+    /// The moments of the departures.
+    pub departs: Vec<u64>,
+    /// The moments of the updates.
+    pub updates: Vec<u64>,
+    /// The changes of the parameters.
+    pub changes: Vec<Change>,
+    /// How many events each fold hands out.
+    pub folds: Vec<u64>,
+}
+
+// The greatest moment that may be handed in.
+const LAST_MOMENT: u64 = (1 << 60) - 1;
+
+impl Arrival {
+    // Whether moment and size are in their ranges.
+    fn is_sound(&self) -> bool
+        ensures { IsTrue result ↔ IsSoundArrival self.now }
+    {
+        self.moment <= LAST_MOMENT && 1 <= self.packet.size && self.packet.size <= 65535
     }
 }
 
-/// An arrival of this sender, counted from 0, by its next three random words.
-fn next_arrival(words: &mut Lcg128Xsl64, sender: u64, i: u64) -> Arrival
-    requires sender { sender ≤ 8 }
-    requires i { i < 10_000 }
-    ensures { (all : Stream) → words_of words.old ≡ words_after (3 * i) all
-        → (result ≡ arrival_at sender all i) × (words_of words.new ≡ words_after (3 * (i + 1)) all) }
+fn are_sound(arrivals: &[Arrival]) -> bool
+    ensures { IsTrue result ↔ All IsSoundArrival arrivals.now }
 {
-    let size = words.next_u64();
-    let ecn = words.next_u64();
-    let word = words.next_u64();
-    Arrival {
-        moment: (i + 1) * PACKET_TIME,
-        packet: Packet {
-            tag: sender * SENDER_TAGS + i,
-            size: 64 + (size % 1437) as u32,
-            ecn: ecn_of(ecn % 4),
-        },
-        word,
+    arrivals.iter().all(|arrival| arrival.is_sound())
+}
+
+fn are_moments(moments: &[u64]) -> bool
+    ensures { IsTrue result ↔ All IsMoment moments.now }
+{
+    moments.iter().all(|moment| *moment <= LAST_MOMENT)
+}
+
+// How many arrivals these lists have, as far as a u64 can count.
+fn count(lists: &[Vec<Arrival>]) -> u64
+    ensures { result ≡ min (count_of lists.now) (2 ^ 64 - 1) }
+{
+    let mut count = 0u64;
+    for list in lists {
+        count = count.saturating_add(list.len() as u64);
+    }
+    count
+}
+
+impl Plan {
+    // How many commands there are in all, as far as a u64 can count.
+    fn planned(&self) -> u64
+        ensures { result ≡ min (planned self.now) (2 ^ 64 - 1) }
+    {
+        count(self.arrivals.as_slice())
+            .saturating_add(self.departs.len() as u64)
+            .saturating_add(self.updates.len() as u64)
+            .saturating_add(self.changes.len() as u64)
+    }
+
+    // Whether tail and events have room for all commands.
+    fn has_room(&self) -> bool
+        ensures { IsTrue result ↔ (planned self.now ≤ self.now.limits.tail) × (planned self.now ≤ self.now.limits.events) }
+    {
+        let planned = self.planned();
+        planned <= u64::from(self.limits.tail) && planned <= self.limits.events
+    }
+
+    /// Whether a storm takes the plan.
+    pub(crate) fn is_sound(&self) -> bool
+        ensures { IsTrue result ↔ IsSound self.now }
+    {
+        2 <= self.arrivals.len()
+            && self.arrivals.len() <= 8
+            && self.moment <= LAST_MOMENT
+            && self.arrivals.iter().all(|list| are_sound(list.as_slice()))
+            && are_moments(self.departs.as_slice())
+            && are_moments(self.updates.as_slice())
+            && self
+                .changes
+                .iter()
+                .all(|change| change.moment <= LAST_MOMENT)
+            && self.has_room()
+    }
+
+    /// How many commands a caller has to make.
+    #[tactic(auto, unfolding(crate::specs::Plans::commands_of))]
+    pub(crate) fn commands(&self, caller: u16) -> usize
+        ensures { result ≡ length (commands_of self.now caller) }
+    {
+        let senders = self.arrivals.len();
+        let place = usize::from(caller);
+        if place == 0 {
+            0
+        } else if place <= senders {
+            self.arrivals[place - 1].len()
+        } else if place - senders == 1 {
+            self.departs.len()
+        } else if place - senders == 2 {
+            self.updates.len()
+        } else if place - senders == 3 {
+            self.changes.len()
+        } else {
+            0
+        }
+    }
+
+    /// The command that a caller makes after `k` others.
+    #[tactic(auto, unfolding(crate::specs::Plans::commands_of))]
+    pub(crate) fn command(&self, caller: u16, k: usize) -> Option<Command>
+        ensures { result ≡ slice_get (commands_of self.now caller) k }
+    {
+        let senders = self.arrivals.len();
+        let place = usize::from(caller);
+        if place == 0 {
+            None
+        } else if place <= senders {
+            arrival_at(self.arrivals[place - 1].as_slice(), k)
+        } else if place - senders == 1 {
+            departure_at(self.departs.as_slice(), k)
+        } else if place - senders == 2 {
+            update_at(self.updates.as_slice(), k)
+        } else if place - senders == 3 {
+            change_at(self.changes.as_slice(), k)
+        } else {
+            None
+        }
     }
 }
 
-/// The arrivals of one sender, in order.
-fn arrivals_of(
-    alloc: Global,
-    sender: u64,
-    packets: u64,
-    seed: u64,
-) -> Result<Vec<Arrival>, AllocError>
-    requires sender { sender ≤ 8 }
-    requires packets { packets ≤ 10_000 }
-    ensures { IfOk result (λ list. held_by list ≡ arrivals_of packets seed sender) }
+fn arrival_at(arrivals: &[Arrival], k: usize) -> Option<Command>
+    ensures { result ≡ slice_get (map arrive arrivals.now) k }
 {
-    let mut words = Lcg128Xsl64::new(u128::from(seed), u128::from(sender));
-    let mut arrivals = Vec::with_capacity(alloc, packets as usize)?;
-    for i in 0..packets {
-        arrivals.push(next_arrival(&mut words, sender, i))?;
-    }
-    Ok(arrivals)
+    let arrival = arrivals.get(k)?;
+    Some(Command::Arrive {
+        moment: arrival.moment,
+        packet: arrival.packet,
+        word: arrival.word,
+    })
 }
 
-/// The arrivals of each sender.
-fn all_arrivals(
-    alloc: Global,
-    senders: u64,
-    packets: u64,
-    seed: u64,
-) -> Result<Vec<Vec<Arrival>>, AllocError>
-    requires senders { senders ≤ 8 }
-    requires packets { packets ≤ 10_000 }
-    ensures { IfOk result (λ lists. map held_by lists.items ≡ map (arrivals_of packets seed) (range_with_len 1 senders)) }
+fn departure_at(moments: &[u64], k: usize) -> Option<Command>
+    ensures { result ≡ slice_get (map Depart moments.now) k }
 {
-    let mut lists = Vec::with_capacity(alloc, senders as usize)?;
-    for before in 0..senders {
-        lists.push(arrivals_of(alloc, before + 1, packets, seed)?)?;
-    }
-    Ok(lists)
+    let moment = *moments.get(k)?;
+    Some(Command::Depart { moment })
 }
 
-/// A departure for each packet, spread evenly, where `load` packets come for each hundred that the link sends.
-fn departs_of(alloc: Global, senders: u64, packets: u64, load: u64) -> Result<Vec<u64>, AllocError>
-    requires some { 1 ≤ senders }
-    requires senders { senders ≤ 8 }
-    requires packets { packets ≤ 10_000 }
-    requires load { load ≤ 200 }
-    ensures { IfOk result (λ list. list.items ≡ departs_of senders packets load) }
+fn update_at(moments: &[u64], k: usize) -> Option<Command>
+    ensures { result ≡ slice_get (map Update moments.now) k }
 {
-    let mut moments = Vec::with_capacity(alloc, (senders * packets) as usize)?;
-    for j in 0..senders * packets {
-        moments.push((j + 1) * load * LOAD_TIME / senders)?;
-    }
-    Ok(moments)
+    let moment = *moments.get(k)?;
+    Some(Command::Update { moment })
 }
 
-/// An update at each due moment while packets arrive, and one more.
-fn updates_of(alloc: Global, packets: u64) -> Result<Vec<u64>, AllocError>
-    requires { packets ≤ 10_000 }
-    ensures { IfOk result (λ list. list.items ≡ updates_of packets) }
+fn change_at(changes: &[Change], k: usize) -> Option<Command>
+    ensures { result ≡ slice_get (map change changes.now) k }
 {
-    let mut moments = Vec::with_capacity(alloc, (packets / 15 + 1) as usize)?;
-    for j in 0..packets / 15 + 1 {
-        moments.push((j + 1) * UPDATE_TIME)?;
-    }
-    Ok(moments)
-}
-
-/// The plan of a storm (this project's own) of 2 to 8 senders with 1 to 10,000 packets each, with default parameters from
-/// moment 0 on. Each sender has a packet each millisecond, of 64 to 1500 bytes and any ECN field, whose size, ECN field and
-/// random word are three words of a generator that is made of `seed` and the sender's number. As many departures are spread
-/// evenly over that time at a `load` of 100, and over `load` hundredths of it at any other, from 50 to 200. An update is made at each
-/// due moment while packets arrive. The tail has room for all events, so nothing is folded.
-///
-/// # Errors
-///
-/// `Memory` where there was none for the lists.
-pub fn storm_plan(
-    alloc: Global,
-    senders: u16,
-    packets: u32,
-    seed: u64,
-    load: u64,
-) -> Result<Plan, Memory>
-    requires some { 2 ≤ senders }
-    requires senders { senders ≤ 8 }
-    requires one { 1 ≤ packets }
-    requires packets { packets ≤ 10_000 }
-    requires load { load ≤ 200 }
-    ensures { IfOk result (IsStormPlan senders packets seed load) }
-{
-    let commands = 2 * u32::from(senders) * packets + packets / 15 + 1;
-    let (senders, packets) = (u64::from(senders), u64::from(packets));
-    let Ok(arrivals) = all_arrivals(alloc, senders, packets, seed) else {
-        return Err(Memory);
-    };
-    let Ok(departs) = departs_of(alloc, senders, packets, load) else {
-        return Err(Memory);
-    };
-    let Ok(updates) = updates_of(alloc, packets) else {
-        return Err(Memory);
-    };
-    Ok(Plan {
-        limits: Limits {
-            packets: 1024,
-            tail: commands,
-            events: u64::from(commands),
-        },
-        params: Params::default_profile(),
-        moment: 0,
-        arrivals,
-        departs,
-        updates,
-        changes: Vec::new(alloc),
-        folds: Vec::new(alloc),
+    let change = changes.get(k)?;
+    Some(Command::SetParams {
+        moment: change.moment,
+        params: change.params,
     })
 }

@@ -1,18 +1,21 @@
 //! A storm is made by its plan, and its events are audited and written as a history.
 ghost use Rattle.std.specs.Prelude.{◌≡◌, ◌≤◌, IfOk, OnOk, map};
 ghost use Rattle.pie_book.specs.Decision.{IsLegal};
-ghost use Rattle.pie_record.specs.declared.history.Line.TheVariants.{Made};
+ghost use Rattle.pie_record.specs.declared.history_record.Line.TheVariants.{Made};
 ghost use Rattle.pie_audit.specs.Auditor.{Audits};
-ghost use Rattle.pie_link.specs.Plans.{opening_of};
-ghost use Rattle.pie_link.specs.Storms.{IsStorm};
+ghost use Rattle.pie_storm.specs.Plans.{opening_of};
+ghost use Rattle.pie_storm.specs.Storms.{IsStorm};
 ghost use Rattle.pie_storm.specs.StormHistory.{WritesHistory};
-ghost use Rattle.pie_storm.specs.StormPlan.{IsStormPlan};
+ghost use Rattle.pie_storm.specs.StormPlan.{HasStormRange, IsStormPlan};
 
+use crate::ending::{StormEnd, StormFault};
+use crate::numbers::StormNumbers;
 use crate::pace::Pace;
-use crate::plan::storm_plan;
+use crate::plan::Plan;
+use crate::planning::storm_plan;
+use crate::starter::storm;
 use pie_audit::{Auditor, Finding};
 use pie_book::{Choices, Event, Mode, OpenRefusal, Opening, Profile};
-use pie_link::{Plan, StormEnd, StormFault, storm};
 use pie_trace::{Line, TraceFault, write_history};
 use std::alloc::Global;
 use std::io::Write;
@@ -29,29 +32,22 @@ pub struct MadeStorm {
     pub end: StormEnd,
 }
 
-/// Makes the storm of so many senders, packets of each, this seed and this load (`storm_plan`), under threads of the runtime.
+/// Makes the storm of these numbers (`storm_plan`), under threads of the runtime.
 ///
 /// # Errors
 ///
-/// `Memory` where there was none for the plan, and what `storm` of pie_link answers.
+/// `Memory` where there was none for the plan, and what `storm` answers.
 pub fn make_storm<H: Threads + Wait + Sync>(
     rt: &H,
     alloc: Global,
-    senders: u16,
-    packets: u32,
-    seed: u64,
-    load: u64,
+    numbers: StormNumbers,
 ) -> Result<MadeStorm, StormFault>
-    requires some { 2 ≤ senders }
-    requires senders { senders ≤ 8 }
-    requires one { 1 ≤ packets }
-    requires packets { packets ≤ 10_000 }
-    requires load { load ≤ 200 }
-    ensures planned { IfOk result (λ made. IsStormPlan senders packets seed load made.plan) }
+    requires { HasStormRange numbers }
+    ensures planned { IfOk result (λ made. IsStormPlan numbers made.plan) }
     ensures legal { IfOk result (λ made. IsLegal (opening_of made.plan) made.end.events.items) }
     ensures made { IfOk result (λ made. IsStorm made.plan made.end.events.items made.end.too_soon made.end.too_many) }
 {
-    let plan = match storm_plan(alloc, senders, packets, seed, load) {
+    let plan = match storm_plan(alloc, numbers) {
         Ok(plan) => plan,
         Err(_) => return Err(StormFault::Memory),
     };

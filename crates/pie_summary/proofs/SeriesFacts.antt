@@ -4,8 +4,8 @@ use Rattle.std.specs.Prelude.{max, min, slice_index, if◌then◌else◌}
 use Rattle.std.specs.List.{sum}
 use Rattle.std.proofs.lemmas.List.{length_push}
 use Rattle.std.proofs.lemmas.List.Sums.{sum_by_push}
-use Rattle.pie_controller.specs.Places.{greatest}
-use Rattle.pie_controller.proofs.Places.{greatest-push, last_or-push}
+use Rattle.pie_aqm.specs.Places.{greatest}
+use Rattle.pie_aqm.proofs.Places.{greatest-push, last_or-push}
 use Rattle.pie_summary.specs.declared.series.Series.{Series}
 use Rattle.pie_summary.specs.Series.{first_with, kept, series_of}
 

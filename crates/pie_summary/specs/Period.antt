@@ -1,7 +1,7 @@
 -- Periods of equal length: which of the explained events are summed up together.
 use Rattle.std.specs.Prelude.{ℕ, ◌/◌, ◌==◌, max, Bool, false, not, List, [], map, Option, Some, None}
 use Rattle.std.specs.List.{after_last}
-use Rattle.pie_controller.specs.Places.{last_or}
+use Rattle.pie_aqm.specs.Places.{last_or}
 use Rattle.pie_explain.specs.declared.explanation.Explained.{Explained}
 
 -- the number of the period in which a moment lies, counted from moment 0, where each lasts so many nanoseconds, 1 at least; 0 where no length

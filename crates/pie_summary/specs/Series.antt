@@ -1,7 +1,7 @@
 -- What a summary keeps of a list of numbers.
 use Rattle.std.specs.Prelude.{ℕ, ◌-◌, ◌^◌, ◌==◌, min, List, length, slice_index, if◌then◌else◌}
 use Rattle.std.specs.List.{sum}
-use Rattle.pie_controller.specs.Places.{greatest, last_or}
+use Rattle.pie_aqm.specs.Places.{greatest, last_or}
 use Rattle.pie_summary.specs.declared.series.Series.{Series}
 
 -- a count, kept at the greatest number of 64 bits where it is above it

@@ -1,7 +1,7 @@
 -- What is written for summaries of the explained events.
 use Rattle.std.specs.Prelude.{ℕ, ◌≡◌, Bool, true, false, List, [], ◌++◌}
 use Rattle.std.specs.List.{flat_map}
-use Rattle.pie_controller.specs.Places.{Place, places}
+use Rattle.pie_aqm.specs.Places.{Place, places}
 use Rattle.pie_explain.specs.declared.explainer.Form.{Form}
 use Rattle.pie_explain.specs.declared.explainer.Form.TheVariants.{Text, Csv}
 use Rattle.pie_explain.specs.declared.explanation.Explained.{Explained}

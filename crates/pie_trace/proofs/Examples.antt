@@ -14,18 +14,20 @@ use Rattle.pie_book.specs.declared.command.Command.TheVariants.{Arrive, Depart, 
 use Rattle.pie_book.specs.declared.opening.Mode.TheVariants.{Bounded, Rolling}
 use Rattle.pie_book.specs.declared.opening.Mode.{Mode}
 use Rattle.pie_book.specs.declared.opening.Opening.{Opening}
-use Rattle.pie_controller.specs.declared.profile.Profile.{Profile}
-use Rattle.pie_controller.specs.declared.profile.Profile.TheVariants.{One, Two}
+use Rattle.pie_aqm.specs.declared.profile.Profile.{Profile}
+use Rattle.pie_aqm.specs.declared.profile.Profile.TheVariants.{One, Two}
 use Rattle.pie_book.specs.declared.registers.Registers.{Registers}
 use Rattle.pie_book.specs.declared.refusal.Refusal.TheVariants as refusal
 use Rattle.pie_record.specs.declared.fault.Flaw.TheVariants as flaw
 use Rattle.pie_record.specs.declared.fault.OpenFault.TheVariants as open_fault
 use Rattle.pie_record.specs.declared.fault.TraceFault.TheVariants as fault
-use Rattle.pie_record.specs.declared.fields.Request.TheVariants.{Ask, BadParams, Fold, Show, Tally}
+use Rattle.pie_record.specs.declared.trace_record.Request.TheVariants.{Ask, BadParams, Fold, Show, Tally}
 use Rattle.pie_record.specs.declared.version.Version.TheVariants as version
 use Rattle.pie_record.specs.Number.{number}
 use Rattle.pie_record.specs.FirstRecord.{draft_at, first_kind, limits_at, mode_of, profile_of, version_of, version_one_fields, version_two_fields}
-use Rattle.pie_record.specs.Record.{arrive_fields, call_at, call_fields, ecn_of, fold_fields, params_at, params_fields, request_of}
+use Rattle.pie_record.specs.Field.{packet_at, ecn_of, params_at}
+use Rattle.pie_record.specs.Command.{arrival_at, change_at, command_at, command_kind}
+use Rattle.pie_record.specs.TraceRecord.{command_request, fold_request, request_of}
 use Rattle.pie_record.specs.Answer.{answer_fields, code_of, folded_row, refused_row, shown_row, tallied_row}
 use Rattle.pie_trace.specs.History.{before_fault, fault_of, first_fault, record_fault}
 use Rattle.pie_record.specs.Opening.{opening_of}
@@ -84,8 +86,8 @@ requests : map request_of (arrive_row ∷ depart_row ∷ (codes "update" ∷ cod
     ≡ Ok (Ask 1 (Arrive 10 (record { tag = 7; size = 1500; ecn = ecn.Ect0 }) 0)) ∷ Ok (Ask 2 (Depart 25)) ∷ Ok (Ask 3 (Update 4))
     ∷ Ok (Ask 5 (Reset 6))
     ∷ Ok (Ask 7 (SetParams 8 nine_params)) ∷ Ok (Fold 9) ∷ Ok Show ∷ Ok Tally ∷ []
-unfolding number ecn_of params_at first_kind version_of profile_of mode_of limits_at draft_at version_one_fields version_two_fields arrive_fields
-    call_at call_fields params_fields fold_fields request_of field_at
+unfolding number ecn_of params_at first_kind version_of profile_of mode_of limits_at draft_at version_one_fields version_two_fields
+    command_kind command_at arrival_at packet_at command_request change_at fold_request request_of field_at
 requests = refl
 
 -- a parameter out of its range is no flaw, but a number that is no number is
@@ -96,23 +98,23 @@ bad_params : map request_of (
     ∷ codes "x" ∷ [])
     ∷ [])
     ≡ Ok BadParams ∷ Err flaw.Number ∷ []
-unfolding number ecn_of params_at first_kind version_of profile_of mode_of limits_at draft_at version_one_fields version_two_fields arrive_fields
-    call_at call_fields params_fields fold_fields request_of field_at
+unfolding number ecn_of params_at first_kind version_of profile_of mode_of limits_at draft_at version_one_fields version_two_fields
+    command_kind command_at arrival_at packet_at command_request change_at fold_request request_of field_at
 bad_params = refl
 
 -- a later opening and any other word are no kind; the number of the fields comes before the fields
 flaws : map request_of (open_row ∷ (codes "rolling" ∷ []) ∷ (codes "open2" ∷ codes "1" ∷ codes "bounded" ∷ codes "0" ∷ codes "4" ∷ codes "16"
     ∷ codes "100" ∷ []) ∷ (codes "shown" ∷ []) ∷ [] ∷ (codes "depart" ∷ codes "x" ∷ []) ∷ (codes "depart" ∷ codes "65536" ∷ codes "1" ∷ []) ∷ [])
     ≡ Err flaw.Kind ∷ Err flaw.Kind ∷ Err flaw.Kind ∷ Err flaw.Kind ∷ Err flaw.Kind ∷ Err flaw.Fields ∷ Err flaw.Number ∷ []
-unfolding number ecn_of params_at first_kind version_of profile_of mode_of limits_at draft_at version_one_fields version_two_fields arrive_fields
-    call_at call_fields params_fields fold_fields request_of field_at
+unfolding number ecn_of params_at first_kind version_of profile_of mode_of limits_at draft_at version_one_fields version_two_fields
+    command_kind command_at arrival_at packet_at command_request change_at fold_request request_of field_at
 flaws = refl
 
 -- of several bad fields the first counts
 first_flaws : (request_of (codes "arrive" ∷ codes "1" ∷ codes "10" ∷ codes "7" ∷ codes "01" ∷ codes "ect2" ∷ codes "0" ∷ []) ≡ Err flaw.Number)
     × (request_of (codes "arrive" ∷ codes "1" ∷ codes "10" ∷ codes "7" ∷ codes "1" ∷ codes "ect2" ∷ codes "00" ∷ []) ≡ Err flaw.Word)
-unfolding number ecn_of params_at first_kind version_of profile_of mode_of limits_at draft_at version_one_fields version_two_fields arrive_fields
-    call_at call_fields params_fields fold_fields request_of field_at
+unfolding number ecn_of params_at first_kind version_of profile_of mode_of limits_at draft_at version_one_fields version_two_fields
+    command_kind command_at arrival_at packet_at command_request change_at fold_request request_of field_at
 first_flaws = (refl, refl)
 
 -- the short form has the default parameters, and the long one its own
@@ -129,8 +131,8 @@ opened : (opening_of open_row ≡ Ok (record {
       params = nine_params;
       choices = record { mode = Rolling; profile = One };
     }))
-unfolding opening_of number ecn_of params_at first_kind version_of profile_of mode_of limits_at draft_at version_one_fields version_two_fields
-    arrive_fields call_at call_fields params_fields fold_fields request_of field_at
+unfolding opening_of number ecn_of params_at first_kind version_of profile_of mode_of limits_at draft_at version_one_fields
+    version_two_fields command_kind command_at arrival_at packet_at command_request change_at fold_request request_of field_at
 opened = (refl, refl)
 
 -- version two names the profile and the mode
@@ -183,15 +185,15 @@ not_opened : (opening_of depart_row ≡ Err fault.NoOpen)
     × (opening_of (codes "open" ∷ codes "00" ∷ codes "0" ∷ codes "4" ∷ codes "2" ∷ []) ≡ Err (fault.Number 1))
     × (opening_of (codes "open" ∷ codes "1152921504606846976" ∷ codes "0" ∷ codes "4" ∷ codes "2" ∷ []) ≡ Err (fault.Opening open_fault.Limits))
     × (opening_of (codes "open" ∷ codes "1152921504606846976" ∷ codes "4" ∷ codes "4" ∷ codes "2" ∷ []) ≡ Err (fault.Opening open_fault.Moment))
-unfolding opening_of number ecn_of params_at first_kind version_of profile_of mode_of limits_at draft_at version_one_fields version_two_fields
-    arrive_fields call_at call_fields params_fields fold_fields request_of field_at
+unfolding opening_of number ecn_of params_at first_kind version_of profile_of mode_of limits_at draft_at version_one_fields
+    version_two_fields command_kind command_at arrival_at packet_at command_request change_at fold_request request_of field_at
 not_opened = (refl, refl, refl, refl, refl)
 
 -- a record past the greatest number is that fault, whatever it says
 too_long : (record_fault 3 4 (codes "shown" ∷ []) ≡ Some fault.TooLong) × (record_fault 4 4 (codes "shown" ∷ []) ≡ Some (fault.Kind 4))
     × (record_fault 4 4 depart_row ≡ None)
-unfolding record_fault number ecn_of params_at first_kind version_of profile_of mode_of limits_at draft_at version_one_fields version_two_fields
-    arrive_fields call_at call_fields params_fields fold_fields request_of field_at
+unfolding record_fault number ecn_of params_at first_kind version_of profile_of mode_of limits_at draft_at version_one_fields
+    version_two_fields command_kind command_at arrival_at packet_at command_request change_at fold_request request_of field_at
 too_long = (refl, refl, refl)
 
 faults : (fault_of 9 [] ≡ Some fault.NoOpen) × (fault_of 0 [] ≡ Some fault.NoOpen) × (fault_of 9 (depart_row ∷ open_row ∷ []) ≡ Some fault.NoOpen)
@@ -199,12 +201,13 @@ faults : (fault_of 9 [] ≡ Some fault.NoOpen) × (fault_of 0 [] ≡ Some fault.
     × (fault_of 2 (open_row ∷ depart_row ∷ []) ≡ None) × (fault_of 9 (open_row ∷ depart_row ∷ open_row ∷ []) ≡ Some (fault.Kind 3))
     × (fault_of 9 (open_row ∷ depart_row ∷ (codes "depart" ∷ []) ∷ open_row ∷ []) ≡ Some (fault.Fields 3))
 unfolding fault_of first_fault record_fault opening_of number ecn_of params_at first_kind version_of profile_of mode_of limits_at draft_at
-    version_one_fields version_two_fields arrive_fields call_at call_fields params_fields fold_fields request_of field_at
+    version_one_fields version_two_fields command_kind command_at arrival_at packet_at command_request change_at fold_request request_of
+    field_at
 faults = (refl, refl, refl, refl, refl, refl, refl, refl)
 
 up_to_the_fault : before_fault 9 2 (depart_row ∷ open_row ∷ late_row ∷ []) ≡ depart_row ∷ []
 unfolding before_fault record_fault number ecn_of params_at first_kind version_of profile_of mode_of limits_at draft_at version_one_fields
-    version_two_fields arrive_fields call_at call_fields params_fields fold_fields request_of field_at
+    version_two_fields command_kind command_at arrival_at packet_at command_request change_at fold_request request_of field_at
 up_to_the_fault = refl
 
 -- history records

@@ -14,10 +14,10 @@ use Rattle.pie_control.specs.History.{probability, last_delay, last_moment, gran
 use Rattle.pie_control.specs.Next.{raw_step, tuning_divisor, tuned_step, decayed, next}
 use Rattle.pie_early.specs.Decision.{is_considered, is_picked}
 use Rattle.pie_early.specs.History.{accumulated}
-use Rattle.pie_controller.specs.History.{active_of, arrivals_shown, control_of, delay_noted, departures_of, departures_shown, early_of, held_of}
-use Rattle.pie_controller.specs.History.{is_active, noted, noted_after, now_of, params_of, updates_shown}
-use Rattle.pie_controller.specs.Places.{places, greatest, last_or}
-use Rattle.pie_controller.specs.Steps.{verdict}
+use Rattle.pie_aqm.specs.History.{active_of, arrivals_shown, control_of, delay_noted, departures_of, departures_shown, early_of, held_of}
+use Rattle.pie_aqm.specs.History.{is_active, noted, noted_after, now_of, params_of, updates_shown}
+use Rattle.pie_aqm.specs.Places.{places, greatest, last_or}
+use Rattle.pie_aqm.specs.Steps.{verdict}
 use Rattle.pie_book.specs.Estimates.{held_after}
 use Rattle.pie_book.specs.History.{effective_moment, admitted, departed_count, waiting_after}
 use Rattle.pie_book.specs.Shown.{shown}
@@ -29,7 +29,9 @@ use Rattle.pie_record.specs.declared.fault.TraceFault.{TraceFault}
 use Rattle.pie_record.specs.declared.fault.TraceFault.TheVariants as fault
 use Rattle.pie_record.specs.Number.{number}
 use Rattle.pie_record.specs.FirstRecord.{draft_at, first_kind, limits_at, mode_of, profile_of, version_of, version_one_fields, version_two_fields}
-use Rattle.pie_record.specs.Record.{arrive_fields, call_at, call_fields, ecn_of, fold_fields, params_at, params_fields, request_of}
+use Rattle.pie_record.specs.Field.{packet_at, ecn_of, params_at}
+use Rattle.pie_record.specs.Command.{arrival_at, change_at, command_at, command_kind}
+use Rattle.pie_record.specs.TraceRecord.{command_request, fold_request, request_of}
 use Rattle.pie_record.specs.Answer.{answer_fields, folded_row, refused_row, shown_row, tallied_row}
 use Rattle.pie_trace.specs.History.{before_fault, end_of, fault_of, first_fault, history_rows, history_text, record_fault, replies, requests_of}
 use Rattle.pie_trace.specs.History.{steps_of, text_left}
@@ -54,13 +56,14 @@ bare-history =
 
 bare-runs : history_of bare ≡ bare-history
 unfolding held_after shown held_of now_of params_of active_of departures_shown updates_shown arrivals_shown verdict record_fault first_fault
-    before_fault requests_of steps_of replies history_rows rows_text text_left fault_of history_text end_of number ecn_of params_at first_kind
-    version_of profile_of mode_of limits_at draft_at version_one_fields version_two_fields arrive_fields call_at call_fields params_fields
-    fold_fields request_of opening_of records_from next_record strip_bom field_at answer_fields refused_row folded_row shown_row tallied_row
-    digits fields_text is_blank progress_after registers_after stats_after largest_queue largest_delay waited accumulated is_considered is_picked
-    delay_of last_or places effective_moment greatest waiting_after departed_count admitted average samples begun cycles first_position
-    first_opening first_closing first_cycle cycles_from probability last_delay last_moment granted_burst burst_allowance raw_step tuning_divisor
-    tuned_step decayed next departures_of delay_noted control_of early_of noted noted_after is_active
+    before_fault requests_of steps_of replies history_rows rows_text text_left fault_of history_text end_of number ecn_of params_at
+    first_kind version_of profile_of mode_of limits_at draft_at version_one_fields version_two_fields command_kind command_at arrival_at
+    packet_at command_request change_at fold_request request_of opening_of records_from next_record strip_bom field_at answer_fields
+    refused_row folded_row shown_row tallied_row digits fields_text is_blank progress_after registers_after stats_after largest_queue
+    largest_delay waited accumulated is_considered is_picked delay_of last_or places effective_moment greatest waiting_after departed_count
+    admitted average samples begun cycles first_position first_opening first_closing first_cycle cycles_from probability last_delay
+    last_moment granted_burst burst_allowance raw_step tuning_divisor tuned_step decayed next departures_of delay_noted control_of early_of
+    noted noted_after is_active
 bare-runs = refl
 
 -- one arrival and two departures, the second of an empty queue
@@ -80,13 +83,14 @@ one_arrival-history =
 
 one_arrival-runs : history_of one_arrival ≡ one_arrival-history
 unfolding held_after shown held_of now_of params_of active_of departures_shown updates_shown arrivals_shown verdict record_fault first_fault
-    before_fault requests_of steps_of replies history_rows rows_text text_left fault_of history_text end_of number ecn_of params_at first_kind
-    version_of profile_of mode_of limits_at draft_at version_one_fields version_two_fields arrive_fields call_at call_fields params_fields
-    fold_fields request_of opening_of records_from next_record strip_bom field_at answer_fields refused_row folded_row shown_row tallied_row
-    digits fields_text is_blank progress_after registers_after stats_after largest_queue largest_delay waited accumulated is_considered is_picked
-    delay_of last_or places effective_moment greatest waiting_after departed_count admitted average samples begun cycles first_position
-    first_opening first_closing first_cycle cycles_from probability last_delay last_moment granted_burst burst_allowance raw_step tuning_divisor
-    tuned_step decayed next departures_of delay_noted control_of early_of noted noted_after is_active
+    before_fault requests_of steps_of replies history_rows rows_text text_left fault_of history_text end_of number ecn_of params_at
+    first_kind version_of profile_of mode_of limits_at draft_at version_one_fields version_two_fields command_kind command_at arrival_at
+    packet_at command_request change_at fold_request request_of opening_of records_from next_record strip_bom field_at answer_fields
+    refused_row folded_row shown_row tallied_row digits fields_text is_blank progress_after registers_after stats_after largest_queue
+    largest_delay waited accumulated is_considered is_picked delay_of last_or places effective_moment greatest waiting_after departed_count
+    admitted average samples begun cycles first_position first_opening first_closing first_cycle cycles_from probability last_delay
+    last_moment granted_burst burst_allowance raw_step tuning_divisor tuned_step decayed next departures_of delay_noted control_of early_of
+    noted noted_after is_active
 one_arrival-runs = refl
 
 -- moments that fall, and commands that are refused by their moment
@@ -112,13 +116,14 @@ falling-history =
 
 falling-runs : history_of falling ≡ falling-history
 unfolding held_after shown held_of now_of params_of active_of departures_shown updates_shown arrivals_shown verdict record_fault first_fault
-    before_fault requests_of steps_of replies history_rows rows_text text_left fault_of history_text end_of number ecn_of params_at first_kind
-    version_of profile_of mode_of limits_at draft_at version_one_fields version_two_fields arrive_fields call_at call_fields params_fields
-    fold_fields request_of opening_of records_from next_record strip_bom field_at answer_fields refused_row folded_row shown_row tallied_row
-    digits fields_text is_blank progress_after registers_after stats_after largest_queue largest_delay waited accumulated is_considered is_picked
-    delay_of last_or places effective_moment greatest waiting_after departed_count admitted average samples begun cycles first_position
-    first_opening first_closing first_cycle cycles_from probability last_delay last_moment granted_burst burst_allowance raw_step tuning_divisor
-    tuned_step decayed next departures_of delay_noted control_of early_of noted noted_after is_active
+    before_fault requests_of steps_of replies history_rows rows_text text_left fault_of history_text end_of number ecn_of params_at
+    first_kind version_of profile_of mode_of limits_at draft_at version_one_fields version_two_fields command_kind command_at arrival_at
+    packet_at command_request change_at fold_request request_of opening_of records_from next_record strip_bom field_at answer_fields
+    refused_row folded_row shown_row tallied_row digits fields_text is_blank progress_after registers_after stats_after largest_queue
+    largest_delay waited accumulated is_considered is_picked delay_of last_or places effective_moment greatest waiting_after departed_count
+    admitted average samples begun cycles first_position first_opening first_closing first_cycle cycles_from probability last_delay
+    last_moment granted_burst burst_allowance raw_step tuning_divisor tuned_step decayed next departures_of delay_noted control_of early_of
+    noted noted_after is_active
 falling-runs = refl
 
 -- parameters that limit the queue to 1000 bytes, a reset, and parameters of which one is out of its range
@@ -144,13 +149,14 @@ small_limit-history =
 
 small_limit-runs : history_of small_limit ≡ small_limit-history
 unfolding held_after shown held_of now_of params_of active_of departures_shown updates_shown arrivals_shown verdict record_fault first_fault
-    before_fault requests_of steps_of replies history_rows rows_text text_left fault_of history_text end_of number ecn_of params_at first_kind
-    version_of profile_of mode_of limits_at draft_at version_one_fields version_two_fields arrive_fields call_at call_fields params_fields
-    fold_fields request_of opening_of records_from next_record strip_bom field_at answer_fields refused_row folded_row shown_row tallied_row
-    digits fields_text is_blank progress_after registers_after stats_after largest_queue largest_delay waited accumulated is_considered is_picked
-    delay_of last_or places effective_moment greatest waiting_after departed_count admitted average samples begun cycles first_position
-    first_opening first_closing first_cycle cycles_from probability last_delay last_moment granted_burst burst_allowance raw_step tuning_divisor
-    tuned_step decayed next departures_of delay_noted control_of early_of noted noted_after is_active
+    before_fault requests_of steps_of replies history_rows rows_text text_left fault_of history_text end_of number ecn_of params_at
+    first_kind version_of profile_of mode_of limits_at draft_at version_one_fields version_two_fields command_kind command_at arrival_at
+    packet_at command_request change_at fold_request request_of opening_of records_from next_record strip_bom field_at answer_fields
+    refused_row folded_row shown_row tallied_row digits fields_text is_blank progress_after registers_after stats_after largest_queue
+    largest_delay waited accumulated is_considered is_picked delay_of last_or places effective_moment greatest waiting_after departed_count
+    admitted average samples begun cycles first_position first_opening first_closing first_cycle cycles_from probability last_delay
+    last_moment granted_burst burst_allowance raw_step tuning_divisor tuned_step decayed next departures_of delay_noted control_of early_of
+    noted noted_after is_active
 small_limit-runs = refl
 
 -- cycles of the departure rate
@@ -188,13 +194,14 @@ rates-history =
 
 rates-runs : history_of rates ≡ rates-history
 unfolding held_after shown held_of now_of params_of active_of departures_shown updates_shown arrivals_shown verdict record_fault first_fault
-    before_fault requests_of steps_of replies history_rows rows_text text_left fault_of history_text end_of number ecn_of params_at first_kind
-    version_of profile_of mode_of limits_at draft_at version_one_fields version_two_fields arrive_fields call_at call_fields params_fields
-    fold_fields request_of opening_of records_from next_record strip_bom field_at answer_fields refused_row folded_row shown_row tallied_row
-    digits fields_text is_blank progress_after registers_after stats_after largest_queue largest_delay waited accumulated is_considered is_picked
-    delay_of last_or places effective_moment greatest waiting_after departed_count admitted average samples begun cycles first_position
-    first_opening first_closing first_cycle cycles_from probability last_delay last_moment granted_burst burst_allowance raw_step tuning_divisor
-    tuned_step decayed next departures_of delay_noted control_of early_of noted noted_after is_active
+    before_fault requests_of steps_of replies history_rows rows_text text_left fault_of history_text end_of number ecn_of params_at
+    first_kind version_of profile_of mode_of limits_at draft_at version_one_fields version_two_fields command_kind command_at arrival_at
+    packet_at command_request change_at fold_request request_of opening_of records_from next_record strip_bom field_at answer_fields
+    refused_row folded_row shown_row tallied_row digits fields_text is_blank progress_after registers_after stats_after largest_queue
+    largest_delay waited accumulated is_considered is_picked delay_of last_or places effective_moment greatest waiting_after departed_count
+    admitted average samples begun cycles first_position first_opening first_closing first_cycle cycles_from probability last_delay
+    last_moment granted_burst burst_allowance raw_step tuning_divisor tuned_step decayed next departures_of delay_noted control_of early_of
+    noted noted_after is_active
 rates-runs = refl
 
 -- marks, drops and a lone enqueue: three updates raise the probability, and three packets meet it; then the registers, the
@@ -246,26 +253,28 @@ marks_rest-history =
 marks-runs : history_of (codes "open,0,8,32,100,2,1,0,850000,0,1,100000,1000000000000,1024\n" ++ marks_rest)
     ≡ codes "open,0,8,32,100,2,1,0,850000,0,1,100000,1000000000000,1024\n" ++ marks_rest-history
 unfolding held_after shown held_of now_of params_of active_of departures_shown updates_shown arrivals_shown verdict record_fault first_fault
-    before_fault requests_of steps_of replies history_rows rows_text text_left fault_of history_text end_of number ecn_of params_at first_kind
-    version_of profile_of mode_of limits_at draft_at version_one_fields version_two_fields arrive_fields call_at call_fields params_fields
-    fold_fields request_of opening_of records_from next_record strip_bom field_at answer_fields refused_row folded_row shown_row tallied_row
-    digits fields_text is_blank progress_after registers_after stats_after largest_queue largest_delay waited accumulated is_considered is_picked
-    delay_of last_or places effective_moment greatest waiting_after departed_count admitted average samples begun cycles first_position
-    first_opening first_closing first_cycle cycles_from probability last_delay last_moment granted_burst burst_allowance raw_step tuning_divisor
-    tuned_step decayed next departures_of delay_noted control_of early_of noted noted_after is_active
+    before_fault requests_of steps_of replies history_rows rows_text text_left fault_of history_text end_of number ecn_of params_at
+    first_kind version_of profile_of mode_of limits_at draft_at version_one_fields version_two_fields command_kind command_at arrival_at
+    packet_at command_request change_at fold_request request_of opening_of records_from next_record strip_bom field_at answer_fields
+    refused_row folded_row shown_row tallied_row digits fields_text is_blank progress_after registers_after stats_after largest_queue
+    largest_delay waited accumulated is_considered is_picked delay_of last_or places effective_moment greatest waiting_after departed_count
+    admitted average samples begun cycles first_position first_opening first_closing first_cycle cycles_from probability last_delay
+    last_moment granted_burst burst_allowance raw_step tuning_divisor tuned_step decayed next departures_of delay_noted control_of early_of
+    noted noted_after is_active
 marks-runs = refl
 
 -- the same in a rolling book whose tail holds one event: the first record alone is another
 marks_rolling-runs : history_of (codes "rolling,0,8,1,100,2,1,0,850000,0,1,100000,1000000000000,1024\n" ++ marks_rest)
     ≡ codes "rolling,0,8,1,100,2,1,0,850000,0,1,100000,1000000000000,1024\n" ++ marks_rest-history
 unfolding held_after shown held_of now_of params_of active_of departures_shown updates_shown arrivals_shown verdict record_fault first_fault
-    before_fault requests_of steps_of replies history_rows rows_text text_left fault_of history_text end_of number ecn_of params_at first_kind
-    version_of profile_of mode_of limits_at draft_at version_one_fields version_two_fields arrive_fields call_at call_fields params_fields
-    fold_fields request_of opening_of records_from next_record strip_bom field_at answer_fields refused_row folded_row shown_row tallied_row
-    digits fields_text is_blank progress_after registers_after stats_after largest_queue largest_delay waited accumulated is_considered is_picked
-    delay_of last_or places effective_moment greatest waiting_after departed_count admitted average samples begun cycles first_position
-    first_opening first_closing first_cycle cycles_from probability last_delay last_moment granted_burst burst_allowance raw_step tuning_divisor
-    tuned_step decayed next departures_of delay_noted control_of early_of noted noted_after is_active
+    before_fault requests_of steps_of replies history_rows rows_text text_left fault_of history_text end_of number ecn_of params_at
+    first_kind version_of profile_of mode_of limits_at draft_at version_one_fields version_two_fields command_kind command_at arrival_at
+    packet_at command_request change_at fold_request request_of opening_of records_from next_record strip_bom field_at answer_fields
+    refused_row folded_row shown_row tallied_row digits fields_text is_blank progress_after registers_after stats_after largest_queue
+    largest_delay waited accumulated is_considered is_picked delay_of last_or places effective_moment greatest waiting_after departed_count
+    admitted average samples begun cycles first_position first_opening first_closing first_cycle cycles_from probability last_delay
+    last_moment granted_burst burst_allowance raw_step tuning_divisor tuned_step decayed next departures_of delay_noted control_of early_of
+    noted noted_after is_active
 marks_rolling-runs = refl
 
 -- a rolling book lets its oldest event go; a fold of more events than the tail holds is refused
@@ -289,13 +298,14 @@ rolling-history =
 
 rolling-runs : history_of rolling ≡ rolling-history
 unfolding held_after shown held_of now_of params_of active_of departures_shown updates_shown arrivals_shown verdict record_fault first_fault
-    before_fault requests_of steps_of replies history_rows rows_text text_left fault_of history_text end_of number ecn_of params_at first_kind
-    version_of profile_of mode_of limits_at draft_at version_one_fields version_two_fields arrive_fields call_at call_fields params_fields
-    fold_fields request_of opening_of records_from next_record strip_bom field_at answer_fields refused_row folded_row shown_row tallied_row
-    digits fields_text is_blank progress_after registers_after stats_after largest_queue largest_delay waited accumulated is_considered is_picked
-    delay_of last_or places effective_moment greatest waiting_after departed_count admitted average samples begun cycles first_position
-    first_opening first_closing first_cycle cycles_from probability last_delay last_moment granted_burst burst_allowance raw_step tuning_divisor
-    tuned_step decayed next departures_of delay_noted control_of early_of noted noted_after is_active
+    before_fault requests_of steps_of replies history_rows rows_text text_left fault_of history_text end_of number ecn_of params_at
+    first_kind version_of profile_of mode_of limits_at draft_at version_one_fields version_two_fields command_kind command_at arrival_at
+    packet_at command_request change_at fold_request request_of opening_of records_from next_record strip_bom field_at answer_fields
+    refused_row folded_row shown_row tallied_row digits fields_text is_blank progress_after registers_after stats_after largest_queue
+    largest_delay waited accumulated is_considered is_picked delay_of last_or places effective_moment greatest waiting_after departed_count
+    admitted average samples begun cycles first_position first_opening first_closing first_cycle cycles_from probability last_delay
+    last_moment granted_burst burst_allowance raw_step tuning_divisor tuned_step decayed next departures_of delay_noted control_of early_of
+    noted noted_after is_active
 rolling-runs = refl
 
 -- no more events than the limits allow, in a rolling book too
@@ -315,13 +325,14 @@ exhausted-history =
 
 exhausted-runs : history_of exhausted ≡ exhausted-history
 unfolding held_after shown held_of now_of params_of active_of departures_shown updates_shown arrivals_shown verdict record_fault first_fault
-    before_fault requests_of steps_of replies history_rows rows_text text_left fault_of history_text end_of number ecn_of params_at first_kind
-    version_of profile_of mode_of limits_at draft_at version_one_fields version_two_fields arrive_fields call_at call_fields params_fields
-    fold_fields request_of opening_of records_from next_record strip_bom field_at answer_fields refused_row folded_row shown_row tallied_row
-    digits fields_text is_blank progress_after registers_after stats_after largest_queue largest_delay waited accumulated is_considered is_picked
-    delay_of last_or places effective_moment greatest waiting_after departed_count admitted average samples begun cycles first_position
-    first_opening first_closing first_cycle cycles_from probability last_delay last_moment granted_burst burst_allowance raw_step tuning_divisor
-    tuned_step decayed next departures_of delay_noted control_of early_of noted noted_after is_active
+    before_fault requests_of steps_of replies history_rows rows_text text_left fault_of history_text end_of number ecn_of params_at
+    first_kind version_of profile_of mode_of limits_at draft_at version_one_fields version_two_fields command_kind command_at arrival_at
+    packet_at command_request change_at fold_request request_of opening_of records_from next_record strip_bom field_at answer_fields
+    refused_row folded_row shown_row tallied_row digits fields_text is_blank progress_after registers_after stats_after largest_queue
+    largest_delay waited accumulated is_considered is_picked delay_of last_or places effective_moment greatest waiting_after departed_count
+    admitted average samples begun cycles first_position first_opening first_closing first_cycle cycles_from probability last_delay
+    last_moment granted_burst burst_allowance raw_step tuning_divisor tuned_step decayed next departures_of delay_noted control_of early_of
+    noted noted_after is_active
 exhausted-runs = refl
 
 -- a full tail refuses until a fold makes room
@@ -349,13 +360,14 @@ full_tail-history =
 
 full_tail-runs : history_of full_tail ≡ full_tail-history
 unfolding held_after shown held_of now_of params_of active_of departures_shown updates_shown arrivals_shown verdict record_fault first_fault
-    before_fault requests_of steps_of replies history_rows rows_text text_left fault_of history_text end_of number ecn_of params_at first_kind
-    version_of profile_of mode_of limits_at draft_at version_one_fields version_two_fields arrive_fields call_at call_fields params_fields
-    fold_fields request_of opening_of records_from next_record strip_bom field_at answer_fields refused_row folded_row shown_row tallied_row
-    digits fields_text is_blank progress_after registers_after stats_after largest_queue largest_delay waited accumulated is_considered is_picked
-    delay_of last_or places effective_moment greatest waiting_after departed_count admitted average samples begun cycles first_position
-    first_opening first_closing first_cycle cycles_from probability last_delay last_moment granted_burst burst_allowance raw_step tuning_divisor
-    tuned_step decayed next departures_of delay_noted control_of early_of noted noted_after is_active
+    before_fault requests_of steps_of replies history_rows rows_text text_left fault_of history_text end_of number ecn_of params_at
+    first_kind version_of profile_of mode_of limits_at draft_at version_one_fields version_two_fields command_kind command_at arrival_at
+    packet_at command_request change_at fold_request request_of opening_of records_from next_record strip_bom field_at answer_fields
+    refused_row folded_row shown_row tallied_row digits fields_text is_blank progress_after registers_after stats_after largest_queue
+    largest_delay waited accumulated is_considered is_picked delay_of last_or places effective_moment greatest waiting_after departed_count
+    admitted average samples begun cycles first_position first_opening first_closing first_cycle cycles_from probability last_delay
+    last_moment granted_burst burst_allowance raw_step tuning_divisor tuned_step decayed next departures_of delay_noted control_of early_of
+    noted noted_after is_active
 full_tail-runs = refl
 
 -- a controller that turns itself on at the third arrival, after which a third of the byte limit waits; a trace of version two says so
@@ -380,13 +392,14 @@ turns_on-history active =
 turns_on-runs : (history_of (codes "open2,2" ++ turns_on_rest) ≡ codes "open2,2" ++ turns_on-history (codes "0"))
     × (history_of (codes "open2,1" ++ turns_on_rest) ≡ codes "open2,1" ++ turns_on-history (codes "1"))
 unfolding held_after shown held_of now_of params_of active_of departures_shown updates_shown arrivals_shown verdict record_fault first_fault
-    before_fault requests_of steps_of replies history_rows rows_text text_left fault_of history_text end_of number ecn_of params_at first_kind
-    version_of profile_of mode_of limits_at draft_at version_one_fields version_two_fields arrive_fields call_at call_fields params_fields
-    fold_fields request_of opening_of records_from next_record strip_bom field_at answer_fields refused_row folded_row shown_row tallied_row
-    digits fields_text is_blank progress_after registers_after stats_after largest_queue largest_delay waited accumulated is_considered is_picked
-    delay_of last_or places effective_moment greatest waiting_after departed_count admitted average samples begun cycles first_position
-    first_opening first_closing first_cycle cycles_from probability last_delay last_moment granted_burst burst_allowance raw_step tuning_divisor
-    tuned_step decayed next departures_of delay_noted control_of early_of noted noted_after is_active
+    before_fault requests_of steps_of replies history_rows rows_text text_left fault_of history_text end_of number ecn_of params_at
+    first_kind version_of profile_of mode_of limits_at draft_at version_one_fields version_two_fields command_kind command_at arrival_at
+    packet_at command_request change_at fold_request request_of opening_of records_from next_record strip_bom field_at answer_fields
+    refused_row folded_row shown_row tallied_row digits fields_text is_blank progress_after registers_after stats_after largest_queue
+    largest_delay waited accumulated is_considered is_picked delay_of last_or places effective_moment greatest waiting_after departed_count
+    admitted average samples begun cycles first_position first_opening first_closing first_cycle cycles_from probability last_delay
+    last_moment granted_burst burst_allowance raw_step tuning_divisor tuned_step decayed next departures_of delay_noted control_of early_of
+    noted noted_after is_active
 turns_on-runs = (refl, refl)
 
 -- the faults of a first record, in their order: its kind, its fields, its first bad parameter, its limits, its moment
@@ -412,9 +425,9 @@ first_record_faults : map first_fault_of (
     ∷ Some (fault.Opening open_fault.Limits) ∷ Some (fault.Opening open_fault.Moment) ∷ None
     ∷ Some (fault.Number 1) ∷ Some (fault.Word 1) ∷ Some (fault.Fields 1) ∷ Some (fault.Opening (open_fault.Param Target))
     ∷ Some (fault.Opening open_fault.Limits) ∷ []
-unfolding fault_of first_fault record_fault number ecn_of params_at first_kind version_of profile_of mode_of limits_at draft_at version_one_fields
-    version_two_fields arrive_fields call_at call_fields params_fields
-    fold_fields request_of opening_of records_from next_record strip_bom field_at
+unfolding fault_of first_fault record_fault number ecn_of params_at first_kind version_of profile_of mode_of limits_at draft_at
+    version_one_fields version_two_fields command_kind command_at arrival_at packet_at command_request change_at fold_request request_of
+    opening_of records_from next_record strip_bom field_at
 first_record_faults = refl
 
 -- the faults of a later record: its kind, the number of its fields, its first bad field
@@ -436,21 +449,22 @@ later_record_faults : map (λ line. first_fault_of (codes "open,0,4,16,100\n" ++
     ≡ Some (fault.Kind 2) ∷ Some (fault.Kind 2) ∷ Some (fault.Kind 2) ∷ Some (fault.Fields 2) ∷ Some (fault.Fields 2) ∷ Some (fault.Fields 2)
     ∷ Some (fault.Number 2)
     ∷ Some (fault.Number 2) ∷ Some (fault.Fields 2) ∷ Some (fault.Fields 2) ∷ Some (fault.Number 2) ∷ Some (fault.Word 2) ∷ None ∷ []
-unfolding fault_of first_fault record_fault number ecn_of params_at first_kind version_of profile_of mode_of limits_at draft_at version_one_fields
-    version_two_fields arrive_fields call_at call_fields params_fields
-    fold_fields request_of opening_of records_from next_record strip_bom field_at
+unfolding fault_of first_fault record_fault number ecn_of params_at first_kind version_of profile_of mode_of limits_at draft_at
+    version_one_fields version_two_fields command_kind command_at arrival_at packet_at command_request change_at fold_request request_of
+    opening_of records_from next_record strip_bom field_at
 later_record_faults = refl
 
 -- up to the faulty record, the history stands
 faulty-runs : history_of (codes "open,0,4,16,100\ndepart,1,1\ndep,1,1\ndepart,1,2\n") ≡ codes "open,0,4,16,100\ndepart,1,1,empty\n"
 unfolding held_after shown held_of now_of params_of active_of departures_shown updates_shown arrivals_shown verdict record_fault first_fault
-    before_fault requests_of steps_of replies history_rows rows_text text_left fault_of history_text end_of number ecn_of params_at first_kind
-    version_of profile_of mode_of limits_at draft_at version_one_fields version_two_fields arrive_fields call_at call_fields params_fields
-    fold_fields request_of opening_of records_from next_record strip_bom field_at answer_fields refused_row folded_row shown_row tallied_row
-    digits fields_text is_blank progress_after registers_after stats_after largest_queue largest_delay waited accumulated is_considered is_picked
-    delay_of last_or places effective_moment greatest waiting_after departed_count admitted average samples begun cycles first_position
-    first_opening first_closing first_cycle cycles_from probability last_delay last_moment granted_burst burst_allowance raw_step tuning_divisor
-    tuned_step decayed next departures_of delay_noted control_of early_of noted noted_after is_active
+    before_fault requests_of steps_of replies history_rows rows_text text_left fault_of history_text end_of number ecn_of params_at
+    first_kind version_of profile_of mode_of limits_at draft_at version_one_fields version_two_fields command_kind command_at arrival_at
+    packet_at command_request change_at fold_request request_of opening_of records_from next_record strip_bom field_at answer_fields
+    refused_row folded_row shown_row tallied_row digits fields_text is_blank progress_after registers_after stats_after largest_queue
+    largest_delay waited accumulated is_considered is_picked delay_of last_or places effective_moment greatest waiting_after departed_count
+    admitted average samples begun cycles first_position first_opening first_closing first_cycle cycles_from probability last_delay
+    last_moment granted_burst burst_allowance raw_step tuning_divisor tuned_step decayed next departures_of delay_noted control_of early_of
+    noted noted_after is_active
 faulty-runs = refl
 
 -- what the opening alone ends with
@@ -475,11 +489,12 @@ bare-ends : end_of (records_of bare) ≡ Some (record {
   stats = no_stats;
 })
 unfolding held_after shown held_of now_of params_of active_of departures_shown updates_shown arrivals_shown verdict record_fault first_fault
-    before_fault requests_of steps_of replies history_rows rows_text text_left fault_of history_text end_of number ecn_of params_at first_kind
-    version_of profile_of mode_of limits_at draft_at version_one_fields version_two_fields arrive_fields call_at call_fields params_fields
-    fold_fields request_of opening_of records_from next_record strip_bom field_at answer_fields refused_row folded_row shown_row tallied_row
-    digits fields_text is_blank progress_after registers_after stats_after largest_queue largest_delay waited accumulated is_considered is_picked
-    delay_of last_or places effective_moment greatest waiting_after departed_count admitted average samples begun cycles first_position
-    first_opening first_closing first_cycle cycles_from probability last_delay last_moment granted_burst burst_allowance raw_step tuning_divisor
-    tuned_step decayed next departures_of delay_noted control_of early_of noted noted_after is_active
+    before_fault requests_of steps_of replies history_rows rows_text text_left fault_of history_text end_of number ecn_of params_at
+    first_kind version_of profile_of mode_of limits_at draft_at version_one_fields version_two_fields command_kind command_at arrival_at
+    packet_at command_request change_at fold_request request_of opening_of records_from next_record strip_bom field_at answer_fields
+    refused_row folded_row shown_row tallied_row digits fields_text is_blank progress_after registers_after stats_after largest_queue
+    largest_delay waited accumulated is_considered is_picked delay_of last_or places effective_moment greatest waiting_after departed_count
+    admitted average samples begun cycles first_position first_opening first_closing first_cycle cycles_from probability last_delay
+    last_moment granted_burst burst_allowance raw_step tuning_divisor tuned_step decayed next departures_of delay_noted control_of early_of
+    noted noted_after is_active
 bare-ends = refl

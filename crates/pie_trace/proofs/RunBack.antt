@@ -30,27 +30,28 @@ use Rattle.pie_book.specs.Statistics.{stats_after}
 use Rattle.pie_record.specs.declared.fault.Flaw.{Flaw}
 use Rattle.pie_record.specs.declared.fault.TraceFault.{TraceFault}
 use Rattle.pie_record.specs.declared.fault.TraceFault.TheVariants as fault
-use Rattle.pie_record.specs.declared.fields.Request.{Request}
-use Rattle.pie_record.specs.declared.fields.Request.TheVariants.{Ask, BadParams, Fold, Show, Tally}
+use Rattle.pie_record.specs.declared.trace_record.Request.{Request}
+use Rattle.pie_record.specs.declared.trace_record.Request.TheVariants.{Ask, BadParams, Fold, Show, Tally}
 use Rattle.pie_record.specs.declared.first_record.Draft.{Draft}
 use Rattle.pie_record.specs.declared.first_record.FirstKind.{FirstKind}
 use Rattle.pie_record.specs.declared.first_record.FirstKind.TheVariants as kinds
-use Rattle.pie_record.specs.declared.history.Line.{Line}
+use Rattle.pie_record.specs.declared.history_record.Line.{Line}
 use Rattle.pie_record.specs.declared.version.Version.{Version}
 use Rattle.pie_record.specs.Fault.{fault_at}
 use Rattle.pie_trace.specs.History.{before_fault, history_rows, history_text, record_fault, replies, requests_of, text_left}
 use Rattle.pie_record.specs.Opening.{checked_opening, opening_by, opening_in, opening_of, opening_read, refused_opening}
 use Rattle.pie_record.specs.Text.{HasField, Row, rows_text}
-use Rattle.pie_record.specs.Line.{line_of}
+use Rattle.pie_record.specs.Field.{is_kind}
+use Rattle.pie_record.specs.TraceRecord.{request_of}
+use Rattle.pie_record.specs.HistoryRecord.{line_of}
 use Rattle.pie_record.specs.ReadBack.{Begins, TellEach, TellsHistory}
 use Rattle.pie_trace.specs.RunLines.{line_told, lines_told, run_lines}
 use Rattle.pie_record.specs.FirstRecord.{first_fields, first_kind, kind_word, version_of}
-use Rattle.pie_record.specs.Record.{is_kind, request_of}
 use Rattle.pie_trace.specs.Reply.{Reply, after, history_row, reply, reply_to_command, reply_to_fold}
 use Rattle.pie_record.specs.Answer.{code_of}
 use Rattle.pie_trace.proofs.EndFacts.{history_text-read}
-use Rattle.pie_record.proofs.Laws.{TellEach-cons, TellEach-none, folded-note, history-told, kind-word, line-back, ltb-false, refused-note}
-use Rattle.pie_record.proofs.Laws.{request-asks, rows_text-cons, shown-note, tallied-note, told-field}
+use Rattle.pie_record.proofs.Laws.{TellEach-cons, TellEach-none, folded-note, answered-back, history-told, kind-word, ltb-false, refused-note}
+use Rattle.pie_record.proofs.Laws.{request-fits, rows_text-cons, shown-note, tallied-note, told-field}
 use Rattle.pie_trace.proofs.HistoryFacts.{before_fault-later, flawed-record, long-record, requests_of-cons}
 
 -- what pie_book promises of all histories
@@ -111,10 +112,7 @@ ask-told version held number row caller command opening progress small opens sou
         (refused_or (or_full o full) (decision opening progress.history command))))
         ≡ Ok (line_told (Ask caller command) (reply_to_command (refused_or (or_full o full) (decision opening progress.history command))))
     by None false free =
-        let asks = request-asks row caller command held.params reads in
-        ap (λ (r : Row). line_of version (history_row version number r (reply_to_command (Ok (decision opening progress.history command))))) asks.is
-        ∙ line-back version caller command (decision opening progress.history command) (held.kinds opening progress.history command) asks.caller
-        asks.fits
+        answered-back version row caller command (decision opening progress.history command) reads (held.kinds opening progress.history command)
         (held.answers opening progress.history command opens.accepted opens.params sound.legal sound.fit free)
     by None true free = refused-note version number 5 small (omega arith)
     by (Some why) full free = refused-note version number (code_of why) small (code-small why)
@@ -193,7 +191,7 @@ asked-sound held opening progress caller command fit sound =
 after-sound : (held : Held) (opening : Opening) (progress : Progress) (row : Row) (request : Request) → request_of row ≡ Ok request
     → Sound opening progress → Sound opening (after opening progress request)
 after-sound held opening progress row (Ask caller command) reads sound = asked-sound held opening progress caller command
-    (request-asks row caller command held.params reads).fits sound
+    (request-fits row caller command held.params reads) sound
 after-sound held opening progress row BadParams reads sound = sound
 after-sound held opening progress row (Fold n) reads sound =
     let within = sound.held in

@@ -2,8 +2,8 @@
 use Rattle.std.proofs.Common.{◌≡◌, List, [], ◌∷◌, refl, ap}
 use Rattle.pie_book.specs.declared.opening.Opening.{Opening}
 use Rattle.pie_book.specs.Run.{Outcome, Progress, Step, asked, folded, outcomes, was_asked, was_folded}
-use Rattle.pie_record.specs.declared.fields.Request.{Request}
-use Rattle.pie_record.specs.declared.fields.Request.TheVariants.{Ask, BadParams, Fold, Show, Tally}
+use Rattle.pie_record.specs.declared.trace_record.Request.{Request}
+use Rattle.pie_record.specs.declared.trace_record.Request.TheVariants.{Ask, BadParams, Fold, Show, Tally}
 use Rattle.pie_trace.specs.Reply.{Reply, after, refused, reply, reply_to_command, reply_to_fold}
 use Rattle.pie_trace.specs.History.{replies, steps_of}
 

@@ -2,12 +2,12 @@
 use Rattle.std.specs.Prelude.{ℕ, List, [], ◌∷◌}
 use Rattle.pie_book.specs.Run.{start}
 use Rattle.pie_book.specs.declared.opening.Opening.{Opening}
-use Rattle.pie_record.specs.declared.fields.Request.{Request}
-use Rattle.pie_record.specs.declared.fields.Request.TheVariants.{Ask}
-use Rattle.pie_record.specs.declared.history.Line.{Line}
-use Rattle.pie_record.specs.declared.history.Line.TheVariants as line
+use Rattle.pie_record.specs.declared.trace_record.Request.{Request}
+use Rattle.pie_record.specs.declared.trace_record.Request.TheVariants.{Ask}
+use Rattle.pie_record.specs.declared.history_record.Line.{Line}
+use Rattle.pie_record.specs.declared.history_record.Line.TheVariants as line
 use Rattle.pie_trace.specs.History.{before_fault, replies, requests_of}
-use Rattle.pie_record.specs.Line.{made}
+use Rattle.pie_record.specs.HistoryRecord.{made}
 use Rattle.pie_trace.specs.Reply.{Reply, answered, reply}
 use Rattle.pie_record.specs.Text.{Row}
 

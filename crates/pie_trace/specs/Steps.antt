@@ -7,7 +7,7 @@ use Rattle.pie_book.specs.Book.{BookView, Tells}
 use Rattle.pie_book.specs.Opening.{opening_refusal}
 use Rattle.pie_book.specs.Run.{Progress, start, progress_after}
 use Rattle.pie_record.specs.declared.fault.TraceFault.{TraceFault}
-use Rattle.pie_record.specs.declared.fields.Request.{Request}
+use Rattle.pie_record.specs.declared.trace_record.Request.{Request}
 use Rattle.pie_trace.specs.declared.run.RunEnd.{RunEnd}
 use Rattle.pie_record.specs.declared.version.Version.{Version}
 use Rattle.pie_record.specs.Fault.{is_device}

@@ -19,9 +19,9 @@
 pub mod law;
 pub mod migration;
 pub mod migration_law;
+mod number_ranges;
 pub mod run;
 mod session;
-mod typed;
 pub mod write;
 
 pub use law::history_texts_are_read_back;

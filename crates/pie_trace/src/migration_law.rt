@@ -3,7 +3,7 @@ ghost use Rattle.std.specs.Prelude.{◌≡◌, ◌≤◌, ◌^◌, ◌∷◌, �
 ghost use Rattle.pie_book.specs.declared.opening.Opening.{Opening};
 ghost use Rattle.pie_record.specs.declared.version.Version.TheVariants.{Two};
 ghost use Rattle.pie_trace.specs.History.{history_text};
-ghost use Rattle.pie_record.specs.Lines.{history_lines, history_opening, history_version};
+ghost use Rattle.pie_record.specs.HistoryLines.{history_lines, history_opening, history_version};
 ghost use Rattle.pie_trace.specs.Migrate.{TellTheSame, first_in_two, history_fault, migrated_text};
 ghost use Rattle.pie_record.specs.ReadBack.{TellsHistory};
 ghost use Rattle.pie_record.specs.Text.{Row, records_of};

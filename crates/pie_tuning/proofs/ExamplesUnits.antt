@@ -1,31 +1,38 @@
--- Texts with units, and the limit of some links, worked out.
-use Rattle.std.proofs.Common.{◌≡◌, Some, None, codes, refl}
-use Rattle.pie_record.specs.Number.{number}
+-- The numbers of options, and the limit of some links, worked out.
+use Rattle.std.proofs.Common.{◌≡◌, codes, refl}
+use Rattle.std.specs.Prelude.{Ok, Err}
+use Rattle.pie_units.specs.Scale.{is_word, prefix_scale, rate_scale, time_scale}
+use Rattle.pie_units.specs.Written.{digit_count, number_after}
+use Rattle.pie_tuning.specs.declared.units.OptionFault.TheVariants.{NotATime, NoRate, PreciseTime}
 use Rattle.pie_tuning.specs.Opening.{gain_of, limit_for}
 use Rattle.pie_tuning.specs.Units.{packets_of, rate_of, time_of}
 
-milliseconds : time_of (codes "20ms") ≡ Some 20_000_000
-unfolding number
+milliseconds : time_of (codes "1.5ms") ≡ Ok 1_500_000
+unfolding digit_count number_after is_word time_scale
 milliseconds = refl
 
-seconds : time_of (codes "2s") ≡ Some 2_000_000_000
-unfolding number
-seconds = refl
-
-no-unit : time_of (codes "20") ≡ None
-unfolding number
+no-unit : time_of (codes "20") ≡ Err NotATime
+unfolding digit_count number_after is_word time_scale
 no-unit = refl
 
-megabits : rate_of (codes "100mbit") ≡ Some 100_000_000
-unfolding number
+too-precise : time_of (codes "1.5ns") ≡ Err PreciseTime
+unfolding digit_count number_after is_word time_scale
+too-precise = refl
+
+megabits : rate_of (codes "100mbit") ≡ Ok 100_000_000
+unfolding digit_count number_after is_word prefix_scale rate_scale
 megabits = refl
 
-bits : rate_of (codes "9bit") ≡ Some 9
-unfolding number
-bits = refl
+kilobytes : rate_of (codes "1kbps") ≡ Ok 8_000
+unfolding digit_count number_after is_word prefix_scale rate_scale
+kilobytes = refl
 
-packets : packets_of (codes "1000p") ≡ Some 1000
-unfolding number
+no-rate : rate_of (codes "0mbit") ≡ Err NoRate
+unfolding digit_count number_after is_word prefix_scale rate_scale
+no-rate = refl
+
+packets : packets_of (codes "1000p") ≡ Ok 1000
+unfolding digit_count number_after is_word
 packets = refl
 
 -- as pie_params_for of include/pie.h has it

@@ -1,29 +1,45 @@
--- Numbers as a person writes them, with units.
-use Rattle.std.specs.Prelude.{ℕ, ◌-◌, ◌*◌, ◌^◌, ◌&&◌, Option, Some, None, codes, min, drop, take, length, nat_le, option_and_then, option_map}
-use Rattle.std.specs.Prelude.{if◌then◌else◌, List}
-use Rattle.std.specs.Option.{option_or}
-use Rattle.std.specs.Str.{bytes_eq}
-use Rattle.pie_record.specs.Number.{number}
+-- The numbers of `tc`'s options, with units.
+use Rattle.std.specs.Prelude.{ℕ, ◌==◌, List, Result, Ok, Err, if◌then◌else◌}
+use Rattle.pie_units.specs.declared.unit.Kind.TheVariants.{Time, Rate, Packets}
+use Rattle.pie_units.specs.declared.written.UnitFault.{UnitFault}
+use Rattle.pie_units.specs.declared.written.UnitFault.TheVariants.{NotANumber, TooPrecise, TooGreat}
+use Rattle.pie_units.specs.Written.{value_of}
+use Rattle.pie_tuning.specs.declared.units.OptionFault.{OptionFault}
+use Rattle.pie_tuning.specs.declared.units.OptionFault.TheVariants.{NotATime, NotARate, NotPackets, PreciseTime, PreciseRate, PrecisePackets, TooMuch, NoRate}
 
--- the text before this unit at its end
-abbrev pub before_unit : List ℕ → List ℕ → Option (List ℕ)
-before_unit unit text = if nat_le (length unit) (length text) && bytes_eq (drop (length text - length unit) text) unit then Some
-    (take (length text - length unit) text) else None
+-- why an option's text tells no time, no rate or no packets
+abbrev pub time_fault : UnitFault → OptionFault
+time_fault NotANumber = NotATime
+time_fault TooPrecise = PreciseTime
+time_fault TooGreat = TooMuch
 
--- what a text in this unit, which is so many, comes to; above 2^64 - 1 it counts as that, which is in no range
-abbrev pub in_unit : List ℕ → ℕ → List ℕ → Option ℕ
-in_unit unit factor text = option_map (λ count. min (count * factor) (2 ^ 64 - 1)) (option_and_then (number (2 ^ 64 - 1)) (before_unit unit text))
+abbrev pub rate_fault : UnitFault → OptionFault
+rate_fault NotANumber = NotARate
+rate_fault TooPrecise = PreciseRate
+rate_fault TooGreat = TooMuch
+
+abbrev pub packets_fault : UnitFault → OptionFault
+packets_fault NotANumber = NotPackets
+packets_fault TooPrecise = PrecisePackets
+packets_fault TooGreat = TooMuch
+
+-- a number that was read, or why there is none
+abbrev pub told : (UnitFault → OptionFault) → Result ℕ UnitFault → Result ℕ OptionFault
+told fault (Ok number) = Ok number
+told fault (Err why) = Err (fault why)
 
 -- nanoseconds, of `20ms` and the like
-abbrev pub time_of : List ℕ → Option ℕ
-time_of text = option_or (in_unit (codes "ms") (10 ^ 6) text)
-    (option_or (in_unit (codes "us") (10 ^ 3) text) (option_or (in_unit (codes "ns") 1 text) (in_unit (codes "s") (10 ^ 9) text)))
+abbrev pub time_of : List ℕ → Result ℕ OptionFault
+time_of text = told time_fault (value_of Time text)
 
--- bits a second, of `100mbit` and the like
-abbrev pub rate_of : List ℕ → Option ℕ
-rate_of text = option_or (in_unit (codes "mbit") (10 ^ 6) text)
-    (option_or (in_unit (codes "gbit") (10 ^ 9) text) (option_or (in_unit (codes "kbit") (10 ^ 3) text) (in_unit (codes "bit") 1 text)))
+-- bits a second, of `100mbit` and the like; a link has some rate
+abbrev pub some_rate : Result ℕ UnitFault → Result ℕ OptionFault
+some_rate (Ok rate) = if rate == 0 then Err NoRate else Ok rate
+some_rate (Err why) = Err (rate_fault why)
+
+abbrev pub rate_of : List ℕ → Result ℕ OptionFault
+rate_of text = some_rate (value_of Rate text)
 
 -- packets, of `1000p` or `1000`
-abbrev pub packets_of : List ℕ → Option ℕ
-packets_of text = option_or (in_unit (codes "p") 1 text) (in_unit (codes "") 1 text)
+abbrev pub packets_of : List ℕ → Result ℕ OptionFault
+packets_of text = told packets_fault (value_of Packets text)

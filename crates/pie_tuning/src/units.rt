@@ -1,50 +1,111 @@
-//! Numbers as a person writes them: `20ms`, `100mbit`, `1000p`.
-ghost use Rattle.std.specs.Prelude.{◌≡◌, option_map};
-ghost use Rattle.pie_tuning.specs.Units.{before_unit, in_unit, packets_of, rate_of, time_of};
+//! The numbers of `tc`'s options, with units: `20ms`, `100mbit`, `1000p`.
+ghost use Rattle.std.specs.Prelude.{◌≡◌};
+ghost use Rattle.pie_tuning.specs.Units.{packets_fault, packets_of, rate_fault, rate_of, time_fault, time_of};
 
-use pie_record::number::number;
+use pie_units::{Kind, UnitFault, read};
+use thiserror::Error;
 
-/// The text before this unit at its end.
-fn before_unit<'a>(text: &'a [u8], unit: &[u8]) -> Option<&'a [u8]>
-    ensures { option_map (λ before. before.now) result ≡ before_unit unit.now text.now }
+/// Why the text of an option tells no number of its kind, in words that follow the option's name.
+#[derive(Clone, Copy, Debug, PartialEq, Eq, Error)]
+pub enum OptionFault {
+    /// It is no time.
+    #[error("is a number of ns, us, ms or s, as 20ms")]
+    NotATime,
+    /// It is no rate.
+    #[error("is a number of bit, kbit, mbit, gbit or tbit, or of bps, kbps and so on, as 100mbit")]
+    NotARate,
+    /// It is no number of packets.
+    #[error("is a number of packets, as 1000p")]
+    NotPackets,
+    /// It is no whole number of nanoseconds, or has more than 18 decimals.
+    #[error("is no more precise than a nanosecond")]
+    PreciseTime,
+    /// It is no whole number of bits a second, or has more than 18 decimals.
+    #[error("is no more precise than a bit a second")]
+    PreciseRate,
+    /// It is no whole number of packets, or has more than 18 decimals.
+    #[error("is a whole number of packets")]
+    PrecisePackets,
+    /// It is above 2^60 - 1.
+    #[error("is at most 1152921504606846975, in nanoseconds, bits a second or packets")]
+    TooMuch,
+    /// It is a rate of 0.
+    #[error("is at least 1bit")]
+    NoRate,
+}
+
+/// Why a text tells no time.
+fn time_fault(why: UnitFault) -> OptionFault
+    ensures { result ≡ time_fault why }
 {
-    if unit.len() <= text.len() && &text[text.len() - unit.len()..] == unit {
-        Some(&text[..text.len() - unit.len()])
-    } else {
-        None
+    match why {
+        UnitFault::NotANumber => OptionFault::NotATime,
+        UnitFault::TooPrecise => OptionFault::PreciseTime,
+        UnitFault::TooGreat => OptionFault::TooMuch,
     }
 }
 
-/// What a text in this unit, which is so many, comes to.
-#[tactic(auto, unfolding(pie_record::specs::Number::number))]
-fn in_unit(text: &str, unit: &str, factor: u64) -> Option<u64>
-    ensures { result ≡ in_unit unit.now factor text.now }
+/// Why a text tells no rate.
+fn rate_fault(why: UnitFault) -> OptionFault
+    ensures { result ≡ rate_fault why }
 {
-    let digits = before_unit(text.as_bytes(), unit.as_bytes())?;
-    let count = number(digits, u64::MAX)?;
-    Some(count.saturating_mul(factor))
+    match why {
+        UnitFault::NotANumber => OptionFault::NotARate,
+        UnitFault::TooPrecise => OptionFault::PreciseRate,
+        UnitFault::TooGreat => OptionFault::TooMuch,
+    }
 }
 
-/// The nanoseconds that a text such as `20ms` writes, a whole number of `ns`, `us`, `ms` or `s`; above 2^64 - 1 it counts as that.
-pub fn time_of(text: &str) -> Option<u64>
+/// Why a text tells no number of packets.
+fn packets_fault(why: UnitFault) -> OptionFault
+    ensures { result ≡ packets_fault why }
+{
+    match why {
+        UnitFault::NotANumber => OptionFault::NotPackets,
+        UnitFault::TooPrecise => OptionFault::PrecisePackets,
+        UnitFault::TooGreat => OptionFault::TooMuch,
+    }
+}
+
+/// The nanoseconds that a text such as `20ms` or `1.5ms` tells, at most 2^60 - 1.
+///
+/// # Errors
+///
+/// `NotATime`, `PreciseTime` and `TooMuch`, as `pie_units::read` orders them.
+pub fn time_of(text: &str) -> Result<u64, OptionFault>
     ensures { result ≡ time_of text.now }
 {
-    let below_micro = in_unit(text, "ns", 1).or(in_unit(text, "s", 1_000_000_000));
-    in_unit(text, "ms", 1_000_000).or(in_unit(text, "us", 1_000).or(below_micro))
+    match read(Kind::Time, text.as_bytes()) {
+        Ok(time) => Ok(time),
+        Err(why) => Err(time_fault(why)),
+    }
 }
 
-/// The bits a second that a text such as `100mbit` writes, a whole number of `bit`, `kbit`, `mbit` or `gbit`; above 2^64 - 1 it counts
-/// as that.
-pub fn rate_of(text: &str) -> Option<u64>
+/// The bits a second that a text such as `100mbit` tells, 1 to 2^60 - 1.
+///
+/// # Errors
+///
+/// `NotARate`, `PreciseRate` and `TooMuch`, as `pie_units::read` orders them, and `NoRate` for 0.
+pub fn rate_of(text: &str) -> Result<u64, OptionFault>
     ensures { result ≡ rate_of text.now }
 {
-    let small = in_unit(text, "kbit", 1_000).or(in_unit(text, "bit", 1));
-    in_unit(text, "mbit", 1_000_000).or(in_unit(text, "gbit", 1_000_000_000).or(small))
+    match read(Kind::Rate, text.as_bytes()) {
+        Ok(0) => Err(OptionFault::NoRate),
+        Ok(rate) => Ok(rate),
+        Err(why) => Err(rate_fault(why)),
+    }
 }
 
-/// The packets that a text such as `1000p` or `1000` writes.
-pub fn packets_of(text: &str) -> Option<u64>
+/// The packets that a text such as `1000p` or `1000` tells, at most 2^60 - 1.
+///
+/// # Errors
+///
+/// `NotPackets`, `PrecisePackets` and `TooMuch`, as `pie_units::read` orders them.
+pub fn packets_of(text: &str) -> Result<u64, OptionFault>
     ensures { result ≡ packets_of text.now }
 {
-    in_unit(text, "p", 1).or(in_unit(text, "", 1))
+    match read(Kind::Packets, text.as_bytes()) {
+        Ok(packets) => Ok(packets),
+        Err(why) => Err(packets_fault(why)),
+    }
 }

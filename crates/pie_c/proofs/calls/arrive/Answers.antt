@@ -1,9 +1,9 @@
 use Rattle.std.proofs.Common.{◌≡◌, ◌≤◌, ◌==◌, ◌∙◌, sym, ap, arith}
 use Rattle.std.proofs.lemmas.Bool.Decides.{nat_tests}
 use Rattle.pie_queue.specs.declared.ecn.Ecn.{Ecn}
-use Rattle.pie_controller.specs.declared.verdict.Arrival.{Arrival}
-use Rattle.pie_controller.specs.Calls.{Arrive}
-use Rattle.pie_controller.specs.Steps.{arrived, verdict}
+use Rattle.pie_aqm.specs.declared.verdict.Arrival.{Arrival}
+use Rattle.pie_aqm.specs.Calls.{Arrive}
+use Rattle.pie_aqm.specs.Steps.{arrived, verdict}
 use Rattle.pie_c.specs.declared.state.PieState.{PieState}
 use Rattle.pie_c.specs.Calls.{arrival_of, arrival_refusal, verdict_number}
 use Rattle.pie_c.specs.State.{held_in, with_arrival}

@@ -1,5 +1,5 @@
 use Rattle.std.proofs.Common.{arith}
-use Rattle.pie_controller.specs.Calls.{Pass}
+use Rattle.pie_aqm.specs.Calls.{Pass}
 use Rattle.pie_c.specs.Calls.{moment_refusal}
 use Rattle.pie_c.proofs.Packets.{handed, moment-taken, passed-state, shows-call, stays-sound}
 use Rattle.pie_c.proofs.calls.pie_empty.Goals as goal

@@ -1,5 +1,5 @@
 use Rattle.std.proofs.Common.{◌≡◌, ◌∙◌, arith, rules, true}
-use Rattle.pie_controller.specs.Calls.{Restart}
+use Rattle.pie_aqm.specs.Calls.{Restart}
 use Rattle.pie_c.specs.Calls.{reset_refusal}
 use Rattle.pie_c.specs.State.{is_sound}
 use Rattle.pie_c.proofs.Packets.{reset-state, shows-call, stays-sound}

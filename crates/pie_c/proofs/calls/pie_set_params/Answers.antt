@@ -1,5 +1,5 @@
 use Rattle.std.proofs.Common.{◌≡◌, ◌∙◌, arith, rules, true}
-use Rattle.pie_controller.specs.Calls.{Change}
+use Rattle.pie_aqm.specs.Calls.{Change}
 use Rattle.pie_c.specs.Calls.{params_refusal}
 use Rattle.pie_c.specs.Params.{raw_of}
 use Rattle.pie_c.specs.State.{are_in_range, is_sound}

@@ -1,8 +1,8 @@
 use Rattle.std.proofs.Common.{◌≡◌, ◌∙◌, ap, arith, rules, true}
-use Rattle.pie_controller.proofs.Sounds.{Sound_call, stays_sound}
-use Rattle.pie_controller.specs.Calls.{Update}
-use Rattle.pie_controller.specs.Held.{Held}
-use Rattle.pie_controller.specs.Steps.{updated}
+use Rattle.pie_aqm.proofs.Sounds.{Sound_call, stays_sound}
+use Rattle.pie_aqm.specs.Calls.{Update}
+use Rattle.pie_aqm.specs.Held.{Held}
+use Rattle.pie_aqm.specs.Steps.{updated}
 use Rattle.pie_c.specs.Calls.{update_refusal, updated_with}
 use Rattle.pie_c.specs.State.{held_in, is_sound}
 use Rattle.pie_c.proofs.Packets.{shows-call, stays-sound}

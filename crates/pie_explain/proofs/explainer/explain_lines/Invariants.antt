@@ -1,8 +1,8 @@
-use Rattle.std.proofs.Common.{◌≡◌, ◌-◌, ◌^◌, [], ℕ, List}
+use Rattle.std.proofs.Common.{◌≡◌, ◌≤◌, ◌-◌, ◌^◌, [], ℕ, List, length, max}
 use Rattle.std.specs.Prelude.{IfSome, Option}
 use Rattle.std.specs.Io.KnownBytes.{append_known}
 use Rattle.pie_book.specs.declared.opening.Opening.{Opening}
-use Rattle.pie_record.specs.declared.history.Course.TheVariants.{Going}
+use Rattle.pie_record.specs.declared.history_reader.Course.TheVariants.{Going}
 use Rattle.pie_explain.specs.Answer.{Explains, ExplainAt}
 use Rattle.pie_explain.proofs.explainer.explain_lines.Given as goal
 
@@ -11,6 +11,7 @@ invariant-lines g l = record {
   going : l.lines.course ≡ Going;
   choice : l.explainer.choice ≡ l.fn.explainer.choice;
   report : l.explainer.report ≡ l.fn.explainer.report;
+  waits : length l.explainer.page ≤ max (length l.fn.explainer.page) 31999;
   stands : (opening : Opening) (before : Option (List ℕ))
       → Explains opening l.fn.explainer.choice (g.P.Report.so_far l.fn.explainer.report)
       (g.P.Report.shows l.fn.explainer.report l.fn.explainer.state) []

@@ -2,7 +2,7 @@ use Rattle.std.proofs.Common.{◌≡◌, ◌<◌, ◌+◌, ℕ, List, [], ◌∷
 use Rattle.std.proofs.Math.Seq.{take-suc}
 use Rattle.std.proofs.lemmas.List.{map-append}
 use Rattle.pie_book.specs.declared.command.Event.{Event}
-use Rattle.pie_record.specs.declared.history.Line.TheVariants.{Made}
+use Rattle.pie_record.specs.declared.history_record.Line.TheVariants.{Made}
 use Rattle.pie_storm.proofs.storming.auditor_of.Goals as goal
 
 -- the lines of the events so far, and of one more

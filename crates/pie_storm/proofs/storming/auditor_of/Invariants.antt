@@ -1,5 +1,5 @@
 use Rattle.std.proofs.Common.{map, take}
-use Rattle.pie_record.specs.declared.history.Line.TheVariants.{Made}
+use Rattle.pie_record.specs.declared.history_record.Line.TheVariants.{Made}
 use Rattle.pie_audit.specs.Auditor.{Audits}
 use Rattle.pie_storm.proofs.storming.auditor_of.Given as goal
 

@@ -4,8 +4,8 @@
 use super::packet;
 use crossbeam_utils::Backoff;
 use pie_book::{Event, Limits};
-use pie_link::{Arrival, Change, Gate, Plan, StormEnd, storm};
 use pie_params::Params;
+use pie_storm::{Arrival, Change, Gate, Plan, StormEnd, storm};
 use std::alloc::{AllocError, Global};
 use std::sync::Wait;
 use std::sync::atomic::{AtomicU64, Ordering};

@@ -1,26 +1,30 @@
 -- The decision by the registers' numbers is that by the registers.
 use Rattle.std.proofs.Common.{◌≡◌}
 use Rattle.pie_early.specs.declared.decision.Decision.{Decision}
-use Rattle.pie_early.specs.Decision.{accu_after, choice_of}
+use Rattle.pie_early.specs.Decision.{accu_after, choice_of, counted}
 use Rattle.pie_early.proofs.Arrivals.{accu_below, shows_arrival}
 use Rattle.pie_early.proofs.Picking.{picked}
 use Rattle.pie_early.proofs.early.Early.consider.Goals as goal
 
 pub invariant_of-self : goal.invariant_of-self
-invariant_of-self c = let a = c.args in rw c.decide-decision.ensures.accu (accu_below _ _ a.bytes a.word c.self.inside.accu c.self.invariant)
+invariant_of-self c =
+    let a = c.args in
+    rw c.decide-decision.ensures.accu (accu_below a.elements.picking _ _ _ a.offered.bytes a.offered.word c.self.inside.accu c.self.invariant)
 
 pub returns-clause-picked : goal.returns-clause-picked
 returns-clause-picked c =
     let a = c.args in
-    picked a.params.now a.control.now a.bytes a.ecn a.word a.self.now c.decide-decision.result.choice
+    picked a.elements.picking a.params.now a.control.now (counted a.elements a.params.now a.control.now a.offered) a.offered.bytes a.offered.ecn
+    a.offered.word a.self.now c.decide-decision.result.choice
     (rw (← c.raw.ensures.same, ← c.raw-2.ensures, ← c.self.view_is) c.decide-decision.ensures.choice)
 
 pub returns-clause-shows : goal.returns-clause-shows
 returns-clause-shows c events shown =
     let a = c.args in
     let d : Decision = c.decide-decision.result in
-    let choice : d.choice ≡ choice_of a.params.now a.control.now a.bytes a.ecn a.word a.self.now
+    let choice : d.choice ≡ choice_of a.elements a.params.now a.control.now a.offered a.self.now
     = rw (← c.raw.ensures.same, ← c.raw-2.ensures, ← c.self.view_is) c.decide-decision.ensures.choice in
-    let accu : d.accu ≡ accu_after a.params.now a.control.now a.bytes a.word a.self.now
+    let accu : d.accu ≡ accu_after a.elements a.params.now a.control.now a.offered a.self.now
     = rw (← c.raw.ensures.same, ← c.raw-2.ensures, ← c.self.view_is) c.decide-decision.ensures.accu in
-    rw (choice, accu) (shows_arrival a.params.now a.control.now a.bytes a.word a.self.now events a.ecn shown)
+    rw (choice, accu) (shows_arrival a.elements.picking a.params.now a.control.now (counted a.elements a.params.now a.control.now a.offered)
+    a.offered.bytes a.offered.word a.self.now events a.offered.ecn shown)

@@ -1,0 +1,285 @@
+-- What a controller holds stays sound at each call.
+use Rattle.std.proofs.Common.{◌≡◌, ◌≤◌, ◌<◌, ◌+◌, ◌-◌, ◌^◌, ◌==◌, ◌&&◌, ℕ, ℤ, pos, negsuc, ◌+ℤ◌, Bool, true, false, refl, ap, subst, sym, arith}
+use Rattle.std.proofs.Common.{if◌then◌else◌}
+use Rattle.std.specs.Prelude.{max, min, nat_lt, Option, Some, None}
+use Rattle.std.proofs.lemmas.Bool.Decides.{nat_tests}
+use Rattle.pie_fixed.specs.Fixed.{bounded_of}
+use Rattle.pie_aqm.specs.Types.{RawParams, Elements, Delay, Rate, Stamp, departure, Begun, Estimate, Parts, Profile, One, Two, Arrival, Step}
+use Rattle.pie_params.specs.Range.{first_bad}
+use Rattle.pie_rate.specs.Average.{averaged, with_sample}
+use Rattle.pie_rate.specs.Step.{after_departure, step_from}
+use Rattle.pie_control.specs.Delay.{delay_of}
+use Rattle.pie_control.specs.Next.{decayed, next, raw_step, tuned_step}
+use Rattle.pie_early.specs.Decision.{accu_after, counted}
+use Rattle.pie_early.proofs.Arrivals.{accu_below}
+use Rattle.pie_aqm.specs.Calls.{Arrive, Call, Change, Depart, IsTaken, Pass, Restart, Update, after_call}
+use Rattle.pie_aqm.specs.Held.{Held, IsSound, IsWithin}
+use Rattle.pie_aqm.specs.Steps.{accu_left, anew, bytes_with, control_after, control_updated, delay_in, is_calm, judged, no_estimate, now_at}
+use Rattle.pie_aqm.specs.Steps.{delay_by, keeps_wait, measures, offered, opened, opens_active, renewed, stays_active, turns_on, verdict, wait_of}
+use Rattle.pie_aqm.proofs.InRange.{in-range, threshold-holds}
+
+-- ---- the accumulated probability
+
+accu-by : (over full active : Bool) (held next : ℕ) → held < 8_500_000_000_000 → next < 8_500_000_000_000
+    → (if over then 0 else if full then 0 else if active then next else held) < 8_500_000_000_000
+accu-by true full active held next h n = omega arith
+accu-by false true active held next h n = omega arith
+accu-by false false true held next h n = n
+accu-by false false false held next h n = h
+
+pub accu-small : (h : Held) (a : Arrival) → h.accu < 8_500_000_000_000 → accu_left h a < 8_500_000_000_000
+unfolding accu_left
+accu-small h a small =
+    accu-by (nat_lt h.params.limit_bytes (a.queued + a.size)) a.is_full h.active h.accu
+    (accu_after h.elements h.params h.control (offered a) h.accu)
+    small (accu_below h.elements.picking h.params h.control (counted h.elements h.params h.control (offered a)) a.queued a.word h.accu small)
+
+-- ---- the departure rate
+
+weighted : (t sample average : ℕ) → t ≤ 65536 → sample ≤ 1152921504606846975 → average ≤ 1152921504606846975
+    → averaged t average sample ≤ 1152921504606846975
+weighted t sample average small s a = grind arith
+
+sampled : (b : Bool) (t sample average : ℕ) → t ≤ 65536 → sample < 2 ^ 60 → average < 2 ^ 60
+    → (if b then sample else averaged t average sample) < 2 ^ 60
+sampled true t sample average small s a = s
+sampled false t sample average small s a = let w = weighted t sample average small (omega (arith, s)) (omega (arith, a)) in omega (arith, w)
+
+later-within : (threshold m n : ℕ) (o : Option Begun) → m ≤ n → IsWithin threshold m o → IsWithin threshold n o
+later-within threshold m n None le w = w
+later-within threshold m n (Some cycle) le w = (omega (arith, w.0), w.1)
+
+opened-within : (b : Bool) (threshold n : ℕ) → 0 < threshold → IsWithin threshold n (if b then None else Some (record { start = n; count = 0 }))
+opened-within true threshold n some = tt
+opened-within false threshold n some = (omega arith, some)
+
+record RateHolds (threshold now : ℕ) (e : Estimate) : Type 0 where
+  average : e.average < 2 ^ 60
+  cycle : IsWithin threshold now e.begun
+
+step-holds : (threshold average size left now : ℕ) (begun : Option Begun) → 0 < threshold → threshold ≤ 65536 → now < 2 ^ 60 → average < 2 ^ 60
+    → IsWithin threshold now begun
+    → RateHolds threshold now (step_from threshold average (departure size left now) begun)
+step-holds threshold average size left now None some small within a w = record
+    { average = a; cycle = opened-within (nat_lt left threshold) threshold now some }
+step-holds threshold average size left now (Some cycle) some small within a w = by (nat_lt (cycle.count + size) threshold) refl
+  where
+    by : (b : Bool) → nat_lt (cycle.count + size) threshold ≡ b
+        → RateHolds threshold now (if b then record { average = average; begun = Some (record { start = cycle.start; count = cycle.count + size }) }
+        else record {
+          average = with_sample threshold average (max 1 (now - cycle.start));
+          begun = if nat_lt left threshold then None else Some (record { start = now; count = 0 });
+        })
+    by true less = record { average = a; cycle = (w.0, grind (arith, nat_tests)) }
+    by false full = record {
+      average = sampled (average == 0) threshold (max 1 (now - cycle.start)) average small (omega arith) a;
+      cycle = opened-within (nat_lt left threshold) threshold now some;
+    }
+
+-- ---- the control law
+
+bounded-hold : (z : ℤ) → bounded_of z ≤ 10 ^ 12
+bounded-hold (pos n) = omega arith
+bounded-hold (negsuc n) = omega arith
+
+pub next-hold : (step : Step) (params : RawParams) (prob delay old : ℕ) → next step params prob delay old ≤ 10 ^ 12
+unfolding next
+next-hold step params prob delay old = bounded-hold (decayed delay old (pos prob +ℤ tuned_step step prob (raw_step params delay old)))
+
+pub delay-hold : (bytes average threshold : ℕ) → delay_of bytes average threshold ≤ 2 ^ 40
+unfolding delay_of
+delay-hold bytes average threshold = omega arith
+
+pub delay-by-hold : (choice : Delay) (waited estimate : ℕ) → waited ≤ 2 ^ 40 → estimate ≤ 2 ^ 40 → delay_by choice waited estimate ≤ 2 ^ 40
+delay-by-hold Rate waited estimate w e = e
+delay-by-hold Stamp waited estimate w e = w
+
+wait-hold : (left since now : ℕ) → wait_of left since now ≤ 2 ^ 40
+wait-hold left since now = by (left == 0)
+  where
+    by : (b : Bool) → (if b then 0 else min (2 ^ 40) (now - since)) ≤ 2 ^ 40
+    by true = omega arith
+    by false = omega arith
+
+pub either : (b : Bool) (x y z : ℕ) → x ≤ z → y ≤ z → (if b then x else y) ≤ z
+either true x y z p q = p
+either false x y z p q = q
+
+pub record PartsHold (now : ℕ) (parts : Parts) : Type 0 where
+  pub prob : parts.prob ≤ 10 ^ 12
+  pub old_delay : parts.old_delay ≤ 2 ^ 40
+  pub burst : parts.burst ≤ 10 ^ 12
+  pub last : parts.last ≤ now
+
+stays-in-one : (profile : Profile) (active calm : Bool) → profile ≡ One → active ≡ true → (active && stays_active profile calm) ≡ true
+stays-in-one One active calm one on = rw on refl
+stays-in-one Two active calm one on = cc
+
+-- ---- each call
+
+pub Sound_opened : (profile : Profile) (elements : Elements) (params : RawParams) (moment : ℕ) → first_bad params ≡ None → moment < 2 ^ 60
+    → IsSound (opened profile elements params moment)
+Sound_opened profile elements params moment good within = record {
+  params = good;
+  moment = within;
+  prob = omega arith;
+  old_delay = omega arith;
+  burst = (in-range params good).max_burst;
+  last = omega arith;
+  accu = omega arith;
+  average = omega arith;
+  cycle = tt;
+  waited = omega arith;
+  active = λ one. ap opens_active one;
+}
+
+module _ (h : Held) (sound : IsSound h) where
+  pub Sound-pass : (moment : ℕ) → moment < 2 ^ 60 → IsSound (record h { moment = now_at h moment })
+  Sound-pass moment within =
+      let before = sound.moment in
+      let last = sound.last in
+      record {
+        params = sound.params;
+        moment = omega arith;
+        prob = sound.prob;
+        old_delay = sound.old_delay;
+        burst = sound.burst;
+        last = omega arith;
+        accu = sound.accu;
+        average = sound.average;
+        cycle = later-within h.params.dq_threshold h.moment (now_at h moment) h.rate.begun (omega arith) sound.cycle;
+        waited = sound.waited;
+        active = sound.active;
+      }
+
+  measured : RateHolds h.params.dq_threshold h.moment h.rate
+  measured = record { average = sound.average; cycle = sound.cycle }
+
+  registers : PartsHold h.moment h.control
+  registers = record { prob = sound.prob; old_delay = sound.old_delay; burst = sound.burst; last = sound.last }
+
+  -- the same with other parts
+  Sound-with : (active : Bool) (rate : Estimate) (waited : ℕ) (control : Parts) (accu : ℕ) → (h.profile ≡ One → active ≡ true)
+      → RateHolds h.params.dq_threshold h.moment rate → waited ≤ 2 ^ 40
+      → PartsHold h.moment control → accu < 8_500_000_000_000
+      → IsSound (record h { active = active; rate = rate; waited = waited; control = control; accu = accu })
+  Sound-with active rate waited control accu always rated kept held small = record {
+    params = sound.params;
+    moment = sound.moment;
+    prob = held.prob;
+    old_delay = held.old_delay;
+    burst = held.burst;
+    last = held.last;
+    accu = small;
+    average = rated.average;
+    cycle = rated.cycle;
+    waited = kept;
+    active = always;
+  }
+
+  Sound-anew : (active : Bool) → (h.profile ≡ One → active ≡ true) → IsSound (record (anew h) { active = active })
+  Sound-anew active always =
+      Sound-with active no_estimate 0 (renewed h.params h.control) 0 always (record { average = omega arith; cycle = tt }) (omega arith)
+      (record { prob = omega arith; old_delay = omega arith; burst = (in-range h.params sound.params).max_burst; last = sound.last }) (omega arith)
+
+arrive-sound : (h : Held) → IsSound h → (a : Arrival) (moment : ℕ) → moment < 2 ^ 60 → IsSound (after_call h (Arrive a moment))
+arrive-sound h sound a moment within = by (turns_on h (bytes_with (verdict h a) a.queued a.size))
+  where
+    passed : IsSound (record h { moment = now_at h moment })
+    passed = Sound-pass h sound moment within
+
+    here : IsSound (judged h a moment)
+    here =
+        let old : Held = record h { moment = now_at h moment } in
+        Sound-with old passed h.active h.rate h.waited h.control (accu_left h a) sound.active (measured old passed) sound.waited
+        (registers old passed) (accu-small h a sound.accu)
+
+    by : (on : Bool) → IsSound (if on then record (anew (judged h a moment)) { active = true } else judged h a moment)
+    by true = Sound-anew (judged h a moment) here true (λ one. refl)
+    by false = here
+
+depart-sound : (h : Held) → IsSound h → (size left since moment : ℕ) → moment < 2 ^ 60 → IsSound (after_call h (Depart size left since moment))
+depart-sound h sound size left since moment within =
+    Sound-with here passed h.active (rate-by (measures h.active h.elements.delay)) (wait-by (keeps_wait h.active h.elements.delay)) h.control h.accu
+    sound.active (rates (measures h.active h.elements.delay)) (waits (keeps_wait h.active h.elements.delay)) (registers here passed) sound.accu
+  where
+    now : ℕ
+    now = now_at h moment
+
+    here : Held
+    here = record h { moment = now_at h moment }
+
+    passed : IsSound (record h { moment = now_at h moment })
+    passed = Sound-pass h sound moment within
+
+    rate-by : Bool → Estimate
+    rate-by b = if b then after_departure h.params.dq_threshold h.rate (departure size left (now_at h moment)) else h.rate
+
+    wait-by : Bool → ℕ
+    wait-by b = if b then wait_of left since (now_at h moment) else h.waited
+
+    rates : (b : Bool) → RateHolds h.params.dq_threshold (now_at h moment) (if b then after_departure h.params.dq_threshold h.rate
+        (departure size left (now_at h moment)) else h.rate)
+    rates true =
+        let threshold = threshold-holds h.params sound.params in
+        let least = threshold.0 in
+        step-holds h.params.dq_threshold h.rate.average size left (now_at h moment) h.rate.begun (omega arith) threshold.1 passed.moment
+        sound.average passed.cycle
+    rates false = measured here passed
+
+    waits : (b : Bool) → (if b then wait_of left since (now_at h moment) else h.waited) ≤ 2 ^ 40
+    waits true = wait-hold left since (now_at h moment)
+    waits false = sound.waited
+
+update-sound : (h : Held) → IsSound h → (queued moment : ℕ) → moment < 2 ^ 60 → IsSound (after_call h (Update queued moment))
+update-sound h sound queued moment within =
+    Sound-with here passed (h.active && stays_active h.profile (is_calm h queued)) h.rate h.waited (control_after h queued (now_at h moment)) h.accu
+    (λ one. stays-in-one h.profile h.active (is_calm h queued) one (sound.active one)) (measured here passed) sound.waited (by h.active) sound.accu
+  where
+    here : Held
+    here = record h { moment = now_at h moment }
+
+    passed : IsSound (record h { moment = now_at h moment })
+    passed = Sound-pass h sound moment within
+
+    by : (active : Bool) → PartsHold (now_at h moment) (if active then control_updated h.elements.step h.params h.control (delay_in h queued)
+        (now_at h moment) else record h.control { last = now_at h moment })
+    by true = record {
+      prob = next-hold h.elements.step h.params h.control.prob (delay_in h queued) h.control.old_delay;
+      old_delay = delay-by-hold h.elements.delay h.waited (delay_of queued h.rate.average h.params.dq_threshold) sound.waited
+          (delay-hold queued h.rate.average h.params.dq_threshold);
+      burst = let before = sound.burst in
+          either (is_calm h queued)
+          h.params.max_burst (h.control.burst - h.params.t_update) (10 ^ 12) (in-range h.params sound.params).max_burst (omega arith);
+      last = omega arith;
+    }
+    by false = record { prob = sound.prob; old_delay = sound.old_delay; burst = sound.burst; last = omega arith }
+
+change-sound : (h : Held) → IsSound h → (params : RawParams) (moment : ℕ) → moment < 2 ^ 60 → first_bad params ≡ None
+    → IsSound (after_call h (Change params moment))
+change-sound h sound params moment within good =
+    let passed : IsSound (record h { moment = now_at h moment }) = Sound-pass h sound moment within in
+    record {
+      params = good;
+      moment = passed.moment;
+      prob = sound.prob;
+      old_delay = sound.old_delay;
+      burst = sound.burst;
+      last = passed.last;
+      accu = sound.accu;
+      average = omega arith;
+      cycle = tt;
+      waited = sound.waited;
+      active = sound.active;
+    }
+
+pub Sound_call : (h : Held) → IsSound h → (call : Call) → IsTaken call → IsSound (after_call h call)
+Sound_call h sound (Arrive a moment) taken = arrive-sound h sound a moment taken
+Sound_call h sound (Depart size left since moment) taken = depart-sound h sound size left since moment taken
+Sound_call h sound (Pass moment) taken = Sound-pass h sound moment taken
+Sound_call h sound (Update queued moment) taken = update-sound h sound queued moment taken
+Sound_call h sound (Restart moment) taken = Sound-anew (record h { moment = now_at h moment }) (Sound-pass h sound moment taken) h.active sound.active
+Sound_call h sound (Change params moment) taken = change-sound h sound params moment taken.0 taken.1
+
+pub stays_sound : (h g : Held) → g ≡ h → IsSound h → IsSound g
+stays_sound h g is sound = subst (λ (k : Held). IsSound k) (sym is) sound

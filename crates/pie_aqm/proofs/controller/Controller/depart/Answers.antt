@@ -1,0 +1,24 @@
+use Rattle.std.proofs.Common.{◌≡◌, arith}
+use Rattle.pie_aqm.specs.Calls.{Depart, after_call}
+use Rattle.pie_aqm.specs.Held.{held_by}
+use Rattle.pie_aqm.proofs.InRange.{threshold-holds}
+use Rattle.pie_aqm.proofs.Laws.{Shows-depart, moved, uncapped}
+use Rattle.pie_aqm.proofs.Sounds.{Sound_call, stays_sound}
+use Rattle.pie_aqm.proofs.controller.Controller.depart.Goals as goal
+
+pub invariant_of-self : goal.invariant_of-self
+invariant_of-self c =
+    let a = c.args in
+    let small = threshold-holds (held_by c.self.inside.raw).params c.self.invariant.params in
+    let after : held_by c.depart.new.self ≡ after_call (held_by c.self.inside.raw) (Depart a.size a.left c.units.result c.units-2.result)
+    = uncapped (held_by c.self.inside.raw) _ a.size a.left c.units.result c.units-2.result small.1 c.depart.ensures in
+    stays_sound _ _ after (Sound_call _ c.self.invariant (Depart a.size a.left c.units.result c.units-2.result) (omega (arith, c.units-2.ensures)))
+
+pub returns-clause-shows : goal.returns-clause-shows
+returns-clause-shows c opened events shows =
+    let a = c.args in
+    let small = threshold-holds (held_by c.self.inside.raw).params c.self.invariant.params in
+    let after : held_by c.depart.new.self ≡ after_call a.self.now (Depart a.size a.left a.since a.moment)
+    = rw (← c.units.ensures.value, ← c.units-2.ensures.value, ← c.self.view_is)
+    (uncapped (held_by c.self.inside.raw) _ a.size a.left c.units.result c.units-2.result small.1 c.depart.ensures) in
+    moved _ _ _ _ after (Shows-depart opened events a.self.now shows a.size a.left a.since a.moment (rw (← c.self.view_is) small.1))

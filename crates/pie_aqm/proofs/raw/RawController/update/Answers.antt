@@ -1,0 +1,5 @@
+use Rattle.pie_aqm.proofs.InRange.{in-range}
+use Rattle.pie_aqm.proofs.raw.RawController.update.Goals as goal
+
+pub update-is_calm-requires-clause-params : goal.update-is_calm-requires-clause-params
+update-is_calm-requires-clause-params c = rw c.pass.ensures (in-range _ c.requires.sound.params)

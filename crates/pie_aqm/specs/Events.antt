@@ -1,0 +1,34 @@
+-- What a controller was opened with, and what it was shown after that, in the order in which it came.
+use Rattle.std.specs.Prelude.{ℕ, Option, Some, None}
+use Rattle.pie_aqm.specs.Types.{RawParams, Elements, Profile, Verdict}
+
+pub record Opened : Type 0 where
+  pub profile : Profile
+  pub elements : Elements
+  pub params : RawParams
+  pub moment : ℕ
+
+-- an arrival, with its verdict, the packet's size, and the bytes in the queue before it and after it; a packet of this size that
+-- departed, left so many bytes, and had waited since this moment; a departure that found no packet; an update, with the bytes in the
+-- queue; a reset; and new parameters. The last number is the moment, as it was handed in
+pub data ControllerEvent : Type 0 where
+  Arrived : Verdict → ℕ → ℕ → ℕ → ℕ → ControllerEvent
+  Departed : ℕ → ℕ → ℕ → ℕ → ControllerEvent
+  Passed : ℕ → ControllerEvent
+  Updated : ℕ → ℕ → ControllerEvent
+  Reset : ℕ → ControllerEvent
+  Changed : RawParams → ℕ → ControllerEvent
+
+-- the moment that was handed in
+abbrev pub moment_of : ControllerEvent → ℕ
+moment_of (Arrived verdict size before after moment) = moment
+moment_of (Departed size left since moment) = moment
+moment_of (Passed moment) = moment
+moment_of (Updated queued moment) = moment
+moment_of (Reset moment) = moment
+moment_of (Changed params moment) = moment
+
+-- the parameters that were set
+abbrev pub params_set : ControllerEvent → Option RawParams
+params_set (Changed params moment) = Some params
+params_set _ = None

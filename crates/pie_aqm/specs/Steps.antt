@@ -1,0 +1,212 @@
+-- The rules: what each call makes of what a controller holds, told by the steps of its parts (RFC 8033, sections 4.1, 4.2, 4.4, 5.1
+-- to 5.5, and Appendix A for tail drop; when profile two turns on and off is this project's own).
+use Rattle.std.specs.Prelude.{ℕ, ◌+◌, ◌-◌, ◌*◌, ◌^◌, ◌==◌, max, ◌&&◌, not, nat_lt, nat_le, Bool, true, false, None, min, if◌then◌else◌}
+use Rattle.pie_aqm.specs.Types.{RawParams, Elements, Delay, Rate, Stamp, Step, departure, Estimate, Parts, Offered, Choice, Enqueue, Mark, Drop}
+use Rattle.pie_aqm.specs.Types.{Profile, One, Two, Arrival, Verdict}
+use Rattle.pie_aqm.specs.Held.{Held}
+use Rattle.pie_rate.specs.Step.{after_departure}
+use Rattle.pie_control.specs.Delay.{delay_of}
+use Rattle.pie_control.specs.History.{burst_after, ends_calm}
+use Rattle.pie_control.specs.Next.{next}
+use Rattle.pie_early.specs.Decision.{accu_after, choice_of}
+use Rattle.pie_aqm.specs.declared.verdict.Verdict.TheVariants.{Enqueued, Marked, DroppedEarly, DroppedBytes, DroppedPackets}
+
+-- the effective moment: the greatest so far
+abbrev pub now_at : Held → ℕ → ℕ
+now_at h moment = max h.moment moment
+
+-- no sample of the departure rate, and no cycle begun
+abbrev pub no_estimate : Estimate
+no_estimate = record { average = 0; begun = None }
+
+-- ---- opening, reset and new parameters
+
+-- at its opening a controller of profile one is active, and one of profile two isn't
+abbrev pub opens_active : Profile → Bool
+opens_active One = true
+opens_active Two = false
+
+-- probability, delays and estimate are 0, and the burst allowance is whole
+abbrev pub opened : Profile → Elements → RawParams → ℕ → Held
+opened profile elements params moment = record {
+  profile = profile;
+  elements = elements;
+  params = params;
+  moment = moment;
+  active = opens_active profile;
+  rate = no_estimate;
+  waited = 0;
+  control = record { prob = 0; old_delay = 0; burst = params.max_burst; last = moment };
+  accu = 0;
+}
+
+-- the control law started anew keeps the moment of the last update
+abbrev pub renewed : RawParams → Parts → Parts
+renewed params control = record control { prob = 0; old_delay = 0; burst = params.max_burst }
+
+-- .. and the estimate, the last packet's wait and the accumulated probability start anew too
+abbrev pub anew : Held → Held
+anew h = record h { rate = no_estimate; waited = 0; control = renewed h.params h.control; accu = 0 }
+
+-- a reset keeps whether the controller is active
+abbrev pub reset : Held → ℕ → Held
+reset h moment = record (anew h) { moment = now_at h moment }
+
+-- new parameters clear the estimate
+abbrev pub changed : Held → RawParams → ℕ → Held
+changed h params moment = record h { params = params; moment = now_at h moment; rate = no_estimate }
+
+-- ---- arrivals
+
+-- the verdict of early drop
+abbrev pub chosen : Choice → Verdict
+chosen Enqueue = Enqueued
+chosen Mark = Marked
+chosen Drop = DroppedEarly
+
+-- an arriving packet as early drop sees it
+abbrev pub offered : Arrival → Offered
+offered a = record { bytes = a.queued; size = a.size; ecn = a.ecn; word = a.word }
+
+-- early drop's choice: while the controller is inactive it considers no packet, and each is queued
+abbrev pub choice : Held → Arrival → Choice
+choice h a = if h.active then choice_of h.elements h.params h.control (offered a) h.accu else Enqueue
+
+-- tail drop: the first of these where the queue has no room for the packet's bytes, else the second where the ring has none for one
+-- packet more, and else the third
+abbrev pub by_room : {X : Type 0} → ℕ → Arrival → X → X → X → X
+by_room limit a no_bytes no_packet room = if nat_lt limit (a.queued + a.size) then no_bytes else if a.is_full then no_packet else room
+
+-- the verdict: tail drop by bytes, then by packets, and else early drop's choice
+unfoldable pub verdict : Held → Arrival → Verdict
+verdict h a = by_room h.params.limit_bytes a DroppedBytes DroppedPackets (chosen (choice h a))
+
+-- the accumulated probability after it: 0 after a tail drop, and as it was while the controller is inactive
+unfoldable pub accu_left : Held → Arrival → ℕ
+accu_left h a = by_room h.params.limit_bytes a 0 0 (if h.active then accu_after h.elements h.params h.control (offered a) h.accu else h.accu)
+
+-- the packet is queued
+abbrev pub is_queued : Verdict → Bool
+is_queued Enqueued = true
+is_queued Marked = true
+is_queued DroppedEarly = false
+is_queued DroppedBytes = false
+is_queued DroppedPackets = false
+
+-- the bytes in the queue after the verdict
+abbrev pub bytes_with : Verdict → ℕ → ℕ → ℕ
+bytes_with verdict queued size = if is_queued verdict then queued + size else queued
+
+-- a controller is turned on where it is inactive and three times the bytes in the queue after the verdict reach the limit
+abbrev pub wakes : Bool → ℕ → ℕ → Bool
+wakes active limit bytes = not active && nat_le limit (3 * bytes)
+
+abbrev pub turns_on : Held → ℕ → Bool
+turns_on h bytes = wakes h.active h.params.limit_bytes bytes
+
+-- .. which starts it anew
+abbrev pub woken : Held → ℕ → Held
+woken h bytes = if turns_on h bytes then record (anew h) { active = true } else h
+
+-- after the verdict
+abbrev pub judged : Held → Arrival → ℕ → Held
+judged h a moment = record h { moment = now_at h moment; accu = accu_left h a }
+
+-- after an arrival
+abbrev pub arrived : Held → Arrival → ℕ → Held
+arrived h a moment = woken (judged h a moment) (bytes_with (verdict h a) a.queued a.size)
+
+-- ---- departures
+
+-- the departure rate is measured, while the controller is active, where the delay comes from it
+abbrev pub measures : Bool → Delay → Bool
+measures active Rate = active
+measures active Stamp = false
+
+-- .. and else what a departed packet had waited is kept
+abbrev pub keeps_wait : Bool → Delay → Bool
+keeps_wait active Rate = false
+keeps_wait active Stamp = active
+
+-- the estimate after a packet of this size departed now and left so many bytes
+abbrev pub rate_after : Held → ℕ → ℕ → ℕ → Estimate
+rate_after h size left now =
+    if measures h.active h.elements.delay then after_departure h.params.dq_threshold h.rate (departure size left now) else h.rate
+
+-- what a packet had waited that departed now, had arrived then and left so many bytes: 0 where it left the queue empty (RFC 8033,
+-- section 4.3; the greatest is this project's own)
+abbrev pub wait_of : ℕ → ℕ → ℕ → ℕ
+wait_of left since now = if left == 0 then 0 else min (2 ^ 40) (now - since)
+
+abbrev pub waited_after : Held → ℕ → ℕ → ℕ → ℕ
+waited_after h left since now = if keeps_wait h.active h.elements.delay then wait_of left since now else h.waited
+
+abbrev pub departed : Held → ℕ → ℕ → ℕ → ℕ → Held
+departed h size left since moment = record h {
+  moment = now_at h moment;
+  rate = rate_after h size left (now_at h moment);
+  waited = waited_after h left since (now_at h moment);
+}
+
+-- a threshold above 65536 bytes counted as 65536, for numbers that nobody checked
+abbrev pub capped : Held → Held
+capped h = record h { params = record h.params { dq_threshold = min h.params.dq_threshold 65536 } }
+
+-- after a departure that found no packet
+abbrev pub passed : Held → ℕ → Held
+passed h moment = record h { moment = now_at h moment }
+
+-- ---- updates
+
+-- the moment from which an update isn't too soon
+abbrev pub due_of : RawParams → Parts → ℕ
+due_of params control = control.last + params.t_update
+
+abbrev pub due : Held → ℕ
+due h = due_of h.params h.control
+
+-- the queueing delay: by the departure rate, or what the packet that departed last had waited
+abbrev pub delay_by : Delay → ℕ → ℕ → ℕ
+delay_by Rate waited estimate = estimate
+delay_by Stamp waited estimate = waited
+
+-- .. of so many bytes
+abbrev pub delay_in : Held → ℕ → ℕ
+delay_in h queued = delay_by h.elements.delay h.waited (delay_of queued h.rate.average h.params.dq_threshold)
+
+-- the delay that an update answers: 0 while the controller is inactive
+abbrev pub delay_answered : Held → ℕ → ℕ
+delay_answered h queued = if h.active then delay_in h queued else 0
+
+-- the control law's registers after an update with this delay at this moment
+abbrev pub control_updated : Step → RawParams → Parts → ℕ → ℕ → Parts
+control_updated step params before delay now = record {
+  prob = next step params before.prob delay before.old_delay;
+  old_delay = delay;
+  burst = burst_after step params before delay;
+  last = now;
+}
+
+-- .. while the controller is inactive it takes in the moment alone
+abbrev pub control_after : Held → ℕ → ℕ → Parts
+control_after h queued now =
+    if h.active then control_updated h.elements.step h.params h.control (delay_in h queued) now else record h.control { last = now }
+
+-- an update with so many bytes in the queue would be calm
+abbrev pub is_calm : Held → ℕ → Bool
+is_calm h queued =
+    ends_calm h.params (next h.elements.step h.params h.control.prob (delay_in h queued) h.control.old_delay) (delay_in h queued)
+    h.control.old_delay
+
+-- whether an active controller stays so after an update: in profile two not after a calm one
+abbrev pub stays_active : Profile → Bool → Bool
+stays_active One calm = true
+stays_active Two calm = not calm
+
+-- after an update
+abbrev pub updated : Held → ℕ → ℕ → Held
+updated h queued moment = record h {
+  moment = now_at h moment;
+  active = h.active && stays_active h.profile (is_calm h queued);
+  control = control_after h queued (now_at h moment);
+}

@@ -1,0 +1,217 @@
+//! The controller and its calls: those of plain numbers that are in their ranges.
+ghost use Rattle.std.specs.Prelude.{◌≡◌, ◌+◌, ◌^◌, ◌≤◌, List, [], ◌∷◌, ◌++◌, true, false};
+ghost use Rattle.pie_aqm.specs.Calls.{Arrive, Change, Depart, Pass, Restart, Update, shown_by};
+ghost use Rattle.pie_aqm.specs.Events.{ControllerEvent, Opened};
+ghost use Rattle.pie_aqm.specs.Held.{IsSound, held_by};
+ghost use Rattle.pie_aqm.specs.History.{Shows};
+ghost use Rattle.pie_aqm.specs.Steps.{arrived, changed, delay_answered, delay_in, departed, due, is_queued, opened, passed, reset, updated};
+ghost use Rattle.pie_aqm.specs.Steps.{verdict};
+
+use crate::{Arrival, Profile, RawController, Verdict};
+use pie_control::Control;
+use pie_early::Early;
+use pie_fixed::Nanos;
+use pie_params::{Elements, Params};
+use pie_rate::Rate;
+use std::marker::Model;
+
+/// A PIE controller beside a queue that its caller owns.
+///
+/// Contracts see what it holds. They speak of the list of events that it was shown since it was opened.
+#[derive(Drop)]
+pub struct Controller {
+    raw: RawController,
+}
+
+impl Model for Controller {
+    ghost use Rattle.pie_aqm.specs.Held.{Held, IsSound, held_by};
+
+    ghost Value = { Held };
+
+    ghost view = { λ c. held_by c.raw };
+
+    ghost invariant = { λ c. IsSound (held_by c.raw) };
+}
+
+impl Controller {
+    /// A controller at its opening: probability and delays 0, the whole burst allowance, no sample of the departure rate (RFC 8033,
+    /// sections 4.2, 4.4 and 5.2). In profile two it opens inactive.
+    pub fn open(profile: Profile, elements: Elements, params: Params, moment: Nanos) -> Self
+        ensures value { result ≡ opened profile elements params moment }
+        ensures shows { Shows (record { profile = profile; elements = elements; params = params; moment = moment }) [] result }
+    {
+        Controller {
+            raw: RawController::opened(profile, elements, params.raw(), moment.units()),
+        }
+    }
+
+    /// The same controller once more.
+    #[inline(always)]
+    pub fn copied(&self) -> Self
+        ensures { result ≡ self.now }
+    {
+        Controller { raw: self.raw }
+    }
+
+    /// Decides on an arriving packet, which the caller then queues, marks and queues, or drops: tail drop by bytes, then by
+    /// packets, before all else, and then early drop, while the controller is active (RFC 8033, sections 4.1, 5.1, 5.4 and
+    /// Appendix A). An inactive controller is turned on, as by a reset, where three times the bytes in the queue then reach
+    /// `limit_bytes` (RFC 8033, section 5.3; the third is this project's own).
+    #[inline(always)]
+    pub fn arrive(&mut self, arrival: Arrival, moment: Nanos) -> Verdict
+        requires { arrival.queued ≤ 2 ^ 30 }
+        ensures verdict { result ≡ verdict self.old arrival }
+        ensures fits { is_queued result ≡ true → (arrival.is_full ≡ false) × (arrival.queued + arrival.size ≤ 2 ^ 30) }
+        ensures after { self.new ≡ arrived self.old arrival moment }
+        ensures shows { (opened : Opened) (events : List ControllerEvent) → Shows opened events self.old
+            → Shows opened (events ++ shown_by self.old (Arrive arrival moment) ∷ []) self.new }
+    {
+        self.raw.arrive(arrival, moment.units())
+    }
+
+    /// What it holds, as plain numbers.
+    #[inline(always)]
+    pub fn raw(&self) -> RawController
+        ensures held { held_by result ≡ self.now }
+        ensures sound { IsSound self.now }
+    {
+        self.raw
+    }
+
+    /// Takes in a packet that departed, with `left` bytes after it, and that had waited since the effective moment of its arrival: for
+    /// the departure rate, or where the delay comes from time stamps, what it had waited (RFC 8033, sections 4.3 and 5.2). An inactive
+    /// controller takes in the moment alone.
+    #[inline(always)]
+    pub fn depart(&mut self, size: u32, left: u64, since: Nanos, moment: Nanos)
+        ensures after { self.new ≡ departed self.old size left since moment }
+        ensures threshold { self.old.params.dq_threshold ≤ 65536 }
+        ensures shows { (opened : Opened) (events : List ControllerEvent) → Shows opened events self.old
+            → Shows opened (events ++ shown_by self.old (Depart size left since moment) ∷ []) self.new }
+    {
+        self.raw.depart(size, left, since.units(), moment.units());
+    }
+
+    /// Takes in a departure that found no packet: its moment counts, and nothing else.
+    #[inline(always)]
+    pub fn pass(&mut self, moment: Nanos)
+        ensures after { self.new ≡ passed self.old moment }
+        ensures shows { (opened : Opened) (events : List ControllerEvent) → Shows opened events self.old
+            → Shows opened (events ++ shown_by self.old (Pass moment) ∷ []) self.new }
+    {
+        self.raw.pass(moment.units());
+    }
+
+    /// Makes an update, with `queued` bytes in the queue, and answers its delay (RFC 8033, sections 4.2, 4.4 and 5.5). A calm one turns
+    /// the controller off in profile two. An inactive controller takes in the moment alone, and the delay is 0. Whether the update
+    /// is due is not looked at.
+    #[inline(always)]
+    pub fn update(&mut self, queued: u64, moment: Nanos) -> u64
+        requires { queued ≤ 2 ^ 30 }
+        ensures delay { result ≡ delay_answered self.old queued }
+        ensures after { self.new ≡ updated self.old queued moment }
+        ensures shows { (opened : Opened) (events : List ControllerEvent) → Shows opened events self.old
+            → Shows opened (events ++ shown_by self.old (Update queued moment) ∷ []) self.new }
+    {
+        self.raw.update(queued, moment.units())
+    }
+
+    /// Makes a reset: probability, old delay, accumulated probability, rate estimate and the last packet's wait become 0, and the burst
+    /// allowance `max_burst`. Parameters, last update and activity stay.
+    pub fn reset(&mut self, moment: Nanos)
+        ensures after { self.new ≡ reset self.old moment }
+        ensures shows { (opened : Opened) (events : List ControllerEvent) → Shows opened events self.old
+            → Shows opened (events ++ shown_by self.old (Restart moment) ∷ []) self.new }
+    {
+        self.raw.reset(moment.units());
+    }
+
+    /// Puts new parameters in force, and clears the rate estimate; the other registers stay.
+    pub fn set_params(&mut self, params: Params, moment: Nanos)
+        ensures after { self.new ≡ changed self.old params moment }
+        ensures shows { (opened : Opened) (events : List ControllerEvent) → Shows opened events self.old
+            → Shows opened (events ++ shown_by self.old (Change params moment) ∷ []) self.new }
+    {
+        self.raw.set_params(params.raw(), moment.units());
+    }
+
+    /// The queueing delay of so many bytes, in nanoseconds: at most `2^40` (RFC 8033, section 5.2). From time stamps it is what the
+    /// packet that departed last had waited, whatever waits (section 4.3).
+    pub fn delay(&self, queued: u64) -> u64
+        requires { queued ≤ 2 ^ 30 }
+        ensures value { result ≡ delay_in self.now queued }
+        ensures within { result ≤ 2 ^ 40 }
+    {
+        self.raw.delay(queued)
+    }
+
+    /// The moment from which an update isn't too soon, in nanoseconds: the last update's, and `t_update` after it.
+    pub fn due(&self) -> u64
+        ensures { result ≡ due self.now }
+    {
+        self.raw.due()
+    }
+
+    /// The profile.
+    #[inline(always)]
+    pub fn profile(&self) -> Profile
+        ensures { result ≡ self.now.profile }
+    {
+        self.raw.profile
+    }
+
+    /// The optional elements of RFC 8033, as they were chosen.
+    #[inline(always)]
+    pub fn elements(&self) -> Elements
+        ensures { result ≡ self.now.elements }
+    {
+        self.raw.elements
+    }
+
+    /// The parameters in force.
+    #[inline(always)]
+    pub fn params(&self) -> Params
+        ensures { result ≡ self.now.params }
+    {
+        Params::in_range(self.raw.params)
+    }
+
+    /// The effective moment: the greatest so far.
+    #[inline(always)]
+    pub fn moment(&self) -> Nanos
+        ensures { result ≡ self.now.moment }
+    {
+        Nanos::of_units(self.raw.moment)
+    }
+
+    /// Whether the controller works: always in profile one (RFC 8033, section 5.3).
+    #[inline(always)]
+    pub fn is_active(&self) -> bool
+        ensures { result ≡ self.now.active }
+    {
+        self.raw.active
+    }
+
+    /// The estimate of the departure rate.
+    #[inline(always)]
+    pub fn rate(&self) -> Rate
+        ensures { result ≡ self.now.rate }
+    {
+        Rate::from_raw(self.raw.rate)
+    }
+
+    /// The control law's registers.
+    #[inline(always)]
+    pub fn control(&self) -> Control
+        ensures { result ≡ self.now.control }
+    {
+        Control::from_raw(self.raw.control)
+    }
+
+    /// Early drop's accumulated probability.
+    #[inline(always)]
+    pub fn early(&self) -> Early
+        ensures { result ≡ self.now.accu }
+    {
+        Early::from_units(self.raw.accu)
+    }
+}

@@ -1,0 +1,376 @@
+//! The controller's rules over plain numbers; and beside the rule of an arrival what names its cause, whose verdict is the same.
+ghost use Rattle.std.specs.Prelude.{◌≡◌, ◌+◌, ◌^◌, ◌<◌, ◌≤◌, SomeIff, max, min, true, false};
+ghost use Rattle.pie_aqm.specs.Cause.{cause, considered_cause, early_cause, fate_of, verdict_of};
+ghost use Rattle.pie_aqm.specs.Held.{IsSound, held_by};
+ghost use Rattle.pie_aqm.specs.Steps.{accu_left, anew, arrived, capped, changed, delay_answered, delay_in, departed, due, is_queued, opened};
+ghost use Rattle.pie_aqm.specs.Steps.{reset, updated, verdict, wait_of};
+
+use crate::verdict::wakes;
+use crate::{Arrival, Cause, Controller, Fate, Profile, Verdict};
+use pie_control::{Control, MAX_DELAY, RawControl};
+use pie_early::{LOW_PROB, NEVER_PICKED, Offered, counted_as, decide};
+use pie_fixed::{ALWAYS_PICKED, Accu, Prob, chosen};
+use pie_params::{Delay, Elements, Params, Picking, RawParams};
+use pie_queue::Ecn;
+use pie_rate::{MAX_THRESHOLD, RawCycle, RawRate};
+
+/// What a [`Controller`](crate::Controller) holds, as plain numbers, each in its range or not: the controller's rules, each of which
+/// stands here alone.
+///
+/// Its calls check nothing. Those for each packet need not: no numbers make them overflow. An update, its delay and when it is due
+/// want numbers in their ranges.
+#[derive(Clone, Copy, Debug, PartialEq, Eq)]
+pub struct RawController {
+    /// The profile.
+    pub profile: Profile,
+    /// The optional elements of RFC 8033, as they were chosen.
+    pub elements: Elements,
+    /// The parameters in force.
+    pub params: RawParams,
+    /// The effective moment: the greatest so far, in nanoseconds.
+    pub moment: u64,
+    /// Whether the controller works.
+    pub active: bool,
+    /// The estimate of the departure rate.
+    pub rate: RawRate,
+    /// What the packet that departed last had waited, in nanoseconds: 0 where the delay doesn't come from time stamps (RFC 8033,
+    /// section 4.3).
+    pub waited: u64,
+    /// The control law's registers.
+    pub control: RawControl,
+    /// The accumulated probability, in units of `10^-12`.
+    pub accu: u64,
+}
+
+impl RawController {
+    /// At its opening, as [`Controller::open`](crate::Controller::open) says it.
+    #[inline(always)]
+    pub fn opened(
+        profile: Profile,
+        elements: Elements,
+        params: RawParams,
+        moment: u64,
+    ) -> RawController
+        ensures { held_by result ≡ opened profile elements params moment }
+    {
+        RawController {
+            profile,
+            elements,
+            params,
+            moment,
+            active: profile.opens_active(),
+            rate: RawRate::cleared(),
+            waited: 0,
+            control: RawControl::opened(params.max_burst, moment),
+            accu: 0,
+        }
+    }
+
+    /// Decides on an arriving packet, as [`Controller::arrive`](crate::Controller::arrive) does.
+    #[inline(always)]
+    pub fn arrive(&mut self, arrival: Arrival, moment: u64) -> Verdict
+        requires { arrival.queued ≤ 2 ^ 30 }
+        ensures verdict { result ≡ verdict (held_by self.old) arrival }
+        ensures fits { is_queued result ≡ true → (arrival.is_full ≡ false) × (arrival.queued + arrival.size ≤ self.old.params.limit_bytes) }
+        ensures after { held_by self.new ≡ arrived (held_by self.old) arrival moment }
+    {
+        let (verdict, accu) = self.judge(arrival);
+        self.accu = accu;
+        self.pass(moment);
+        if wakes(self.active, self.params.limit_bytes, verdict, arrival) {
+            self.start_anew();
+            self.active = true;
+        }
+        verdict
+    }
+
+    /// The verdict on an arriving packet, and the accumulated probability after it: tail drop by bytes, then by packets, before all
+    /// else, and then early drop, while the controller is active (RFC 8033, sections 4.1, 5.1, 5.4 and Appendix A).
+    #[inline(always)]
+    #[tactic(auto, unfolding(crate::specs::Steps::verdict, crate::specs::Steps::accu_left))]
+    fn judge(&self, arrival: Arrival) -> (Verdict, u64)
+        requires { arrival.queued ≤ 2 ^ 30 }
+        ensures verdict { result.0 ≡ verdict (held_by self.now) arrival }
+        ensures accu { result.1 ≡ accu_left (held_by self.now) arrival }
+        ensures fits { is_queued result.0 ≡ true → (arrival.is_full ≡ false) × (arrival.queued + arrival.size ≤ self.now.params.limit_bytes) }
+    {
+        if self.params.limit_bytes < arrival.queued + u64::from(arrival.size) {
+            return (Verdict::DroppedBytes, 0);
+        }
+        if arrival.is_full {
+            return (Verdict::DroppedPackets, 0);
+        }
+        if !self.active {
+            return (Verdict::Enqueued, self.accu);
+        }
+        let decision = decide(
+            &self.params,
+            self.elements,
+            &self.control,
+            arrival.offered(),
+            self.accu,
+        );
+        (Verdict::of(decision.choice), decision.accu)
+    }
+
+    /// Probability, old delay, accumulated probability, rate estimate and the last packet's wait become 0, and the burst allowance
+    /// `max_burst`.
+    #[inline(always)]
+    fn start_anew(&mut self)
+        ensures { held_by self.new ≡ anew (held_by self.old) }
+    {
+        self.rate = RawRate::cleared();
+        self.waited = 0;
+        self.control.reset(self.params.max_burst);
+        self.accu = 0;
+    }
+
+    /// Moves the effective moment to this one, where it is later.
+    #[inline(always)]
+    pub fn pass(&mut self, moment: u64)
+        ensures { self.new ≡ record self.old { moment = max self.old.moment moment } }
+    {
+        self.moment = self.moment.max(moment);
+    }
+
+    /// Takes in a packet that departed, as [`Controller::depart`](crate::Controller::depart) does. A `dq_threshold` above 65536
+    /// counts as 65536.
+    #[inline(always)]
+    pub fn depart(&mut self, size: u32, left: u64, since: u64, moment: u64)
+        ensures { held_by self.new ≡ record (departed (capped (held_by self.old)) size left since moment) { params = self.old.params } }
+    {
+        self.pass(moment);
+        if self.active {
+            match self.elements.delay {
+                Delay::Rate => {
+                    let threshold = self.params.dq_threshold.min(MAX_THRESHOLD);
+                    self.rate.departed(size, left, self.moment, threshold);
+                }
+                Delay::Stamp => self.waited = wait(left, since, self.moment),
+            }
+        }
+    }
+
+    /// Makes an update, as [`Controller::update`](crate::Controller::update) does.
+    #[inline(always)]
+    pub fn update(&mut self, queued: u64, moment: u64) -> u64
+        requires sound { IsSound (held_by self.old) }
+        requires queued { queued ≤ 2 ^ 30 }
+        ensures delay { result ≡ delay_answered (held_by self.old) queued }
+        ensures after { held_by self.new ≡ updated (held_by self.old) queued moment }
+    {
+        self.pass(moment);
+        if !self.active {
+            self.control.idle(self.moment);
+            return 0;
+        }
+        let delay = self.delay(queued);
+        let is_calm = self
+            .control
+            .update(&self.params, self.elements.step, delay, self.moment);
+        self.active = match self.profile {
+            Profile::One => true,
+            Profile::Two => !is_calm,
+        };
+        delay
+    }
+
+    /// Makes a reset, as [`Controller::reset`](crate::Controller::reset) does.
+    #[inline(always)]
+    pub fn reset(&mut self, moment: u64)
+        ensures { held_by self.new ≡ reset (held_by self.old) moment }
+    {
+        self.pass(moment);
+        self.start_anew();
+    }
+
+    /// Puts new parameters in force, as [`Controller::set_params`](crate::Controller::set_params) does.
+    #[inline(always)]
+    pub fn set_params(&mut self, params: RawParams, moment: u64)
+        ensures { held_by self.new ≡ changed (held_by self.old) params moment }
+    {
+        self.pass(moment);
+        self.params = params;
+        self.rate = RawRate::cleared();
+    }
+
+    /// The queueing delay of so many bytes, as [`Controller::delay`](crate::Controller::delay) says it.
+    #[inline(always)]
+    pub fn delay(&self, queued: u64) -> u64
+        requires average { self.now.rate.average < 2 ^ 60 }
+        requires threshold { 0 < self.now.params.dq_threshold }
+        requires waited { self.now.waited ≤ 2 ^ 40 }
+        requires queued { queued ≤ 2 ^ 30 }
+        ensures value { result ≡ delay_in (held_by self.now) queued }
+        ensures within { result ≤ 2 ^ 40 }
+    {
+        match self.elements.delay {
+            Delay::Rate => pie_control::delay(queued, self.rate.average, self.params.dq_threshold),
+            Delay::Stamp => self.waited,
+        }
+    }
+
+    /// The moment from which an update isn't too soon, as [`Controller::due`](crate::Controller::due) says it.
+    #[inline(always)]
+    pub fn due(&self) -> u64
+        requires { IsSound (held_by self.now) }
+        ensures { result ≡ due (held_by self.now) }
+    {
+        self.control.last + self.params.t_update
+    }
+}
+
+/// What a packet had waited that departs now, has waited since then and leaves so many bytes, in nanoseconds: at most `2^40`, and 0 where
+/// it leaves the queue empty (RFC 8033, section 4.3; the greatest is this project's own).
+#[inline(always)]
+fn wait(left: u64, since: u64, now: u64) -> u64
+    ensures { result ≡ wait_of left since now }
+{
+    if left == 0 {
+        0
+    } else {
+        now.saturating_sub(since).min(MAX_DELAY)
+    }
+}
+
+/// What an open cycle of the departure rate that has counted so many bytes counts with a departed packet, `None` where the packet
+/// closes it: where it stays open, [`RawController::depart`] changes this count and the moment alone.
+#[inline(always)]
+pub fn counted(count: u64, size: u32, dq_threshold: u64) -> Option<u64>
+    ensures { SomeIff result (count + size < min dq_threshold 65536) (count + size) }
+{
+    RawCycle { start: 0, count }.counted(size, dq_threshold.min(MAX_THRESHOLD))
+}
+
+/// Whether a departure with so many bytes behind it opens a cycle of the departure rate where none is open: where it doesn't,
+/// [`RawController::depart`] changes the moment alone.
+#[inline(always)]
+pub fn opens_cycle(left: u64, dq_threshold: u64) -> bool
+    ensures opens { result ≡ true → min dq_threshold 65536 ≤ left }
+    ensures passes { result ≡ false → left < min dq_threshold 65536 }
+{
+    left >= dq_threshold.min(MAX_THRESHOLD)
+}
+
+/// Why a picked packet is marked or dropped.
+#[tactic(auto, using(std::proofs::lemmas::Bool::Decides::nat_tests))]
+fn fate_of(params: &Params, prob: Prob, ecn: Ecn) -> Fate
+    ensures { result ≡ fate_of params.now prob ecn }
+{
+    let threshold = params.mark_ecnth().units();
+    if !ecn.capable() {
+        Fate::NotCapable
+    } else if prob.units() < threshold {
+        Fate::Marked { threshold }
+    } else {
+        Fate::NotBelow { threshold }
+    }
+}
+
+/// What decides an arrival that is considered, where the probability counts as this one.
+#[tactic(auto, using(std::proofs::lemmas::Bool::Decides::nat_tests), unfolding(crate::specs::Cause::considered_cause))]
+fn considered_cause(picking: Picking, prob: Prob, accu: Accu, fate: Fate, word: u64) -> Cause
+    ensures { result ≡ considered_cause picking prob accu fate word }
+{
+    let accumulates = picking.accumulates();
+    let is_below = chosen(prob, word);
+    let (accu, prob) = (accu.units(), prob.units());
+    if prob == 0 {
+        Cause::NoProbability
+    } else if accumulates && accu + prob < NEVER_PICKED {
+        Cause::LittleAccumulated { accu, prob }
+    } else if accumulates && accu + prob >= ALWAYS_PICKED {
+        Cause::PickedBySum { accu, prob, fate }
+    } else if is_below {
+        Cause::PickedByWord {
+            accu,
+            prob,
+            word,
+            fate,
+        }
+    } else {
+        Cause::WordNotBelow { accu, prob, word }
+    }
+}
+
+/// What decides an arrival that the queue has room for.
+#[tactic(auto, using(std::proofs::lemmas::Bool::Decides::nat_tests), unfolding(crate::specs::Cause::early_cause))]
+fn early_cause(
+    elements: Elements,
+    params: &Params,
+    control: &Control,
+    offered: Offered,
+    accu: Accu,
+) -> Cause
+    ensures { result ≡ early_cause elements params.now control.now offered accu }
+{
+    let burst = control.burst();
+    if burst > 0 {
+        return Cause::BurstAllowed { burst };
+    }
+    let (old_delay, target, prob) = (control.old(), params.target().units(), control.prob());
+    if 2 * old_delay < target && prob.units() < LOW_PROB {
+        return Cause::LowDelay {
+            old_delay,
+            target,
+            prob: prob.units(),
+        };
+    }
+    let two_packets = 2 * params.mean_pkt();
+    let bytes = offered.bytes;
+    if bytes <= two_packets {
+        return Cause::ShortQueue { bytes, two_packets };
+    }
+    let fate = fate_of(params, prob, offered.ecn);
+    let counted = counted_as(elements.size, &params.raw(), offered.size, prob.units());
+    considered_cause(
+        elements.picking,
+        Prob::of_units(counted),
+        accu,
+        fate,
+        offered.word,
+    )
+}
+
+impl Controller {
+    /// What would decide an arriving packet here: the first case of the rules that holds, with the numbers that it compares. Its
+    /// verdict is that of `arrive`. Nothing is changed. `packets` is how many packets are in the queue, which the cause says where
+    /// the ring is full.
+    pub fn cause(&self, arrival: Arrival, packets: u64) -> Cause
+        requires { arrival.queued ≤ 2 ^ 30 }
+        ensures cause { result ≡ cause self.now arrival packets }
+        ensures verdict { verdict_of result ≡ verdict self.now arrival }
+    {
+        self.first_case(arrival, packets)
+    }
+
+    /// The same.
+    #[tactic(auto, using(std::proofs::lemmas::Bool::Decides::nat_tests), unfolding(crate::specs::Cause::cause))]
+    fn first_case(&self, arrival: Arrival, packets: u64) -> Cause
+        requires { arrival.queued ≤ 2 ^ 30 }
+        ensures { result ≡ cause self.now arrival packets }
+    {
+        let limit = self.params().limit_bytes();
+        if limit < arrival.queued + u64::from(arrival.size) {
+            return Cause::NoRoomInBytes {
+                bytes: arrival.queued,
+                size: arrival.size,
+                limit,
+            };
+        }
+        if arrival.is_full {
+            return Cause::NoRoomInPackets { packets };
+        }
+        if !self.is_active() {
+            return Cause::Inactive;
+        }
+        let accu = self.early().accu();
+        early_cause(
+            self.elements(),
+            &self.params(),
+            &self.control(),
+            arrival.offered(),
+            accu,
+        )
+    }
+}

@@ -1,0 +1,77 @@
+//! Reading texts with units: what pie_units reads, as a code and a number.
+ghost use Rattle.std.specs.Prelude.{◌≡◌};
+ghost use Rattle.pie_c.specs.Reading.{fault_number, read_code, read_or_kept};
+ghost use Rattle.pie_units.specs.declared.unit.Kind.TheVariants.{Packets, Rate, Size, Time};
+ghost use Rattle.pie_units.specs.Written.{value_of};
+
+use crate::code::{DONE, NOT_A_NUMBER, TOO_GREAT, TOO_PRECISE};
+use pie_units::{Kind, UnitFault, read};
+
+/// The number of a refusal.
+fn of_fault(why: UnitFault) -> u32
+    ensures { result ≡ fault_number why }
+{
+    match why {
+        UnitFault::NotANumber => NOT_A_NUMBER,
+        UnitFault::TooPrecise => TOO_PRECISE,
+        UnitFault::TooGreat => TOO_GREAT,
+    }
+}
+
+/// Puts what was read where a caller wants it; what is refused leaves that as it was.
+fn kept(given: Result<u64, UnitFault>, number: &mut u64) -> u32
+    ensures code { result ≡ read_code given }
+    ensures number { number.new ≡ read_or_kept given number.old }
+{
+    match given {
+        Ok(value) => {
+            *number = value;
+            DONE
+        }
+        Err(why) => of_fault(why),
+    }
+}
+
+/// Reads a time in nanoseconds: a number with `ns`, `us`, `ms` or `s`, such as `1.5ms`, or their longer forms. Letters may be of any case; the number
+/// may have a point and at most 18 decimals, and is at most `2^60 - 1`. Refused, it leaves the number as it was: a text that tells
+/// none, one that is no whole number, and one that is too great.
+#[unsafe(no_mangle)]
+pub extern "C" fn pie_read_time(text: &[u8], nanoseconds: &mut u64) -> u32
+    ensures code { result ≡ read_code (value_of Time text.now) }
+    ensures number { nanoseconds.new ≡ read_or_kept (value_of Time text.now) nanoseconds.old }
+{
+    kept(read(Kind::Time, text), nanoseconds)
+}
+
+/// Reads a rate in bits a second: a number with `bit`, `kbit`, `mbit`, `gbit` or `tbit`, such as `100mbit`, or in bytes `bps`, `kbps` and so on. Letters may be of any case; the number
+/// may have a point and at most 18 decimals, and is at most `2^60 - 1`. Refused, it leaves the number as it was: a text that tells
+/// none, one that is no whole number, and one that is too great.
+#[unsafe(no_mangle)]
+pub extern "C" fn pie_read_rate(text: &[u8], bits: &mut u64) -> u32
+    ensures code { result ≡ read_code (value_of Rate text.now) }
+    ensures number { bits.new ≡ read_or_kept (value_of Rate text.now) bits.old }
+{
+    kept(read(Kind::Rate, text), bits)
+}
+
+/// Reads a size in bytes: a number with `b`, `kb`, `mb` or `gb`, such as `256kb`, which count by 1024, or without a unit. Letters may be of any case; the number
+/// may have a point and at most 18 decimals, and is at most `2^60 - 1`. Refused, it leaves the number as it was: a text that tells
+/// none, one that is no whole number, and one that is too great.
+#[unsafe(no_mangle)]
+pub extern "C" fn pie_read_size(text: &[u8], bytes: &mut u64) -> u32
+    ensures code { result ≡ read_code (value_of Size text.now) }
+    ensures number { bytes.new ≡ read_or_kept (value_of Size text.now) bytes.old }
+{
+    kept(read(Kind::Size, text), bytes)
+}
+
+/// Reads a number of packets, with or without `p`, such as `1000p`. Letters may be of any case; the number
+/// may have a point and at most 18 decimals, and is at most `2^60 - 1`. Refused, it leaves the number as it was: a text that tells
+/// none, one that is no whole number, and one that is too great.
+#[unsafe(no_mangle)]
+pub extern "C" fn pie_read_packets(text: &[u8], packets: &mut u64) -> u32
+    ensures code { result ≡ read_code (value_of Packets text.now) }
+    ensures number { packets.new ≡ read_or_kept (value_of Packets text.now) packets.old }
+{
+    kept(read(Kind::Packets, text), packets)
+}

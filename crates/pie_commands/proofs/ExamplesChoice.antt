@@ -1,0 +1,37 @@
+-- Which events the words of `pie explain` choose, worked out.
+use Rattle.std.proofs.Common.{◌≡◌, [], ◌∷◌, Some, None, codes, refl}
+use Rattle.clap.specs.Words.{Text}
+use Rattle.clap.proofs.OnLiterals.{clap_on_literals}
+use Rattle.pie_explain.specs.declared.choice.Choice.{Choice}
+use Rattle.pie_explain.specs.declared.which.Which.{Which}
+use Rattle.pie_explain.specs.declared.which.Which.TheVariants.{Number, Lost, All}
+use Rattle.pie_units.specs.Scale.{is_word, time_scale}
+use Rattle.pie_units.specs.Written.{digit_count, number_after}
+use Rattle.pie_options.specs.Words.{options_in}
+use Rattle.pie_commands.specs.Choice.{choice_of}
+
+-- these events, at every moment
+abbrev at_all_moments : Which → Choice
+at_all_moments which = record { which = which; from = None; to = None }
+
+lost-chosen : (name : Text) → choice_of (options_in (name ∷ codes "explain" ∷ codes "--lost" ∷ [])) ≡ Some (at_all_moments Lost)
+unfolding clap_on_literals
+lost-chosen name = refl
+
+event-chosen : (name : Text) → choice_of (options_in (name ∷ codes "explain" ∷ codes "--csv" ∷ codes "--event" ∷ codes "10" ∷ []))
+    ≡ Some (at_all_moments (Number 10))
+unfolding clap_on_literals
+event-chosen name = refl
+
+from-chosen : (name : Text) → choice_of (options_in (name ∷ codes "explain" ∷ codes "--all" ∷ codes "--from" ∷ codes "1.5ms" ∷ codes "--to=2s" ∷ []))
+    ≡ Some (record { which = All; from = Some 1_500_000; to = Some 2_000_000_000 })
+unfolding clap_on_literals digit_count number_after is_word time_scale
+from-chosen name = refl
+
+no_moment-chosen : (name : Text) → choice_of (options_in (name ∷ codes "explain" ∷ codes "--all" ∷ codes "--from" ∷ codes "soon" ∷ [])) ≡ None
+unfolding clap_on_literals digit_count is_word time_scale
+no_moment-chosen name = refl
+
+two-chosen : (name : Text) → choice_of (options_in (name ∷ codes "explain" ∷ codes "--tag=7" ∷ codes "--all" ∷ [])) ≡ None
+unfolding clap_on_literals
+two-chosen name = refl

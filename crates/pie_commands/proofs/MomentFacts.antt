@@ -1,0 +1,18 @@
+-- What a getter of `clap` reads of an option that is given a moment.
+use Rattle.std.proofs.Common.{◌≡◌, ℕ, List, Option, Some, None, refl, sym, ap}
+use Rattle.std.specs.Prelude.{Result, Ok, Err}
+use Rattle.clap.specs.Matches.{TriesOne}
+use Rattle.pie_units.specs.declared.moment.Moment.{Moment}
+use Rattle.pie_units.specs.declared.moment.MomentFault.{MomentFault}
+use Rattle.pie_units.specs.Moment.{WritesMoment}
+use Rattle.pie_commands.specs.Choice.{moment_read, units_of, written}
+
+pub moment-given : (given : Option (List ℕ)) (result : Result (Option Moment) MomentFault) → (given ≡ None → result ≡ Ok None)
+    → ((text : List ℕ) → given ≡ Some text → TriesOne WritesMoment text result) → units_of result ≡ moment_read given
+moment-given None result none some = ap units_of (none refl)
+moment-given (Some text) result none some = go result (some text refl)
+  where
+    go : (read : Result (Option Moment) MomentFault) → TriesOne WritesMoment text read → units_of read ≡ moment_read (Some text)
+    go (Ok (Some moment)) tries = sym (ap written tries)
+    go (Ok None) tries = absurd tries
+    go (Err why) tries = sym (ap written tries)

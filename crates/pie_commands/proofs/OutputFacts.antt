@@ -1,0 +1,84 @@
+-- What a subcommand writes, where the words name a file for it and where they don't, and what becomes of files.
+use Rattle.std.proofs.Common.{◌≡◌, ℕ, List, Bool, true, false, Option, Some, None, refl, sym, subst, inl, inr}
+use Rattle.std.specs.Prelude.{IsSome}
+use Rattle.clap.specs.Words.{Text}
+use Rattle.pie_files.specs.Output.{Held, IsEmpty, Keeps, Places, Settles}
+use Rattle.pie_commands.specs.declared.end.End.{End}
+use Rattle.pie_commands.specs.declared.end.End.TheVariants.{Done, Differs, Fault, Failed}
+use Rattle.pie_commands.specs.Ends.{settled, status_of}
+use Rattle.pie_commands.specs.Outputs.{EndsAt, EndsIn, is_whole}
+
+pub keeps-same : (held : Held) → Keeps held held
+keeps-same held other text is = is
+
+pub keeps-both : (old mid new : Held) → Keeps old mid → Keeps mid new → Keeps old new
+keeps-both old mid new first second other text is = second other text (first other text is)
+
+held-some : (held : Held) (one other : Text) (text : List ℕ) → held one ≡ Some text → one ≡ other → IsSome (held other)
+held-some held one other text is same = subst (λ (name : Text). IsSome (held name)) same (subst (λ (o : Option (List ℕ)). IsSome o) (sym is) refl)
+
+-- a file that was empty was put in its place; before that it was made, and what is read was seen to be another
+places-since : (read : Option Text) (forced : Bool) (name : Text) (left : Option (List ℕ)) (old mid new : Held) → Keeps old mid
+    → (IsSome (old name) → read ≡ Some name → ⊥) → Places None forced name left mid new → Places read forced name left old new
+places-since read forced name left old mid new kept another places = record {
+  placed = places.placed;
+  keeps = λ other text held. elim (places.keeps other text (kept other text held)) [
+    | inl same ↦ inl same
+    | inr replaced ↦ inr (replaced.0, replaced.1, another (held-some old other name text held replaced.0))
+  ];
+}
+
+-- how a subcommand ends that wrote to a file which is then in its place or not
+pub ends-settled : (read : Option Text) (forced : Bool) (name : Text) (old mid new : Held)
+    (ends : End → Option (List ℕ) → Option (List ℕ) → Type 0) (end : End) (there : Bool) (made left : Option (List ℕ)) → IsEmpty made → Keeps old mid
+    → (IsSome (old name) → read ≡ Some name → ⊥) → Settles there None forced name left mid new → (is_whole end ≡ false → there ≡ false)
+    → ends end made left → EndsAt read forced name old new ends (settled end there)
+ends-settled read forced name old mid new ends Done true made left empty kept another settles whole ended =
+    inr (made, left, empty, ended, places-since read forced name left old mid new kept another settles)
+ends-settled read forced name old mid new ends Differs true made left empty kept another settles whole ended =
+    inr (made, left, empty, ended, places-since read forced name left old mid new kept another settles)
+ends-settled read forced name old mid new ends Done false made left empty kept another settles whole ended =
+    inl (refl, keeps-both old mid new kept settles)
+ends-settled read forced name old mid new ends Differs false made left empty kept another settles whole ended =
+    inl (refl, keeps-both old mid new kept settles)
+ends-settled read forced name old mid new ends (Fault why) true made left empty kept another settles whole ended =
+    let wrong : true ≡ false = whole refl in cc
+ends-settled read forced name old mid new ends (Fault why) false made left empty kept another settles whole ended =
+    inr (made, left, empty, ended, keeps-both old mid new kept settles)
+ends-settled read forced name old mid new ends Failed true made left empty kept another settles whole ended =
+    let wrong : true ≡ false = whole refl in cc
+ends-settled read forced name old mid new ends Failed false made left empty kept another settles whole ended =
+    inl (refl, keeps-both old mid new kept settles)
+
+-- with the status 1 each file holds what it held
+settles-keeps : (read : Option Text) (forced : Bool) (name : Text) (left : Option (List ℕ)) (old new : Held) (end : End) → status_of end ≡ 1
+    → Settles (is_whole end) read forced name left old new → Keeps old new
+settles-keeps read forced name left old new Done one settles = cc
+settles-keeps read forced name left old new Differs one settles = cc
+settles-keeps read forced name left old new (Fault why) one settles = settles
+settles-keeps read forced name left old new Failed one settles = settles
+
+pub ends-keep : (output read : Option Text) (forced : Bool) (old new : Held) (ends : End → Option (List ℕ) → Option (List ℕ) → Type 0) (end : End)
+    (before now : Option (List ℕ)) → status_of end ≡ 1 → EndsIn output read forced old new ends end before now → Keeps old new
+ends-keep None read forced old new ends end before now one ended = ended.0
+ends-keep (Some name) read forced old new ends end before now one ended = elim ended.1 [
+  | inl failed ↦ failed.1
+  | inr made ↦ settles-keeps read forced name made.1 old new end one made.4
+]
+
+-- to the writer that is handed in
+pub ends-output : (output read : Option Text) (forced : Bool) (held : Held) (ends : End → Option (List ℕ) → Option (List ℕ) → Type 0) (end : End)
+    (before now : Option (List ℕ)) → output ≡ None → ends end before now → EndsIn output read forced held held ends end before now
+ends-output output read forced held ends end before now is ended = rw is (keeps-same held, ended)
+
+-- to a file
+pub ends-file : (output read : Option Text) (forced : Bool) (name : Text) (old new : Held)
+    (ends : End → Option (List ℕ) → Option (List ℕ) → Type 0) (end : End) (before now : Option (List ℕ)) → output ≡ Some name → now ≡ before
+    → EndsAt read forced name old new ends end → EndsIn output read forced old new ends end before now
+ends-file output read forced name old new ends end before now is same ended = rw is (same, ended)
+
+-- a subcommand that never began
+pub ends-failed : (output read : Option Text) (forced : Bool) (held : Held) (ends : End → Option (List ℕ) → Option (List ℕ) → Type 0)
+    (before now : Option (List ℕ)) → now ≡ before → ends Failed before now → EndsIn output read forced held held ends Failed before now
+ends-failed None read forced held ends before now same ended = (keeps-same held, ended)
+ends-failed (Some name) read forced held ends before now same ended = (same, inl (refl, keeps-same held))

@@ -1,0 +1,31 @@
+use Rattle.std.proofs.Common.{◌∙◌, Bool, Option, option_map, subst}
+use Rattle.clap.specs.Words.{found_of, rows_of}
+use Rattle.pie_files.specs.Files.{Name}
+use Rattle.pie_options.specs.Words.{is_forced}
+use Rattle.pie_commands.specs.Ends.{settled}
+use Rattle.pie_commands.specs.Outputs.{EndsAt}
+use Rattle.pie_commands.specs.Subcommands.{EndsAs}
+use Rattle.pie_commands.proofs.OutputFacts.{ends-settled}
+use Rattle.pie_commands.proofs.SubcommandFacts.{EndsAs-kept}
+use Rattle.pie_commands.proofs.perform.perform_for.Goals as goal
+
+pub returns-clause-ends : goal.returns-clause-ends
+returns-clause-ends g c =
+    let options = rows_of (found_of c.args.options.now) in
+    let old = g.H.NamedFiles.holds c.args.rt.now in
+    let mid = g.H.NamedFiles.holds c.make_for.new.rt in
+    let new = g.H.NamedFiles.holds c.settle-is_there.new.rt in
+    let input = g.R.Read.remaining c.args.input in
+    let made = g.H.Made.Write.contents c.in-Some.made in
+    let left = g.H.Made.Write.contents c.perform-end.new.output in
+    let ends = EndsAs c.args.subcommand options input old in
+    let read = option_map (λ name. name.now) c.file.result in
+    let ended = EndsAs-kept c.args.subcommand options input old mid c.perform-end.result made left c.make_for.ensures.keeps c.perform-end.ensures.ends in
+    let at : EndsAt read c.flag-is_forced.result c.args.name.now old new ends (settled c.perform-end.result c.settle-is_there.result) =
+    ends-settled read c.flag-is_forced.result c.args.name.now old mid new ends c.perform-end.result c.settle-is_there.result made left
+    c.in-Some.ensures.empty c.make_for.ensures.keeps c.in-Some.ensures.other c.settle-is_there.ensures.settles
+    (λ part. c.settle-is_there.ensures.whole (c.is_whole.ensures ∙ part)) ended in
+    rw c.settled.ensures (subst (λ (name : Option Name). EndsAt name (is_forced options) c.args.name.now old new ends
+    (settled c.perform-end.result c.settle-is_there.result)) c.file.ensures
+    (subst (λ (forced : Bool). EndsAt read forced c.args.name.now old new ends (settled c.perform-end.result c.settle-is_there.result))
+    c.flag-is_forced.ensures at))

@@ -1,0 +1,16 @@
+use Rattle.std.proofs.Common.{ℕ, List, Option, subst}
+use Rattle.std.specs.Prelude.{IfSome}
+use Rattle.pie_progress.specs.Watched.{remaining_of}
+use Rattle.pie_commands.specs.Ends.{EndsRun, end_of}
+use Rattle.pie_commands.proofs.EndFacts.{EndsRun-told}
+use Rattle.pie_commands.proofs.run.run_input.Goals as goal
+
+pub returns-clause-runs : goal.returns-clause-runs
+returns-clause-runs g c =
+    let before = g.W.Write.contents c.args.output.now in
+    let now = g.W.Write.contents c.run_trace-given.new.writer in
+    rw c.ended.ensures (subst (λ (known : Option (List ℕ)). IfSome known (λ text. EndsRun text (end_of c.run_trace-given.result) before now))
+    c.new-watched.ensures
+    (EndsRun-told (remaining_of g.R.Read.remaining c.new-watched.result) c.run_trace-given.result before now c.run_trace-given.ensures.ends
+    c.run_trace-given.ensures.faults
+    c.run_trace-given.ensures.writes))

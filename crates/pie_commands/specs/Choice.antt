@@ -1,0 +1,104 @@
+-- Which events the words of `pie explain` choose, and how they are explained.
+use Rattle.std.specs.Prelude.{ℕ, ◌==◌, ◌&&◌, ◌||◌, Bool, true, false, not, List, Option, Some, None, Result, Ok, Err, codes, if◌then◌else◌, is_some, nat_le}
+use Rattle.clap.specs.Words.{Row, Text, one_of}
+use Rattle.pie_options.specs.Words.{flag_given, number_given}
+use Rattle.pie_explain.specs.declared.choice.Choice.{Choice}
+use Rattle.pie_explain.specs.declared.explainer.Form.{Form}
+use Rattle.pie_explain.specs.declared.explainer.Form.TheVariants.{Text as Words, Csv}
+use Rattle.pie_explain.specs.declared.explanation.Explained.{Explained}
+use Rattle.pie_units.specs.declared.moment.Moment.{Moment}
+use Rattle.pie_units.specs.declared.moment.MomentFault.{MomentFault}
+use Rattle.pie_explain.specs.declared.which.Which.{Which}
+use Rattle.pie_explain.specs.declared.which.Which.TheVariants.{Number, Tag, Lost, Marked, All}
+use Rattle.pie_units.specs.Moment.{moment_in}
+use Rattle.pie_explain.specs.Output.{pages}
+use Rattle.pie_summary.specs.Summary.{summary_of}
+
+-- ---- moments
+
+-- the nanoseconds of a moment that was read, if there was one to read
+abbrev pub units_of : Result (Option Moment) MomentFault → Result (Option ℕ) MomentFault
+units_of (Ok None) = Ok None
+units_of (Ok (Some moment)) = Ok (Some moment.0)
+units_of (Err why) = Err why
+
+-- a moment that was written
+abbrev pub written : Result ℕ MomentFault → Result (Option ℕ) MomentFault
+written (Ok moment) = Ok (Some moment)
+written (Err why) = Err why
+
+-- the moment that a text writes, if there is one
+abbrev pub moment_read : Option Text → Result (Option ℕ) MomentFault
+moment_read None = Ok None
+moment_read (Some text) = written (moment_in text)
+
+-- the moment that an option is given
+abbrev pub moment_given : Text → List Row → Result (Option ℕ) MomentFault
+moment_given name options = moment_read (one_of name options)
+
+-- ---- the choice
+
+-- the length of a period that an option is given, where it can be read
+abbrev pub every_in : Result (Option ℕ) MomentFault → Option ℕ
+every_in (Ok every) = every
+every_in (Err why) = None
+
+abbrev pub every_of : List Row → Option ℕ
+every_of options = every_in (moment_given (codes "every") options)
+
+-- these options ask for summaries: of all chosen events, or of each period
+abbrev pub is_summary : List Row → Bool
+is_summary options = flag_given (codes "summary") options || is_some (every_of options)
+
+-- the events that are chosen, where exactly one of the five options chooses some; a summary is of all where none does
+abbrev pub chosen : Bool → Option ℕ → Option ℕ → Bool → Bool → Bool → Option Which
+chosen summary (Some event) None false false false = Some (Number event)
+chosen summary None (Some tag) false false false = Some (Tag tag)
+chosen summary None None true false false = Some Lost
+chosen summary None None false true false = Some Marked
+chosen summary None None false false true = Some All
+chosen true None None false false false = Some All
+chosen _ _ _ _ _ _ = None
+
+-- the events that these options choose
+abbrev pub which_of : List Row → Option Which
+which_of options = chosen (is_summary options) (number_given (codes "event") options) (number_given (codes "tag") options)
+    (flag_given (codes "lost") options)
+    (flag_given (codes "marked") options) (flag_given (codes "all") options)
+
+-- a period lasts some time
+abbrev pub lasts : Option ℕ → Bool
+lasts None = true
+lasts (Some every) = not (every == 0)
+
+-- the one moment isn't after the other, where there are both
+abbrev pub in_order : Option ℕ → Option ℕ → Bool
+in_order (Some from) (Some to) = nat_le from to
+in_order None to = true
+in_order from None = true
+
+-- these events, at the moments from one to another, where both can be read and so can the length of a period, which is above 0
+abbrev pub choice_at : Option Which → Result (Option ℕ) MomentFault → Result (Option ℕ) MomentFault → Result (Option ℕ) MomentFault → Option Choice
+choice_at (Some which) (Ok from) (Ok to) (Ok every) = if lasts every && in_order from to then Some (record { which = which; from = from; to = to }) else None
+choice_at _ _ _ _ = None
+
+-- what these options choose; nothing where they don't say it as they have to
+abbrev pub choice_of : List Row → Option Choice
+choice_of options =
+    choice_at (which_of options) (moment_given (codes "from") options) (moment_given (codes "to") options) (moment_given (codes "every") options)
+
+-- in words, and as CSV where this holds
+abbrev pub form_where : Bool → Form
+form_where true = Csv
+form_where false = Words
+
+abbrev pub form_of : List Row → Form
+form_of options = form_where (flag_given (codes "csv") options)
+
+-- what is told of the explained events: each, or summaries of all or of each period
+abbrev pub tale_by : Bool → Option ℕ → Form → List Explained → List ℕ
+tale_by true every form = summary_of (record { form = form; every = every })
+tale_by false every form = pages form
+
+abbrev pub tale_of : List Row → List Explained → List ℕ
+tale_of options = tale_by (is_summary options) (every_of options) (form_of options)

@@ -1,0 +1,77 @@
+-- How a run, a migration and an audit end: the exit status, and what is written.
+use Rattle.std.specs.Prelude.{ℕ, ◌≡◌, ◌⊎◌, ◌^◌, ◌++◌, List, Bool, true, false, Option, Some, None, Result, Ok, Err, codes}
+use Rattle.std.specs.Fmt.{decimal}
+use Rattle.std.specs.Io.KnownBytes.{Appends}
+use Rattle.pie_record.specs.declared.fault.TraceFault.{TraceFault}
+use Rattle.pie_record.specs.declared.fault.TraceFault.TheVariants as trace_fault
+use Rattle.pie_record.specs.Fault.{is_device}
+use Rattle.pie_trace.specs.declared.run.RunEnd.{RunEnd}
+use Rattle.pie_trace.specs.History.{fault_of, history_text}
+use Rattle.pie_trace.specs.Migrate.{history_fault, migrated_text}
+use Rattle.pie_record.specs.Text.{records_of}
+use Rattle.pie_audit.specs.declared.auditor.Finding.{Finding}
+use Rattle.pie_audit.specs.declared.auditor.Finding.TheVariants as finding
+use Rattle.pie_audit.specs.Text.{finding_line, text_finding}
+use Rattle.pie_commands.specs.declared.end.End.{End}
+use Rattle.pie_commands.specs.declared.end.End.TheVariants.{Done, Differs, Fault, Failed}
+
+-- the exit status of an end
+abbrev pub status_of : End → ℕ
+status_of Done = 0
+status_of Differs = 2
+status_of (Fault why) = 1
+status_of Failed = 1
+
+-- the end where what was written had to be put in its place, and is there or not
+abbrev pub settled : End → Bool → End
+settled Done true = Done
+settled Done false = Failed
+settled Differs true = Differs
+settled Differs false = Failed
+settled (Fault why) there = Fault why
+settled Failed there = Failed
+
+-- ---- `pie run`
+
+-- the end of a run, or a migration, with this answer
+abbrev pub end_of : {A : Type 0} → Result A TraceFault → End
+end_of (Ok end) = Done
+end_of (Err why) = Fault why
+
+-- where this is the first fault of a trace, if it has one, and this its history text: the run ends well where there is no fault, and its
+-- history text is written; or it ends at the fault, and the history text of the records before it is written. Or the reader, the writer
+-- or memory failed
+abbrev pub run_ends : Option TraceFault → List ℕ → End → Option (List ℕ) → Option (List ℕ) → Type 0
+run_ends found history Done before now = (found ≡ None) × Appends before now history
+run_ends found history Differs before now = ⊥
+run_ends found history (Fault why) before now = is_device why ≡ false → (found ≡ Some why) × Appends before now history
+run_ends found history Failed before now = now ≡ before
+
+-- .. the trace being this input
+abbrev pub EndsRun : List ℕ → End → Option (List ℕ) → Option (List ℕ) → Type 0
+EndsRun input = run_ends (fault_of (2 ^ 32) (records_of input)) (history_text (2 ^ 32) (records_of input))
+
+-- the line of how many events a run recorded, and how many records it refused
+abbrev pub counts_line : RunEnd → List ℕ
+counts_line end = codes "pie: " ++ (decimal end.events ++ (codes " events, " ++ (decimal end.refused ++ codes " refused records\n")))
+
+-- ---- `pie audit`
+
+-- a history is found to be so, and the line of that is written; or it has a fault, and nothing is written. Or the reader or memory failed,
+-- and nothing is written; or the line could not be written
+abbrev pub audit_ends : Result Finding TraceFault → End → Option (List ℕ) → Option (List ℕ) → Type 0
+audit_ends found Done before now = (events : ℕ) × (found ≡ Ok (finding.Clean events)) × Appends before now (finding_line (finding.Clean events))
+audit_ends found Differs before now = (event : ℕ) × (found ≡ Ok (finding.Differs event)) × Appends before now (finding_line (finding.Differs event))
+audit_ends found (Fault why) before now =
+    (is_device why ≡ false → found ≡ Err why) × ((now ≡ before) ⊎ ((told : Finding) × (found ≡ Ok told) × (why ≡ trace_fault.Write)))
+audit_ends found Failed before now = now ≡ before
+
+-- .. the history being this input
+abbrev pub EndsAudit : List ℕ → End → Option (List ℕ) → Option (List ℕ) → Type 0
+EndsAudit input = audit_ends (text_finding (records_of input))
+
+-- ---- `pie migrate`
+
+-- as a run: what is written are the records before the first fault, in version two
+abbrev pub EndsMigrate : List ℕ → End → Option (List ℕ) → Option (List ℕ) → Type 0
+EndsMigrate input = run_ends (history_fault (2 ^ 32) (records_of input)) (migrated_text (2 ^ 32) (records_of input))

@@ -1,0 +1,36 @@
+-- How `pie explain` ends: its exit status, and what it writes.
+use Rattle.std.specs.Prelude.{ℕ, ◌≡◌, ◌⊎◌, List, Option, Some, None, Result, Ok, Err}
+use Rattle.std.specs.Io.KnownBytes.{Appends}
+use Rattle.clap.specs.Words.{Row}
+use Rattle.pie_record.specs.Text.{records_of}
+use Rattle.pie_explain.specs.declared.explanation.Explained.{Explained}
+use Rattle.pie_explain.specs.declared.fault.ExplainFault.{ExplainFault}
+use Rattle.pie_explain.specs.declared.fault.ExplainFault.TheVariants as fault
+use Rattle.pie_explain.specs.declared.choice.Choice.{Choice}
+use Rattle.pie_explain.specs.Answer.{answer}
+use Rattle.pie_explain.specs.Output.{output}
+use Rattle.pie_commands.specs.Choice.{choice_of, tale_of}
+
+-- a subcommand wrote this text and ended with its own status, or ended with 1: then the reader, the writer or memory failed
+abbrev pub WritesOrFails : List ℕ → ℕ → ℕ → Option (List ℕ) → Option (List ℕ) → Type 0
+WritesOrFails text own status before now = (status ≡ 1) ⊎ ((status ≡ own) × Appends before now text)
+
+-- the exit status of an answer
+abbrev pub answer_status : Result ℕ ExplainFault → ℕ
+answer_status (Ok explained) = 0
+answer_status (Err (fault.Trace why)) = 1
+answer_status (Err (fault.Differs event)) = 2
+answer_status (Err (fault.NoEvent event events)) = 1
+answer_status (Err (fault.NoTag tag)) = 1
+answer_status (Err fault.NoneWithin) = 1
+
+-- a history is explained: what a tale tells of the chosen events is written, up to its first fault and the first event that differs, and the
+-- status is that of the answer. Options that choose no events end with 1, and nothing is written
+abbrev pub explain_ends : Option Choice → (List Explained → List ℕ) → List ℕ → ℕ → Option (List ℕ) → Option (List ℕ) → Type 0
+explain_ends None tale input status before now = (status ≡ 1) × (now ≡ before)
+explain_ends (Some choice) tale input status before now =
+    WritesOrFails (output tale choice (records_of input)) (answer_status (answer choice (records_of input))) status before now
+
+-- .. what is chosen, and how it is said, being what these options say
+abbrev pub EndsExplain : List Row → List ℕ → ℕ → Option (List ℕ) → Option (List ℕ) → Type 0
+EndsExplain options = explain_ends (choice_of options) (tale_of options)

@@ -1,0 +1,36 @@
+-- `pie params`: what the options ask for, and how it ends.
+use Rattle.std.specs.Prelude.{ℕ, ◌≡◌, ◌⊎◌, List, Option, Some, None, Result, Ok, codes}
+use Rattle.std.specs.Io.KnownBytes.{Appends}
+use Rattle.clap.specs.Words.{Row, Text, first_of}
+use Rattle.pie_params.specs.Range.{IsInRange}
+use Rattle.pie_tuning.specs.declared.asked.Asked.{Asked}
+use Rattle.pie_tuning.specs.declared.units.OptionFault.{OptionFault}
+use Rattle.pie_tuning.specs.Opening.{gain_of, opening_line, params_for}
+use Rattle.pie_tuning.specs.Units.{packets_of, rate_of, time_of}
+use Rattle.pie_options.specs.Words.{flag_given, number_or}
+
+-- what an option's text comes to, and another number where it isn't given
+abbrev pub given_or : (Text → Result ℕ OptionFault) → ℕ → Option Text → Result ℕ OptionFault
+given_or reads unnamed None = Ok unnamed
+given_or reads unnamed (Some text) = reads text
+
+-- the options ask for this
+pub record AsksFor (options : List Row) (asked : Asked) : Type 0 where
+  pub rate : given_or rate_of 0 (first_of (codes "rate") options) ≡ Ok asked.rate
+  pub target : given_or time_of 15_000_000 (first_of (codes "target") options) ≡ Ok asked.target
+  pub t_update : given_or time_of 15_000_000 (first_of (codes "tupdate") options) ≡ Ok asked.t_update
+  pub packets : given_or packets_of 1000 (first_of (codes "limit") options) ≡ Ok asked.packets
+  pub alpha : asked.alpha ≡ gain_of (number_or (codes "alpha") 0 32 2 options)
+  pub beta : asked.beta ≡ gain_of (number_or (codes "beta") 0 32 20 options)
+  pub ecn : asked.ecn ≡ flag_given (codes "ecn") options
+
+-- the record of what the options ask for was written: its parameters are in their ranges
+pub record WritesParams (options : List Row) (before now : Option (List ℕ)) : Type 0 where
+  pub asked : Asked
+  pub asks : AsksFor options asked
+  pub in_range : IsInRange (params_for asked)
+  pub written : Appends before now (opening_line asked.packets (params_for asked))
+
+-- the status is 0, and that record was written; or it is 1, where a text writes no such number, a number is out of its range, or the writer fails
+abbrev pub EndsParams : List Row → ℕ → Option (List ℕ) → Option (List ℕ) → Type 0
+EndsParams options status before now = (status ≡ 1) ⊎ ((status ≡ 0) × WritesParams options before now)

@@ -1,0 +1,105 @@
+//! How the program ends, and the exit status that says so.
+ghost use Rattle.std.specs.Prelude.{◌≡◌, ◌≤◌};
+ghost use Rattle.pie_commands.specs.Ends.{end_of, settled, status_of};
+ghost use Rattle.pie_commands.specs.Outputs.{is_whole};
+
+use pie_trace::TraceFault;
+use std::fmt::Display;
+use std::io::Write;
+
+/// All went well.
+pub(crate) const DONE: u8 = 0;
+/// A fault, whose text is on the error stream.
+pub(crate) const FAULT: u8 = 1;
+/// An event of a history differs.
+pub(crate) const DIFFERS: u8 = 2;
+
+/// How `pie` ended.
+#[derive(Clone, Copy)]
+pub enum End {
+    /// All went well.
+    Done,
+    /// An event of a history differs.
+    Differs,
+    /// The trace or the history has this fault, or else the reader, the writer or memory failed.
+    Fault(TraceFault),
+    /// Anything else that the error stream tells.
+    Failed,
+}
+
+impl End {
+    /// The exit status: 0 done, 2 an event that differs, and else 1.
+    pub fn status(self) -> u8
+        ensures { result ≡ status_of self }
+    {
+        match self {
+            End::Done => DONE,
+            End::Differs => DIFFERS,
+            End::Fault(_) | End::Failed => FAULT,
+        }
+    }
+
+    /// Whether all that there was to write was written.
+    pub(crate) fn is_whole(self) -> bool
+        ensures { result ≡ is_whole self }
+    {
+        matches!(self, End::Done | End::Differs)
+    }
+
+    /// The end where what was written had to be put in its place, and is there or not.
+    pub(crate) fn settled(self, is_there: bool) -> End
+        ensures { result ≡ settled self is_there }
+    {
+        if self.is_whole() && !is_there {
+            return End::Failed;
+        }
+        self
+    }
+
+    /// The end of what answers an exit status.
+    pub(crate) fn with_status(status: u8) -> End
+        requires { status ≤ 2 }
+        ensures status { status_of result ≡ status }
+        ensures failed { status ≡ 1 → result ≡ End.Failed }
+    {
+        match status {
+            DONE => End::Done,
+            DIFFERS => End::Differs,
+            _ => End::Failed,
+        }
+    }
+}
+
+/// Writes the line of a fault, and answers its status. Where that line can't be written the status is the same.
+pub(crate) fn fault<E: Write, D: Display + Drop>(errors: &mut E, text: D) -> u8
+    ensures { result ≡ 1 }
+{
+    pie_files::fault(errors, text);
+    FAULT
+}
+
+/// The end of a run or a migration with this answer, with a line on `errors` where it is a fault. It knows no more of the answer.
+pub(crate) fn ended<T: Copy, E: Write>(errors: &mut E, given: Result<T, TraceFault>) -> End
+    ensures { result ≡ end_of given }
+{
+    match given {
+        Ok(_) => End::Done,
+        Err(why) => faulted(errors, why),
+    }
+}
+
+/// The end at a fault, with its line on `errors`.
+pub(crate) fn faulted<E: Write>(errors: &mut E, why: TraceFault) -> End
+    ensures { result ≡ End.Fault why }
+{
+    let _ = fault(errors, why);
+    End::Fault(why)
+}
+
+/// The end at anything else that goes wrong, with its line on `errors`.
+pub(crate) fn failed<E: Write, D: Display + Drop>(errors: &mut E, text: D) -> End
+    ensures { result ≡ End.Failed }
+{
+    let _ = fault(errors, text);
+    End::Failed
+}

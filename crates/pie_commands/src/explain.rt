@@ -1,0 +1,281 @@
+//! `pie explain`: which events the words choose, and how explaining them ends.
+ghost use Rattle.std.specs.Prelude.{◌≡◌, ◌≤◌, Err, IfSome};
+ghost use Rattle.clap.specs.Words.{found_of, rows_of};
+ghost use Rattle.std.specs.Io.KnownBytes.{Appends};
+ghost use Rattle.pie_record.specs.Text.{records_of};
+ghost use Rattle.pie_explain.specs.Answer.{IsTold, answer};
+ghost use Rattle.pie_explain.specs.Output.{output as output_of};
+ghost use Rattle.pie_files.specs.Files.{text_given};
+ghost use Rattle.pie_options.specs.Words.{file_in};
+ghost use Rattle.pie_commands.specs.Ends.{status_of};
+ghost use Rattle.pie_commands.specs.Choice.{choice_of, chosen, every_of, form_of, in_order, is_summary, lasts, moment_given, tale_by, units_of, which_of};
+ghost use Rattle.pie_commands.specs.ExplainEnds.{EndsExplain, answer_status};
+
+use crate::end::{DIFFERS, DONE, End, FAULT, fault};
+use crate::screen::{Screen, shows_progress};
+use clap::ArgMatches;
+use pie_explain::{Choice, ExplainFault, Form, Which};
+use pie_files::{NamedFiles, reader_of};
+use pie_options::{file, flag, number};
+use pie_progress::Watched;
+use pie_summary::Summary;
+use pie_units::{Moment, MomentFault};
+use std::alloc::Global;
+use std::io::{Read, Write};
+use std::time::Clock;
+
+/// What is said where the words don't choose events by exactly one option.
+const NO_CHOICE: &str =
+    "explain takes one of --event N, --tag T, --lost, --marked and --all, or --summary or --every; see pie explain --help";
+
+/// What is said where a period has no length.
+const NO_PERIOD: &str = "--every: a period lasts at least 1 ns";
+
+/// The events that are chosen, where exactly one of the five options chooses some; a summary is of all where none does.
+fn chosen(
+    summary: bool,
+    event: Option<u64>,
+    tag: Option<u64>,
+    lost: bool,
+    marked: bool,
+    all: bool,
+) -> Option<Which>
+    ensures { result ≡ chosen summary event tag lost marked all }
+{
+    match (event, tag, lost, marked, all) {
+        (Some(event), None, false, false, false) => Some(Which::Number(event)),
+        (None, Some(tag), false, false, false) => Some(Which::Tag(tag)),
+        (None, None, true, false, false) => Some(Which::Lost),
+        (None, None, false, true, false) => Some(Which::Marked),
+        (None, None, false, false, true) => Some(Which::All),
+        (None, None, false, false, false) => { if summary { Some(Which::All) } else { None } }
+        _ => None,
+    }
+}
+
+/// The nanoseconds of a moment that was read, if there was one to read.
+fn units_of(read: Result<Option<Moment>, MomentFault>) -> Result<Option<u64>, MomentFault>
+    ensures { result ≡ units_of read }
+{
+    match read {
+        Ok(Some(moment)) => Ok(Some(moment.0)),
+        Ok(None) => Ok(None),
+        Err(why) => Err(why),
+    }
+}
+
+/// The moment that an option is given, in nanoseconds.
+fn moment(options: &ArgMatches<'_>, name: &str) -> Result<Option<u64>, MomentFault>
+    ensures { result ≡ moment_given name.now (rows_of (found_of options.now)) }
+{
+    units_of(options.try_get_one::<Moment>(name))
+}
+
+/// The length of a period that these options want, where it can be read.
+fn every_of(options: &ArgMatches<'_>) -> Option<u64>
+    ensures { result ≡ every_of (rows_of (found_of options.now)) }
+{
+    match moment(options, "every") {
+        Ok(every) => every,
+        Err(_) => None,
+    }
+}
+
+/// Whether these options ask for summaries, of all chosen events or of each period.
+fn is_summary(options: &ArgMatches<'_>) -> bool
+    ensures { result ≡ is_summary (rows_of (found_of options.now)) }
+{
+    flag(options, "summary") || every_of(options).is_some()
+}
+
+/// Whether a period lasts some time.
+fn lasts(every: Option<u64>) -> bool
+    ensures { result ≡ lasts every }
+{
+    match every {
+        Some(every) => every != 0,
+        None => true,
+    }
+}
+
+/// What is said where no moment is both late and early enough.
+const NO_MOMENT: &str = "--from is after --to: no event is at both";
+
+/// Whether the one moment isn't after the other, where there are both.
+fn in_order(from: Option<u64>, to: Option<u64>) -> bool
+    ensures { result ≡ in_order from to }
+{
+    match (from, to) {
+        (Some(from), Some(to)) => from <= to,
+        _ => true,
+    }
+}
+
+/// The events that these options choose.
+fn which_of(options: &ArgMatches<'_>) -> Option<Which>
+    ensures { result ≡ which_of (rows_of (found_of options.now)) }
+{
+    let event = number(options, "event");
+    let tag = number(options, "tag");
+    let (lost, marked) = (flag(options, "lost"), flag(options, "marked"));
+    let (all, summary) = (flag(options, "all"), is_summary(options));
+    chosen(summary, event, tag, lost, marked, all)
+}
+
+/// The moment that an option is given, with a line on `errors` where its text is none.
+fn moment_of<E: Write>(
+    options: &ArgMatches<'_>,
+    name: &str,
+    errors: &mut E,
+) -> Result<Option<u64>, MomentFault>
+    ensures { result ≡ moment_given name.now (rows_of (found_of options.now)) }
+{
+    match moment(options, name) {
+        Ok(moment) => Ok(moment),
+        Err(why) => {
+            let _ = writeln!(errors, "pie: --{name}: {why}");
+            Err(why)
+        }
+    }
+}
+
+/// What these options choose, with a line on `errors` where they don't say it as they have to.
+fn choice_of<E: Write>(options: &ArgMatches<'_>, errors: &mut E) -> Option<Choice>
+    ensures { result ≡ choice_of (rows_of (found_of options.now)) }
+{
+    let Some(which) = which_of(options) else {
+        let _ = fault(errors, NO_CHOICE);
+        return None;
+    };
+    let Ok(from) = moment_of(options, "from", errors) else {
+        return None;
+    };
+    let Ok(to) = moment_of(options, "to", errors) else {
+        return None;
+    };
+    let Ok(every) = moment_of(options, "every", errors) else {
+        return None;
+    };
+    if !lasts(every) {
+        let _ = fault(errors, NO_PERIOD);
+        return None;
+    }
+    if !in_order(from, to) {
+        let _ = fault(errors, NO_MOMENT);
+        return None;
+    }
+    Some(Choice { which, from, to })
+}
+
+/// In which form these options want the explanations.
+fn form_of(options: &ArgMatches<'_>) -> Form
+    ensures { result ≡ form_of (rows_of (found_of options.now)) }
+{
+    if flag(options, "csv") {
+        Form::Csv
+    } else {
+        Form::Text
+    }
+}
+
+/// Writes what there is to say of the chosen events: of each, or summaries.
+fn tell<R: Read + Drop, W: Write>(
+    alloc: Global,
+    input: R,
+    output: &mut W,
+    choice: Choice,
+    summary: bool,
+    every: Option<u64>,
+    form: Form,
+) -> Result<u64, ExplainFault>
+    ensures answers { IfSome (R.remaining input) (λ text. IsTold result → result ≡ answer choice (records_of text)) }
+    ensures writes { IfSome (R.remaining input) (λ text. IsTold result
+        → Appends (W.contents output.old) (W.contents output.new) (output_of (tale_by summary every form) choice (records_of text))) }
+{
+    if summary {
+        pie_explain::explain(alloc, input, output, choice, Summary { form, every })
+    } else {
+        pie_explain::explain(alloc, input, output, choice, form)
+    }
+}
+
+/// The status where a history was not explained to its end.
+fn fault_status(why: ExplainFault) -> u8
+    ensures { result ≡ answer_status (Err why) }
+{
+    match why {
+        ExplainFault::Differs { .. } => DIFFERS,
+        ExplainFault::Trace(_)
+        | ExplainFault::NoEvent { .. }
+        | ExplainFault::NoTag { .. }
+        | ExplainFault::NoneWithin => FAULT,
+    }
+}
+
+/// The status of what `explain` answers, with a line on `errors` where it is no `Ok`.
+fn ended<E: Write>(errors: &mut E, given: Result<u64, ExplainFault>) -> u8
+    ensures { result ≡ answer_status given }
+{
+    match given {
+        Ok(_) => DONE,
+        Err(why) => {
+            let _ = fault(errors, why);
+            fault_status(why)
+        }
+    }
+}
+
+/// `pie explain`: writes what there is to say of the chosen events of a history, up to its first fault and the first event that
+/// differs. Ends with 2 where an event differs, and with 1 where the history has a fault, where the options choose no events, where
+/// no event is the chosen one, and where the reader, the writer or memory fails: each is told on `errors`. So is progress, where it `is_shown`.
+fn explain_input<H: Clock, R: Read + Drop, W: Write, E: Write>(
+    rt: &H,
+    alloc: Global,
+    options: &ArgMatches<'_>,
+    is_shown: bool,
+    input: R,
+    output: &mut W,
+    errors: &mut E,
+) -> u8
+    ensures status { result ≤ 2 }
+    ensures explains { IfSome (R.remaining input) (λ text. EndsExplain (rows_of (found_of options.now)) text result (W.contents output.old)
+        (W.contents output.new)) }
+{
+    let Some(choice) = choice_of(options, errors) else {
+        return FAULT;
+    };
+    let (summary, every) = (is_summary(options), every_of(options));
+    let watched = Watched::new(input, &mut *errors, rt, is_shown);
+    let given = tell(
+        alloc,
+        watched,
+        output,
+        choice,
+        summary,
+        every,
+        form_of(options),
+    );
+    ended(errors, given)
+}
+
+/// `pie explain` of what the options name.
+pub(crate) fn explain<H: NamedFiles + Screen, R: Read + Drop, W: Write, E: Write>(
+    rt: &H,
+    alloc: Global,
+    options: &ArgMatches<'_>,
+    input: R,
+    output: &mut W,
+    errors: &mut E,
+) -> End
+    ensures status { status_of result ≤ 2 }
+    ensures explains { IfSome (text_given (R.remaining input) (H.holds rt.now) (file_in (rows_of (found_of options.now))))
+        (λ text. EndsExplain (rows_of (found_of options.now)) text (status_of result) (W.contents output.old) (W.contents output.new)) }
+{
+    let is_shown = shows_progress(rt, options, true);
+    match reader_of(rt, file(options), input, errors) {
+        Some(reader) => End::with_status(explain_input(
+            rt, alloc, options, is_shown, reader, output, errors,
+        )),
+        None => End::Failed,
+    }
+}

@@ -1,0 +1,20 @@
+//! The subcommands of `pie`, each in a file of its own, and `command`, which does what the words of a command line ask for.
+//!
+//! Each subcommand answers an `End`, which says what was read, what was written and what the exit status is. What it writes goes to a writer: the one
+//! that is handed in, or a file that `performed` makes, and moves onto the name that `-o` gives it once all was written.
+#![tactic(auto)]
+
+mod audit;
+mod end;
+mod explain;
+mod migrate;
+mod params;
+mod perform;
+mod program;
+mod run;
+mod screen;
+mod storm;
+
+pub use end::End;
+pub use program::command;
+pub use screen::Screen;

@@ -1,0 +1,145 @@
+//! `pie params`: the parameters that `tc`'s options ask for, as the record that opens a book.
+ghost use Rattle.std.specs.Prelude.{◌≡◌, codes, IfSome, Ok};
+ghost use Rattle.clap.specs.Words.{first_of, found_of, rows_of};
+ghost use Rattle.pie_tuning.specs.Units.{packets_of, rate_of, time_of};
+ghost use Rattle.pie_commands.specs.Tuning.{AsksFor, EndsParams, given_or};
+
+use crate::end::{DONE, FAULT, fault};
+use clap::ArgMatches;
+use pie_options::{flag, number, number_or};
+use pie_params::{Params, RawParams};
+use pie_tuning::{
+    Asked, OptionFault, gain_of, is_short, packets_of, params_for, rate_of, time_of, write_opening,
+};
+use std::io::Write;
+
+/// The time that an option is given, and 15 ms without it; and why where its text tells no time.
+fn time_in(options: &ArgMatches<'_>, name: &str) -> Result<u64, OptionFault>
+    ensures { result ≡ given_or time_of 15_000_000 (first_of name.now (rows_of (found_of options.now))) }
+{
+    match options.get_str(name) {
+        Some(text) => time_of(text),
+        None => Ok(15_000_000),
+    }
+}
+
+/// The rate that the options give, and 0 without one; and why where its text tells no rate.
+fn rate_in(options: &ArgMatches<'_>) -> Result<u64, OptionFault>
+    ensures { result ≡ given_or rate_of 0 (first_of (codes "rate") (rows_of (found_of options.now))) }
+{
+    match options.get_str("rate") {
+        Some(text) => rate_of(text),
+        None => Ok(0),
+    }
+}
+
+/// How many packets may wait, and 1000 where the options don't say; and why where the text tells no such number.
+fn packets_in(options: &ArgMatches<'_>) -> Result<u64, OptionFault>
+    ensures { result ≡ given_or packets_of 1000 (first_of (codes "limit") (rows_of (found_of options.now))) }
+{
+    match options.get_str("limit") {
+        Some(text) => packets_of(text),
+        None => Ok(1000),
+    }
+}
+
+/// The number that an option tells; none, with a line on `errors`, where it tells none.
+fn read_of<E: Write>(read: Result<u64, OptionFault>, name: &str, errors: &mut E) -> Option<u64>
+    ensures { IfSome result (λ number. read ≡ Ok number) }
+{
+    match read {
+        Ok(number) => Some(number),
+        Err(why) => {
+            let _ = writeln!(errors, "pie: --{name} {why}");
+            None
+        }
+    }
+}
+
+/// What the options ask for; none, with a line on `errors`, where a text writes no number of its kind.
+fn asked_in<E: Write>(options: &ArgMatches<'_>, errors: &mut E) -> Option<Asked>
+    ensures { IfSome result (AsksFor (rows_of (found_of options.now))) }
+{
+    let Some(rate) = read_of(rate_in(options), "rate", errors) else {
+        return None;
+    };
+    let Some(target) = read_of(time_in(options, "target"), "target", errors) else {
+        return None;
+    };
+    let Some(t_update) = read_of(time_in(options, "tupdate"), "tupdate", errors) else {
+        return None;
+    };
+    let Some(packets) = read_of(packets_in(options), "limit", errors) else {
+        return None;
+    };
+    Some(Asked {
+        rate,
+        target,
+        t_update,
+        packets,
+        alpha: gain_of(number_or(options, "alpha", 0, 32, 2)),
+        beta: gain_of(number_or(options, "beta", 0, 32, 20)),
+        ecn: flag(options, "ecn"),
+    })
+}
+
+/// Says what has no counterpart among these parameters.
+fn say_missing<E: Write>(options: &ArgMatches<'_>, errors: &mut E) {
+    if flag(options, "bytemode") {
+        let _ = fault(
+            errors,
+            "bytemode has no counterpart: a packet's size doesn't change its chance",
+        );
+    }
+    if !flag(options, "dq_rate_estimator") {
+        let _ = fault(
+            errors,
+            "time stamps have no counterpart: delays are estimated from the departure rate, as by dq_rate_estimator",
+        );
+    }
+    for name in ["alpha", "beta"] {
+        if number(options, name).unwrap_or(0) % 2 == 1 {
+            let _ = writeln!(
+                errors,
+                "pie: {name} is rounded down to whole thousandths per second"
+            );
+        }
+    }
+}
+
+/// Says that the queue is full before it can wait for the target.
+fn say_short<E: Write>(asked: &Asked, params: &RawParams, errors: &mut E) {
+    if is_short(asked.rate, params) {
+        let limit = params.limit_bytes;
+        let _ = writeln!(
+            errors,
+            "pie: limit_bytes, {limit}, is under rate x target: the queue is full before it waits so long, and all losses are tail drops"
+        );
+    }
+}
+
+/// `pie params`: writes the record that opens a book with what the options ask for.
+pub(crate) fn params<W: Write, E: Write>(
+    options: &ArgMatches<'_>,
+    output: &mut W,
+    errors: &mut E,
+) -> u8
+    ensures { EndsParams (rows_of (found_of options.now)) result (W.contents output.old) (W.contents output.new) }
+{
+    let Some(asked) = asked_in(options, errors) else {
+        return FAULT;
+    };
+    let params = params_for(&asked);
+    if let Err(why) = Params::check(params) {
+        return fault(errors, why);
+    }
+    if asked.packets == 0 || 65536 < asked.packets {
+        return fault(errors, "--limit is 1 to 65536 packets");
+    }
+    say_missing(options, errors);
+    say_short(&asked, &params, errors);
+    match write_opening(asked.packets, &params, output) {
+        Ok(()) => DONE,
+        Err(_) => fault(errors, "cannot write the output"),
+    }
+}

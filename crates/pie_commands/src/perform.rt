@@ -1,0 +1,115 @@
+//! A subcommand with its options, over the writer that is handed in or the file that the options name.
+ghost use Rattle.std.specs.Prelude.{◌≡◌, ◌≤◌, ◌⊎◌, option_map};
+ghost use Rattle.clap.specs.Words.{found_of, rows_of};
+ghost use Rattle.pie_options.specs.declared.subcommand.Subcommand.{Subcommand};
+ghost use Rattle.pie_options.specs.Words.{file_in, is_forced};
+ghost use Rattle.pie_commands.specs.declared.end.End.{End};
+ghost use Rattle.pie_commands.specs.Ends.{status_of};
+ghost use Rattle.pie_commands.specs.Outputs.{EndsAt};
+ghost use Rattle.pie_commands.specs.Subcommands.{EndsAs, EndsTo, output_for};
+
+use crate::audit::audit;
+use crate::end::End;
+use crate::explain::explain;
+use crate::migrate::migrate;
+use crate::params::params;
+use crate::run::run;
+use crate::screen::Screen;
+use crate::storm::make_storm;
+use clap::ArgMatches;
+use pie_files::{NamedFiles, make_for, settle};
+use pie_options::{Subcommand, file, flag, output};
+use std::alloc::Global;
+use std::io::{Read, Write};
+use std::marker::Sync;
+use std::sync::Wait;
+use std::thread::Threads;
+
+/// Performs a subcommand with its options, and writes to `output`.
+fn perform<H: Threads + Wait + Sync + NamedFiles + Screen, R: Read + Drop, W: Write, E: Write>(
+    rt: &H,
+    alloc: Global,
+    subcommand: Subcommand,
+    options: &ArgMatches<'_>,
+    input: R,
+    output: &mut W,
+    errors: &mut E,
+) -> End
+    ensures status { status_of result ≤ 2 }
+    ensures differs { result ≡ End.Differs → (subcommand ≡ Subcommand.Audit) ⊎ (subcommand ≡ Subcommand.Explain) }
+    ensures ends { EndsAs subcommand (rows_of (found_of options.now)) (R.remaining input) (H.holds rt.now) result (W.contents output.old)
+        (W.contents output.new) }
+{
+    match subcommand {
+        Subcommand::Run => run(rt, alloc, options, input, output, errors),
+        Subcommand::Audit => audit(rt, alloc, options, input, output, errors),
+        Subcommand::Explain => explain(rt, alloc, options, input, output, errors),
+        Subcommand::Migrate => migrate(rt, alloc, options, input, output, errors),
+        Subcommand::Storm => End::with_status(make_storm(rt, alloc, options, output, errors)),
+        Subcommand::Params => End::with_status(params(options, output, errors)),
+    }
+}
+
+/// Performs a subcommand that writes to a new file, which is moved onto this name once all was written.
+fn perform_for<H: Threads + Wait + Sync + NamedFiles + Screen, R: Read + Drop, E: Write>(
+    rt: &mut H,
+    alloc: Global,
+    subcommand: Subcommand,
+    options: &ArgMatches<'_>,
+    name: &str,
+    input: R,
+    errors: &mut E,
+) -> End
+    ensures status { status_of result ≤ 2 }
+    ensures differs { result ≡ End.Differs → (subcommand ≡ Subcommand.Audit) ⊎ (subcommand ≡ Subcommand.Explain) }
+    ensures ends { EndsAt (file_in (rows_of (found_of options.now))) (is_forced (rows_of (found_of options.now))) name.now (H.holds rt.old)
+        (H.holds rt.new) (EndsAs subcommand (rows_of (found_of options.now)) (R.remaining input) (H.holds rt.old)) result }
+{
+    let is_forced = flag(options, "force");
+    let Some(mut made) = make_for(rt, name, file(options), is_forced, errors) else {
+        return End::Failed;
+    };
+    let end = perform(&*rt, alloc, subcommand, options, input, &mut made, errors);
+    let is_there = settle(rt, made, name, is_forced, end.is_whole(), errors);
+    end.settled(is_there)
+}
+
+/// The file that a subcommand is to write in place of the writer that is handed in.
+fn output_for<'a>(subcommand: Subcommand, options: &ArgMatches<'a>) -> Option<&'a str>
+    ensures { option_map (λ name. name.now) result ≡ output_for subcommand (rows_of (found_of options.now)) }
+{
+    match subcommand {
+        Subcommand::Run => output(options),
+        Subcommand::Audit => None,
+        Subcommand::Explain => output(options),
+        Subcommand::Migrate => output(options),
+        Subcommand::Storm => None,
+        Subcommand::Params => None,
+    }
+}
+
+/// Performs a subcommand with its options, and writes to `output`, or to a file where the options name one.
+pub(crate) fn performed<
+    H: Threads + Wait + Sync + NamedFiles + Screen,
+    R: Read + Drop,
+    W: Write,
+    E: Write,
+>(
+    rt: &mut H,
+    alloc: Global,
+    subcommand: Subcommand,
+    options: &ArgMatches<'_>,
+    input: R,
+    output: &mut W,
+    errors: &mut E,
+) -> End
+    ensures status { status_of result ≤ 2 }
+    ensures differs { result ≡ End.Differs → (subcommand ≡ Subcommand.Audit) ⊎ (subcommand ≡ Subcommand.Explain) }
+    ensures ends { EndsTo subcommand (rows_of (found_of options.now)) (R.remaining input) (H.holds rt.old) (H.holds rt.new) result
+        (W.contents output.old) (W.contents output.new) }
+{
+    match output_for(subcommand, options) {
+        None => perform(&*rt, alloc, subcommand, options, input, output, errors),
+        Some(name) => perform_for(rt, alloc, subcommand, options, name, input, errors),
+    }
+}

@@ -1,0 +1,162 @@
+//! The whole program over a list of words, a reader, files and two writers.
+ghost use Rattle.std.specs.Prelude.{◌≡◌, ◌≤◌, ◌⊎◌, ◌∷◌, List, IfSome, Some, codes, map, string_bytes};
+ghost use Rattle.clap.specs.Words.{Text, kind_of};
+ghost use Rattle.clap.specs.declared.error.kind.ErrorKind.{ErrorKind};
+ghost use Rattle.pie_options.specs.declared.subcommand.Subcommand.{Subcommand};
+ghost use Rattle.pie_options.specs.Subcommands.{word_of};
+ghost use Rattle.pie_options.specs.Words.{AskFor, Asks, file_in, files_in, is_forced, options_in, output_in, subcommand_in};
+ghost use Rattle.pie_files.specs.Files.{text_given};
+ghost use Rattle.pie_files.specs.Output.{Keeps};
+ghost use Rattle.pie_commands.specs.declared.end.End.{End};
+ghost use Rattle.pie_commands.specs.AuditEnds.{EndsFiles};
+ghost use Rattle.pie_commands.specs.Ends.{EndsAudit, EndsMigrate, EndsRun, status_of};
+ghost use Rattle.pie_commands.specs.ExplainEnds.{EndsExplain};
+ghost use Rattle.pie_commands.specs.Outputs.{EndsIn};
+ghost use Rattle.pie_commands.specs.StormEnds.{EndsStorm};
+ghost use Rattle.pie_commands.specs.Subcommands.{EndsTo};
+ghost use Rattle.pie_commands.specs.Tuning.{EndsParams};
+
+use crate::end::{DONE, End, FAULT, failed, fault};
+use crate::perform::performed;
+use crate::screen::Screen;
+use clap::Error;
+use clap::error::ErrorKind;
+use pie_files::NamedFiles;
+use pie_options::{Subcommand, options};
+use std::alloc::Global;
+use std::io::{Read, Write};
+use std::marker::Sync;
+use std::sync::Wait;
+use std::thread::Threads;
+
+/// Runs `pie` with these words, of which the first is the program's own name, and answers how it ended, which gives the exit status: 0
+/// done, 1 a fault, whose text stands on `errors`, 2 an audit or an explanation that met an event that differs. A mistake in the words
+/// prints what `clap` says of it on `errors` and ends with 1; a request for help prints it on `output` and ends with 0.
+///
+/// A `FILE` among the words is opened by `rt`, and then all that is said here of the reader holds of that file's text, where `rt` knows it; `-` is
+/// the reader. A file that can't be opened ends with 1, and nothing was written.
+///
+/// Where `-o` names a file, what is said here of `output` holds of a new file, which was empty, and to `output` nothing is written. With the status 0
+/// or 2 that file then has the name. With the status 1 each file that was there holds what it held; so does each but the one of that name in any case,
+/// and that one too without `--force`, and where it is the file that is read.
+///
+/// While `pie run`, `audit`, `explain` and `migrate` read, `errors` is told how far they have come, where `rt` has it at a terminal or the option
+/// `--progress` is there; it is wiped before anything else is written there, and nothing that is said here changes by it.
+///
+/// For the words `pie run` a trace without a fault writes its whole history text and is done; one with a fault writes the history text of
+/// the records before it, and ends at that fault; or the end says which of the reader, the writer and memory failed. Refused records
+/// are no fault.
+///
+/// For the words `pie audit` a history with a fault ends at it and writes nothing to `output`; any other writes exactly the line of its
+/// finding, and is done where it is clean, and else ends so that an event differs; or the end says which of the reader, the writer and
+/// memory failed: where it isn't the writer, nothing was written.
+///
+/// For the words `pie migrate` the history is written in version two up to its first fault, at which it ends; without a fault it is done; or
+/// the end says what failed, as of a run.
+///
+/// For any words that ask for `pie explain`, exactly one option chooses events, and what `--from` and `--to` are given are moments; or the
+/// status is 1 and nothing is written. What is said of the chosen events at these moments is written, up to the first fault and the first
+/// event that differs, and the status is 2 where an event differs, 1 for a fault and where no event is the chosen one, and else 0; or 1,
+/// where the reader, the writer or memory fails.
+///
+/// For any words that ask for `pie storm`, the threads of the runtime make a storm of the plan that the options ask for. Its
+/// history is written, which is legal and clean, and the status is 0; or it is 1, where memory, a thread or the writer fails.
+///
+/// For any words that ask for `pie params`, the record that opens a book with the parameters that the options ask for is written, and the
+/// status is 0; or it is 1, where a text is no number of its kind, a number is out of its range, or the writer fails.
+pub fn command<H: Threads + Wait + Sync + NamedFiles + Screen, R: Read + Drop, W: Write, E: Write>(
+    rt: &mut H,
+    alloc: Global,
+    words: &[String],
+    input: R,
+    output: &mut W,
+    errors: &mut E,
+) -> End
+    ensures status { status_of result ≤ 2 }
+    ensures keeps { status_of result ≡ 1 → Keeps (H.holds rt.old) (H.holds rt.new) }
+    ensures differs { result ≡ End.Differs → (subcommand_in (map string_bytes words.now) ≡ Some (codes "audit"))
+        ⊎ (subcommand_in (map string_bytes words.now) ≡ Some (codes "explain")) }
+    ensures runs { AskFor (codes "run") (map string_bytes words.now)
+        → IfSome (R.remaining input) (λ text. EndsRun text result (W.contents output.old) (W.contents output.new)) }
+    ensures audits { AskFor (codes "audit") (map string_bytes words.now)
+        → IfSome (R.remaining input) (λ text. EndsAudit text result (W.contents output.old) (W.contents output.new)) }
+    ensures migrates { AskFor (codes "migrate") (map string_bytes words.now)
+        → IfSome (R.remaining input) (λ text. EndsMigrate text result (W.contents output.old) (W.contents output.new)) }
+    ensures runs_file { Asks (codes "run") (map string_bytes words.now)
+        → EndsIn (output_in (options_in (map string_bytes words.now))) (file_in (options_in (map string_bytes words.now)))
+        (is_forced (options_in (map string_bytes words.now))) (H.holds rt.old) (H.holds rt.new)
+        (λ end before now. IfSome (text_given (R.remaining input) (H.holds rt.old) (file_in (options_in (map string_bytes words.now))))
+        (λ text. EndsRun text end before now)) result (W.contents output.old) (W.contents output.new) }
+    ensures audits_files { Asks (codes "audit") (map string_bytes words.now) → (name : Text) (names : List Text)
+        → files_in (options_in (map string_bytes words.now)) ≡ name ∷ names
+        → EndsFiles (R.remaining input) (H.holds rt.old) (name ∷ names) result (W.contents output.old) (W.contents output.new) }
+    ensures migrates_file { Asks (codes "migrate") (map string_bytes words.now)
+        → EndsIn (output_in (options_in (map string_bytes words.now))) (file_in (options_in (map string_bytes words.now)))
+        (is_forced (options_in (map string_bytes words.now))) (H.holds rt.old) (H.holds rt.new)
+        (λ end before now. IfSome (text_given (R.remaining input) (H.holds rt.old) (file_in (options_in (map string_bytes words.now))))
+        (λ text. EndsMigrate text end before now)) result (W.contents output.old) (W.contents output.new) }
+    ensures explains { Asks (codes "explain") (map string_bytes words.now)
+        → EndsIn (output_in (options_in (map string_bytes words.now))) (file_in (options_in (map string_bytes words.now)))
+        (is_forced (options_in (map string_bytes words.now))) (H.holds rt.old) (H.holds rt.new)
+        (λ end before now. IfSome (text_given (R.remaining input) (H.holds rt.old) (file_in (options_in (map string_bytes words.now))))
+        (λ text. EndsExplain (options_in (map string_bytes words.now)) text (status_of end) before now)) result (W.contents output.old)
+        (W.contents output.new) }
+    ensures storms { Asks (codes "storm") (map string_bytes words.now)
+        → EndsStorm (options_in (map string_bytes words.now)) (status_of result) (W.contents output.old) (W.contents output.new) }
+    ensures params { Asks (codes "params") (map string_bytes words.now)
+        → EndsParams (options_in (map string_bytes words.now)) (status_of result) (W.contents output.old) (W.contents output.new) }
+{
+    answer(rt, alloc, words, input, output, errors)
+}
+
+/// What `command` does: each subcommand as it promises.
+fn answer<H: Threads + Wait + Sync + NamedFiles + Screen, R: Read + Drop, W: Write, E: Write>(
+    rt: &mut H,
+    alloc: Global,
+    words: &[String],
+    input: R,
+    output: &mut W,
+    errors: &mut E,
+) -> End
+    ensures status { status_of result ≤ 2 }
+    ensures keeps { status_of result ≡ 1 → Keeps (H.holds rt.old) (H.holds rt.new) }
+    ensures differs { result ≡ End.Differs → (subcommand_in (map string_bytes words.now) ≡ Some (codes "audit"))
+        ⊎ (subcommand_in (map string_bytes words.now) ≡ Some (codes "explain")) }
+    ensures ends { (subcommand : Subcommand) → Asks (word_of subcommand) (map string_bytes words.now)
+        → EndsTo subcommand (options_in (map string_bytes words.now)) (R.remaining input) (H.holds rt.old) (H.holds rt.new) result
+        (W.contents output.old) (W.contents output.new) }
+{
+    let options = match options(alloc) {
+        Ok(options) => options,
+        Err(_) => return failed(errors, "out of memory"),
+    };
+    let matches = match options.try_get_matches_from(words) {
+        Ok(matches) => matches,
+        Err(error) => return End::with_status(mistake(error, output, errors)),
+    };
+    let Some((name, options)) = matches.subcommand() else {
+        return failed(errors, "no subcommand");
+    };
+    let Some(subcommand) = Subcommand::named(name) else {
+        return failed(errors, "unknown subcommand");
+    };
+    performed(rt, alloc, subcommand, options, input, output, errors)
+}
+
+/// What `clap` says of the words: help, or a mistake.
+fn mistake<W: Write, E: Write>(error: Error, output: &mut W, errors: &mut E) -> u8
+    ensures status { result ≤ 1 }
+    ensures memory { kind_of error ≡ ErrorKind.OutOfMemory → (result ≡ 1) × (W.contents output.new ≡ W.contents output.old) }
+{
+    if matches!(error.kind(), ErrorKind::OutOfMemory) {
+        return fault(errors, "out of memory");
+    }
+    if error.use_stderr() {
+        let _ = write!(errors, "{error}");
+        return FAULT;
+    }
+    match write!(output, "{error}") {
+        Ok(()) => DONE,
+        Err(_) => fault(errors, "cannot write the output"),
+    }
+}

@@ -1,0 +1,84 @@
+//! `pie run`.
+ghost use Rattle.std.specs.Prelude.{◌≡◌, ◌≤◌, IfSome, OnOk};
+ghost use Rattle.std.specs.Io.KnownBytes.{Appends};
+ghost use Rattle.clap.specs.Words.{found_of, rows_of};
+ghost use Rattle.pie_files.specs.Files.{text_given};
+ghost use Rattle.pie_options.specs.Words.{file_in};
+ghost use Rattle.pie_commands.specs.Ends.{EndsRun, counts_line, status_of};
+
+use crate::end::{End, ended};
+use crate::screen::{Screen, shows_progress};
+use clap::ArgMatches;
+use pie_files::{NamedFiles, reader_of};
+use pie_options::{file, flag};
+use pie_progress::Watched;
+use pie_trace::{RunEnd, TraceFault, run_trace};
+use std::alloc::Global;
+use std::io;
+use std::io::{Read, Write};
+use std::time::Clock;
+
+/// Writes how many events a run recorded, and how many records it refused.
+fn write_counts<E: Write>(end: &RunEnd, errors: &mut E) -> io::Result<()>
+    ensures { OnOk result (Appends (E.contents errors.old) (E.contents errors.new) (counts_line end.now)) }
+{
+    let (events, refused) = (end.events, end.refused);
+    writeln!(errors, "pie: {events} events, {refused} refused records")
+}
+
+/// Says on `errors` how many events and refused records a run without a fault had. A failed write is passed over.
+fn say_counts<E: Write>(errors: &mut E, given: &Result<RunEnd, TraceFault>) {
+    if let Ok(end) = given {
+        let _ = write_counts(end, errors);
+    }
+}
+
+/// `pie run`: writes the history text of a trace, and ends at its first fault; or the end says what failed. Without a fault it says
+/// on `errors` how many events and refused records there were, where that is asked; progress too, where it `is_shown`.
+fn run_input<H: Clock, R: Read + Drop, W: Write, E: Write>(
+    rt: &H,
+    alloc: Global,
+    is_counted: bool,
+    is_shown: bool,
+    input: R,
+    output: &mut W,
+    errors: &mut E,
+) -> End
+    ensures status { status_of result ≤ 1 }
+    ensures runs { IfSome (R.remaining input) (λ text. EndsRun text result (W.contents output.old) (W.contents output.new)) }
+{
+    let watched = Watched::new(input, &mut *errors, rt, is_shown);
+    let given = run_trace(alloc, watched, output);
+    if is_counted {
+        say_counts(errors, &given);
+    }
+    ended(errors, given)
+}
+
+/// `pie run` of what the options name.
+pub(crate) fn run<H: NamedFiles + Screen, R: Read + Drop, W: Write, E: Write>(
+    rt: &H,
+    alloc: Global,
+    options: &ArgMatches<'_>,
+    input: R,
+    output: &mut W,
+    errors: &mut E,
+) -> End
+    ensures status { status_of result ≤ 1 }
+    ensures runs { IfSome (text_given (R.remaining input) (H.holds rt.now) (file_in (rows_of (found_of options.now))))
+        (λ text. EndsRun text result (W.contents output.old) (W.contents output.new)) }
+{
+    let is_shown = shows_progress(rt, options, true);
+    match reader_of(rt, file(options), input, errors) {
+        Some(reader) => run_input(
+            rt,
+            alloc,
+            flag(options, "count"),
+            is_shown,
+            reader,
+            output,
+            errors,
+        ),
+        None => End::Failed,
+    }
+}

@@ -1,5 +1,0 @@
-use Rattle.pie_controller.proofs.InRange.{in-range}
-use Rattle.pie_controller.proofs.controller.Controller.params.Goals as goal
-
-pub in_range-requires : goal.in_range-requires
-in_range-requires c = in-range _ c.self.invariant.params

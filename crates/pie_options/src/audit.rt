@@ -1,0 +1,59 @@
+//! The words of `pie audit`: what it takes, and what `--help` says of it.
+ghost use Rattle.std.specs.Prelude.{◌≡◌, IfOk};
+ghost use Rattle.clap.specs.Words.{app_of};
+ghost use Rattle.pie_options.specs.declared.subcommand.Subcommand.{Subcommand};
+ghost use Rattle.pie_options.specs.Words.{app_for};
+
+use crate::argument::{Argument, PROGRESS, Takes};
+use crate::command_line::command_of;
+use clap::Command;
+use std::alloc::{AllocError, Global};
+
+/// What `pie audit` is for.
+const ABOUT: &str =
+    "Reads histories from files, or one from standard input, and decides each of their events again";
+
+/// What `pie audit --help` says below its options.
+const HELP: &str =
+    "A history is what pie run writes: the first record of a trace, and then one record for each that followed, with what it
+was answered. An audit decides each event again, from the opening and the events before it, and compares.
+
+Events are the records arrive, depart, update, reset and params, numbered from 1. The records refused, folded, shown and
+tallied are notes: they may stand anywhere after the first record, and are looked at for their shape alone.
+
+One line is written, and with files one for each, behind the name that the words give it, as NAME: clean,11:
+  clean,<events>    each event is what the rules give at its place, and there are so many; status 0
+  differs,<event>   the first event that is not: its command would have been refused there, it has another answer, or it
+                    sets parameters that are out of range; status 2
+
+A full tail is no reason to refuse a command here, since a fold may have made room at any time. A history of version two,
+which begins with open2, is decided by the profile that it names, and any other by profile 1. A record that cannot be
+read ends the audit with status 1 and no finding, also where an event before it differs; pie run --help says how records
+are written.
+
+With files all are looked at, in the order of the words. One that cannot be opened or read, or has a record that cannot be
+read, is told on standard error, as pie: NAME: record 12: unknown kind, and the next is audited. The status is the worst of
+all: 1 where a file could not be audited, else 2 where an event of one differs, and else 0.
+
+Example: what pie run writes is clean, and the line is clean,2:
+
+  printf 'open,0,4,16,100\\narrive,1,10,7,1500,ect0,0\\ndepart,2,25\\n' | pie run | pie audit
+
+A verdict that was changed is found, and the line is differs,1:
+
+  printf 'open,0,4,16,100\\narrive,1,10,7,1500,ect0,0\\ndepart,2,25\\n' | pie run | sed s/enqueue/mark/ | pie audit";
+
+/// The subcommand `audit`.
+pub(crate) fn command<'a>(alloc: Global) -> Result<Command<'a>, AllocError>
+    ensures { IfOk result (λ command. app_of command ≡ app_for Subcommand.Audit) }
+{
+    let arguments = [
+        PROGRESS,
+        Argument {
+            name: "file",
+            takes: Takes::Files,
+            help: "The files to audit; -: standard input",
+        },
+    ];
+    command_of(alloc, "audit", ABOUT, HELP, &arguments)
+}

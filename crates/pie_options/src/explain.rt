@@ -1,0 +1,120 @@
+//! The words of `pie explain`: what it takes, and what `--help` says of it.
+ghost use Rattle.std.specs.Prelude.{◌≡◌, IfOk};
+ghost use Rattle.clap.specs.Words.{app_of};
+ghost use Rattle.pie_options.specs.declared.subcommand.Subcommand.{Subcommand};
+ghost use Rattle.pie_options.specs.Words.{app_for};
+
+use crate::argument::{Argument, FILE, FORCE, OUTPUT, PROGRESS, Takes};
+use crate::command_line::command_of;
+use clap::Command;
+use std::alloc::{AllocError, Global};
+
+/// What `pie explain` is for.
+const ABOUT: &str =
+    "Reads a history from a file or standard input and says why its events went as they did";
+
+/// What `pie explain --help` says below its options.
+const HELP: &str =
+    "One of --event, --tag, --lost, --marked and --all chooses the events; with --summary or --every none has to. Each event of
+the history is decided again, as pie audit does, and of a chosen one is said which case of the rules decided it, and on which
+numbers: those before the event.
+
+With --from and --to only the chosen events are explained whose effective moments are within, both ends included; a --from that is
+after its --to is refused. A moment is written as whole nanoseconds, or as a number with ns, us, ms or s: 1500000, 1500us, 1.5ms
+and 0.0015s are the same. Longer units of tc, as msec and msecs, and capital letters do too.
+
+With --summary the chosen events are summed up, all of them where no option chooses: what became of the arrivals and what
+decided them (by the words of the field cause), with their part of these arrivals; how long the packets had waited that left;
+the delays that updates took, and the probabilities after the events; and when the controller turned on and off. With --every
+there is such a summary of each period that has chosen events: with 100ms one of those before 100 ms, one of those from
+100 ms to before 200 ms, and so on. With --csv there is a header, and one record a summary. A summary is of the events before
+the first fault and the first event that differs.
+
+In words an event has some lines, with moments in milliseconds and probabilities in per cent, and the exact whole numbers in
+parentheses. With --csv there is a header, and then one record an event:
+  number,kind,caller,moment,effective_moment,tag,size,verdict,cause,bytes,packets,delay,probability,
+  accumulated_probability,burst_allowance,ecn,word,waited,active,set_by,bytes_after,packets_after,delay_after,
+  probability_after,accumulated_probability_after,burst_allowance_after,active_after
+Times are in nanoseconds, probabilities in units of 10^-12. A field that an event doesn't have is empty.
+
+Where an event is not what the rules give at its place, the chosen events before it are explained, standard error names it, and
+the status is 2. A record that cannot be read, and an event or a tag that is not there, end with status 1.
+With -o FILE what is said goes to FILE, once all of it was written, also with status 2; pie run --help says what becomes of
+FILE at a fault, and where it is there already.
+
+Example: why was a packet lost? With the trace of the example of pie run --help in the file trace:
+
+  pie run < trace | pie explain --lost
+
+writes why the last packet of that trace was dropped:
+
+  event 11: packet 6, 500 bytes, Not-ECT: DROPPED early
+    at 1.001003 ms (1001003 ns), by caller 2
+    the accumulated probability, with this one, is 90.3954 % (903954174169)
+    picked: its random word, 0.0000 % (0), is below the probability, 90.3954 % (903954174169)
+    dropped: its endpoints do not understand a mark
+    before it: 3 packets, 2548 bytes, a delay of 2.488281 ms (2488281 ns)
+    probability 90.3954 % (903954174169), set by event 9; last update at 1.001002 ms (1001002 ns); burst allowance 0.000000 ms (0 ns)";
+
+/// The subcommand `explain`.
+pub(crate) fn command<'a>(alloc: Global) -> Result<Command<'a>, AllocError>
+    ensures { IfOk result (λ command. app_of command ≡ app_for Subcommand.Explain) }
+{
+    let arguments = [
+        Argument {
+            name: "event",
+            takes: Takes::Number(1, u64::MAX),
+            help: "Explain the event with this number, counted from 1",
+        },
+        Argument {
+            name: "tag",
+            takes: Takes::Number(0, u64::MAX),
+            help: "Explain each event of the packets with this tag",
+        },
+        Argument {
+            name: "lost",
+            takes: Takes::Nothing,
+            help: "Explain each arrival whose packet was dropped",
+        },
+        Argument {
+            name: "marked",
+            takes: Takes::Nothing,
+            help: "Explain each arrival whose packet was marked",
+        },
+        Argument {
+            name: "all",
+            takes: Takes::Nothing,
+            help: "Explain every event",
+        },
+        Argument {
+            name: "from",
+            takes: Takes::Value("MOMENT"),
+            help: "Only the chosen events at this moment and later, such as 1.5ms",
+        },
+        Argument {
+            name: "to",
+            takes: Takes::Value("MOMENT"),
+            help: "Only the chosen events at this moment and earlier",
+        },
+        Argument {
+            name: "summary",
+            takes: Takes::Nothing,
+            help: "Sum up the chosen events, in place of each; all of them where none are chosen",
+        },
+        Argument {
+            name: "every",
+            takes: Takes::Value("TIME"),
+            help: "Sum up the events of each period of this length, such as 100ms",
+        },
+        Argument {
+            name: "csv",
+            takes: Takes::Nothing,
+            help: "Write CSV, a header and a record an event or a summary, in place of words",
+        },
+        PROGRESS,
+        OUTPUT,
+        FORCE,
+        FILE,
+    ];
+    command_of(alloc, "explain", ABOUT, HELP, &arguments)
+}

@@ -1,0 +1,42 @@
+//! The words of `pie migrate`: what it takes, and what `--help` says of it.
+ghost use Rattle.std.specs.Prelude.{◌≡◌, IfOk};
+ghost use Rattle.clap.specs.Words.{app_of};
+ghost use Rattle.pie_options.specs.declared.subcommand.Subcommand.{Subcommand};
+ghost use Rattle.pie_options.specs.Words.{app_for};
+
+use crate::argument::{FILE, FORCE, OUTPUT, PROGRESS};
+use crate::command_line::command_of;
+use clap::Command;
+use std::alloc::{AllocError, Global};
+
+/// What `pie migrate` is for.
+const ABOUT: &str =
+    "Reads a history from a file or standard input and writes the same history in version two";
+
+/// What `pie migrate --help` says below its options.
+const HELP: &str =
+    "A history of version one begins with open or rolling. In version two it begins with open2,1,bounded or open2,1,rolling, each
+shown ends with 1, since its controller is always active, and all else stays. A history of version two is written as it is.
+pie audit finds the same in both, and pie run --help says how records are written.
+
+A record that cannot be read ends it with status 1; the records before it have been written.
+With -o FILE they go to FILE once all were written; pie run --help says what becomes of FILE at a fault, and where it is there
+already.
+
+Example:
+
+  printf 'open,0,4,16,100\\narrive,1,10,7,1500,ect0,0\\nshow\\n' | pie run | pie migrate
+
+writes
+
+  open2,1,bounded,0,4,16,100
+  arrive,1,10,7,1500,ect0,0,enqueue
+  shown,1,10,1,1500,0,0,0,150000000,0,0,0,1";
+
+/// The subcommand `migrate`.
+pub(crate) fn command<'a>(alloc: Global) -> Result<Command<'a>, AllocError>
+    ensures { IfOk result (λ command. app_of command ≡ app_for Subcommand.Migrate) }
+{
+    let arguments = [PROGRESS, OUTPUT, FORCE, FILE];
+    command_of(alloc, "migrate", ABOUT, HELP, &arguments)
+}

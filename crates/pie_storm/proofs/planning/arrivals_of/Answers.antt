@@ -1,0 +1,20 @@
+use Rattle.std.proofs.Common.{◌≡◌, refl, rules}
+use Rattle.pie_storm.specs.StormPlan.{arrival_at, sender_words, words_after}
+use Rattle.pie_storm.proofs.PlanFacts.{item-push}
+use Rattle.pie_storm.proofs.planning.arrivals_of.Goals as goal
+
+pub loop-i-init : goal.loop-i-init
+unfolding words_after
+loop-i-init c =
+    let seed : c.from.result ≡ c.args.seed = search rules in
+    let sender : c.from-2.result ≡ c.args.sender = search rules in
+    (c.in_ok-arrivals.ensures.items, rw (c.new-words.ensures, seed, sender) refl)
+
+pub loop-i-preserved : goal.loop-i-preserved
+loop-i-preserved c =
+    let words = sender_words c.args.seed c.args.sender in
+    let drawn = c.next_arrival.ensures words c.loop-i.invariant.1 in (
+      item-push (arrival_at c.args.sender words) c.loop-i.i c.loop-i.arrivals.items c.push.new.self.items c.next_arrival.result c.loop-i.invariant.0
+          c.in_ok-push.ensures.items drawn.0,
+      drawn.1,
+    )

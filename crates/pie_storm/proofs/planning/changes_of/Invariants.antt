@@ -1,0 +1,7 @@
+use Rattle.std.proofs.Common.{◌≡◌, map}
+use Rattle.std.specs.List.{range_with_len}
+use Rattle.pie_storm.specs.StormPlan.{change_at}
+use Rattle.pie_storm.proofs.planning.changes_of.Given as goal
+
+abbrev pub invariant-loop-k : goal.invariant-loop-k
+invariant-loop-k l = l.list.items ≡ map (change_at l.packets l.changes) (range_with_len 0 l.k)

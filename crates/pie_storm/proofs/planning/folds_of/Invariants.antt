@@ -1,0 +1,6 @@
+use Rattle.std.proofs.Common.{◌≡◌, ◌*◌, ◌/◌, map}
+use Rattle.std.specs.List.{range_with_len}
+use Rattle.pie_storm.proofs.planning.folds_of.Given as goal
+
+abbrev pub invariant-loop : goal.invariant-loop
+invariant-loop l = l.list.items ≡ map (λ k. l.senders * l.packets / l.folds) (range_with_len 0 l.counter)

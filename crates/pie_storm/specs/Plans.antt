@@ -1,0 +1,88 @@
+-- What a storm's plan asks of each caller, and which plans are sound.
+use Rattle.std.specs.Prelude.{◌≡◌, ◌+◌, ◌-◌, ◌==◌, ◌≤◌, nat_le, ℕ, false, List, [], ◌∷◌, Option, Some, None, Vec, map, length, All, slice_get}
+use Rattle.std.specs.Prelude.{if◌then◌else◌}
+use Rattle.std.specs.declared.alloc.Global.{Global}
+use Rattle.pie_book.specs.declared.command.Command.{Command}
+use Rattle.pie_book.specs.declared.command.Command.TheVariants.{Arrive, Depart, Update, SetParams}
+use Rattle.pie_book.specs.declared.opening.Mode.TheVariants.{Bounded}
+use Rattle.pie_aqm.specs.declared.profile.Profile.TheVariants.{One}
+use Rattle.pie_book.specs.declared.opening.Opening.{Opening}
+use Rattle.pie_book.specs.Opening.{last_moment}
+use Rattle.pie_book.specs.Deed.{handed_in}
+use Rattle.pie_book.specs.Decision.{has_bad_size}
+use Rattle.pie_storm.specs.declared.plan.Arrival.{Arrival}
+use Rattle.pie_storm.specs.declared.plan.Change.{Change}
+use Rattle.pie_storm.specs.declared.plan.Plan.{Plan}
+
+-- the opening of the link: its book is bounded
+abbrev pub opening_of : Plan → Opening
+opening_of plan = record { moment = plan.moment; limits = plan.limits; params = plan.params; choices = record { mode = Bounded; profile = One } }
+
+-- how many senders there are
+abbrev pub senders : Plan → ℕ
+senders plan = length plan.arrivals.items
+
+-- the command of an arrival, and of a change
+abbrev pub arrive : Arrival → Command
+arrive arrival = Arrive arrival.moment arrival.packet arrival.word
+
+abbrev pub change : Change → Command
+change new = SetParams new.moment new.params
+
+-- the commands of one of these senders, counted from 0
+abbrev pub sent_by : Option (Vec Arrival Global) → List Command
+sent_by (Some arrivals) = map arrive arrivals.items
+sent_by None = []
+
+abbrev pub sent : List (Vec Arrival Global) → ℕ → List Command
+sent lists sender = sent_by (slice_get lists sender)
+
+-- the commands of the caller that comes so many after the last sender
+abbrev pub commands_after_senders : Plan → ℕ → List Command
+commands_after_senders plan n =
+    if n == 1 then map Depart plan.departs.items
+    else if n == 2 then map Update plan.updates.items
+    else if n == 3 then map change plan.changes.items
+    else []
+
+-- the commands of a caller, in order: callers 1 to N, for N senders, send the arrivals of their lists, caller N + 1 makes the
+-- departures, N + 2 the updates, and N + 3 the changes. The starter is caller 0, and caller N + 4 makes the folds: these
+-- have no commands
+unfoldable pub commands_of : Plan → ℕ → List Command
+commands_of plan caller =
+    if caller == 0 then []
+    else if nat_le caller (senders plan) then sent plan.arrivals.items (caller - 1)
+    else commands_after_senders plan (caller - senders plan)
+
+-- how many arrivals these lists have
+abbrev pub count_of : List (Vec Arrival Global) → ℕ
+count_of [] = 0
+count_of (list ∷ lists) = length list.items + count_of lists
+
+-- how many commands there are in all
+abbrev pub planned : Plan → ℕ
+planned plan = count_of plan.arrivals.items + length plan.departs.items + length plan.updates.items + length plan.changes.items
+
+abbrev pub IsMoment : ℕ → Type 0
+IsMoment moment = moment ≤ last_moment
+
+abbrev pub IsSoundArrival : Arrival → Type 0
+IsSoundArrival arrival = IsMoment arrival.moment × (1 ≤ arrival.packet.size) × (arrival.packet.size ≤ 65535)
+
+-- moment and size of the command are in their ranges
+pub record IsFair (command : Command) : Type 0 where
+  pub moment : handed_in command ≤ last_moment
+  pub size : has_bad_size command ≡ false
+
+-- a storm takes the plan
+pub record IsSound (plan : Plan) : Type 0 where
+  pub two : 2 ≤ senders plan
+  pub eight : senders plan ≤ 8
+  pub moment : IsMoment plan.moment
+  pub arrivals : All (λ (list : Vec Arrival Global). All IsSoundArrival list.items) plan.arrivals.items
+  pub departs : All IsMoment plan.departs.items
+  pub updates : All IsMoment plan.updates.items
+  pub changes : All (λ (c : Change). IsMoment c.moment) plan.changes.items
+  -- the limits have room for all
+  pub tail : planned plan ≤ plan.limits.tail
+  pub events : planned plan ≤ plan.limits.events

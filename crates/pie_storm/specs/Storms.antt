@@ -1,0 +1,217 @@
+-- What the callers of a storm did, and how it ends. A history is the list of all events of the link; where folds are spoken of,
+-- it is the list of all its entries.
+use Rattle.std.specs.Prelude.{◌≡◌, ◌==◌, ◌+◌, ◌<◌, ◌≤◌, ◌^◌, ◌⊎◌, ℕ, zero, suc, Bool, All, List, [], ◌∷◌, ◌++◌, Option, Some, None, Result, Ok, Err}
+use Rattle.std.specs.Prelude.{min, drop, map, length}
+use mathlib.Core.List.{IsPrefix}
+use Rattle.pie_lock.specs.Own.{own}
+use Rattle.pie_book.specs.declared.command.Command.{Command}
+use Rattle.pie_book.specs.declared.command.Event.{Event}
+use Rattle.pie_book.specs.declared.opening.Opening.{Opening}
+use Rattle.pie_book.specs.declared.command.Answer.{Answer}
+use Rattle.pie_book.specs.declared.refusal.Refusal.{Refusal}
+use Rattle.pie_book.specs.declared.refusal.Refusal.TheVariants.{Moment, Size, TooSoon, Exhausted, HistoryFull}
+use Rattle.std.specs.declared.alloc.Global.{Global}
+use Rattle.std.specs.Prelude.{Vec}
+use Rattle.pie_book.specs.declared.refusal.FoldRefusal.{FoldRefusal}
+use Rattle.pie_book.specs.declared.refusal.FoldRefusal.TheVariants.{TooMany, Memory}
+use Rattle.pie_link.specs.declared.told.Told.{Told}
+use Rattle.pie_book.specs.Decision.{refusal_by_rule}
+use Rattle.pie_storm.specs.declared.plan.Plan.{Plan}
+use Rattle.pie_book.specs.declared.command.Command.TheVariants.{Depart, Update}
+use Rattle.pie_storm.specs.Plans.{change, commands_of, opening_of, senders, sent}
+use Rattle.pie_link.specs.declared.entry.Entry.{Entry}
+use Rattle.pie_link.specs.declared.entry.Entry.TheVariants.{Made, Folded}
+use Rattle.pie_link.specs.Entries.{entries_of, events_in, handed_to, tail_in}
+use Rattle.pie_link.specs.Views.{LinkView, CallerView}
+
+-- the number of an event
+abbrev pub caller_of : Event → ℕ
+caller_of event = event.caller
+
+-- the events of a caller
+abbrev pub events_of : ℕ → List Event → List Event
+events_of caller history = own caller_of caller (caller + 1) history
+
+-- a command was too soon after a beginning of the history that has these events of the caller, and no others of it
+pub record WasTooSoon (opening : Opening) (caller : ℕ) (history earlier : List Event) (command : Command) : Type 0 where
+  pub before : List Event
+  pub begins : IsPrefix before history
+  pub has_earlier : events_of caller before ≡ earlier
+  pub due : ℕ
+  pub refused : refusal_by_rule opening before command ≡ Some (TooSoon due)
+
+-- where the caller has these earlier events in the history, these commands are its later ones, each the next, but for so
+-- many that were too soon
+abbrev pub AreMade : Opening → ℕ → List Event → List Event → List Command → List Event → ℕ → Type 0
+AreMade opening caller history earlier [] later passed = (later ≡ []) × (passed ≡ 0)
+AreMade opening caller history earlier (command ∷ commands) later passed =
+    ((event : Event) × (others : List Event) × (later ≡ event ∷ others) × (event.command ≡ command)
+    × AreMade opening caller history (earlier ++ event ∷ []) commands others passed)
+    ⊎ (WasTooSoon opening caller history earlier command
+    × ((fewer : ℕ) × (passed ≡ fewer + 1) × AreMade opening caller history earlier commands later fewer))
+
+-- the caller stopped where the book was full, after a beginning of the history, and before it had an event for each command
+pub record IsCutShort (opening : Opening) (caller : ℕ) (commands : List Command) (history : List Event) : Type 0 where
+  pub before : List Event
+  pub begins : IsPrefix before history
+  pub full : min opening.limits.tail opening.limits.events ≤ length before
+  pub fewer : length (events_of caller history) < length commands
+
+-- what came of a caller's commands in this history
+unfoldable pub CameOf : Opening → ℕ → List Command → List Event → ℕ → Type 0
+CameOf opening caller commands history passed =
+    AreMade opening caller history [] commands (events_of caller history) passed
+    ⊎ IsCutShort opening caller commands history
+
+-- what came of the commands of all callers below n, of which so many were too soon
+unfoldable pub AllCameOf : Opening → Plan → ℕ → List Event → ℕ → Type 0
+AllCameOf opening plan zero history passed = passed ≡ 0
+AllCameOf opening plan (suc n) history passed =
+    (others : ℕ) × (its : ℕ) × (passed ≡ others + its) × AllCameOf opening plan n history others × CameOf opening n (commands_of plan n) history its
+
+-- what came of a caller's commands at a link, whatever it was opened with, and of those of all callers below n
+unfoldable pub CameAt : LinkView → Plan → ℕ → List Event → ℕ → Type 0
+CameAt link plan caller history passed = (opening : Opening) → link.origin ≡ Some opening
+    → CameOf opening caller (commands_of plan caller) history passed
+
+unfoldable pub AllCameAt : LinkView → Plan → ℕ → List Event → ℕ → Type 0
+AllCameAt link plan n history passed = (opening : Opening) → link.origin ≡ Some opening → AllCameOf opening plan n history passed
+
+-- after k of its commands a caller was shown this history, of which so many were too soon: whatever comes of the others, in a
+-- history that goes on from there, comes of all
+pub record Goes (opening : Opening) (caller : ℕ) (commands : List Command) (k : ℕ) (front : List Event) (passed : ℕ) : Type 0 where
+  pub few : length (events_of caller front) ≤ k
+  pub made : (history : List Event) → IsPrefix front history → (later : List Event) (n : ℕ)
+      → AreMade opening caller history (events_of caller front) (drop k commands) later n
+      → AreMade opening caller history [] commands (events_of caller front ++ later) (passed + n)
+
+unfoldable pub EachGoes : LinkView → ℕ → List Command → ℕ → List Event → ℕ → Type 0
+EachGoes link caller commands k front passed = (opening : Opening) → link.origin ≡ Some opening → Goes opening caller commands k front passed
+
+-- what an answer adds to the updates that were too soon; none where it is another refusal
+unfoldable pub added_by : Result (Told Answer) Refusal → Option ℕ
+added_by (Ok told) = Some 0
+added_by (Err Moment) = None
+added_by (Err Size) = None
+added_by (Err (TooSoon due)) = Some 1
+added_by (Err Exhausted) = None
+added_by (Err HistoryFull) = None
+
+-- the caller's next command went on so, or the caller was cut short at it
+unfoldable pub GoesOrEnds : LinkView → ℕ → List Command → ℕ → List Event → ℕ → Option ℕ → Type 0
+GoesOrEnds link caller commands k front passed (Some soon) = EachGoes link caller commands (k + 1) front (passed + soon)
+GoesOrEnds link caller commands k front passed None = (opening : Opening) → link.origin ≡ Some opening → IsCutShort opening caller commands front
+
+-- the caller that makes the folds of a plan
+abbrev pub folder : Plan → ℕ
+folder plan = senders plan + 4
+
+-- a number is this one
+abbrev pub is_number : ℕ → ℕ → Bool
+is_number number caller = caller == number
+
+-- this fold of a caller
+abbrev pub fold_of : ℕ → ℕ → Entry
+fold_of caller n = Folded caller n
+
+-- a fold of n events was of too many after a beginning of the history that has these entries of the caller, and no others of it:
+-- the tail held fewer there
+pub record WasTooMany (opening : Opening) (caller : ℕ) (history earlier : List Entry) (n : ℕ) : Type 0 where
+  pub before : List Entry
+  pub begins : IsPrefix before history
+  pub has_earlier : entries_of caller before ≡ earlier
+  pub fewer : length (tail_in opening before) < n
+
+-- where the caller has these earlier entries in the history, these folds are its later ones, each the next, but for so many that
+-- were of too many events
+abbrev pub AreFolded : Opening → ℕ → List Entry → List Entry → List ℕ → List Entry → ℕ → Type 0
+AreFolded opening caller history earlier [] later too_many = (later ≡ []) × (too_many ≡ 0)
+AreFolded opening caller history earlier (n ∷ folds) later too_many =
+    ((others : List Entry) × (later ≡ fold_of caller n ∷ others)
+    × AreFolded opening caller history (earlier ++ fold_of caller n ∷ []) folds others too_many)
+    ⊎ (WasTooMany opening caller history earlier n
+    × ((fewer : ℕ) × (too_many ≡ fewer + 1) × AreFolded opening caller history earlier folds later fewer))
+
+-- an entry is an event
+abbrev pub IsMade : Entry → Type 0
+IsMade (Made event) = Unit {0}
+IsMade (Folded caller n) = ⊥
+
+-- in this history no caller below this number has a fold, but the one that makes the folds
+unfoldable pub NoneElseFolds : Plan → ℕ → List Entry → Type 0
+NoneElseFolds plan n history = (caller : ℕ) → caller < n → (caller ≡ folder plan → ⊥) → All IsMade (entries_of caller history)
+
+-- after k of these folds a caller was shown this history, where so many were of too many events: whatever comes of the others, in a
+-- history that goes on from there, comes of all
+unfoldable pub FoldsGo : Opening → ℕ → List ℕ → ℕ → List Entry → ℕ → Type 0
+FoldsGo opening caller folds k front too_many = (history : List Entry) → IsPrefix front history → (later : List Entry) (n : ℕ)
+    → AreFolded opening caller history (entries_of caller front) (drop k folds) later n
+    → AreFolded opening caller history [] folds (entries_of caller front ++ later) (too_many + n)
+
+-- these events are what the caller's folds handed out
+abbrev pub WereHanded : Opening → ℕ → List Event → List Entry → Type 0
+WereHanded opening caller events history = events ≡ handed_to (is_number caller) opening [] history
+
+-- where all is well after k folds at a link, the events at hand are those that the caller's folds handed out; and what came of all
+-- its folds
+unfoldable pub FoldsGoAt : LinkView → ℕ → Type 0 → List ℕ → ℕ → List Event → List Entry → ℕ → Type 0
+FoldsGoAt link caller well folds k events front too_many =
+    (opening : Opening) → link.origin ≡ Some opening → well → WereHanded opening caller events front × FoldsGo opening caller folds k front too_many
+
+unfoldable pub AreFoldedAt : LinkView → ℕ → Type 0 → List ℕ → List Event → List Entry → ℕ → Type 0
+AreFoldedAt link caller well folds events front too_many =
+    (opening : Opening) → link.origin ≡ Some opening → well
+    → WereHanded opening caller events front × AreFolded opening caller front [] folds (entries_of caller front) too_many
+
+-- what an answer adds to the folds that were too many
+unfoldable pub refused_by : Result (Told (Vec Event Global)) FoldRefusal → ℕ
+refused_by (Ok told) = 0
+refused_by (Err (TooMany held)) = 1
+refused_by (Err Memory) = 0
+
+-- at a link, a caller has no events in this history
+unfoldable pub HasNoneAt : LinkView → ℕ → List Event → Type 0
+HasNoneAt link caller front = (opening : Opening) → link.origin ≡ Some opening → events_of caller front ≡ []
+
+-- at a link, a caller has no folds in this history
+unfoldable pub OnlyMadeAt : LinkView → ℕ → List Entry → Type 0
+OnlyMadeAt link caller front = (opening : Opening) → link.origin ≡ Some opening → All IsMade (entries_of caller front)
+
+-- at a link, none below this number has folds in this history, but the one that makes the folds
+unfoldable pub NoneElseFoldsAt : LinkView → Plan → ℕ → List Entry → Type 0
+NoneElseFoldsAt link plan n front = (opening : Opening) → link.origin ≡ Some opening → NoneElseFolds plan n front
+
+-- a worker made all commands of the caller with this number, of which so many were too soon
+unfoldable pub MadeAll : LinkView → Plan → ℕ → CallerView → ℕ → Type 0
+MadeAll link plan number caller too_soon =
+    (caller.lock ≡ link) × (caller.first ≡ number) × (caller.limit ≡ number + 1) × CameAt link plan number (events_in caller.front) too_soon
+    × (too_soon ≤ 2 ^ 20)
+
+-- and, where it makes them and is well, all folds; any other worker made none
+unfoldable pub MadeFolds : LinkView → Plan → ℕ → Type 0 → List Event → ℕ → List Entry → Type 0
+MadeFolds link plan number well events too_many front =
+    ((number ≡ folder plan → ⊥) → OnlyMadeAt link number front)
+    × (number ≡ folder plan → AreFoldedAt link (folder plan) well plan.folds.items events front too_many)
+
+-- the commands of these events
+abbrev pub commands_in : List Event → List Command
+commands_in events = map (λ (event : Event). event.command) events
+
+-- these events are those that the plan asks for, but for so many updates that were too soon; and so many of its folds were of more
+-- events than the tail held
+pub record IsStorm (plan : Plan) (events : List Event) (too_soon too_many : ℕ) : Type 0 where
+  -- each sender's arrivals, in order; senders are counted from 0
+  pub arrivals : (sender : ℕ) → sender < senders plan → commands_in (events_of (sender + 1) events) ≡ sent plan.arrivals.items sender
+  -- the departures, in order, and the changes
+  pub departures : commands_in (events_of (senders plan + 1) events) ≡ map Depart plan.departs.items
+  pub changes : commands_in (events_of (senders plan + 3) events) ≡ map change plan.changes.items
+  -- the updates, in order, but for those that were too soon
+  pub updates : AreMade (opening_of plan) (senders plan + 2) events [] (map Update plan.updates.items) (events_of (senders plan + 2) events) too_soon
+  -- the link's history, of which these are the events; its folds are those of the plan, in order, but for those that were of too
+  -- many events, each at its place
+  pub history : List Entry
+  pub of_history : events_in history ≡ events
+  pub folds : AreFolded (opening_of plan) (folder plan) history [] plan.folds.items (entries_of (folder plan) history) too_many
+  -- no other caller has an event, and no other a fold
+  pub no_others : (caller : ℕ) → (caller ≡ 0) ⊎ (senders plan + 3 < caller) → events_of caller events ≡ []
+  pub no_other_folds : (caller : ℕ) → (caller ≡ folder plan → ⊥) → All IsMade (entries_of caller history)

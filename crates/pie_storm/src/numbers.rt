@@ -1,0 +1,18 @@
+//! The numbers that a storm's plan is made of.
+
+/// The numbers that a storm's plan is made of (this project's own).
+#[derive(Clone, Copy, Debug, PartialEq, Eq)]
+pub struct StormNumbers {
+    /// How many senders there are: 2 to 8.
+    pub senders: u16,
+    /// How many packets each of them sends: 1 to 10,000.
+    pub packets: u32,
+    /// What the senders' random words are made of.
+    pub seed: u64,
+    /// How many packets come for each hundred that the link sends: 50 to 200.
+    pub load: u64,
+    /// How often the parameters change: 0 to 100 times.
+    pub changes: u64,
+    /// How many folds there are: 0 to 100.
+    pub folds: u64,
+}

@@ -1,0 +1,222 @@
+//! The plan of a storm.
+ghost use Rattle.std.specs.Prelude.{◌≡◌, ◌+◌, ◌*◌, ◌<◌, ◌≤◌, IfOk, map};
+ghost use Rattle.std.specs.List.{range_with_len};
+ghost use Rattle.rand_core.specs.Stream.{Stream};
+ghost use Rattle.pie_storm.specs.StormPlan.{IsStormPlan, arrival_at, arrivals_of, change_at, changes_of, departs_of, ecn_of, folds_of, held_by};
+ghost use Rattle.pie_storm.specs.StormPlan.{HasStormRange, params_at, updates_of, words_after, words_of};
+
+use crate::numbers::StormNumbers;
+use crate::plan::{Arrival, Change, Plan};
+use pie_book::Limits;
+use pie_params::{Params, RawParams};
+use pie_queue::{Ecn, Memory, Packet};
+use rand_core::Rng;
+use rand_pcg::Lcg128Xsl64;
+use std::alloc::{AllocError, Global};
+
+/// The nanoseconds from one packet of a sender to its next.
+const PACKET_TIME: u64 = 1_000_000;
+/// A hundredth of that, for each packet that comes while the link sends a hundred.
+const LOAD_TIME: u64 = 10_000;
+/// How many tags each sender has.
+const SENDER_TAGS: u64 = 1 << 32;
+/// The nanoseconds from one update to the next: the default `t_update`.
+const UPDATE_TIME: u64 = 15_000_000;
+/// The reference delay that every other change sets, in nanoseconds: a third of that by default.
+const SHORT_TARGET: u64 = 5_000_000;
+
+/// The ECN field of two bits (RFC 3168, section 5).
+fn ecn_of(bits: u64) -> Ecn
+    requires { bits < 4 }
+    ensures { result ≡ ecn_of bits }
+{
+    match bits {
+        0 => Ecn::NotEct,
+        1 => Ecn::Ect1,
+        2 => Ecn::Ect0,
+        _ => Ecn::Ce,
+    }
+}
+
+/// An arrival of this sender, counted from 0, by its next three random words.
+fn next_arrival(words: &mut Lcg128Xsl64, sender: u64, i: u64) -> Arrival
+    requires sender { sender ≤ 8 }
+    requires i { i < 10_000 }
+    ensures { (all : Stream) → words_of words.old ≡ words_after (3 * i) all
+        → (result ≡ arrival_at sender all i) × (words_of words.new ≡ words_after (3 * (i + 1)) all) }
+{
+    let size = words.next_u64();
+    let ecn = words.next_u64();
+    let word = words.next_u64();
+    Arrival {
+        moment: (i + 1) * PACKET_TIME,
+        packet: Packet {
+            tag: sender * SENDER_TAGS + i,
+            size: 64 + (size % 1437) as u32,
+            ecn: ecn_of(ecn % 4),
+        },
+        word,
+    }
+}
+
+/// The arrivals of one sender, in order.
+fn arrivals_of(
+    alloc: Global,
+    sender: u64,
+    packets: u64,
+    seed: u64,
+) -> Result<Vec<Arrival>, AllocError>
+    requires sender { sender ≤ 8 }
+    requires packets { packets ≤ 10_000 }
+    ensures { IfOk result (λ list. held_by list ≡ arrivals_of packets seed sender) }
+{
+    let mut words = Lcg128Xsl64::new(u128::from(seed), u128::from(sender));
+    let mut arrivals = Vec::with_capacity(alloc, packets as usize)?;
+    for i in 0..packets {
+        arrivals.push(next_arrival(&mut words, sender, i))?;
+    }
+    Ok(arrivals)
+}
+
+/// The arrivals of each sender.
+fn all_arrivals(
+    alloc: Global,
+    senders: u64,
+    packets: u64,
+    seed: u64,
+) -> Result<Vec<Vec<Arrival>>, AllocError>
+    requires senders { senders ≤ 8 }
+    requires packets { packets ≤ 10_000 }
+    ensures { IfOk result (λ lists. map held_by lists.items ≡ map (arrivals_of packets seed) (range_with_len 1 senders)) }
+{
+    let mut lists = Vec::with_capacity(alloc, senders as usize)?;
+    for before in 0..senders {
+        lists.push(arrivals_of(alloc, before + 1, packets, seed)?)?;
+    }
+    Ok(lists)
+}
+
+/// A departure for each packet, spread evenly, where `load` packets come for each hundred that the link sends.
+fn departs_of(alloc: Global, senders: u64, packets: u64, load: u64) -> Result<Vec<u64>, AllocError>
+    requires some { 1 ≤ senders }
+    requires senders { senders ≤ 8 }
+    requires packets { packets ≤ 10_000 }
+    requires load { load ≤ 200 }
+    ensures { IfOk result (λ list. list.items ≡ departs_of senders packets load) }
+{
+    let mut moments = Vec::with_capacity(alloc, (senders * packets) as usize)?;
+    for j in 0..senders * packets {
+        moments.push((j + 1) * load * LOAD_TIME / senders)?;
+    }
+    Ok(moments)
+}
+
+/// An update at each due moment while packets arrive, and one more.
+fn updates_of(alloc: Global, packets: u64) -> Result<Vec<u64>, AllocError>
+    requires { packets ≤ 10_000 }
+    ensures { IfOk result (λ list. list.items ≡ updates_of packets) }
+{
+    let mut moments = Vec::with_capacity(alloc, (packets / 15 + 1) as usize)?;
+    for j in 0..packets / 15 + 1 {
+        moments.push((j + 1) * UPDATE_TIME)?;
+    }
+    Ok(moments)
+}
+
+/// The parameters that a change sets: a reference delay of 5 ms, and at each second change those by default again.
+fn params_at(k: u64) -> Params
+    ensures { result ≡ params_at k }
+{
+    if k % 2 == 0 {
+        Params::in_range(RawParams {
+            target: SHORT_TARGET,
+            ..Params::default_profile().raw()
+        })
+    } else {
+        Params::default_profile()
+    }
+}
+
+/// The changes of the parameters, spread evenly over the time in which packets arrive.
+fn changes_of(alloc: Global, packets: u64, changes: u64) -> Result<Vec<Change>, AllocError>
+    requires packets { packets ≤ 10_000 }
+    requires changes { changes ≤ 100 }
+    ensures { IfOk result (λ list. list.items ≡ changes_of packets changes) }
+{
+    let mut list = Vec::with_capacity(alloc, changes as usize)?;
+    for k in 0..changes {
+        list.push(Change {
+            moment: (k + 1) * packets * PACKET_TIME / (changes + 1),
+            params: params_at(k),
+        })?;
+    }
+    Ok(list)
+}
+
+/// The folds: together of as many events as there are packets.
+fn folds_of(alloc: Global, senders: u64, packets: u64, folds: u64) -> Result<Vec<u64>, AllocError>
+    requires senders { senders ≤ 8 }
+    requires packets { packets ≤ 10_000 }
+    requires folds { folds ≤ 100 }
+    ensures { IfOk result (λ list. list.items ≡ folds_of senders packets folds) }
+{
+    let mut list = Vec::with_capacity(alloc, folds as usize)?;
+    for _ in 0..folds {
+        list.push(senders * packets / folds)?;
+    }
+    Ok(list)
+}
+
+/// The plan of a storm (this project's own) with default parameters from moment 0 on. Each sender has a packet each millisecond, of 64 to
+/// 1500 bytes and any ECN field, whose size, ECN field and random word are three words of a generator that is made of `seed` and the
+/// sender's number. As many departures are spread evenly over that time at a `load` of 100, and over `load` hundredths of it at any other.
+/// An update is made at each due moment while packets arrive. The changes are spread evenly over that time, to a reference delay of 5 ms and
+/// back in turn. The folds together hand out as many events as there are packets. The tail has room for all events, so that none is
+/// needed.
+///
+/// # Errors
+///
+/// `Memory` where there was none for the lists.
+pub fn storm_plan(alloc: Global, numbers: StormNumbers) -> Result<Plan, Memory>
+    requires { HasStormRange numbers }
+    ensures { IfOk result (IsStormPlan numbers) }
+{
+    let StormNumbers {
+        load,
+        seed,
+        changes,
+        folds,
+        ..
+    } = numbers;
+    let (senders, packets) = (u64::from(numbers.senders), u64::from(numbers.packets));
+    let commands = 2 * senders * packets + packets / 15 + 1 + changes;
+    let Ok(arrivals) = all_arrivals(alloc, senders, packets, seed) else {
+        return Err(Memory);
+    };
+    let Ok(departs) = departs_of(alloc, senders, packets, load) else {
+        return Err(Memory);
+    };
+    let Ok(updates) = updates_of(alloc, packets) else {
+        return Err(Memory);
+    };
+    let Ok(changes) = changes_of(alloc, packets, changes) else {
+        return Err(Memory);
+    };
+    let Ok(folds) = folds_of(alloc, senders, packets, folds) else {
+        return Err(Memory);
+    };
+    Ok(Plan {
+        limits: Limits {
+            packets: 1024,
+            tail: commands as u32,
+            events: commands,
+        },
+        params: Params::default_profile(),
+        moment: 0,
+        arrivals,
+        departs,
+        updates,
+        changes,
+        folds,
+    })
+}

@@ -1,0 +1,268 @@
+//! The storm: a link under many threads at once, recorded.
+ghost use Rattle.std.specs.Prelude.{◌≡◌, ◌+◌, ◌*◌, ◌^◌, ◌≤◌, ◌≢◌, ◌↔◌, ◌++◌, List, [], false, Some, None, Err, IfSome, IfOk, IfErr};
+ghost use denote.Param.Send.{IsSync};
+ghost use Rattle.pie_book.specs.declared.command.Event.{Event};
+ghost use Rattle.pie_book.specs.Book.{Tells};
+ghost use Rattle.pie_book.specs.Decision.{IsLegal};
+ghost use Rattle.pie_book.specs.Registers.{registers_after};
+ghost use Rattle.pie_book.specs.Statistics.{stats_after};
+ghost use Rattle.pie_storm.specs.declared.plan.Plan.{Plan};
+ghost use Rattle.pie_link.specs.declared.refusal.LinkRefusal.{LinkRefusal};
+ghost use Rattle.pie_link.specs.Entries.{events_in};
+ghost use Rattle.pie_link.specs.Opening.{IsRefusedFor, link_refusal};
+ghost use Rattle.pie_storm.specs.Plans.{IsSound, opening_of, planned, senders};
+ghost use Rattle.pie_storm.specs.Storms.{AllCameAt, AreFoldedAt, CameAt, IsStorm, MadeAll, MadeFolds, NoneElseFoldsAt, OnlyMadeAt, folder};
+ghost use Rattle.pie_link.specs.Views.{StaysOne};
+
+use crate::ending::{StormEnd, StormFault};
+use crate::gate::Gate;
+use crate::plan::Plan;
+use crate::worker::{Folding, Work, make_calls};
+use pie_book::{Book, Event};
+use pie_link::{Caller, Link, entries_look_back};
+use std::alloc::Global;
+use std::sync::Wait;
+use std::thread;
+use std::thread::{Promise, Scope, Threads};
+
+// What a worker promises: it made all calls of the caller with this number.
+#[derive(Clone, Copy)]
+struct MakesAll<'a> {
+    link: &'a Link,
+    plan: &'a Plan,
+    caller: u16,
+}
+
+impl<'a> Promise<Work> for MakesAll<'a> {
+    ghost kept_by = { λ p work. MadeAll p.link.now p.plan.now p.caller work.caller work.too_soon
+        × MadeFolds p.link.now p.plan.now p.caller (work.folding.is_short_of_memory ≡ false) work.folding.events.items work.folding.too_many
+        work.caller.front };
+}
+
+// Lets the callers with these numbers work at once, each but the first in a thread of its own, and gathers them in order. The
+// first is the starter, which makes no calls. There is no answer where a thread could not be started; those that were have ended.
+#[tactic(auto, unfolding(crate::specs::Storms::MadeAll, crate::specs::Storms::MadeFolds))]
+fn work_in<'s, E: 's, R: Threads + Wait + Sync, G: Gate + Sync>(
+    scope: &Scope<'s, E>,
+    rt: &'s R,
+    alloc: Global,
+    link: &'s Link,
+    plan: &'s Plan,
+    gate: &'s G,
+    caller: Caller,
+) -> Option<Work>
+    requires own { caller.lock ≡ link.now }
+    requires first { caller.first ≡ 0 }
+    requires new { caller.front ≡ [] }
+    requires sound { IsSound plan.now }
+    requires few { planned plan.now ≤ 2 ^ 20 }
+    ensures stays { IfSome result (λ work. StaysOne caller work.caller) }
+    ensures made { IfSome result (λ work. AllCameAt link.now plan.now caller.limit (events_in work.caller.front) work.too_soon) }
+    ensures alone { IfSome result (λ work. NoneElseFoldsAt link.now plan.now caller.limit work.caller.front) }
+    ensures few { IfSome result (λ work. work.too_soon ≤ caller.limit * 2 ^ 20) }
+    ensures folds { caller.limit ≡ senders plan.now + 5 → IfSome result (λ work.
+        AreFoldedAt link.now (folder plan.now) (work.folding.is_short_of_memory ≡ false) plan.now.folds.items
+        work.folding.events.items work.caller.front work.folding.too_many) }
+{
+    let mut rest = caller;
+    let last = match link.share(&mut rest) {
+        Ok(last) => last,
+        Err(_) => {
+            return Some(Work {
+                caller: rest,
+                too_soon: 0,
+                folding: Folding::none(alloc),
+            });
+        }
+    };
+    let promise = MakesAll {
+        link,
+        plan,
+        caller: last.first(),
+    };
+    let Ok(worker) = scope.spawn_with(
+        promise,
+        move || -> Work
+            requires { (last.lock ≡ link.now) × (last.limit ≡ last.first + 1) × (last.front ≡ []) × IsSound plan.now × (planned plan.now ≤ 2 ^ 20) }
+            ensures made { MadeAll link.entry.now plan.entry.now last.first result.caller result.too_soon }
+            ensures folds { MadeFolds link.entry.now plan.entry.now last.first (result.folding.is_short_of_memory ≡ false)
+                result.folding.events.items result.folding.too_many result.caller.front }
+        { make_calls(rt, alloc, link, plan, gate, last) },
+    ) else {
+        return None;
+    };
+    let others = work_in(scope, rt, alloc, link, plan, gate, rest);
+    let theirs = worker.join(rt);
+    Some(both(link, others?, theirs))
+}
+
+// The same in a scope, which ends when all workers have.
+fn work_at_once<R: Threads + Wait + Sync, G: Gate + Sync>(
+    rt: &R,
+    alloc: Global,
+    link: &Link,
+    plan: &Plan,
+    gate: &G,
+    caller: Caller,
+) -> Option<Work>
+    requires own { caller.lock ≡ link.now }
+    requires first { caller.first ≡ 0 }
+    requires new { caller.front ≡ [] }
+    requires sound { IsSound plan.now }
+    requires few { planned plan.now ≤ 2 ^ 20 }
+    ensures stays { IfSome result (λ work. StaysOne caller work.caller) }
+    ensures made { IfSome result (λ work. AllCameAt link.now plan.now caller.limit (events_in work.caller.front) work.too_soon) }
+    ensures alone { IfSome result (λ work. NoneElseFoldsAt link.now plan.now caller.limit work.caller.front) }
+    ensures folds { caller.limit ≡ senders plan.now + 5 → IfSome result (λ work.
+        AreFoldedAt link.now (folder plan.now) (work.folding.is_short_of_memory ≡ false) plan.now.folds.items
+        work.folding.events.items work.caller.front work.folding.too_many) }
+{
+    thread::scope(
+        thread::scope_env(),
+        rt,
+        |scope| -> Option<Work>
+            requires { IsSync R.row × IsSync G.row × (caller.lock ≡ link.now) × (caller.first ≡ 0) × (caller.front ≡ []) × IsSound plan.now
+                × (planned plan.now ≤ 2 ^ 20) }
+            ensures stays { IfSome result (λ work. StaysOne caller work.caller) }
+            ensures made { IfSome result (λ work. AllCameAt link.entry.now plan.entry.now caller.limit (events_in work.caller.front) work.too_soon) }
+            ensures alone { IfSome result (λ work. NoneElseFoldsAt link.entry.now plan.entry.now caller.limit work.caller.front) }
+            ensures folds { caller.limit ≡ senders plan.entry.now + 5 → IfSome result (λ work.
+                AreFoldedAt link.entry.now (folder plan.entry.now) (work.folding.is_short_of_memory ≡ false) plan.entry.now.folds.items
+                work.folding.events.items work.caller.front work.folding.too_many) }
+        { work_in(scope, rt, alloc, link, plan, gate, caller) },
+    )
+}
+
+// Gathers a worker's caller to those before it, with what both did.
+fn both(link: &Link, work: Work, last: Work) -> Work
+    requires own { (work.caller.lock ≡ link.now) × (last.caller.lock ≡ link.now) }
+    requires first { work.caller.first ≡ 0 }
+    requires beside { (last.caller.first ≡ work.caller.limit) × (last.caller.limit ≡ work.caller.limit + 1) }
+    requires few { (work.too_soon ≤ work.caller.limit * 2 ^ 20) × (last.too_soon ≤ 2 ^ 20) }
+    ensures lock { result.caller.lock ≡ link.now }
+    ensures numbers { (result.caller.first ≡ 0) × (result.caller.limit ≡ last.caller.limit) }
+    ensures made { (plan : Plan) → AllCameAt link.now plan work.caller.limit (events_in work.caller.front) work.too_soon
+        → CameAt link.now plan last.caller.first (events_in last.caller.front) last.too_soon
+        → AllCameAt link.now plan result.caller.limit (events_in result.caller.front) result.too_soon }
+    ensures few { result.too_soon ≤ result.caller.limit * 2 ^ 20 }
+    ensures alone { (plan : Plan) → NoneElseFoldsAt link.now plan work.caller.limit work.caller.front
+        → ((last.caller.first ≡ folder plan → ⊥) → OnlyMadeAt link.now last.caller.first last.caller.front)
+        → NoneElseFoldsAt link.now plan result.caller.limit result.caller.front }
+    ensures folds { (plan : Plan) → last.caller.first ≡ folder plan
+        → AreFoldedAt link.now (folder plan) (last.folding.is_short_of_memory ≡ false) plan.folds.items last.folding.events.items last.caller.front
+        last.folding.too_many
+        → AreFoldedAt link.now (folder plan) (result.folding.is_short_of_memory ≡ false) plan.folds.items result.folding.events.items
+        result.caller.front result.folding.too_many }
+{
+    entries_look_back();
+    let mut caller = work.caller;
+    let Ok(()) = link.gather(&mut caller, last.caller) else {
+        unreachable!()
+    };
+    Work {
+        caller,
+        too_soon: work.too_soon + last.too_soon,
+        folding: last.folding,
+    }
+}
+
+/// Makes all calls of the plan at once, each list in a thread of its own, and answers what was recorded (this project's own).
+///
+/// With N lists of arrivals, callers 1 to N send them, N + 1 makes the departures, N + 2 the updates, N + 3 the changes and
+/// N + 4 the folds, each in the order of its list, with `gate.before` and `gate.after` around each call. An update that is too
+/// soon, and a fold of more events than the tail holds, are counted and passed over.
+///
+/// # Errors
+///
+/// `BadPlan` before anything else, where the plan is not sound; `Opening` where the link is not opened; `Thread` where a worker's
+/// thread could not be started, whatever the others met; then `Memory`, where a fold or the list of all events had none. All
+/// workers that were started have ended then. `Gap` never comes: no event is lost between folds and tail.
+pub fn storm<R: Threads + Wait + Sync, G: Gate + Sync>(
+    rt: &R,
+    alloc: Global,
+    plan: &Plan,
+    gate: &G,
+) -> Result<StormEnd, StormFault>
+    ensures bad_plan { (result ≡ Err StormFault.BadPlan) ↔ (IsSound plan.now → ⊥) }
+    ensures refused { IsSound plan.now → (why : LinkRefusal) → link_refusal plan.now.limits plan.now.moment (senders plan.now + 5) ≡ Some why
+        → result ≡ Err (StormFault.Opening why) }
+    ensures opening { (why : LinkRefusal) → result ≡ Err (StormFault.Opening why)
+        → IsRefusedFor (link_refusal plan.now.limits plan.now.moment (senders plan.now + 5)) why }
+    ensures no_gap { result ≢ Err StormFault.Gap }
+    ensures legal { IfOk result (λ end. IsLegal (opening_of plan.now) end.events.items) }
+    ensures made { IfOk result (λ end. IsStorm plan.now end.events.items end.too_soon end.too_many) }
+    ensures registers { IfOk result (λ end. end.registers ≡ registers_after (opening_of plan.now) end.events.items) }
+    ensures stats { IfOk result (λ end. end.stats ≡ stats_after (opening_of plan.now) end.events.items) }
+{
+    if !plan.is_sound() {
+        return Err(StormFault::BadPlan);
+    }
+    let callers = plan.arrivals.len() as u16 + 5;
+    let (link, starter) = match Link::open(alloc, plan.limits, plan.params, plan.moment, callers) {
+        Ok(opened) => opened,
+        Err(why) => return Err(StormFault::Opening(why)),
+    };
+    let Some(work) = work_at_once(rt, alloc, &link, plan, gate, starter) else {
+        return Err(StormFault::Thread);
+    };
+    let Work {
+        caller,
+        too_soon,
+        folding,
+    } = work;
+    let Ok(book) = link.close(caller) else {
+        unreachable!()
+    };
+    end_of(alloc, book, too_soon, folding)
+}
+
+// What the storm ended with: the folded events, and then the tail of the closed book.
+fn end_of(
+    alloc: Global,
+    book: Book,
+    too_soon: u64,
+    folding: Folding,
+) -> Result<StormEnd, StormFault>
+    ensures fault { IfErr result (λ why. why ≡ StormFault.Memory) }
+    ensures events { IfOk result (λ end. end.events.items ≡ folding.events.items ++ book.tail) }
+    ensures registers { (events : List Event) → Tells book events → IfOk result (λ end. end.registers ≡ registers_after book.opening events) }
+    ensures stats { (events : List Event) → Tells book events → IfOk result (λ end. end.stats ≡ stats_after book.opening events) }
+    ensures counts { IfOk result (λ end. (folding.is_short_of_memory ≡ false) × (end.too_soon ≡ too_soon) × (end.too_many ≡ folding.too_many)) }
+{
+    let Folding {
+        events,
+        too_many,
+        is_short_of_memory,
+    } = folding;
+    if is_short_of_memory {
+        return Err(StormFault::Memory);
+    }
+    let mut events = events;
+    let registers = book.registers();
+    let stats = book.stats();
+    let Some(mut tail) = tail_of(alloc, book) else {
+        return Err(StormFault::Memory);
+    };
+    let Ok(()) = events.append(&mut tail) else {
+        return Err(StormFault::Memory);
+    };
+    Ok(StormEnd {
+        events,
+        too_soon,
+        too_many,
+        registers,
+        stats,
+    })
+}
+
+// The events of a book's tail, where there is memory for them.
+fn tail_of(alloc: Global, book: Book) -> Option<Vec<Event>>
+    ensures { IfSome result (λ tail. tail.items ≡ book.tail) }
+{
+    let mut book = book;
+    let held = book.tail_len() as u64;
+    match book.fold(alloc, held) {
+        Ok(tail) => Some(tail),
+        Err(_) => None,
+    }
+}

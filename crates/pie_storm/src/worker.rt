@@ -1,0 +1,280 @@
+//! The workers of a storm: each makes the calls of one caller, one after another.
+ghost use Rattle.std.specs.Prelude.{◌≡◌, ◌≢◌, ◌+◌, ◌^◌, ◌<◌, ◌≤◌, ◌-◌, ◌++◌, ℕ, [], false, Some, None, Err, IfSome, IfOk, OnErr, length, vec_len};
+ghost use Rattle.pie_link.specs.Commands.{Answers};
+ghost use Rattle.pie_link.specs.Entries.{events_in};
+ghost use Rattle.pie_storm.specs.Plans.{IsSound, commands_of, planned};
+ghost use Rattle.pie_storm.specs.Storms.{AreFoldedAt, CameAt, EachGoes, FoldsGoAt, GoesOrEnds, HasNoneAt, MadeAll, MadeFolds, OnlyMadeAt, added_by};
+ghost use Rattle.pie_storm.specs.Storms.{folder, refused_by};
+ghost use Rattle.pie_link.specs.Views.{StaysOne};
+
+use crate::gate::Gate;
+use crate::plan::Plan;
+use pie_book::{Answer, Command, Event, FoldRefusal, Refusal};
+use pie_link::{Caller, Link, Told, entries_look_back};
+use std::alloc::Global;
+use std::sync::Wait;
+
+/// What some callers of a storm did, and the caller that has all their numbers.
+#[derive(Drop)]
+pub(crate) struct Work {
+    pub(crate) caller: Caller,
+    /// How many updates were too soon.
+    pub(crate) too_soon: u64,
+    pub(crate) folding: Folding,
+}
+
+/// What folds handed out, one after another.
+#[derive(Drop)]
+pub(crate) struct Folding {
+    /// The folded events, while none is missing.
+    pub(crate) events: Vec<Event>,
+    /// How many folds were refused, since the tail held fewer events.
+    pub(crate) too_many: u64,
+    /// Whether memory was wanting for the events of a fold.
+    pub(crate) is_short_of_memory: bool,
+}
+
+impl Folding {
+    /// No folds.
+    pub(crate) fn none(alloc: Global) -> Folding
+        ensures events { result.events.items ≡ [] }
+        ensures well { (result.too_many ≡ 0) × (result.is_short_of_memory ≡ false) }
+    {
+        Folding {
+            events: Vec::new(alloc),
+            too_many: 0,
+            is_short_of_memory: false,
+        }
+    }
+
+    // Adds what one more fold handed out.
+    fn follow(&mut self, told: Told<Vec<Event>>)
+        ensures first { self.new.is_short_of_memory ≡ false → self.old.is_short_of_memory ≡ false }
+        ensures events { self.new.is_short_of_memory ≡ false → self.new.events.items ≡ self.old.events.items ++ told.answer.items }
+        ensures too_many { self.new.too_many ≡ self.old.too_many }
+    {
+        let mut answer = told.answer;
+        if self.events.append(&mut answer).is_err() {
+            self.is_short_of_memory = true;
+        }
+    }
+
+    // Takes in what one more fold was answered.
+    #[tactic(auto, unfolding(crate::specs::Storms::refused_by))]
+    fn take_in(&mut self, answer: Result<Told<Vec<Event>>, FoldRefusal>)
+        requires room { self.old.too_many < 2 ^ 64 - 1 }
+        ensures first { self.new.is_short_of_memory ≡ false → self.old.is_short_of_memory ≡ false }
+        ensures told { self.new.is_short_of_memory ≡ false → IfOk answer
+            (λ told. self.new.events.items ≡ self.old.events.items ++ told.answer.items) }
+        ensures refused { OnErr answer (self.new.events.items ≡ self.old.events.items) }
+        ensures memory { self.new.is_short_of_memory ≡ false → answer ≢ Err FoldRefusal.Memory }
+        ensures too_many { self.new.too_many ≡ self.old.too_many + refused_by answer }
+        ensures few { self.new.too_many ≤ self.old.too_many + 1 }
+    {
+        match answer {
+            Ok(told) => self.follow(told),
+            Err(FoldRefusal::TooMany { .. }) => self.too_many += 1,
+            Err(FoldRefusal::Memory) => self.is_short_of_memory = true,
+        }
+    }
+}
+
+// Asks the link for one command, and waits for the answer.
+fn ask<R: Wait>(
+    rt: &R,
+    link: &Link,
+    caller: &mut Caller,
+    command: &Command,
+) -> Result<Told<Answer>, Refusal>
+    requires own { caller.old.lock ≡ link.now }
+    ensures answered { Answers link.now caller.old command.now result caller.new }
+    ensures stays { StaysOne caller.old caller.new }
+{
+    match *command {
+        Command::Arrive {
+            moment,
+            packet,
+            word,
+        } => link.arrive(rt, caller, moment, packet, word),
+        Command::Depart { moment } => link.depart(rt, caller, moment),
+        Command::Update { moment } => link.update(rt, caller, moment),
+        Command::Reset { moment } => link.reset(rt, caller, moment),
+        Command::SetParams { moment, params } => link.set_params(rt, caller, moment, params),
+    }
+}
+
+// What an answer adds to the updates that were too soon; none where the book was full.
+#[tactic(auto, unfolding(crate::specs::Storms::added_by))]
+fn added_by(answer: &Result<Told<Answer>, Refusal>) -> Option<u64>
+    ensures value { result ≡ added_by answer.now }
+    ensures few { IfSome result (λ soon. soon ≤ 1) }
+{
+    match answer {
+        Ok(_) => Some(0),
+        Err(Refusal::TooSoon { .. }) => Some(1),
+        Err(_) => None,
+    }
+}
+
+// Makes the command of a caller that comes after `k` others, and tells how many were too soon: this one, or none. There is no
+// answer where the book was full, and then nothing was recorded.
+fn ask_next<R: Wait, G: Gate>(
+    rt: &R,
+    link: &Link,
+    plan: &Plan,
+    gate: &G,
+    caller: &mut Caller,
+    k: usize,
+) -> Option<u64>
+    requires own { caller.old.lock ≡ link.now }
+    requires one { caller.old.limit ≡ caller.old.first + 1 }
+    requires sound { IsSound plan.now }
+    requires some { k < length (commands_of plan.now caller.old.first) }
+    requires few { planned plan.now ≤ 2 ^ 20 }
+    ensures stays { StaysOne caller.old caller.new }
+    ensures few { IfSome result (λ soon. soon ≤ 1) }
+    ensures goes { (passed : ℕ) → EachGoes link.now caller.old.first (commands_of plan.now caller.old.first) k (events_in caller.old.front) passed
+        → GoesOrEnds link.now caller.old.first (commands_of plan.now caller.old.first) k (events_in caller.new.front) passed result }
+    ensures only_made { OnlyMadeAt link.now caller.old.first caller.old.front → OnlyMadeAt link.now caller.old.first caller.new.front }
+{
+    entries_look_back();
+    let number = caller.first();
+    let Some(command) = plan.command(number, k) else {
+        unreachable!()
+    };
+    gate.before(number, k as u64 + 1);
+    let answer = ask(rt, link, caller, &command);
+    gate.after(number, k as u64 + 1);
+    added_by(&answer)
+}
+
+// Makes all commands of a caller.
+fn ask_all<R: Wait, G: Gate>(
+    rt: &R,
+    alloc: Global,
+    link: &Link,
+    plan: &Plan,
+    gate: &G,
+    caller: Caller,
+) -> Work
+    requires own { caller.lock ≡ link.now }
+    requires one { caller.limit ≡ caller.first + 1 }
+    requires new { caller.front ≡ [] }
+    requires sound { IsSound plan.now }
+    requires few { planned plan.now ≤ 2 ^ 20 }
+    ensures stays { StaysOne caller result.caller }
+    ensures made { CameAt link.now plan.now caller.first (events_in result.caller.front) result.too_soon }
+    ensures few { result.too_soon ≤ 2 ^ 20 }
+    ensures only_made { OnlyMadeAt link.now caller.first result.caller.front }
+{
+    let commands = plan.commands(caller.first());
+    let mut mine = caller;
+    let mut too_soon = 0u64;
+    for k in 0..commands {
+        match ask_next(rt, link, plan, gate, &mut mine, k) {
+            Some(soon) => too_soon += soon,
+            None => {
+                return Work {
+                    caller: mine,
+                    too_soon,
+                    folding: Folding::none(alloc),
+                };
+            }
+        }
+    }
+    Work {
+        caller: mine,
+        too_soon,
+        folding: Folding::none(alloc),
+    }
+}
+
+// Makes the fold that comes after `k` others, and takes in what it hands out.
+fn fold_next<R: Wait, G: Gate>(
+    rt: &R,
+    link: &Link,
+    plan: &Plan,
+    gate: &G,
+    caller: &mut Caller,
+    folding: &mut Folding,
+    k: usize,
+)
+    requires own { caller.old.lock ≡ link.now }
+    requires one { caller.old.limit ≡ caller.old.first + 1 }
+    requires some { k < length plan.now.folds.items }
+    requires room { folding.old.too_many ≤ k }
+    ensures stays { StaysOne caller.old caller.new }
+    ensures few { folding.new.too_many ≤ k + 1 }
+    ensures none { HasNoneAt link.now caller.old.first (events_in caller.old.front)
+        → HasNoneAt link.now caller.old.first (events_in caller.new.front) }
+    ensures folds { FoldsGoAt link.now caller.old.first (folding.old.is_short_of_memory ≡ false) plan.now.folds.items k folding.old.events.items
+        caller.old.front folding.old.too_many
+        → FoldsGoAt link.now caller.old.first (folding.new.is_short_of_memory ≡ false) plan.now.folds.items (k + 1) folding.new.events.items
+        caller.new.front folding.new.too_many }
+{
+    entries_look_back();
+    let number = caller.first();
+    gate.before(number, k as u64 + 1);
+    let answer = link.fold(rt, caller, plan.folds[k]);
+    gate.after(number, k as u64 + 1);
+    folding.take_in(answer);
+}
+
+// Makes all folds.
+fn fold_all<R: Wait, G: Gate>(
+    rt: &R,
+    alloc: Global,
+    link: &Link,
+    plan: &Plan,
+    gate: &G,
+    caller: Caller,
+) -> Work
+    requires folder { caller.first ≡ folder plan.now }
+    requires own { caller.lock ≡ link.now }
+    requires one { caller.limit ≡ caller.first + 1 }
+    requires new { caller.front ≡ [] }
+    requires sound { IsSound plan.now }
+    requires few { planned plan.now ≤ 2 ^ 20 }
+    ensures stays { StaysOne caller result.caller }
+    ensures made { CameAt link.now plan.now caller.first (events_in result.caller.front) result.too_soon }
+    ensures few { result.too_soon ≤ 2 ^ 20 }
+    ensures folds { AreFoldedAt link.now (folder plan.now) (result.folding.is_short_of_memory ≡ false) plan.now.folds.items
+        result.folding.events.items result.caller.front result.folding.too_many }
+{
+    let mut mine = caller;
+    let mut folding = Folding::none(alloc);
+    for k in 0..plan.folds.len() {
+        fold_next(rt, link, plan, gate, &mut mine, &mut folding, k);
+    }
+    Work {
+        caller: mine,
+        too_soon: 0,
+        folding,
+    }
+}
+
+/// Makes all calls of a caller with one number.
+#[tactic(auto, unfolding(crate::specs::Storms::MadeAll, crate::specs::Storms::MadeFolds))]
+pub(crate) fn make_calls<R: Wait, G: Gate>(
+    rt: &R,
+    alloc: Global,
+    link: &Link,
+    plan: &Plan,
+    gate: &G,
+    caller: Caller,
+) -> Work
+    requires own { caller.lock ≡ link.now }
+    requires one { caller.limit ≡ caller.first + 1 }
+    requires new { caller.front ≡ [] }
+    requires sound { IsSound plan.now }
+    requires few { planned plan.now ≤ 2 ^ 20 }
+    ensures made { MadeAll link.now plan.now caller.first result.caller result.too_soon }
+    ensures folds { MadeFolds link.now plan.now caller.first (result.folding.is_short_of_memory ≡ false) result.folding.events.items
+        result.folding.too_many result.caller.front }
+{
+    if usize::from(caller.first()) == plan.arrivals.len() + 4 {
+        fold_all(rt, alloc, link, plan, gate, caller)
+    } else {
+        ask_all(rt, alloc, link, plan, gate, caller)
+    }
+}

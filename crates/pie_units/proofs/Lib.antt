@@ -1,0 +1,3 @@
+mod ExamplesUnits
+pub mod WordFacts
+pub mod WrittenFacts

@@ -1,0 +1,28 @@
+-- A moment as a person writes it: whole nanoseconds, or a number with a unit, such as 1.5ms.
+use Rattle.std.specs.Prelude.{ℕ, ◌≡◌, List, Result, Ok, Err}
+use Rattle.pie_units.specs.declared.moment.Moment.{Moment as Moment}
+use Rattle.pie_units.specs.declared.moment.MomentFault.{MomentFault}
+use Rattle.pie_units.specs.declared.moment.MomentFault.TheVariants.{NotAMoment, TooFine, TooLate}
+use Rattle.pie_units.specs.declared.unit.Kind.TheVariants.{Moment as AMoment}
+use Rattle.pie_units.specs.declared.written.UnitFault.{UnitFault}
+use Rattle.pie_units.specs.declared.written.UnitFault.TheVariants.{NotANumber, TooPrecise, TooGreat}
+use Rattle.pie_units.specs.Written.{value_of}
+
+-- why a text is no moment
+abbrev pub moment_fault : UnitFault → MomentFault
+moment_fault NotANumber = NotAMoment
+moment_fault TooPrecise = TooFine
+moment_fault TooGreat = TooLate
+
+abbrev pub moment_by : Result ℕ UnitFault → Result ℕ MomentFault
+moment_by (Ok number) = Ok number
+moment_by (Err why) = Err (moment_fault why)
+
+-- the moment that a text writes, in nanoseconds
+abbrev pub moment_in : List ℕ → Result ℕ MomentFault
+moment_in text = moment_by (value_of AMoment text)
+
+-- what reading a text as a moment answers
+abbrev pub WritesMoment : List ℕ → Result Moment MomentFault → Type 0
+WritesMoment text (Ok moment) = moment_in text ≡ Ok moment.0
+WritesMoment text (Err why) = moment_in text ≡ Err why

@@ -1,0 +1,83 @@
+-- Units of times, rates, sizes and packets, as `tc` has them: how many nanoseconds, bits a second, bytes or packets each is.
+use Rattle.std.specs.Prelude.{ℕ, ◌-◌, ◌*◌, ◌^◌, ◌==◌, ◌&&◌, ◌||◌, Bool, true, false, List, [], ◌∷◌, length, take, drop, Option, Some, None}
+use Rattle.std.specs.Prelude.{if◌then◌else◌, codes}
+use Rattle.std.specs.Char.{to_ascii_lowercase}
+use Rattle.pie_units.specs.declared.unit.Kind.{Kind}
+use Rattle.pie_units.specs.declared.unit.Kind.TheVariants.{Moment, Time, Rate, Size, Packets}
+
+-- a text is this word, its letters of any case
+unfoldable pub is_word : List ℕ → List ℕ → Bool
+is_word [] [] = true
+is_word [] (byte ∷ text) = false
+is_word (letter ∷ word) [] = false
+is_word (letter ∷ word) (byte ∷ text) = (to_ascii_lowercase byte == letter) && is_word word text
+
+-- a text is one of these words
+abbrev pub is_either : List ℕ → List ℕ → List ℕ → Bool
+is_either first second text = is_word first text || is_word second text
+
+abbrev pub is_any : List ℕ → List ℕ → List ℕ → List ℕ → Bool
+is_any first second third text = is_word first text || is_either second third text
+
+-- nanoseconds
+unfoldable pub time_scale : List ℕ → Option ℕ
+time_scale unit =
+    if is_any (codes "ns") (codes "nsec") (codes "nsecs") unit then Some 1
+    else if is_any (codes "us") (codes "usec") (codes "usecs") unit then Some (10 ^ 3)
+    else if is_any (codes "ms") (codes "msec") (codes "msecs") unit then Some (10 ^ 6)
+    else if is_any (codes "s") (codes "sec") (codes "secs") unit then Some (10 ^ 9)
+    else None
+
+-- what stands before `bit` or `bps`
+unfoldable pub prefix_scale : List ℕ → Option ℕ
+prefix_scale prefix =
+    if is_word (codes "") prefix then Some 1
+    else if is_word (codes "k") prefix then Some (10 ^ 3)
+    else if is_word (codes "ki") prefix then Some (2 ^ 10)
+    else if is_word (codes "m") prefix then Some (10 ^ 6)
+    else if is_word (codes "mi") prefix then Some (2 ^ 20)
+    else if is_word (codes "g") prefix then Some (10 ^ 9)
+    else if is_word (codes "gi") prefix then Some (2 ^ 30)
+    else if is_word (codes "t") prefix then Some (10 ^ 12)
+    else if is_word (codes "ti") prefix then Some (2 ^ 40)
+    else None
+
+-- bits a second: `bit` is one, and `bps`, a byte a second, is eight
+abbrev pub base_scale : List ℕ → Option ℕ
+base_scale base = if is_word (codes "bit") base then Some 1 else if is_word (codes "bps") base then Some 8 else None
+
+abbrev pub product : Option ℕ → Option ℕ → Option ℕ
+product (Some first) (Some second) = Some (first * second)
+product (Some first) None = None
+product None second = None
+
+unfoldable pub rate_scale : List ℕ → Option ℕ
+rate_scale unit = product (prefix_scale (take (length unit - 3) unit)) (base_scale (drop (length unit - 3) unit))
+
+-- bytes; the bits of a size count by 1024
+unfoldable pub size_scale : List ℕ → Option ℕ
+size_scale unit =
+    if is_either (codes "") (codes "b") unit then Some 1
+    else if is_either (codes "k") (codes "kb") unit then Some (2 ^ 10)
+    else if is_either (codes "m") (codes "mb") unit then Some (2 ^ 20)
+    else if is_either (codes "g") (codes "gb") unit then Some (2 ^ 30)
+    else if is_word (codes "kbit") unit then Some (2 ^ 7)
+    else if is_word (codes "mbit") unit then Some (2 ^ 17)
+    else if is_word (codes "gbit") unit then Some (2 ^ 27)
+    else None
+
+-- packets
+abbrev pub packets_scale : List ℕ → Option ℕ
+packets_scale unit = if is_either (codes "") (codes "p") unit then Some 1 else None
+
+-- a moment is a time whose unit may be left out: then it is in nanoseconds
+abbrev pub moment_scale : List ℕ → Option ℕ
+moment_scale unit = if is_word (codes "") unit then Some 1 else time_scale unit
+
+-- how many of the smallest a unit of this kind is
+abbrev pub scale_of : Kind → List ℕ → Option ℕ
+scale_of Moment unit = moment_scale unit
+scale_of Time unit = time_scale unit
+scale_of Rate unit = rate_scale unit
+scale_of Size unit = size_scale unit
+scale_of Packets unit = packets_scale unit

@@ -1,0 +1,13 @@
+//! Times, rates, sizes and packets as a person writes them: a number with a unit, as `tc` has them, such as `1.5ms` or `100mbit`.
+//!
+//! `read` answers exactly what a text comes to, a whole number of nanoseconds, bits a second, bytes or packets, or exactly why it comes to
+//! none (`value_of`). Nothing is rounded. `Moment::from_str` does so for a moment, whose unit may be left out (`moment_in`).
+#![tactic(auto)]
+
+mod moment;
+mod unit;
+mod written;
+
+pub use moment::{Moment, MomentFault};
+pub use unit::Kind;
+pub use written::{UnitFault, read};

@@ -1,0 +1,60 @@
+//! Moments as a person writes them: whole nanoseconds, or a number with a unit, such as `1.5ms`.
+ghost use Rattle.std.specs.Prelude.{◌≡◌};
+ghost use Rattle.pie_units.specs.Moment.{moment_fault, moment_in};
+
+use crate::unit::Kind;
+use crate::written::{UnitFault, read};
+use std::str::FromStr;
+use thiserror::Error;
+
+/// Why a text is no moment.
+#[derive(Clone, Copy, Debug, PartialEq, Eq, Error)]
+pub enum MomentFault {
+    /// It is written otherwise.
+    #[error("a moment is whole nanoseconds, or a number with ns, us, ms or s, such as 1500000, 1.5ms or 2s")]
+    NotAMoment,
+    /// It isn't a whole number of nanoseconds, or has more than 18 decimals.
+    #[error("a moment is no more precise than a nanosecond")]
+    TooFine,
+    /// It is above 2^60 - 1 nanoseconds.
+    #[error("a moment is at most 1152921504606846975 ns")]
+    TooLate,
+}
+
+/// A moment, or a length of time, in nanoseconds: at most 2^60 - 1.
+#[derive(Clone, Copy, Debug, PartialEq, Eq)]
+pub struct Moment(pub u64);
+
+/// Why a text is no moment, by what it is no number for.
+fn moment_fault(why: UnitFault) -> MomentFault
+    ensures { result ≡ moment_fault why }
+{
+    match why {
+        UnitFault::NotANumber => MomentFault::NotAMoment,
+        UnitFault::TooPrecise => MomentFault::TooFine,
+        UnitFault::TooGreat => MomentFault::TooLate,
+    }
+}
+
+/// The moment that a text writes, in nanoseconds.
+fn moment_in(text: &[u8]) -> Result<u64, MomentFault>
+    ensures { result ≡ moment_in text.now }
+{
+    match read(Kind::Moment, text) {
+        Ok(number) => Ok(number),
+        Err(why) => Err(moment_fault(why)),
+    }
+}
+
+impl FromStr for Moment {
+    type Err = MomentFault;
+
+    ghost use Rattle.pie_units.specs.Moment.{WritesMoment};
+
+    ghost from_str_gives = { λ text read. WritesMoment text read };
+
+    fn from_str(text: &str) -> Result<Moment, MomentFault> {
+        let moment = moment_in(text.as_bytes())?;
+        Ok(Moment(moment))
+    }
+}

@@ -1,0 +1,178 @@
+"""pie-fleet: audits and sums up the histories of many links, and writes one table of them."""
+import argparse
+import os
+import subprocess
+import sys
+
+from . import changes, page, table, work
+from .journal import Journal
+
+HELP = """The status is 1 where a history could not be audited, else 2 where one differs, else 3 where, with --since, a link became worse
+than a bound of --worse lets it, and else 0."""
+
+
+def arguments(words):
+    parser = argparse.ArgumentParser(prog="pie-fleet", description=__doc__, epilog=HELP)
+    parser.add_argument("histories", nargs="*", metavar="PATTERN", help="histories on storage that all workers see, as shells name files ('**' too)")
+    parser.add_argument("--list", metavar="FILE", help="histories that lie on machines of their own: lines 'host: path'")
+    parser.add_argument("--scheduler", metavar="ADDRESS", help="the Dask scheduler, such as tcp://10.0.0.1:8786; without it all is done here")
+    parser.add_argument("-o", "--output", metavar="TABLE", required=True, help="the table, as CSV; rows are kept in TABLE.journal until it is whole")
+    parser.add_argument("--force", action="store_true", help="replace a table that is there")
+    parser.add_argument("--since", metavar="TABLE", help="an earlier table: only files that are new or changed are audited, and changes are told")
+    parser.add_argument("--worse", metavar="COLUMN=BY", action="append", default=[], type=changes.Bound,
+                        help="with --since: tell a link whose column rose by more than so many of its units, or per cent ('mean_wait=20%%')")
+    parser.add_argument("--worst", metavar="COLUMN", action="append", default=[], help="print the ten links with the greatest numbers of a column")
+    parser.add_argument("--page", metavar="HTML", help="the table as a page, with links to the reports of the links")
+    parser.add_argument("--reports", metavar="FOLDER", default="reports", help="where the page looks for reports (reports)")
+    parser.add_argument("--pie", metavar="PROGRAM", default="pie", help="the program on the workers (pie)")
+    parser.add_argument("--patience", metavar="SECONDS", type=int, default=60, help="how long a file waits for a worker of its host (60)")
+    parser.add_argument("--quiet", action="store_true", help="no progress bar")
+    asked = parser.parse_args(words)
+    if not asked.histories and not asked.list:
+        parser.error("no histories: name patterns, or a list")
+    if asked.worse and not asked.since:
+        parser.error("--worse goes with --since")
+    return asked
+
+
+class Bar:
+    """How far the work is, on the error stream, where that is a terminal."""
+
+    def __init__(self, of, quiet):
+        self.of, self.done, self.shows = of, 0, not quiet and sys.stderr.isatty()
+
+    def add(self, more):
+        self.done += more
+        if self.shows:
+            filled = 40 * self.done // max(1, self.of)
+            print(f"\r[{'#' * filled}{' ' * (40 - filled)}] {self.done} of {self.of} histories", end="", file=sys.stderr, flush=True)
+
+    def end(self):
+        if self.shows:
+            print(f"\r{' ' * 80}\r", end="", file=sys.stderr, flush=True)
+
+
+def tell(line):
+    print(f"pie-fleet: {line}", file=sys.stderr)
+
+
+def listed(path):
+    """The histories of a list: (link, path, host) of each line 'host: path'."""
+    with open(path) as lines:
+        for number, line in enumerate(lines, 1):
+            line = line.rstrip("\n")
+            if line.strip() and not line.startswith("#"):
+                host, mark, name = line.partition(": ")
+                if not mark or not host.strip() or not name.strip():
+                    raise SystemExit(f"pie-fleet: {path}: line {number}: not 'host: path'")
+                yield f"{host.strip()}: {name.strip()}", name.strip(), host.strip()
+
+
+def known_of(row):
+    """The size and time of change that a row was made of, where it says what was found."""
+    if row and row.get("finding") in work.FOUND and row.get("size") not in ("", None):
+        return int(row["size"]), int(row["changed"])
+    return None
+
+
+def batches_of(files, sizes):
+    """The files in batches of some megabytes, those of one host together."""
+    from .cluster import Batch
+    batches, last, held = [], None, 0
+    for each in files:
+        link, _, host, _ = each
+        size = sizes.get(link, 2 ** 20)
+        if last is None or last.host != host or len(last.files) == 16 or held + size > 2 ** 23:
+            last, held = Batch(host, []), 0
+            batches.append(last)
+        last.files.append(each)
+        held += size
+    return batches
+
+
+def gather(asked, rows, add):
+    """Finds the histories and has their rows made; answers the links in order."""
+    client = workers = None
+    if asked.scheduler:
+        from distributed import Client
+
+        from . import cluster
+        client = Client(asked.scheduler)
+        workers = cluster.Workers(client, asked.pie, tell)
+        if workers.wanted is None:
+            raise SystemExit(f"pie-fleet: no worker has {asked.pie}")
+        fit = workers.fit(None)
+        found, missing = client.submit(work.expand, asked.histories, workers=fit, pure=False).result() if asked.histories else ([], [])
+    else:
+        found, missing = work.expand(asked.histories)
+        if work.version_of(asked.pie) is None:
+            raise SystemExit(f"pie-fleet: there is no program {asked.pie} here")
+    if missing:
+        raise SystemExit(f"pie-fleet: no file is named {missing[0]}")
+    sizes = dict(found)
+    files = [(name, name, None) for name, _ in found] + (list(listed(asked.list)) if asked.list else [])
+    files = [(link, path, host, known_of(rows.get(link))) for link, path, host in dict.fromkeys(files)]
+    bar = Bar(len(files), asked.quiet)
+
+    def done(made):
+        add(made)
+        bar.add(len(made))
+
+    if client:
+        cluster.run(client, workers, batches_of(files, sizes), done, asked.patience)
+        client.close()
+    else:
+        for each in files:
+            done([work.row_of(*each, asked.pie)])
+    bar.end()
+    return [file[0] for file in files]
+
+
+def print_worst(rows, column):
+    chosen = table.worst(rows, column)
+    print(f"the greatest {column}:")
+    for row in chosen:
+        print(f"  {row[column]:>16}  {row['link']}")
+
+
+def main(words):
+    asked = arguments(words)
+    if os.path.exists(asked.output) and not asked.force:
+        tell(f"{asked.output} is there already: --force replaces it")
+        return 1
+    before = table.read(asked.since) if asked.since else {}
+    journal = Journal(f"{asked.output}.journal")
+    rows = {**before, **journal.rows}
+
+    def add(made):
+        new = [table.with_shares(row) for row in made if not row.get("same")]
+        rows.update((row["link"], row) for row in new)
+        journal.add(new)
+
+    links = gather(asked, rows, add)
+    ended = [rows[link] for link in links]
+    table.write(asked.output, ended, asked.force)
+    journal.end()
+    if asked.page:
+        page.write(asked.page, ended, asked.reports)
+    found = changes.changes(before, ended, asked.worse) if asked.since else []
+    for line in found:
+        print(line)
+    for column in asked.worst:
+        print_worst(ended, column)
+    for row in ended:
+        if int(row["status"]) == 1:
+            tell(f"{row['link']}: {row['finding']}: {row['note']}")
+    status = table.status_of(ended)
+    return status or (3 if any(": differs for" not in line for line in found) else 0)
+
+
+if __name__ == "__main__":
+    try:
+        sys.exit(main(sys.argv[1:]))
+    except (OSError, ValueError, subprocess.SubprocessError) as fault:
+        tell(fault)
+        sys.exit(1)
+    except KeyboardInterrupt:
+        tell("stopped: the same command goes on where it was")
+        sys.exit(130)

@@ -1,0 +1,91 @@
+#!/usr/bin/env python3
+"""Holds the documents to the code: docs/MODEL.md names each definition that a clause of a public function cites, and each function,
+definition and must-fail edit of its table of rules exists; map and table of crates in docs/ARCHITECTURE.md are those of crates.txt
+(docs/map.py --check). It reads by the layout that `rt fmt` writes. Exit status 1 where something is missing.
+
+usage: tests/documents/model_and_architecture.py
+needs: nothing
+"""
+import os
+import re
+import subprocess
+import sys
+
+sys.path.insert(0, f"{os.path.dirname(os.path.abspath(__file__))}/../shared")
+from checks import NAME, ROOT  # noqa: E402
+
+DEFINED = re.compile(r"^(?:abbrev |unfoldable )?pub (?:record |data )?(\w+)|^  (?:abbrev |unfoldable )pub (\w+)", re.M)
+PUBLIC = re.compile(r'\s*pub (?:extern "C" )?fn (\w+)')
+CLAUSE_NAME = re.compile(r"^\s*(?:requires|ensures)\*? \w+ ", re.M)
+QUOTED = re.compile(r"`([^`\n]+)`")
+
+
+def crates():
+    """Of each crate of crates.txt what it stands on."""
+    lines = (ROOT / "crates.txt").read_text().splitlines()
+    pairs = [line.partition("#")[0].split(":") for line in lines if ":" in line.partition("#")[0]]
+    return {head.split()[0]: below.split() for head, below in pairs}
+
+
+def definitions(crate):
+    texts = [path.read_text() for path in (ROOT / "crates" / crate / "specs").glob("*.antt")]
+    return {name for text in texts for found in DEFINED.findall(text) for name in found if name and name != "mod"}
+
+
+def public_clauses(text):
+    """The name of each public function, and the text of its clauses."""
+    lines = text.split("\n")
+    for start, line in enumerate(lines):
+        found = PUBLIC.match(line)
+        if not found:
+            continue
+        indent = line[: len(line) - len(line.lstrip())]
+        end = start
+        while end < len(lines) and lines[end] not in (indent + "{", indent + "{}"):
+            end += 1
+        clauses = re.search(r"\b(?:requires|ensures)\b.*", "\n".join(lines[start:end]), re.S)
+        yield found[1], CLAUSE_NAME.sub("", clauses[0]) if clauses else ""
+
+
+def is_word_of(name, text):
+    return re.search(r"(?<![\w.])" + re.escape(name) + r"(?!\w)", text) is not None
+
+
+def missing_definitions(model):
+    named = " ".join(QUOTED.findall(model))
+    for crate in crates():
+        defined = definitions(crate)
+        for path in sorted((ROOT / "crates" / crate / "src").rglob("*.rt")):
+            for function, clauses in public_clauses(path.read_text()):
+                for name in sorted(defined):
+                    if is_word_of(name, clauses) and not is_word_of(name, named):
+                        yield f"docs/MODEL.md: {crate}'s `{name}`, which {function} cites"
+
+
+def missing_of_rules(model):
+    """What the table of rules names and the repository does not have."""
+    table = model[model.index("| rule | RFC 8033") :].split("\n\n")[0]
+    code = "\n".join(path.read_text() for path in (ROOT / "crates").glob("*/src/*.rt"))
+    defined = {name for crate in crates() for name in definitions(crate)}
+    for line in table.splitlines()[2:]:
+        rule, _, functions, names, edit = [it.strip() for it in line.strip("|").split("|")][:5]
+        for function in QUOTED.findall(functions):
+            if not re.search(r"\bfn " + function.split("::")[-1] + r"\b", code):
+                yield f"docs/MODEL.md: {rule}: no function {function}"
+        for name in QUOTED.findall(names):
+            if name not in defined:
+                yield f"docs/MODEL.md: {rule}: no definition {name}"
+        crate, name = edit.replace("`", "").split()
+        if not (ROOT / "crates" / crate / "must-fail" / f"{name}.edit").exists():
+            yield f"docs/MODEL.md: {rule}: no must-fail edit {name}"
+
+
+def main():
+    model = (ROOT / "docs" / "MODEL.md").read_text()
+    missing = [*missing_definitions(model), *missing_of_rules(model)]
+    print("\n".join(missing) or f"{NAME}: the model names what the code has", flush=True)
+    drawn = subprocess.run([ROOT / "docs" / "map.py", "--check"], check=False)
+    sys.exit(bool(missing) or drawn.returncode)
+
+
+main()

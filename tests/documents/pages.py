@@ -1,0 +1,169 @@
+#!/usr/bin/env python3
+"""Runs the pages: each command of README.md and of the pages of bindings/ and examples/ as it stands there, in a fresh copy of the repository,
+and follows each link of every page.
+
+An indented block is one script of bash, which begins at the top of the copy, with the files that the blocks above it on its page left. Where a
+block begins with `$ `, so does each of its commands, a script of its own, and the lines below one are what it prints. A block that begins with a
+comment of a file's name, as /* queue.c */, is that file. What stands in fences is shown alone.
+
+The copy has the program and the library that are built here, and stand-ins for `rt` and the gate, which are tried by the gate anyway: `rt try` and
+`rt run` run the built program, `rt lib` looks for the built library, `.ci/run` does nothing. With --rt it is the real `rt`. A command that isn't
+there on this machine, and one of a folder whose missing.sh says that something is, are told as NOT RUN.
+
+usage: tests/documents/pages.py [--rt] [PAGE..]
+needs: program, library
+"""
+import os
+import re
+import shutil
+import subprocess
+import sys
+import tempfile
+from pathlib import Path
+
+sys.path.insert(0, f"{os.path.dirname(os.path.abspath(__file__))}/../shared")
+from checks import NAME, ROOT, check, finish  # noqa: E402
+
+BUILT = ["crates/pie/out/pie", "crates/pie_c/out/libpie_c.a"]
+RUN = ["README.md", "bindings/**/*.md", "examples/**/*.md"]
+LINKED = [*RUN, "*.md", "docs/*.md", "bench/*.md"]
+LINK = re.compile(r"\]\(([^)\s]+)\)")
+# a stand-in for rt: in the folder of a crate whose program or library was built
+RT = """#!/usr/bin/env bash
+word=$1
+while [ $# -gt 0 ] && [ "$1" != -- ]; do shift; done
+shift
+case $word in
+    try | run) exec "out/$(basename "$PWD")" "$@" ;;
+    lib) [ -s out/*.a ] ;;
+    *) echo "tests/documents/pages.py: there is no stand-in for rt $word" >&2; exit 1 ;;
+esac
+"""
+
+
+def pages(patterns):
+    return sorted({path for pattern in patterns for path in ROOT.glob(pattern) if "out" not in path.parts and "target" not in path.parts})
+
+
+def anchor(heading):
+    """What a link calls a heading."""
+    return re.sub(r"[^\w\- ]", "", heading.lower()).strip().replace(" ", "-")
+
+
+def follow_links(page):
+    text = re.sub(r"^```.*?^```", "", page.read_text(), flags=re.M | re.S)
+    for link in LINK.findall(text):
+        place, _, part = link.partition("#")
+        if "://" in place:
+            continue
+        found = (page.parent / place).resolve() if place else page
+        check(found.exists(), f"{page.relative_to(ROOT)}: a link to {link}, which is not there")
+        if part and found.suffix == ".md" and found.exists():
+            headings = {anchor(it) for it in re.findall(r"^#+ (.*)", found.read_text(), re.M)}
+            check(part in headings, f"{page.relative_to(ROOT)}: a link to {link}, and {found.name} has no such heading")
+
+
+def blocks(text):
+    """The indented blocks of a page, without their indent."""
+    text = re.sub(r"^```.*?^```$", "", text, flags=re.M | re.S)
+    found, block, was_empty = [], [], True
+    for line in [*text.splitlines(), "the end"]:
+        if line.startswith("    ") and (block or was_empty):
+            block.append(line[4:])
+        elif block and line.strip():
+            found.append("\n".join(block).strip("\n"))
+            block = []
+        elif block:
+            block.append("")
+        was_empty = not line.strip()
+    return found
+
+
+def fresh(copy, real):
+    """A copy of the repository's own files, with what was built, and the environment of its commands."""
+    listed = subprocess.run(["git", "ls-files", "-co", "--exclude-standard"], cwd=ROOT, capture_output=True, text=True, check=True).stdout
+    for name in listed.splitlines():
+        if (ROOT / name).is_file():
+            (copy / name).parent.mkdir(parents=True, exist_ok=True)
+            shutil.copy2(ROOT / name, copy / name)
+    home, tools = copy.parent / "home", copy.parent / "tools"
+    for folder in (home, tools):
+        folder.mkdir(exist_ok=True)
+    for name in BUILT:
+        (copy / name).parent.mkdir(parents=True, exist_ok=True)
+        shutil.copy2(ROOT / name, copy / name)
+    words = {**os.environ, "HOME": str(home), "CARGO_TARGET_DIR": f"{home}/target"}
+    for name in ("CARGO", "RUSTUP"):
+        words.setdefault(f"{name}_HOME", f"{Path.home()}/.{name.lower()}")
+    if not real:
+        for name, text in ((tools / "rt", RT), (copy / ".ci/run", "#!/bin/sh\n")):
+            name.parent.mkdir(exist_ok=True)
+            name.write_text(text)
+            name.chmod(0o755)
+    words["PATH"] = f"{tools}:{copy}/crates/pie/out:{words['PATH']}"
+    return words
+
+
+def commands(block):
+    """Of a block of commands each with what it has to print, None where the page doesn't say."""
+    if not block.startswith("$ "):
+        return [(block, None)]
+    parts = re.split(r"^\$ ", block, flags=re.M)[1:]
+    return [(command, printed) for command, _, printed in (part.partition("\n") for part in parts)]
+
+
+def missing(command, copy, words):
+    """What this machine lacks of what a command calls, or nothing: by the missing.sh of a folder that it names, and of other commands by `type`."""
+    for word in re.sub(r"#.*", "", command).split():
+        place = copy / word.strip("()")
+        for folder in (place, place.parent):
+            if "/" in word and copy in folder.parents and (folder / "missing.sh").exists():
+                done = subprocess.run([folder / "missing.sh"], env=words, capture_output=True, text=True, check=False)
+                if done.returncode:
+                    return " ".join(done.stdout.replace("missing: ", "").split())
+    for word in re.findall(r"(?:^|[;&|(])\s*([\w-]+)(?=\s|$)", re.sub(r"#.*", "", command), re.M):
+        if subprocess.run(["bash", "-c", f"type {word}"], env=words, capture_output=True, check=False).returncode:
+            return word
+    return ""
+
+
+def run_page(page, copy, words):
+    name, count = page.relative_to(ROOT), 0
+    for block in blocks(page.read_text()):
+        is_file = re.match(r"/\* ([\w.]+) \*/\n", block)
+        if is_file:
+            (copy / is_file[1]).write_text(block + "\n")
+            continue
+        count += 1
+        for command, printed in commands(block):
+            lacks = missing(command, copy, words)
+            done = lacks or subprocess.run(["bash", "-eo", "pipefail", "-c", command], cwd=copy, env=words, stdin=subprocess.DEVNULL,
+                                           capture_output=True, text=True, check=False)
+            # a script that lacks a command ends so
+            if not lacks and done.returncode == 127:
+                lacks = " ".join(re.findall(r"([\w-]+): command not found", done.stderr))
+            if lacks:
+                print(f"NOT RUN: {NAME}: {name}: {command.splitlines()[0]}: for want of {lacks}")
+                continue
+            check(done.returncode == 0, f"{name}: `{command}` ends with status {done.returncode}:\n{done.stdout[-2000:]}{done.stderr[-2000:]}")
+            if printed is not None:
+                check(done.stdout.strip() == printed.strip(), f"{name}: `{command}` prints\n{done.stdout}and not\n{printed}")
+    print(f"{NAME}: {name}: {count} blocks of commands")
+
+
+def main():
+    words = sys.argv[1:]
+    real = "--rt" in words
+    chosen = [Path(it).resolve() for it in words if it != "--rt"]
+    for page in pages(LINKED):
+        follow_links(page)
+    with tempfile.TemporaryDirectory() as work:
+        for page in chosen or pages(RUN):
+            copy = Path(work) / "repository"
+            environment = fresh(copy, real)
+            run_page(page, copy, environment)
+            shutil.rmtree(copy)
+    finish()
+
+
+main()

@@ -1,0 +1,398 @@
+#!/usr/bin/env python3
+"""Holds include/pie.h and the Rust declarations (bindings/rust/src) to the source of the library (crates/pie_c/src): structs with the
+order, names and widths of their fields; functions with the order, names and widths of their parameters; codes, ECN fields, the version.
+The ranges, defaults and tables of rates that comments tell are compared with one another, docs/FORMATS.md and docs/PARAMETERS.md, the orders in which
+calls refuse with the source. Exit status 1 where something differs.
+
+usage: tests/libraries/header.py [ROOT]           compares, in this repository or in another folder
+       tests/libraries/header.py --probes [ROOT]  writes a program in C that asks the library for each number of the header's comments
+needs: nothing
+"""
+import re
+import sys
+from fractions import Fraction
+from pathlib import Path
+
+# names in the source and what pie.h calls them
+TYPES = {"PieParams": "pie_params", "PieState": "pie_state", "PieUpdated": "pie_updated"}
+RUST_TYPES = {"Params": "pie_params", "State": "pie_state", "RawUpdated": "pie_updated"}
+PARAMETERS = {("pie_arrive", "bits"): "ecn"}
+CODES = {"DONE": ["PIE_DONE", "PIE_ENQUEUE"], "OVER_BYTES": ["PIE_BYTES"], "OVER_PACKETS": ["PIE_PACKETS"]}
+ECN = {"NotEct": "PIE_NOT_ECT", "Ect1": "PIE_ECT1", "Ect0": "PIE_ECT0", "Ce": "PIE_CE"}
+REFUSALS = {"Moment": "PIE_BAD_MOMENT", "Size": "PIE_BAD_SIZE", "TooSoon": "PIE_TOO_SOON", "Params": "PIE_BAD_PARAMS",
+            "State": "PIE_BAD_STATE", "Queue": "PIE_BAD_QUEUE"}
+VERDICTS = {"Enqueue": "PIE_ENQUEUE", "Mark": "PIE_MARK", "Early": "PIE_EARLY", "Bytes": "PIE_BYTES", "Packets": "PIE_PACKETS"}
+PROFILES = {"One": "PIE_ALWAYS_ON", "Two": "PIE_ON_AND_OFF"}
+
+NUMBER = r"\d+(?:\.\d+)?(?:\^\d+)?(?: \* \d+\^\d+)?(?: - \d+)?"
+
+
+def value(text):
+    """The number that a comment writes as 2^60 - 1 or 8.5 * 10^12."""
+    total = Fraction(1)
+    minuend, _, subtrahend = text.partition(" - ")
+    for factor in minuend.split(" * "):
+        base, _, power = factor.partition("^")
+        total *= Fraction(base) ** int(power or 1)
+    return total - int(subtrahend or 0)
+
+
+def numbers(text):
+    return [value(it) for it in re.findall(NUMBER, text)]
+
+
+def bound(text):
+    """What a comment says of a number's range: the least and the greatest, None where it says none."""
+    for pattern, found in ((rf"({NUMBER}) to ({NUMBER})", lambda a, b: (value(a), value(b))),
+                           (rf"a power of two from ({NUMBER}) to ({NUMBER})", lambda a, b: (value(a), value(b))),
+                           (rf"at most ({NUMBER})", lambda a: (0, value(a))),
+                           (rf"below (\d{NUMBER[3:]})", lambda a: (0, value(a) - 1))):
+        match = re.search(pattern, text)
+        if match:
+            return found(*match.groups())
+    return None
+
+
+def default(text):
+    """The default in a comment's brackets, in nanoseconds where it is told in milliseconds."""
+    match = re.search(rf"\(({NUMBER})( ms)?[;)]", text)
+    return value(match[1]) * (10**6 if match[2] else 1) if match else None
+
+
+def one_line(text):
+    return " ".join(text.split())
+
+
+def commented(text, pattern):
+    """Of each line by this pattern its groups, and the comment that follows in the line or goes on below it."""
+    whole = re.compile(pattern + r",?;?\s*(?:/\*(.*?)\*/)?", re.S)
+    return [(*match.groups()[:-1], one_line(match[match.lastindex] if match.groups()[-1] else "")) for match in whole.finditer(text)]
+
+
+class Header:
+    """What include/pie.h declares."""
+
+    def __init__(self, text):
+        self.text = text
+        bare = re.sub(r"/\*.*?\*/", "", text, flags=re.S)
+        self.structs = {}
+        for name, body in re.findall(r"struct (\w+) \{(.*?)\};", bare, re.S):
+            self.structs[name] = [declaration_of_c(it) for it in body.split(";")[:-1]]
+        enums = " ".join(re.findall(r"enum \{(.*?)\};", bare, re.S))
+        self.constants = {name: int(number) for name, number in re.findall(r"(\w+) = (\d+)", enums)}
+        self.functions = {}
+        for result, name, inside in re.findall(r"^(void|uint\d+_t|struct \w+) (pie_\w+)\(([^)]*)\);", bare, re.M):
+            self.functions[name] = (plain_c(result), [declaration_of_c(it) for it in inside.split(",")])
+        self.comments = {}
+        for name, body in re.findall(r"struct (\w+) \{(.*?)\n\};", text, re.S):
+            self.comments[name] = {field: comment for _, field, comment in commented(body, r"((?:struct )?\w+) (\w+);")}
+        self.codes = {name: comment for name, _, comment in commented(text, r"(PIE_\w+) = (\d+)")}
+        self.defines = dict(re.findall(r"#define (PIE_\w+) (?:UINT\d+_C\()?\"?([\w.]+)", text))
+
+
+def declaration_of_c(text):
+    """Type and name of a field or a parameter."""
+    before, _, name = one_line(text).rpartition(" ")
+    return plain_c(before + "*" * name.count("*")), name.lstrip("*")
+
+
+def plain_c(text):
+    """A type of C in the form in which all are compared."""
+    text = re.sub(r"uint(\d+)_t", r"u\1", one_line(text).replace("struct ", ""))
+    if text.endswith("*"):
+        text = text.rstrip("* ")
+        return "&" + text[6:] if text.startswith("const ") else "&mut " + text
+    return text
+
+
+def plain_rust(text, names):
+    for name, plain in names.items():
+        text = re.sub(rf"\b{name}\b", plain, text)
+    return text
+
+
+class Rust:
+    """What a source in Rust or Rattle declares for C."""
+
+    def __init__(self, text, names, exported):
+        self.text = text
+        self.structs, self.docs = {}, {}
+        for name, body in re.findall(r"#\[repr\(C\)\]\s*(?:#\[[^\]]*\]\s*)*(?:pub(?:\(crate\))? )?struct (\w+) \{(.*?)\n\}", text, re.S):
+            fields = re.findall(r"((?:\s*///[^\n]*\n)*)\s*(?:pub )?(\w+): (\w+),", body)
+            self.structs[names.get(name, name)] = [(plain_rust(kind, names), field) for _, field, kind in fields]
+            self.docs[names.get(name, name)] = {field: one_line(doc.replace("///", "")) for doc, field, _ in fields}
+        self.functions = {}
+        for name, inside, result in re.findall(exported + r"fn (pie_\w+)\(([^)]*)\)(?: -> (\w+))?", text):
+            pairs = [it.split(": ") for it in map(one_line, inside.split(",")) if it]
+            pairs = [pair for field, kind in pairs for pair in ([(field, "&char"), ("length", "size_t")] if kind == "&[u8]" else [(field, kind)])]
+            self.functions[name] = (plain_rust(result, names) or "void",
+                                    [(plain_rust(kind, names), PARAMETERS.get((name, field), field)) for field, kind in pairs])
+
+
+def shown(it):
+    """A value in the form in which a difference is told."""
+    if isinstance(it, dict):
+        return "; ".join(f"{name} {shown(inner)}" for name, inner in it.items())
+    if isinstance(it, (tuple, list)):
+        return "(" + ", ".join(shown(inner) for inner in it) + ")"
+    return str(it)
+
+
+def same(what, here, there, other="in crates/pie_c/src"):
+    if isinstance(here, dict) and isinstance(there, dict):
+        names = [name for name in {**there, **here} if here.get(name) != there.get(name)]
+        here, there = {it: here.get(it) for it in names}, {it: there.get(it) for it in names}
+    if here != there:
+        yield f"{what}: {shown(here)}, and {other} {shown(there)}"
+
+
+def compare_declarations(where, declared, source, all_functions):
+    for name, fields in source.structs.items():
+        yield from same(f"{where}: {name}", declared.structs.get(name), fields)
+    for name, function in source.functions.items():
+        if all_functions or name in declared.functions:
+            yield from same(f"{where}: {name}", declared.functions.get(name), function)
+    for name in [*declared.functions.keys() - source.functions.keys(), *declared.structs.keys() - source.structs.keys()]:
+        yield f"{where}: {name}, which crates/pie_c/src does not have"
+
+
+def compare_constants(header, source):
+    found = dict(re.findall(r"const ([A-Z_]+): u32 = (\d+);", source.text))
+    if "DONE" not in found or "BAD_PROFILE" not in found:
+        yield "crates/pie_c/src: no codes were found"
+    named = {name: int(number) for code, number in found.items() for name in CODES.get(code, ["PIE_" + code])}
+    ecn = {ECN[name]: int(number) for number, name in re.findall(r"(\d) => Some\(Ecn::(\w+)\)", source.text)}
+    if len(ecn) != 4:
+        yield "crates/pie_c/src: no ECN fields were found"
+    own = {"PIE_ALWAYS_ON": 1, "PIE_ON_AND_OFF": 2}
+    yield from same("include/pie.h: constants", header.constants, {**named, **ecn, **own})
+
+
+def compare_rust_enums(rust, header):
+    for name, meanings in (("Ecn", ECN), ("Profile", PROFILES)):
+        body = re.search(rf"enum {name} \{{(.*?)\n\}}", rust, re.S)
+        found = {meanings.get(variant): int(number) for variant, number in re.findall(r"(\w+) = (\d+),", body[1] if body else "")}
+        yield from same(f"bindings/rust: {name}", found, {it: header.constants.get(it) for it in meanings.values()}, "in include/pie.h")
+    for what, meanings, pattern in (("refusals", REFUSALS, r"(\d+)(?:, Some\(parameter\)\))? => (?:Err\()?Refusal::(\w+)"),
+                                    ("verdicts", VERDICTS, r"(\d+) => Ok\(Verdict::(\w+)\)")):
+        found = {meanings.get(name): int(number) for number, name in re.findall(pattern, rust)}
+        yield from same(f"bindings/rust: {what}", found, {it: header.constants.get(it) for it in meanings.values()}, "in include/pie.h")
+
+
+def compare_methods(rust, source):
+    """The names of the parameters of each safe method in Rust, and those that it hands on."""
+    for name, (_, parameters) in source.functions.items():
+        wanted = [field for _, field in parameters]
+        method = re.search(rf"pub fn {name[4:]}\(\s*&mut self,(.*?)\)", rust, re.S)
+        if method:
+            found = ["state", *re.findall(r"(\w+):", method[1])]
+            yield from same(f"bindings/rust: State::{name[4:]}", found, wanted)
+        for handed in re.findall(rf"unsafe \{{ {name}\((?:self|&mut \w+), ([^)]*)\)", rust):
+            found = ["state", *(it.replace(" as u32", "") for it in handed.split(", "))]
+            yield from same(f"bindings/rust: what {name} is handed", found, wanted)
+
+
+def compare_ranges(header, rust, formats):
+    """The ranges and defaults of the comments, beside docs/FORMATS.md and the Rust documentation."""
+    rows = {}
+    for names, told, given in re.findall(r"^\| (`[a-z].*?) \| (.*?) \| ([\d, ]+) \|", formats, re.M):
+        for name, number in zip(re.findall(r"`(\w+)`", names), given.split(", ")):
+            rows[name] = (bound(told), int(number))
+    comments = header.comments.get("pie_params", {})
+    told = {it: (bound(text), default(text)) for it, text in comments.items()}
+    yield from same("include/pie.h: range and default", told, rows, "in docs/FORMATS.md")
+    for struct, fields in header.comments.items():
+        for field, text in fields.items():
+            if bound(text) and struct in rust.docs:
+                doc = rust.docs[struct].get(field, "")
+                told = (bound(text), default(text))
+                yield from same(f"bindings/rust: {field}", (bound(doc), default(doc)), told, "in include/pie.h")
+
+
+def compare_limits(header):
+    """The constants and the words of pie_text, beside the comments of the codes."""
+    params, codes = header.comments.get("pie_params", {}), header.codes
+    for name, number in (("PIE_MAX_MOMENT", numbers(codes["PIE_BAD_MOMENT"])[-1]), ("PIE_ONE", bound(header.comments["pie_state"]["prob"])[1]),
+                         ("PIE_MAX_BYTES", bound(params["limit_bytes"])[1]), ("PIE_MAX_SIZE", numbers(codes["PIE_BAD_SIZE"])[-1])):
+        yield from same(f"include/pie.h: {name}", int(header.defines.get(name, 0)), int(number), "in its comments")
+    texts = dict(re.findall(r"case (PIE_\w+):\s*return \"([^\"]*)\";", header.text))
+    for name, comment in codes.items():
+        if header.constants.get(name, 0) > 100:
+            yield from same(f"include/pie.h: pie_text of {name}", numbers(texts.get(name, "")), numbers(comment), "in its comment")
+    for name in ("queued", "size"):
+        told = bound(re.search(rf"\*   {name} (.*)", header.text)[1])
+        wanted = (1, numbers(codes["PIE_BAD_SIZE"])[-1]) if name == "size" else (0, numbers(codes["PIE_BAD_QUEUE"])[0])
+        yield from same(f"include/pie.h: {name} of pie_arrive", told, wanted, "in the comments of the codes")
+
+
+def refusals_in(source):
+    """Of each call the codes that it refuses by, in the order of its body: pie_arrive's stand in `arrive`, an opening's in `open`."""
+    codes = {}
+    for name, body in re.findall(r"^(?:pub extern \"C\" )?fn (\w+)\(.*?^\{\n(.*?)^\}", source.text, re.S | re.M):
+        codes[name] = ["PIE_" + code for code in dict.fromkeys(re.findall(r"\b(BAD_\w+|TOO_SOON)\b", body))]
+    orders = {name: codes[name] or codes.get(name[4:], []) for name in codes if name.startswith("pie_")}
+    opening = codes.get("open", [])
+    return {**orders, "pie_open_with": opening, "pie_open": [code for code in opening if code != "PIE_BAD_PROFILE"]}
+
+
+def compare_refusals(header, rust, source):
+    """The order of refusals that comments and documentation tell, beside that of the source."""
+    orders = {name: codes for name, codes in refusals_in(source).items() if codes and name != "pie_check_state"}
+    told = {}
+    for comment, name in re.findall(r"/\*((?:(?!\*/).)*?)\*/\n(?:uint32_t|struct \w+|void) (pie_\w+)\(", header.text, re.S):
+        listed = re.search(r"Refused(?:, in this order)?: ([A-Z_, ]+)\.", one_line(comment.replace("\n *", "\n")))
+        if listed:
+            told[name] = listed[1].split(", ")
+    yield from same("include/pie.h: the order of refusals", told, orders)
+    told = {}
+    for listed, name in re.findall(r"/// # Errors\s*/// (?:In this order: )?([`\w, ]+)\.\s*pub fn (\w+)", rust):
+        told["pie_" + name] = [REFUSALS.get(it) for it in re.findall(r"`(\w+)`", listed)]
+    # an ECN field or a profile out of its range can't be said in Rust
+    wanted = {name: [it for it in codes if it not in ("PIE_BAD_ECN", "PIE_BAD_PROFILE")] for name, codes in orders.items()}
+    yield from same("bindings/rust: the order of refusals", told, {**wanted, "pie_check": ["PIE_BAD_STATE"]})
+
+
+def compare_numbers(header, source):
+    """The numbers of the parameters, which pie_check_params answers."""
+    told = re.search(r"number of the first parameter out of its range: (.*?)\.", one_line(header.text.replace("\n *", "\n")))
+    listed = {name: int(number) for number, name in re.findall(r"(\d) (\w+)", told[1] if told else "")}
+    numbered = {re.sub(r"(?<=.)([A-Z])", r"_\1", name).lower(): int(number) for name, number in re.findall(r"Field::(\w+) => (\d+)", source.text)}
+    yield from same("include/pie.h: the numbers of the parameters", listed, numbered)
+    yield from same("include/pie.h: the order of the parameters", [name for _, name in header.structs.get("pie_params", [])], list(numbered))
+
+
+def compare_rates(header, sizes):
+    """The tables of rates, and from which rate on a default holds less than the default target."""
+    limit, most = (int(it) for it in (default(header.comments["pie_params"]["limit_bytes"]), bound(header.comments["pie_params"]["limit_bytes"])[1]))
+    units = {"Mbit/s": 10**6, "Gbit/s": 10**9}
+    for where, row in (("include/pie.h", r"\*\s+(\d+) ([MG]bit/s) +(\d+) +(\d+)"), ("docs/PARAMETERS.md", r"\| (\d+) ([MG]bit/s) \| (\d+) \| (\d+)")):
+        rows = re.findall(row, header.text if where == "include/pie.h" else sizes)
+        if len(rows) < 6:
+            yield f"{where}: the table of rates was not found"
+        for number, unit, wanted, chosen in rows:
+            rate, chosen = int(number) * units[unit], int(chosen)
+            by_rate = min(rate // 40, most)
+            good = {max(by_rate, limit)} if where == "include/pie.h" else {by_rate, 2}
+            if int(wanted) * 8 * 1000 != rate * 15 or chosen not in good:
+                yield f"{where}: the table of rates at {number} {unit}"
+    for bytes_held, rate in re.findall(r"default of (\d+) bytes is 15 ms at ([\d.]+) Mbit/s", header.text):
+        if abs(int(bytes_held) * 8 / 0.015 / 10**6 / float(rate) - 1) > 0.01:
+            yield f"include/pie.h: {bytes_held} bytes are not 15 ms at {rate} Mbit/s"
+
+
+def compare_versions(header, root):
+    """The version is PIE_VERSION of include/pie.h; wherever else it has to stand, it is that."""
+    version = header.defines.get("PIE_VERSION")
+    sources = sorted((root / "crates").glob("*/src/**/*.rt"))
+    program = [str(it.relative_to(root)) for it in sources if "const VERSION: &str" in it.read_text()]
+    for path, pattern in (*((it, r'const VERSION: &str = "(.*?)"') for it in program), ("bindings/rust/Cargo.toml", r'^version = "(.*?)"'),
+                          ("bindings/rust/Cargo.lock", r'^name = "juniperbowls"\nversion = "(.*?)"'), ("man/pie.1", r'^\.TH PIE 1 "" "pie (.*?)"'),
+                          ("README.md", r"^Version (\d[\w.]*\w) has"), ("CHANGELOG.md", r"^## .*?(\d+\.\d+\.\d+)")):
+        if (root / path).exists():
+            found = re.search(pattern, (root / path).read_text(), re.M)
+            if not found or found[1] != version:
+                yield f"{path}: version {found and found[1]}, and in include/pie.h {version}"
+
+
+def read_source(folder, pattern):
+    return "\n".join(path.read_text() for path in sorted(folder.rglob(pattern)) if not path.stem.startswith("tests"))
+
+
+def differences(root):
+    header = Header((root / "include/pie.h").read_text())
+    source = Rust(read_source(root / "crates/pie_c/src", "*.rt"), TYPES, r'pub extern "C" ')
+    rust_text = read_source(root / "bindings/rust/src", "*.rs")
+    rust = Rust(rust_text, RUST_TYPES, r"(?<!pub )")
+    if len(source.functions) < 10 or len(source.structs) != 3:
+        yield "crates/pie_c/src: its functions and structs were not found"
+    yield from compare_declarations("include/pie.h", header, source, True)
+    yield from compare_declarations("bindings/rust", rust, source, False)
+    yield from compare_constants(header, source)
+    yield from compare_rust_enums(rust_text, header)
+    yield from compare_methods(rust_text, source)
+    formats = (root / "docs/FORMATS.md").read_text()
+    yield from compare_ranges(header, rust, formats)
+    yield from compare_rates(header, (root / "docs/PARAMETERS.md").read_text())
+    yield from compare_refusals(header, rust_text, source)
+    yield from compare_numbers(header, source)
+    yield from compare_limits(header)
+    yield from compare_versions(header, root)
+
+
+PROBES = """/* Written by tests/libraries/header.py: each number of the comments of include/pie.h, asked of the library. */
+#include "pie.h"
+#include <stdio.h>
+#include <string.h>
+#define CHECK(c) do { if (!(c)) { fprintf(stderr, "include/pie.h tells another number: %%s\\n", #c); failed = 1; } } while (0)
+static uint32_t param(uint64_t *field, struct pie_params *params, uint64_t number) {
+    uint64_t before = *field;
+    *field = number;
+    uint32_t bad = pie_check_params(params);
+    *field = before;
+    return bad;
+}
+static uint32_t state(uint64_t *field, struct pie_state *pie, uint64_t number) {
+    uint64_t before = *field;
+    *field = number;
+    uint32_t code = pie_check_state(pie);
+    *field = before;
+    return code;
+}
+static struct pie_state pie;
+static uint32_t arrive(uint32_t size, uint32_t ecn, uint64_t queued) { return pie_arrive(&pie, queued, size, 1, ecn, 0, 0); }
+static uint32_t read(const char *text) { uint64_t time; return pie_read_time(text, strlen(text), &time); }
+int main(void) {
+    int failed = 0;
+    struct pie_params p;
+    pie_default_params(&p);
+    CHECK(pie_open(&pie, &p, 0) == PIE_DONE);
+%s
+    return failed;
+}
+"""
+
+
+def probes(header):
+    lines = []
+    for number, (name, text) in enumerate(header.comments["pie_params"].items(), 1):
+        least, most = (int(it) for it in bound(text))
+        lines.append(f"p.{name} == {int(default(text))}u")
+        lines += [f"param(&p.{name}, &p, {it}u) == 0" for it in (least, most)]
+        lines += [f"param(&p.{name}, &p, {it}u) == {number}" for it in (least - 1, most + 1) if it >= 0]
+        if "power of two" in text:
+            lines += [f"param(&p.{name}, &p, {3 * least}u) == {number}", f"param(&p.{name}, &p, {2 * least}u) == 0"]
+    for name, text in header.comments["pie_state"].items():
+        if bound(text):
+            most = int(bound(text)[1])
+            lines += [f"state(&pie.{name}, &pie, {most}u) == PIE_DONE", f"state(&pie.{name}, &pie, {most + 1}u) == PIE_BAD_STATE"]
+    told = {name: [int(it) for it in numbers(text)] for name, text in header.codes.items()}
+    least, most = told["PIE_BAD_SIZE"]
+    lines += [f"arrive({it}, 0, 0) < 100 && pie_depart(&pie, {it}, 0, 0) == PIE_DONE" for it in (least, most)]
+    lines += [f"arrive({it}, 0, 0) == PIE_BAD_SIZE && pie_depart(&pie, {it}, 0, 0) == PIE_BAD_SIZE" for it in (least - 1, most + 1)]
+    ecn, queued = told["PIE_BAD_ECN"][0], told["PIE_BAD_QUEUE"][0]
+    lines += [f"arrive(1, {ecn}, 0) < 100", f"arrive(1, {ecn + 1}, 0) == PIE_BAD_ECN"]
+    lines += [f"arrive(1, 0, {queued}u) < 100", f"arrive(1, 0, {queued + 1}u) == PIE_BAD_QUEUE"]
+    lines += [f"pie_depart(&pie, 1, {queued}u, 0) == PIE_DONE", f"pie_depart(&pie, 1, {queued + 1}u, 0) == PIE_BAD_QUEUE"]
+    for profile in (0, 1, 2, 3):
+        lines.append(f"pie_open_with(&pie, &p, 0, {profile}) == {'PIE_DONE' if profile in told['PIE_BAD_PROFILE'] else 'PIE_BAD_PROFILE'}")
+    decimals, most = told["PIE_TOO_PRECISE"][-1], told["PIE_TOO_GREAT"][-1]
+    lines += [f"read(\"0.{'0' * more}s\") == {code}" for more, code in ((decimals, "PIE_DONE"), (decimals + 1, "PIE_TOO_PRECISE"))]
+    lines += [f"read(\"{it}ns\") == {code}" for it, code in ((most, "PIE_DONE"), (most + 1, "PIE_TOO_GREAT"))]
+    moment = told["PIE_BAD_MOMENT"][-1]
+    lines += [f"pie_empty(&pie, {moment + 1}u) == PIE_BAD_MOMENT", f"pie_empty(&pie, {moment}u) == PIE_DONE"]
+    return PROBES % "\n".join(f"    CHECK({line});" for line in lines)
+
+
+def main():
+    words = sys.argv[1:]
+    wants_probes = words[:1] == ["--probes"]
+    root = Path((words[1:] if wants_probes else words) and words[-1] or Path(__file__).resolve().parents[2])
+    if wants_probes:
+        print(probes(Header((root / "include/pie.h").read_text())))
+        return
+    found = list(differences(root))
+    print("\n".join(found) or "tests/libraries/header.py: include/pie.h and the Rust declarations are those of crates/pie_c/src")
+    sys.exit(bool(found))
+
+
+main()

@@ -1,0 +1,101 @@
+#!/usr/bin/env bash
+# Takes the library as a package: installs it into a temporary folder, and from an empty folder builds the README's example over it by
+# pkg-config, in C11 and C++17 with warnings as errors, and a Rust program that depends on bindings/rust; runs them; installs below
+# DESTDIR as packagers do; and installs the program, where it was built. What is missing here is told on a line that begins with NOT RUN.
+#
+# usage: tests/libraries/package.sh
+# needs: library, program
+set -eu
+cd "$(dirname "$0")/../.."
+repository=$PWD
+work=$(mktemp -d)
+trap 'rm -rf "$work"' EXIT
+warnings="-Wall -Wextra -Wconversion -Wshadow -pedantic -Werror"
+wanted="done (of an arrival: queue the packet); the next update is due at 30000000 ns"
+
+not_run() {
+    echo "NOT RUN: tests/libraries/package.sh: $1"
+}
+
+fail() {
+    echo "tests/libraries/package.sh: $1" >&2
+    exit 1
+}
+
+# expect NAME WANTED CMD..: a command that prints this line
+expect() {
+    local name=$1 line=$2 found
+    shift 2
+    found=$("$@") || fail "$name ended with status $?"
+    [ "$found" = "$line" ] || fail "$name printed '$found'"
+    echo "tests/libraries/package.sh: $name runs"
+}
+
+version=$(sed -n 's/^#define PIE_VERSION "\(.*\)"$/\1/p' include/pie.h)
+[ -e crates/pie_c/out/libpie_c.a ] || (cd crates/pie_c && rt lib) > /dev/null
+prefix=$work/prefix
+./install.sh "$prefix" library > "$work/installed"
+while read -r file; do
+    [ -s "$file" ] || fail "$file was not installed"
+done < "$work/installed"
+mkdir "$work/empty"
+
+# the README's example in C: the block that includes pie.h
+awk '/^    #include "pie.h"/ {inside = 1} inside && /^[^ ]/ {exit} inside {sub(/^    /, ""); print}' README.md > "$work/empty/example.c"
+grep -q pie_update "$work/empty/example.c" || fail "the README has no example in C"
+export PKG_CONFIG_PATH=$prefix/lib/pkgconfig
+if ! command -v pkg-config > /dev/null; then
+    not_run "no pkg-config here, so nothing was built over the installed library"
+else
+    expect "pkg-config --modversion" "$version" pkg-config --modversion pie_c
+    for compiler in "${CC:-cc} -std=c11" "${CXX:-c++} -x c++ -std=c++17"; do
+        if ! command -v "${compiler%% *}" > /dev/null; then
+            not_run "no ${compiler%% *} here, so the README's example was not built by it"
+            continue
+        fi
+        # shellcheck disable=SC2046,SC2086
+        (cd "$work/empty" && $compiler $warnings $(pkg-config --cflags pie_c) -c -o example.o example.c &&
+            ${compiler%% *} -o example example.o $(pkg-config --libs pie_c)) || fail "$compiler does not build the README's example"
+        expect "the README's example by $compiler" "$wanted" "$work/empty/example"
+    done
+fi
+
+# a program in Rust that depends on the crate, over the installed library: named by PIE_C_PREFIX, then found by pkg-config
+if command -v cargo > /dev/null && command -v cc > /dev/null && [ "$(rustc --version | cut -d. -f2)" -ge 82 ]; then
+    mkdir -p "$work/program/src"
+    cp -r bindings/rust "$work/juniperbowls"
+    rm -rf "$work/juniperbowls/target"
+    printf '%s\n' '[package]' 'name = "program"' 'version = "0.1.0"' 'edition = "2021"' '[dependencies]' \
+        'juniperbowls = { path = "../juniperbowls" }' > "$work/program/Cargo.toml"
+    printf '%s\n' 'fn main() -> Result<(), Box<dyn std::error::Error>> {' \
+        '    let pie = juniperbowls::State::open(&juniperbowls::Params::for_rate(100_000_000), 5)?;' \
+        '    println!("{} {}", juniperbowls::VERSION, pie.due());' '    Ok(())' '}' > "$work/program/src/main.rs"
+    expect "a Rust program over PIE_C_PREFIX" "$version 15000005" env PIE_C_PREFIX="$prefix" CARGO_TARGET_DIR="$work/target" \
+        cargo run --quiet --offline --manifest-path "$work/program/Cargo.toml"
+    if command -v pkg-config > /dev/null; then
+        expect "a Rust program over pkg-config" "$version 15000005" env -u PIE_C_PREFIX CARGO_TARGET_DIR="$work/target" \
+            cargo run --quiet --offline --manifest-path "$work/program/Cargo.toml"
+    fi
+    if env -u PIE_C_PREFIX PKG_CONFIG_PATH= PKG_CONFIG_LIBDIR=/nowhere CARGO_TARGET_DIR="$work/target" cargo run --quiet --offline \
+        --manifest-path "$work/program/Cargo.toml" 2> "$work/refused" > /dev/null; then
+        fail "a Rust program was built without the library"
+    fi
+    grep -q "libpie_c.a isn't here" "$work/refused" || fail "cargo does not say that the library is missing: $(cat "$work/refused")"
+else
+    not_run "no cargo (1.82 or later) and C compiler here, so no Rust program was built over the installed library"
+fi
+
+# below DESTDIR, as packagers do: the same files, and the pkg-config file names the prefix alone
+DESTDIR=$work/stage ./install.sh /usr library > /dev/null
+(cd "$work/stage/usr" && find . -type f | sort) > "$work/staged"
+(cd "$prefix" && find . -type f | sort) | cmp - "$work/staged" || fail "other files below DESTDIR"
+grep -qx "prefix=/usr" "$work/stage/usr/lib/pkgconfig/pie_c.pc" || fail "the pkg-config file below DESTDIR names another prefix"
+if ./install.sh relative > /dev/null 2>&1 || ./install.sh "$work/it" nothing > /dev/null 2>&1; then
+    fail "install.sh takes a relative prefix, or a part that is not there"
+fi
+if [ -e "$repository/crates/pie/out/pie" ]; then
+    ./install.sh "$prefix" program > "$work/installed"
+    expect "the installed program" "pie $version" "$prefix/bin/pie" --version
+else
+    not_run "crates/pie/out/pie was not built, so the program was not installed"
+fi

@@ -1,0 +1,144 @@
+#!/usr/bin/env python3
+"""Tries wrong headers and wrong bindings: each edit below is made in a copy of include/ and bindings/, and tests/libraries/header.py, the rows
+in C or the rows in Rust have to refuse it. It needs the library (`rt lib` in crates/pie_c), a C compiler and cargo, and takes some
+minutes; .ci/run leaves it out. Exit status 1 where an edit passes everything.
+
+usage: tests/libraries/wrong_headers.py [NAME..]    NAME: a word of the edits to try
+needs: library, a request
+"""
+import os
+import re
+import shutil
+import subprocess
+import sys
+import tempfile
+from pathlib import Path
+
+ROOT = Path(__file__).resolve().parents[2]
+HEADER, CRATE = "include/pie.h", "bindings/rust/src/"
+ARRIVE = "uint64_t queued, uint32_t size, uint32_t room, uint32_t ecn, uint64_t word"
+
+# of each: a name, the file, and in pairs what is replaced, which the file has once, and what by
+EDITS = [
+    ("room and ecn exchanged", HEADER, "uint32_t room, uint32_t ecn,", "uint32_t ecn, uint32_t room,"),
+    ("text and length exchanged", HEADER, "pie_read_time(const char *text, size_t length", "pie_read_time(size_t length, const char *text"),
+    ("a text's number in 32 bits", HEADER, "uint64_t *nanoseconds", "uint32_t *nanoseconds"),
+    ("another code of a text", HEADER, "PIE_TOO_GREAT = 116 ", "PIE_TOO_GREAT = 117 "),
+    ("a comment: more decimals", HEADER, "or has more than 18 decimals */", "or has more than 19 decimals */"),
+    ("left and moment exchanged", HEADER, "uint64_t left, uint64_t moment", "uint64_t moment, uint64_t left"),
+    ("queued and word exchanged", HEADER, ARRIVE, ARRIVE.replace("queued", "it").replace("word", "queued").replace("it,", "word,")),
+    ("ECT values exchanged", HEADER, "PIE_ECT1 = 1, PIE_ECT0 = 2", "PIE_ECT1 = 2, PIE_ECT0 = 1"),
+    ("an ecn of 8 bits", HEADER, "uint32_t ecn,", "uint8_t ecn,"),
+    ("a size of 16 bits, arriving", HEADER, "uint32_t size, uint32_t room", "uint16_t size, uint32_t room"),
+    ("a size of 16 bits, departing", HEADER, "uint32_t size, uint64_t left", "uint16_t size, uint64_t left"),
+    ("a room of 16 bits", HEADER, "uint32_t room,", "uint16_t room,"),
+    ("a queue of 32 bits", HEADER, "uint64_t queued, uint32_t size", "uint32_t queued, uint32_t size"),
+    ("a word of 32 bits", HEADER, "uint64_t word,", "uint32_t word,"),
+    ("a profile of 8 bits", HEADER, "uint32_t profile", "uint8_t profile"),
+    ("a verdict of 8 bits", HEADER, "uint32_t pie_arrive", "uint8_t pie_arrive"),
+    ("parameters that may change", HEADER, "pie_set_params(struct pie_state *state, const ", "pie_set_params(struct pie_state *state, "),
+    ("alpha and beta exchanged", HEADER, "uint64_t alpha; ", "uint64_t beta; ", "uint64_t beta; ", "uint64_t alpha; "),
+    ("last and accu exchanged", HEADER, "uint64_t last; ", "uint64_t accu; ", "uint64_t accu; ", "uint64_t last; "),
+    ("due and delay exchanged", HEADER, "uint64_t due; ", "uint64_t delay; ", "uint64_t delay; ", "uint64_t due; "),
+    ("two codes exchanged", HEADER, "PIE_BAD_ECN = 111", "PIE_BAD_ECN = 112", "PIE_BAD_QUEUE = 112", "PIE_BAD_QUEUE = 111"),
+    ("two verdicts exchanged", HEADER, "PIE_MARK = 1", "PIE_MARK = 2", "PIE_EARLY = 2", "PIE_EARLY = 1"),
+    ("a comment: sizes from 0", HEADER, "a size outside 1 to 65535 */", "a size outside 0 to 65535 */"),
+    ("a comment: an accumulated probability of 8", HEADER, "below 8.5 * 10^12", "below 8 * 10^12"),
+    ("a comment: a target of 1", HEADER, "reference delay, 2 to", "reference delay, 1 to"),
+    ("a comment: another default", HEADER, "2 to 10^10 ns (15 ms;", "2 to 10^10 ns (20 ms;"),
+    ("a comment: later moments", HEADER, "a moment above 2^60 - 1 */", "a moment above 2^62 - 1 */"),
+    ("a comment: a larger queue", HEADER, "this packet, at most 2^30", "this packet, at most 2^32"),
+    ("a text: an ECN field of 4", HEADER, "an ECN field above 3\"", "an ECN field above 4\""),
+    ("a comment: another limit at 100 Mbit/s", HEADER, "187500           2500000", "187500            250000"),
+    ("a comment: the default is 15 ms at another rate", HEADER, "15 ms at 140 Mbit/s", "15 ms at 1400 Mbit/s"),
+    ("a comment: sizes looked at before moments", HEADER, "PIE_BAD_MOMENT, PIE_BAD_SIZE, PIE_BAD_ECN", "PIE_BAD_SIZE, PIE_BAD_MOMENT, PIE_BAD_ECN"),
+    ("a comment: parameters numbered otherwise", HEADER, "1 target, 2 t_update", "1 t_update, 2 target"),
+    ("another latest moment", HEADER, "1152921504606846975", "1152921504606846976"),
+    ("another version", HEADER, 'PIE_VERSION "0.1.0"', 'PIE_VERSION "0.2.0"'),
+    ("due at the last update", HEADER, "return state->last + state->params.t_update;", "return state->last;"),
+    ("a limit of 20 ms", HEADER, "rate / 40 + (rate % 40", "rate / 400 + (rate % 400"),
+    ("Rust: an empty that resets", CRATE + "state.rs", "{ pie_empty(self", "{ pie_reset(self"),
+    ("Rust: a reset that does nothing", CRATE + "state.rs", "{ pie_reset(self", "{ pie_empty(self"),
+    ("Rust: a set_params that keeps alpha", CRATE + "state.rs", "done_with(unsafe { pie_set_params(self",
+     "let params = &Params { alpha: self.params.alpha, ..*params };\n        done_with(unsafe { pie_set_params(self"),
+    ("Rust: a due of 32 bits", CRATE + "state.rs", "Ok(Updated { due, delay,", "Ok(Updated { due: u64::from(due as u32), delay,"),
+    ("Rust: a due of 32 bits where it is too soon", CRATE + "state.rs", "Err(refusal(code, due))", "Err(refusal(code, u64::from(due as u32)))"),
+    ("Rust: a due of 32 bits in the declaration", CRATE + "library.rs", "pub(crate) due: u64", "pub(crate) due: u32"),
+    ("Rust: due at the last update", CRATE + "state.rs", "self.last.wrapping_add(self.params.t_update)", "self.last"),
+    ("Rust: ECT values exchanged", CRATE + "state.rs", "Ect1 = 1", "Ect1 = 2", "Ect0 = 2", "Ect0 = 1"),
+    ("Rust: a room of 8 bits", CRATE + "library.rs", "room: u32", "room: u8"),
+    ("Rust: room and ecn exchanged", CRATE + "state.rs", "size, room, ecn as u32, word", "size, ecn as u32, room, word"),
+    ("Rust: left and moment exchanged", CRATE + "state.rs", "pie_depart(self, size, left, moment)", "pie_depart(self, size, moment, left)"),
+    ("Rust: two verdicts exchanged", CRATE + "state.rs", "Ok(Verdict::Mark)", "Ok(Verdict::Early)", "Ok(Verdict::Early)", "Ok(Verdict::Mark)"),
+    ("Rust: two refusals exchanged", CRATE + "refusal.rs", "101 =>", "102 =>", "102 =>", "101 =>"),
+    ("Rust: old delay and burst exchanged", CRATE + "state.rs", "pub old_delay: u64", "pub burst: u64",
+     "pub burst: u64,\n    /// The moment", "pub old_delay: u64,\n    /// The moment"),
+    ("Rust: two parameters exchanged", CRATE + "params.rs", "4 => Some", "5 => Some", "5 => Some", "4 => Some"),
+    ("Rust: profile one always", CRATE + "state.rs", "profile as u32) }, params", "1) }, params"),
+    ("Rust: a limit of 20 ms", CRATE + "params.rs", "div_ceil(40)", "div_ceil(400)"),
+    ("Rust: a mark is a drop", CRATE + "state.rs", "Verdict::Enqueue | Verdict::Mark)", "Verdict::Enqueue)"),
+    ("Rust: sizes looked at before moments", CRATE + "state.rs", "/// In this order: `Moment`, `Size`, `Queue`.\n    pub fn arrive",
+     "/// In this order: `Size`, `Moment`, `Queue`.\n    pub fn arrive"),
+    ("Rust: documentation with another range", CRATE + "params.rs", "1 to 65535 bytes (1024;", "1 to 65536 bytes (1024;"),
+]
+
+
+def copied(folder):
+    for name in ("include", "bindings", "crates/pie_c/src", "docs"):
+        shutil.copytree(ROOT / name, folder / name, ignore=shutil.ignore_patterns("target"))
+
+
+def refused_by(folder, prefix):
+    """What refuses the copy in this folder first, None where nothing does."""
+    library = prefix / "lib/libpie_c.a"
+    compile_c = [os.environ.get("CC", "cc"), "-Wall", "-Wextra", "-Werror", "-std=c11", "-O1", f"-I{folder}/include"]
+    (folder / "probes.c").write_text(run([sys.executable, ROOT / "tests/libraries/header.py", "--probes", folder]).stdout)
+    steps = [("tests/libraries/header.py", [sys.executable, ROOT / "tests/libraries/header.py", folder])]
+    for name, source in (("the numbers of the comments", "probes.c"), ("rows.c", "bindings/c/rows.c"), ("traps.c", "bindings/c/traps.c")):
+        program = folder / name.replace(" ", "_")
+        steps += [(name, [*compile_c, "-o", program, folder / source, library]), (name, [program])]
+    environment = {**os.environ, "PIE_C_PREFIX": str(prefix), "CARGO_TARGET_DIR": str(prefix / "target")}
+    steps.append(("the rows in Rust", ["cargo", "test", "--offline", "--tests", "--manifest-path", folder / "bindings/rust/Cargo.toml"]))
+    return next((name for name, step in steps if run(step, environment).returncode != 0), None)
+
+
+def run(command, environment=None):
+    return subprocess.run([str(it) for it in command], env=environment, capture_output=True, text=True)
+
+
+def tried(prefix, file, *pairs):
+    with tempfile.TemporaryDirectory() as folder:
+        folder = Path(folder)
+        copied(folder)
+        text = (folder / file).read_text()
+        edits = dict(zip(pairs[::2], pairs[1::2]))
+        for old in edits:
+            if text.count(old) != 1:
+                sys.exit(f"tests/libraries/wrong_headers.py: {file} has {text.count(old)} times: {old}")
+        if edits:
+            text = re.sub("|".join(map(re.escape, edits)), lambda found: edits[found[0]], text)
+        (folder / file).write_text(text)
+        return refused_by(folder, prefix)
+
+
+def main():
+    for tool in ("cargo", os.environ.get("CC", "cc")):
+        if not shutil.which(tool):
+            sys.exit(f"tests/libraries/wrong_headers.py: NOT RUN: no {tool} here")
+    passed = 0
+    with tempfile.TemporaryDirectory() as prefix:
+        prefix = Path(prefix)
+        (prefix / "lib").mkdir()
+        shutil.copy(ROOT / "crates/pie_c/out/libpie_c.a", prefix / "lib")
+        if refusal := tried(prefix, HEADER):
+            sys.exit(f"tests/libraries/wrong_headers.py: what the repository has is refused by {refusal}")
+        chosen = [edit for edit in EDITS if not sys.argv[1:] or any(word in edit[0] for word in sys.argv[1:])]
+        for name, file, *pairs in chosen:
+            refusal = tried(prefix, file, *pairs)
+            passed += refusal is None
+            print(f"{name}: {f'refused by {refusal}' if refusal else 'PASSED EVERYTHING'}", flush=True)
+    print(f"tests/libraries/wrong_headers.py: {len(chosen) - passed} of {len(chosen)} wrong headers and bindings are refused")
+    sys.exit(passed != 0)
+
+
+main()

@@ -1,0 +1,189 @@
+#!/usr/bin/env python3
+"""Damages texts, and compares what the built program makes of each, its status, its output and its error stream, with what the reader and the
+reference of tests/shared/reference_texts.py make of it: of a trace `run`; of a history `audit`, `migrate` and `explain --all --csv`. First come
+malformed texts that were written by hand, and then the richest traces and their histories, of both versions and both profiles: each is cut at
+every byte, and each of its bytes is made another, a sample of two.
+
+With `every` each byte is made each of the 255 others, and nothing else is done; with two numbers K and N behind it only each N-th place from the
+K-th on: N such runs are all.
+
+usage: tests/program/damaged_texts.py [PROGRAM [every [K N]]]      PROGRAM: crates/pie/out/pie where none is given
+needs: program, an early start"""
+import os
+import random
+import signal
+import sys
+from concurrent.futures import ProcessPoolExecutor
+
+sys.path.insert(0, f"{os.path.dirname(os.path.abspath(__file__))}/../shared")
+import reference_texts as plain  # noqa: E402
+from checks import NAME, check, finish  # noqa: E402
+from running import PROGRAM, TRACE, run  # noqa: E402
+
+# The same in version two and the second profile, whose controller the third arrival turns on.
+TRACES = [TRACE, TRACE.replace(b"open,", b"open2,2,bounded,").replace(b"100000,1000000000000", b"9000,1000000000000")]
+
+# What a command has to end with of a text.
+COMMANDS = {"run": plain.run, "audit": plain.audit, "migrate": plain.migrate, "explain --all --csv": plain.explain}
+OF_A_HISTORY = [name for name in COMMANDS if name != "run"]
+# Bytes that mean something to a reader of records.
+TELLING = b'0,\n"'
+
+
+def wanted(name, text):
+    """The status, the output and the error stream that this command has to end with."""
+    status, output, errors = COMMANDS[name](text.decode("latin-1"))
+    return status, output.encode("latin-1"), errors.encode("latin-1")
+
+
+class Streams:
+    """The standard streams of one program after another, as files in memory: a pipe each costs twice the time."""
+
+    def __init__(self):
+        self.files = [os.memfd_create(name) for name in ("input", "output", "errors")]
+
+    def ran(self, words, text):
+        """The status, the output and the error stream that these words end with of this text."""
+        for file in self.files:
+            os.ftruncate(file, 0)
+            os.lseek(file, 0, os.SEEK_SET)
+        os.pwrite(self.files[0], text, 0)
+        places = [(os.POSIX_SPAWN_DUP2, file, number) for number, file in enumerate(self.files)]
+        child = os.posix_spawn(words[0], words, os.environ, file_actions=places)
+        signal.alarm(60)
+        status = os.waitstatus_to_exitcode(os.waitpid(child, 0)[1])
+        signal.alarm(0)
+        return status, *(os.pread(file, os.fstat(file).st_size, 0) for file in self.files[1:])
+
+    def close(self):
+        for file in self.files:
+            os.close(file)
+
+
+def differing(program, names, texts):
+    """Of these texts, with their names, those of which a command ends with something else."""
+    found, streams = [], Streams()
+    for what, text in texts:
+        for name in names:
+            got, want = streams.ran([program, *name.split()], text), wanted(name, text)
+            if got != want:
+                found.append(f"{name}: {what}: {got} and not {want}")
+    streams.close()
+    return found
+
+
+def damaged(text, bytes_at, first, step):
+    """The beginnings of a text, and the text with the byte at a place made another of those that `bytes_at` gives, for each place of these."""
+    for place in range(first, len(text) + 1, step):
+        yield f"cut at {place}", text[:place]
+    for place in range(first, len(text), step):
+        for byte in sorted(bytes_at(place)):
+            if text[place] != byte:
+                yield f"byte {place} made {byte}", text[:place] + bytes([byte]) + text[place + 1 :]
+
+
+def every(_):
+    return range(256)
+
+
+def sample(place):
+    """One telling byte, and one of all."""
+    return {TELLING[place % len(TELLING)], random.Random(place).randrange(256)}
+
+
+def compare(program, bytes_at, first=0, step=1):
+    """What differs, of the traces and of their histories, at each place of these; and it says how many were compared."""
+    found = []
+    with ProcessPoolExecutor(os.cpu_count()) as pool:
+        for trace in TRACES:
+            history = wanted("run", trace)[1]
+            for names, text in ((["run"], trace), (OF_A_HISTORY, history)):
+                texts = list(damaged(text, bytes_at, first, step))
+                parts = [pool.submit(differing, program, names, texts[part::64]) for part in range(64)]
+                found += [it for part in parts for it in part.result()]
+                opening = text.split(b",")[0].decode()
+                print(f"{NAME}: {', '.join(names)}: {len(texts)} cuts and changes of a text that begins with {opening}")
+    return found
+
+
+def is_error_line(text):
+    return text.startswith(b"pie: ") and text.count(b"\n") == 1 and text.endswith(b"\n")
+
+
+def malformed():
+    """Text that is no trace: a named fault, and the history of the records before it."""
+    opened = b"open,0,4,16,100\n"
+    rows = [
+        (b"", b"pie: the first record is not an open record\n"),
+        (b"a" * 1_000_000, b"pie: the first record is not an open record\n"),
+        (opened + b"a" * 1_000_000 + b"\n", b"pie: record 2: unknown kind\n"),
+        (opened + b"depart," + b"1" * 1_000_000 + b",1\n", b"pie: record 2: not a number in range\n"),
+        (opened + b"," * 1_000_000 + b"\n", b"pie: record 2: unknown kind\n"),
+        (opened + b"depart" + b"," * 1_000_000 + b"\n", b"pie: record 2: wrong number of fields\n"),
+        (opened + b"\0\0\0\n", b"pie: record 2: unknown kind\n"),
+        (opened + b"depart,\0,1\n", b"pie: record 2: not a number in range\n"),
+        (opened + b"dep\xffart,1,1\n", b"pie: record 2: unknown kind\n"),
+        (opened + b'"depart,1,1\n' * 1000, b"pie: record 2: unknown kind\n"),
+        (opened + b'"', b"pie: record 2: unknown kind\n"),
+        (opened + b"open,0,4,16,100\n", b"pie: record 2: unknown kind\n"),
+    ]
+    for text, errors in rows:
+        output = opened if text.startswith(opened) else b""
+        got = run(["run"], text)
+        check(got == (1, output, errors), "malformed", text[:60], len(text), got[0], got[2][:100])
+        for name in OF_A_HISTORY:
+            got, want = run(name.split(), text), wanted(name, text)
+            check(got == want and is_error_line(got[2]), "malformed", name, text[:60], len(text), got[0], got[1][:100], got[2][:100], want[2])
+    history = opened + b"depart,1,9,empty\ndepart,1,10,empty\n"
+    for end in [b"\r", b"\r\n", b"\n", b"\n\n\n"]:
+        check(run(["run"], end.join([b"open,0,4,16,100", b"depart,1,9", b"depart,1,10"])) == (0, history, b""), "line ends", end)
+    check(run(["run"], b"\xef\xbb\xbf" + opened) == (0, opened, b""), "a byte order mark")
+
+
+def small():
+    """A trace and a history of four records, in which one is another, or a part of it."""
+    trace = b"open,0,4,16,100\narrive,1,10,7,1500,ect0,0\ndepart,2,25\ndepart,2,30\n"
+    lines = [b"open,0,4,16,100\n", b"arrive,1,10,7,1500,ect0,0,enqueue\n", b"depart,2,25,left,7,1500,ect0\n", b"depart,2,30,empty\n"]
+    history = b"".join(lines)
+    for same in [trace, trace.replace(b"\n", b"\r\n"), trace.replace(b"depart", b'"depart"', 1)]:
+        check(run(["run"], same) == (0, history, b""), "the history of", same)
+    got = run(["run"], trace.replace(b"ect0,0", b"ect0,18446744073709551616"))
+    check(got == (1, lines[0], b"pie: record 2: not a number in range\n"), "a word that is too great", got)
+    faults = [
+        (4, b"dep\n", b"pie: record 4: unknown kind\n"),
+        (4, b"depart,2,30\n", b"pie: record 4: wrong number of fields\n"),
+        (4, b"depart,2,30,emp\n", b"pie: record 4: unknown word\n"),
+        (4, b"depart,02,30,empty\n", b"pie: record 4: not a number in range\n"),
+        (3, b"depart,2,25,left,7,15", b"pie: record 3: wrong number of fields\n"),
+        (3, b"depart,2,25,left,7,1500,ec", b"pie: record 3: unknown word\n"),
+    ]
+    for number, line, errors in faults:
+        text = b"".join(lines[: number - 1]) + line
+        before = b"".join(lines[: number - 1])
+        migrated = before.replace(b"open,", b"open2,1,bounded,", 1)
+        explained = run(["explain", "--all"], before)[1]
+        for words, output in ((["audit"], b""), (["migrate"], migrated), (["explain", "--all"], explained)):
+            got = run(words, text)
+            check(got == (1, output, errors), words, "at", line, got)
+        for name in OF_A_HISTORY:
+            check(run(name.split(), text) == wanted(name, text), name, "at", line)
+    cut = history[: len(history) - len(lines[3]) - 1]
+    check(run(["audit"], cut) == (0, b"clean,2\n", b""), "a history without its last line feed")
+
+
+def main():
+    words = sys.argv[2:]
+    if words[:1] == ["every"]:
+        first, step = [int(word) for word in words[1:]] or (1, 1)
+        found = compare(PROGRAM, every, first - 1, step)
+    else:
+        malformed()
+        small()
+        found = compare(PROGRAM, sample)
+    for it in found[:50]:
+        check(False, it[:500])
+    check(not found, len(found), "texts differ")
+    finish()
+
+
+main()

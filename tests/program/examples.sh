@@ -1,0 +1,45 @@
+#!/usr/bin/env bash
+# Runs each trace of examples/: its history is the one beside it, byte for byte, and is audited clean, with as many events as examples/README.md
+# is about; what the page says of drops, marks, turning on and off and the reset holds. The traces are those that examples/traces.py makes,
+# where python3 is there, and each history is drawn where gnuplot is there.
+# usage: tests/program/examples.sh [PROGRAM]      PROGRAM: crates/pie/out/pie where none is given
+# needs: program
+. "$(dirname "$0")/../shared/script.sh"
+examples=$top/examples
+
+# example NAME EVENTS ENQUEUED MARKED EARLY
+example() {
+    local name=$1 events=$2 verdicts="$3 enqueued, $4 marked, $5 early"
+    "$program" run < "$examples/$name.trace" > "$work/history" || fail "$name: the run ends with $?"
+    cmp "$work/history" "$examples/$name.history" || fail "$name: another history"
+    local found
+    found=$("$program" audit < "$work/history")
+    [ "$found" = "clean,$events" ] || fail "$name: its audit is $found, and not clean,$events"
+    found=$(awk -F, '/^arrive/ { n[$8]++ } /^refused/ { n["refused"]++ }
+        END { printf "%d enqueued, %d marked, %d early", n["enqueue"], n["mark"], n["early"]
+              if (n["bytes"] + n["packets"] + n["refused"]) printf " and others" }' "$work/history")
+    [ "$found" = "$verdicts" ] || fail "$name: $found, and not $verdicts"
+    if command -v gnuplot > /dev/null; then
+        if ! PIE=$program "$examples/plot.sh" "$work/history" "$work/$name.png" 2> /dev/null || ! [ -s "$work/$name.png" ]; then
+            fail "$name: no picture"
+        fi
+    fi
+}
+
+example burst 225 99 0 0
+example overload 1033 462 0 63
+example marks 835 399 5 8
+example off_and_on 180 54 0 0
+example reset 789 431 0 19
+[ "$(sed -n 's/^shown,.*,\([01]\)$/\1/p' "$examples/off_and_on.history" | tr '\n' ' ')" = '0 1 0 ' ] ||
+    fail 'off_and_on: another course of on and off'
+[ "$(awk -F, '/^reset/ { after = 1 } /early$/ && after' "$examples/reset.history" | wc -l)" = 0 ] || fail 'reset: a drop after it'
+[ "$("$program" explain --lost < "$examples/overload.history" | grep -c 'DROPPED early')" = 63 ] || fail 'overload: not each lost packet is explained'
+if command -v python3 > /dev/null; then
+    mkdir "$work/made"
+    python3 "$examples/traces.py" "$work/made"
+    for trace in "$examples"/*.trace; do
+        cmp "$trace" "$work/made/$(basename "$trace")" || fail "$(basename "$trace") is not what traces.py makes"
+    done
+fi
+exit "$failed"

@@ -1,0 +1,171 @@
+#!/usr/bin/env bash
+# Files that the words name, which the built program reads, or writes after -o, destroying none; and the progress that it tells of a long one.
+# usage: tests/program/files.sh [PROGRAM]      PROGRAM: crates/pie/out/pie where none is given
+# needs: program
+. "$(dirname "$0")/../shared/expect.sh"
+
+# Progress, where it is asked for: on standard error alone, a line over and over, which is wiped at the end and before a fault. Unasked nothing is
+# told, since this standard error is no terminal, and nothing of a short text.
+awk 'BEGIN { print "rolling,0,4,16,1099511627776"; for (i = 1; i <= 1000000; i++) print "depart,1," i }' > "$work/long.trace"
+"$program" run "$work/long.trace" > "$work/long"
+wiped=$(printf '\r\033[K')
+for words in "run $work/long.trace" "audit $work/long" "explain --summary $work/long" "migrate $work/long"; do
+    "$program" $words > "$work/output.want" 2> "$work/errors.want"
+    "$program" $words --progress > "$work/output" 2> "$work/errors"
+    other=$(tr '\r' '\n' < "$work/errors" | sed 's/^\x1b\[K//' | grep -vE '^([0-9]+\.[0-9] million records, [0-9]+ MB(, [0-9]+ MB\/s)?)?$')
+    if [ -s "$work/errors.want" ] || ! cmp -s "$work/output" "$work/output.want" || [ -n "$other" ] || ! grep -q 'million records' "$work/errors" \
+        || [ "$(tail -c 4 "$work/errors")" != "$wiped" ]; then
+        echo "$script: $words with and without --progress: another output, or on standard error $(cat -v "$work/errors.want" "$work/errors")"
+        failed=1
+    fi
+done
+echo dep >> "$work/long.trace"
+"$program" run --progress "$work/long.trace" > "$work/output" 2> "$work/errors"
+told=$(tr '\r' '\n' < "$work/errors" | tail -n 1)
+if ! cmp -s "$work/output" "$work/long" || [ "$told" != "$(printf '\033[Kpie: record 1000002: unknown kind')" ]; then
+    echo "$script: progress before a fault: $(cat -v "$work/errors")"
+    failed=1
+fi
+rm "$work/long.trace" "$work/long"
+expect 'progress of a short trace' 0 'open,0,4,16,100\ndepart,1,9,empty\n' '' 'open,0,4,16,100\ndepart,1,9\n' run --progress
+
+# Files: what is read for one, and for -, is what is read for no word.
+printf "$trace" > "$work/trace"
+printf "$history" > "$work/history"
+printf "$changed" > "$work/changed"
+printf 'open,0,4,16,100\ndepart,1,9,empty\ndep,1,10\n' > "$work/faulty"
+printf 'open,0,4,16,100\ndepart,1,9\ndepart,1\n' > "$work/faulty.trace"
+printf "$one" > "$work/one"
+printf 'open,0,4,16,100\n' > "$work/none"
+expect 'a run of a file' 0 "$history" '' '' run "$work/trace"
+expect 'a counted run of a file' 0 "$history" 'pie: 11 events, 0 refused records\n' '' run "$work/trace" --count
+expect 'a run of -' 0 "$history" '' "$trace" run -
+expect 'a run of a file with a fault' 1 'open,0,4,16,100\ndepart,1,9,empty\n' 'pie: record 3: wrong number of fields\n' '' run "$work/faulty.trace"
+expect 'an explained file' 0 "$header$lost" '' '' explain --csv --lost "$work/history"
+expect 'an explained file that differs' 2 "${header}$begins" "$differs" '' explain "$work/changed" --csv --event=1
+expect 'a migrated file' 0 "$two" '' '' migrate "$work/one"
+expect 'an audit of a file' 0 "$work/history: clean,11\n" '' '' audit "$work/history"
+expect 'an audit of -' 0 '-: clean,11\n' '' "$history" audit -
+expect 'audits of files' 0 "$work/history: clean,11\n$work/none: clean,0\n-: clean,11\n" '' "$history" audit "$work/history" "$work/none" -
+expect 'audits of which one differs' 2 "$work/history: clean,11\n$work/changed: differs,10\n$work/none: clean,0\n" '' '' \
+    audit "$work/history" "$work/changed" "$work/none"
+expect 'audits of which one has a fault' 1 "$work/history: clean,11\n$work/none: clean,0\n" "pie: $work/faulty: record 3: unknown kind\n" '' \
+    audit "$work/history" "$work/faulty" "$work/none"
+expect 'a fault is worse than a difference' 1 "$work/changed: differs,10\n$work/none: clean,0\n" "pie: $work/faulty: record 3: unknown kind\n" '' \
+    audit "$work/changed" "$work/faulty" "$work/none"
+expect 'a difference is no better behind a fault' 1 "$work/changed: differs,10\n" "pie: $work/faulty: record 3: unknown kind\n" '' \
+    audit "$work/faulty" "$work/changed"
+expect 'standard input, twice' 1 '-: clean,11\n' 'pie: -: standard input was read already\n' "$history" audit - -
+missing="$work/missing: No such file or directory (os error 2)"
+expect 'a missing file' 1 "$work/none: clean,0\n" "pie: $missing\n" '' audit "$work/missing" "$work/none"
+for name in run migrate 'explain --all'; do
+    expect "$name of a missing file" 1 '' "pie: $missing\n" '' $name "$work/missing"
+    expect "$name of a folder" 1 '' 'pie: cannot read the input\n' '' $name "$work"
+done
+# -o: what would go to standard output goes to a new file, which stands alone: nothing is left beside it.
+made=$work/folder/made
+mkdir "$work/folder"
+
+# holds NAME [TEXT]: the file is there with this text, as printf reads it, or is not there; and beside it is nothing
+holds() {
+    [ $# = 1 ] && [ -e "$made" ] && fail "$1: the file is there"
+    [ $# = 1 ] || { printf -- "$2" | cmp - "$made" || fail "$1: the file has another text"; }
+    [ "$(find "$work/folder" -mindepth 1 ! -name made | wc -l)" = 0 ] || fail "$1: something is left: $(ls -A "$work/folder")"
+}
+
+# written NAME STATUS TEXT INPUT WORDS..: the file has this text, and standard output nothing; also in place of another, by --force
+written() {
+    local name=$1 status=$2 text=$3 input=$4
+    shift 4
+    rm -f "$made"
+    expect "$name" "$status" '' "${errors-}" "$input" "$@" -o "$made"
+    holds "$name" "$text"
+    expect "$name, again" 1 '' "pie: $made: a file is there, which --force replaces\n" "$input" "$@" -o "$made"
+    holds "$name, again" "$text"
+    printf 'older text, longer than what comes\n%.0s' 1 2 3 4 5 6 7 8 9 > "$made"
+    chmod 640 "$made"
+    expect "$name, by --force" "$status" '' "${errors-}" "$input" "$@" -o "$made" --force
+    holds "$name, by --force" "$text"
+    [ "$(stat -c %a "$made")" = 640 ] || fail "$name, by --force: another may read it than could"
+    rm "$made"
+}
+written 'a run to a file' 0 "$history" "$trace" run
+written 'a run of a file to a file' 0 "$history" '' run "$work/trace"
+written 'explanations to a file' 0 "$header$lost" "$history" explain --csv --lost
+written 'a migration to a file' 0 "$two" "$one" migrate
+errors=$differs written 'explanations up to an event that differs, to a file' 2 "${header}$begins" '' explain "$work/changed" --csv --event=1
+
+# At a fault what was written stays beside the name, and what was there is there. That of an earlier fault is kept too.
+until='this has what was written until then'
+fault='pie: record 3: wrong number of fields\n'
+begun='open,0,4,16,100\ndepart,1,9,empty\n'
+expect 'a fault, to a file' 1 '' "${fault}pie: $made.partial: $until\n" '' run "$work/faulty.trace" -o "$made"
+printf older > "$made"
+expect 'a fault, to a file that is there' 1 '' "${fault}pie: $made.partial.2: $until\n" '' run "$work/faulty.trace" --force -o "$made"
+[ "$(cat "$made")" = older ] || fail 'a fault, to a file that is there: it was replaced'
+for name in partial partial.2; do
+    printf "$begun" | cmp - "$made.$name" || fail "a fault, to a file: $name has another text"
+done
+rm "$made".*
+expect 'a fault before anything was written, to a file' 1 '' 'pie: the first record is not an open record\n' 'dep\n' run --force -o "$made"
+holds 'a fault before anything was written, to a file' older
+expect 'a mistake that is found late, to a file' 1 '' 'pie: --from is after --to: no event is at both\n' "$history" \
+    explain --all --from 2 --to 1 --force -o "$made"
+holds 'a mistake that is found late, to a file' older
+rm "$made"
+
+# What is read is never written, by whatever name: its own, another path, a hard link, a symbolic link, or as standard input.
+ln "$work/trace" "$work/hard"
+ln -s trace "$work/symbolic"
+mkdir "$work/other"
+for name in "$work/trace" "$work/./trace" "$work/other/../trace" "$work/hard" "$work/symbolic"; do
+    for words in '' --force; do
+        for command in run migrate 'explain --all'; do
+            says="pie: $name: this is what is read, and can't be written too\n"
+            expect "$command $words of a file to itself as $name" 1 '' "$says" '' $command $words "$work/trace" -o "$name"
+        done
+        "$program" run $words -o "$name" < "$work/trace" > "$work/output" 2> "$work/errors"
+        [ $? = 1 ] && [ "$(cat "$work/errors")" = "pie: $name: this is what is read, and can't be written too" ] ||
+            fail "run $words of standard input to itself as $name: $(cat "$work/errors")"
+        printf -- "$trace" | cmp -s - "$work/trace" || fail "$name: what was read was destroyed"
+    done
+done
+rm "$work/hard" "$work/symbolic"
+
+# A symbolic link to another file is there too, also where that file is not. By --force it is replaced itself.
+printf older > "$work/else"
+for there in else nowhere; do
+    ln -s "../$there" "$made"
+    expect "a link to $there" 1 '' "pie: $made: a file is there, which --force replaces\n" "$trace" run -o "$made"
+    expect "a link to $there, by --force" 0 '' '' "$trace" run -o "$made" --force
+    [ -L "$made" ] && fail "a link to $there, by --force: it was followed"
+    holds "a link to $there, by --force" "$history"
+    rm "$made"
+done
+[ "$(cat "$work/else")" = older ] && ! [ -e "$work/nowhere" ] || fail 'what a link leads to was changed'
+
+# Standard output by its names, pipes and devices are written to as they are.
+for name in /dev/stdout /dev/fd/1 /proc/self/fd/1; do
+    expect "a run to $name" 0 "$history" '' "$trace" run -o "$name"
+done
+printf 'before\n' > "$work/appended"
+printf -- "$trace" | "$program" run -o /dev/stdout >> "$work/appended" || fail 'a run to /dev/stdout, appended: no status 0'
+printf -- "before\n$history" | cmp - "$work/appended" || fail 'a run to /dev/stdout, appended: another text'
+mkfifo "$work/folder/pipe"
+cat "$work/folder/pipe" > "$work/piped" &
+expect 'a run to a pipe' 0 '' '' "$trace" run -o "$work/folder/pipe"
+wait $!
+printf -- "$history" | cmp - "$work/piped" || fail 'a run to a pipe: another text'
+rm "$work/folder/pipe"
+expect 'a run to no device' 0 '' '' "$trace" run -o /dev/null
+expect 'a run to a full device' 1 '' 'pie: cannot write the output\n' "$trace" run -o /dev/full
+holds 'pipes and devices'
+
+for name in run migrate 'explain --all'; do
+    expect "$name to a folder" 1 '' "pie: $work: Is a directory (os error 21)\n" "$one" $name -o "$work"
+    expect "$name to a folder that isn't there" 1 '' "pie: $work/no/made: No such file or directory (os error 2)\n" \
+        "$one" $name --output "$work/no/made"
+    expect "$name to no name" 1 '' 'pie: : No such file or directory (os error 2)\n' "$one" $name -o ''
+done
+expect 'an audit of a folder' 1 '' "pie: $work: cannot read the input\n" '' audit "$work"
+exit "$failed"

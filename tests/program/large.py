@@ -1,0 +1,151 @@
+#!/usr/bin/env python3
+"""Runs the built program at size, and compares all that it writes with what a line of Python says of each record: two million events,
+which are run, audited, migrated and explained; a fold of the greatest tail, 2^20 events, and folds of 5000; a tail that is full; the
+greatest queue, 65536 packets, and one packet too many; packets with the tag 0; and ten million records with a short tail. Each command holds one record, its queue and its
+tail, so it needs no memory that grows with the text: each runs with its address space limited to MEMORY bytes.
+
+usage: tests/program/large.py [PROGRAM]      PROGRAM: crates/pie/out/pie where none is given
+needs: program, a request"""
+import os
+import resource
+import subprocess
+import sys
+import tempfile
+
+sys.path.insert(0, f"{os.path.dirname(os.path.abspath(__file__))}/../shared")
+from checks import NAME, check, finish, program  # noqa: E402
+
+PROGRAM = program()
+TAIL, PACKETS, PAIRS, FOLD, MANY = 2**20, 65536, 1_000_000, 5000, 10_000_000
+# A threshold of 65536 bytes for a cycle of the departure rate, which no queue here reaches: so no delay and no probability is above 0.
+OPENING = f"0,{PACKETS},{TAIL},4194304,15000000,15000000,150000000,125,1250,1024,262144,100000000000,65536\n"
+HEADER = (
+    "number,kind,caller,moment,effective_moment,tag,size,verdict,cause,bytes,packets,delay,probability,accumulated_probability,burst_allowance,"
+    "ecn,word,waited,active,set_by,bytes_after,packets_after,delay_after,probability_after,accumulated_probability_after,burst_allowance_after,"
+    "active_after\n"
+)
+# (the tail takes 112 bytes an event, and each of two rings 48 bytes a packet at the most)
+MEMORY = 512 * 2**20
+ECNS = ("not", "ect1", "ect0", "ce")
+
+
+class Course:
+    """A trace and what has to be written of it, record by record."""
+
+    def __init__(self):
+        self.trace, self.history, self.migrated, self.explained = [f"open,{OPENING}"], [f"open,{OPENING}"], [f"open2,1,bounded,{OPENING}"], [HEADER]
+        self.events, self.waiting, self.bytes, self.next = 0, 0, 0, 0
+        self.arrived = {}
+
+    def record(self, asked, told, migrated=None):
+        self.trace.append(asked)
+        self.history.append(told)
+        self.migrated.append(migrated or told)
+
+    def arrive(self, moment, tag, size, verdict="enqueue", cause="burst_allowed"):
+        ecn = ECNS[tag % 4]
+        asked = f"arrive,{tag % 65536},{moment},{tag},{size},{ecn},{tag}"
+        self.record(f"{asked}\n", f"{asked},{verdict}\n")
+        self.arrived[tag] = moment
+        grown = (self.bytes + size, self.waiting + 1) if verdict == "enqueue" else (self.bytes, self.waiting)
+        self.explain(f"arrive,{tag % 65536},{moment},{moment},{tag},{size},{verdict},{cause}", f"{ecn},{tag},", *grown)
+
+    def depart(self, moment, tag, size):
+        asked = f"depart,7,{moment}"
+        self.record(f"{asked}\n", f"{asked},left,{tag},{size},{ECNS[tag % 4]}\n")
+        waited = moment - self.arrived.pop(tag)
+        self.explain(f"depart,7,{moment},{moment},{tag},{size},left,", f"{ECNS[tag % 4]},,{waited}", self.bytes - size, self.waiting - 1)
+
+    def explain(self, event, more, size, packets):
+        """The record of an event, which makes the queue of this size in bytes and in packets."""
+        self.events += 1
+        rest = "0,0,0,150000000"
+        self.explained.append(f"{self.events},{event},{self.bytes},{self.waiting},{rest},{more},1,,{size},{packets},{rest},1\n")
+        self.bytes, self.waiting = size, packets
+
+
+def size_of(tag):
+    return 1 + tag % 1500
+
+
+def two_million():
+    """A million packets, each of which departs before the next arrives."""
+    course = Course()
+    fold = TAIL
+    held = 0
+    for tag in range(PAIRS):
+        for step in range(2):
+            if held == fold:
+                if fold == TAIL:
+                    course.record("depart,7,1\n", f"refused,{TAIL + 2},5\n")
+                course.record(f"fold,{held}\n", f"folded,{held}\n")
+                held, fold = 0, FOLD
+            if step == 0:
+                course.arrive(2 * tag, tag, size_of(tag))
+            else:
+                course.depart(2 * tag + 1, tag, size_of(tag))
+            held += 1
+    shown = f"shown,{2 * PAIRS},{2 * PAIRS - 1},0,0,0,0,0,150000000,0,0,0"
+    course.record("show\n", f"{shown}\n", f"{shown},1\n")
+    every = sum(size_of(tag) for tag in range(PAIRS))
+    course.record("tally\n", f"tallied,{PAIRS},{PAIRS},0,0,0,0,{PAIRS},{every},0,0,0,0,{size_of(1499)},0,{PAIRS}\n")
+    course.record(f"fold,{held + 1}\n", f"refused,{len(course.trace) + 1},6\n")
+    return course
+
+
+def full_queue():
+    """As many packets as a queue can have, one more, and their departures in order."""
+    course = Course()
+    for tag in range(PACKETS):
+        course.arrive(tag, tag, 1)
+    course.arrive(PACKETS, PACKETS, 1, "packets", "no_room_in_packets")
+    for tag in range(PACKETS):
+        course.depart(PACKETS + tag, tag, 1)
+    course.arrive(2 * PACKETS, 0, 1)
+    course.record("tally\n", f"tallied,{PACKETS + 2},{PACKETS + 1},0,0,0,1,{PACKETS},{PACKETS},0,0,0,0,{PACKETS},0,{PACKETS * PACKETS}\n")
+    return course
+
+
+def ten_million(work):
+    """As many events as no tail holds: departures of an empty queue in a rolling book whose tail keeps sixteen, and the registers after them."""
+    opening = "open2,1,rolling,0,1,16,1099511627776\n"
+    history = [opening, "depart,7,1,empty\n" * MANY, f"shown,{MANY},1,0,0,0,0,0,150000000,0,0,0,1\n"]
+    compare(work, "ten million records:", ["run"], [opening, "depart,7,1\n" * MANY, "show\n"], history)
+    compare(work, "ten million records:", ["audit"], history, [f"clean,{MANY}\n"])
+
+
+def limit():
+    resource.setrlimit(resource.RLIMIT_AS, (MEMORY, MEMORY))
+
+
+def compare(work, name, words, given, wanted):
+    """What the program writes over this text, and its status and error stream."""
+    with open(f"{work}/given", "w", encoding="ascii") as file:
+        file.writelines(given)
+    with open(f"{work}/given", "rb") as file, open(f"{work}/output", "wb") as output:
+        done = subprocess.run([PROGRAM, *words], stdin=file, stdout=output, stderr=subprocess.PIPE, preexec_fn=limit, timeout=300)
+    with open(f"{work}/output", encoding="latin-1") as file:
+        text = file.read()
+    want = "".join(wanted)
+    place = next((at for at in range(min(len(text), len(want))) if text[at] != want[at]), None) if text != want else None
+    where = "" if text == want else f"other output, {len(text)} bytes and not {len(want)}, at {place}: {text[place or 0:][:80]!r}"
+    check((done.returncode, done.stderr) == (0, b"") and text == want, name, *words, done.returncode, done.stderr[:100], where)
+
+
+def main():
+    with tempfile.TemporaryDirectory() as work:
+        for name, course in (("two million events:", two_million()), ("65536 packets:", full_queue())):
+            compare(work, name, ["run"], course.trace, course.history)
+            compare(work, name, ["audit"], course.history, [f"clean,{course.events}\n"])
+            compare(work, name, ["migrate"], course.history, course.migrated)
+            compare(work, name, ["audit"], course.migrated, [f"clean,{course.events}\n"])
+            compare(work, name, ["explain", "--all", "--csv"], course.history, course.explained)
+            of_tag = [line for line in course.explained if line == HEADER or line.split(",")[5] == "0"]
+            compare(work, name, ["explain", "--tag", "0", "--csv"], course.history, of_tag)
+            compare(work, name, ["explain", "--csv", "--event", str(course.events)], course.history, [HEADER, course.explained[-1]])
+            print(f"{NAME}: {name} {len(course.trace)} records, {course.events} events")
+        ten_million(work)
+    finish()
+
+
+main()

@@ -1,0 +1,129 @@
+#!/usr/bin/env python3
+"""Holds the manual page and the completions to the program: each subcommand and each long option that `--help` tells is in man/pie.1 and in
+the completions for bash, zsh and fish, under its subcommand, and they have no others. Where bash, zsh and fish are there, what they offer is
+asked of them. Exit status 1 where something is missing or too much.
+
+usage: tests/program/manual.py [PROGRAM]      PROGRAM: crates/pie/out/pie where none is given
+needs: program
+"""
+import os
+import re
+import shutil
+import subprocess
+import sys
+
+sys.path.insert(0, f"{os.path.dirname(os.path.abspath(__file__))}/../shared")
+from checks import NAME, ROOT, program  # noqa: E402
+
+PROGRAM = program()
+failures = []
+
+
+def fail(*words):
+    failures.append(" ".join(map(str, words)))
+
+
+def output(words, **how):
+    return subprocess.run(words, stdout=subprocess.PIPE, stderr=subprocess.DEVNULL, check=False, encoding="utf-8", **how).stdout
+
+
+def section(text, name):
+    """The indented lines below the line `name:` of a help."""
+    found = re.search(rf"^{name}:\n((?: +.*\n)+)", text, re.M)
+    return found[1] if found else ""
+
+
+def told():
+    """What the program tells: of each subcommand its long options, each with whether it takes a value; "" is the program itself."""
+    top = output([PROGRAM, "--help"])
+    names = re.findall(r"^  (\w+)  ", section(top, "Commands"), re.M)
+    options = {}
+    for name in ["", *names]:
+        text = top if name == "" else output([PROGRAM, name, "--help"])
+        options[name] = {option: bool(value) for option, value in re.findall(r"--([\w-]+)( <\w+>)?", section(text, "Options"))}
+    return names, options
+
+
+def manual():
+    """The same of the manual page: sections `.SS NAME`, options `.B \\-\\-NAME` and `.BI \\-\\-NAME " N"`."""
+    text = (ROOT / "man/pie.1").read_text(encoding="utf-8")
+    parts = re.split(r"^\.SS (\w+)\n", text.split(".SH SUBCOMMANDS\n")[1].split(".SH OPTIONS\n")[0], flags=re.M)[1:]
+    names = parts[0::2]
+    tagged = re.compile(r"^\.TP\n\.B(I?) \\-\\-([\w\\-]+)", re.M)
+    options = {name: {option.replace("\\", ""): bool(value) for value, option in tagged.findall(part)} for name, part in zip(names, parts[1::2])}
+    top = text.split(".SH OPTIONS\n")[1].split(".SH EXIT")[0]
+    options[""] = {option.replace("\\", ""): bool(value) for value, option in tagged.findall(top)}
+    return names, options, text
+
+
+def bash_offers(words, last):
+    line = " ".join(f"'{word}'" for word in ["pie", *words, last])
+    script = f'source "{ROOT}/completions/pie.bash"; COMP_WORDS=({line}); COMP_CWORD={len(words) + 1}; _pie; printf "%s\\n" "${{COMPREPLY[@]}}"'
+    return set(output(["bash", "-c", script]).split())
+
+
+def fish_offers(words, last):
+    line = " ".join(["pie", *words, last])
+    text = output(["fish", "--no-config", "-c", f"source {ROOT}/completions/pie.fish; complete -C '{line}'"])
+    return {offer.split("\t")[0] for offer in text.splitlines()}
+
+
+def zsh_options(names):
+    """The options of each subcommand, from the text of its arm."""
+    text = (ROOT / "completions/_pie").read_text(encoding="utf-8")
+    arms = {}
+    for words, arm in re.findall(r"^ {8}([\w |]+)\)\n(.*?);;", text, re.M | re.S):
+        for name in words.split(" | "):
+            arms[name] = {option: bool(value) for option, value in re.findall(r"'--([\w-]+)\[[^]]*\](:[^']*)?'", arm)}
+    listed = re.findall(r"^ {8}'(\w+):", text, re.M)
+    top = {option: False for option in re.findall(r"'--([\w-]+)\[", text.split("return")[0])}
+    if listed != names:
+        fail("completions/_pie: subcommands", listed, "and not", names)
+    return {"": top, **arms}
+
+
+def compare(where, name, options, wanted):
+    if options != wanted:
+        fail(where, f"options of `pie {name}`:", options, "and not", wanted)
+
+
+def main():
+    names, wanted = told()
+    if "run" not in names or "help" not in wanted["run"]:
+        fail("what pie --help tells was not read:", names, wanted)
+    man_names, man, page = manual()
+    if man_names != names:
+        fail("man/pie.1: subcommands", man_names, "and not", names)
+    version = output([PROGRAM, "--version"]).strip()
+    if f'"{version}"' not in page:
+        fail("man/pie.1 is of another version than", version)
+    zsh = zsh_options(names)
+    for name in ["", *names]:
+        # Each subcommand has --help; the manual page says so once.
+        compare("man/pie.1:", name, {**man.get(name, {}), **({"help": False} if name else {})}, {**wanted[name], **({"help": False} if name else {})})
+        if name != "help":
+            compare("completions/_pie:", name, zsh.get(name), wanted[name])
+        words = [name] if name else []
+        if shutil.which("bash") and name != "help":
+            offers = {offer[2:] for offer in bash_offers(words, "--")}
+            compare("completions/pie.bash:", name, offers, set(wanted[name]))
+        if shutil.which("fish") and name != "help":
+            offers = {offer[2:] for offer in fish_offers(words, "--") if offer.startswith("--")}
+            compare("completions/pie.fish:", name, offers, set(wanted[name]))
+    for shell, offers in (("bash", bash_offers), ("fish", fish_offers)):
+        if shutil.which(shell) and offers([], "") - {f"--{option}" for option in wanted[""]} != set(names):
+            fail(f"completions/pie.{shell}: subcommands", offers([], ""), "and not", names)
+    if shutil.which("zsh") and subprocess.run(["zsh", "-n", ROOT / "completions/_pie"], check=False).returncode != 0:
+        fail("completions/_pie: zsh can't read it")
+    if shutil.which("man"):
+        read = ["man", "--warnings", "-l", ROOT / "man/pie.1"]
+        if subprocess.run(read, stdout=subprocess.DEVNULL, stderr=subprocess.PIPE, check=False).stderr:
+            fail("man/pie.1: man warns of it")
+    for failure in failures:
+        print(f"{NAME}:", failure)
+    if not failures:
+        print(f"{NAME}: the manual page and the completions have what --help tells")
+    return 1 if failures else 0
+
+
+sys.exit(main())

@@ -1,0 +1,58 @@
+#!/usr/bin/env bash
+# `pie params` of the built program: parameters of tc. The record is one that a run accepts, and writes again as it is.
+# usage: tests/program/params.sh [PROGRAM]      PROGRAM: crates/pie/out/pie where none is given
+# needs: program
+. "$(dirname "$0")/../shared/expect.sh"
+
+stamps='pie: time stamps have no counterpart: delays are estimated from the departure rate, as by dq_rate_estimator\n'
+# params NAME RECORD ERRORS WORDS..
+params() {
+    local name=$1 record=$2 errors=$3
+    shift 3
+    expect "$name" 0 "$record\n" "$errors" '' params --dq_rate_estimator "$@"
+    expect "a run of $name" 0 "$record\n" '' "$record\n" run
+}
+params 'the defaults of tc' 'open2,1,rolling,0,1000,1000,1099511627776,15000000,15000000,150000000,125,1250,1024,262144,0,16384' ''
+params 'what tc shows' 'open2,1,rolling,0,1000,1000,1099511627776,20000000,15000000,150000000,125,1250,1024,2500000,100000000000,16384' '' \
+    --rate 100mbit --target 20ms --limit 1000p --alpha 2 --beta 20 --tupdate 15ms --ecn
+params 'other units' 'open2,1,rolling,0,65536,65536,1099511627776,500000,1000,150000000,0,2000,1024,262144,0,16384' '' \
+    --rate 9000kbit --target 500us --limit 65536 --alpha 0 --beta 32 --tupdate 1000ns
+# (the bytes are those of the table of include/pie.h, by pie_params_for)
+for row in 10mbit:262144 100mbit:2500000 1gbit:25000000 10gbit:250000000 40gbit:1000000000 100gbit:1073741824 41bit:262144 \
+    2.5GBIT:62500000 0.1tbit:1073741824 12.5Mbps:2500000 100Mibit:2621440 1gibps:214748365 1000kbit:262144 125000kbps:25000000; do
+    record="open2,1,rolling,0,1000,1000,1099511627776,15000000,15000000,150000000,125,1250,1024,${row#*:},0,16384"
+    params "a limit at ${row%:*}" "$record" '' --rate "${row%:*}"
+done
+short='is under rate x target: the queue is full before it waits so long, and all losses are tail drops\n'
+params 'a limit that is too small' 'open2,1,rolling,0,1000,1000,1099511627776,1000000000,15000000,150000000,125,1250,1024,2500000,0,16384' \
+    "pie: limit_bytes, 2500000, $short" --rate 100mbit --target 1s
+bytemode="pie: bytemode has no counterpart: a packet's size doesn't change its chance\n"
+rounded="pie: alpha is rounded down to whole thousandths per second\npie: beta is rounded down to whole thousandths per second\n"
+params 'odd gains and bytemode' 'open2,1,rolling,0,1000,1000,1099511627776,15000000,15000000,150000000,187,1312,1024,262144,0,16384' \
+    "$bytemode$rounded" --alpha 3 --beta 21 --bytemode
+expect 'time stamps' 0 'open2,1,rolling,0,1000,1000,1099511627776,15000000,15000000,150000000,125,1250,1024,262144,0,16384\n' "$stamps" '' params
+for time in 20ms 20MS 020ms 20.0ms 20msec 20Msecs 0.02s .02sec 20000us 20000usecs 20000000ns 20000000nsecs; do
+    params "a target of $time" 'open2,1,rolling,0,1000,1000,1099511627776,20000000,15000000,150000000,125,1250,1024,262144,0,16384' '' --target "$time"
+done
+params 'decimals' 'open2,1,rolling,0,1000,1000,1099511627776,1500000,2500,150000000,125,1250,1024,262144,0,16384' '' --target 1.5ms --tupdate 2.5us --limit 1000P
+for time in 20 20m ms 20min +20ms ' 20ms' '20 ms' 2e1ms 0x14ms 20.ms . 20msecss 20mbit ''; do
+    expect "no time: $time" 1 '' 'pie: --target is a number of ns, us, ms or s, as 20ms\n' '' params --target "$time"
+done
+for rate in 100 100m 100mb 100mbyte mbit 100kmbit 100kiibit +1mbit ''; do
+    expect "no rate: $rate" 1 '' 'pie: --rate is a number of bit, kbit, mbit, gbit or tbit, or of bps, kbps and so on, as 100mbit\n' '' params --rate "$rate"
+done
+for rate in 0mbit 0bit 0.000tbps; do
+    expect "a rate of $rate" 1 '' 'pie: --rate is at least 1bit\n' '' params --rate "$rate"
+done
+expect 'a time below a nanosecond' 1 '' 'pie: --target is no more precise than a nanosecond\n' '' params --target 15000000.5ns
+expect 'a rate below a bit' 1 '' 'pie: --rate is no more precise than a bit a second\n' '' params --rate 0.0001kbit
+expect 'a part of a packet' 1 '' 'pie: --limit is a whole number of packets\n' '' params --limit 0.5p
+most='is at most 1152921504606846975, in nanoseconds, bits a second or packets\n'
+expect 'a rate that is too great' 1 '' "pie: --rate $most" '' params --rate 1152922tbit
+expect 'a time that is too great' 1 '' "pie: --target $most" '' params --target 99999999999999999999ms
+expect 'no limit' 1 '' 'pie: --limit is a number of packets, as 1000p\n' '' params --limit 1000kb
+expect 'a limit that is too great' 1 '' 'pie: --limit is 1 to 65536 packets\n' '' params --limit 65537p
+expect 'no packets' 1 '' 'pie: --limit is 1 to 65536 packets\n' '' params --limit 0
+expect 'a target that is too great' 1 '' 'pie: the parameter target is out of its range\n' '' params --target 11s
+expect 'a time above 2^64' 1 '' "pie: --tupdate $most" '''' params --tupdate 18446744073709551615s
+exit "$failed"

@@ -1,0 +1,92 @@
+#!/usr/bin/env bash
+# Storms of the built program: the plan with one packet a sender has five events, and eight senders at once end with a history that is clean,
+# whoever comes first.
+# usage: tests/program/storms.sh [PROGRAM]      PROGRAM: crates/pie/out/pie where none is given
+# needs: program, quiet
+. "$(dirname "$0")/../shared/expect.sh"
+
+"$program" storm --packets 1 > "$work/output" 2> "$work/errors"
+got=$?
+if [ "$got" != 0 ] || [ "$(head -n 1 "$work/output")" != open,0,1024,5,5 ] || [ -s "$work/errors" ] ||
+    [ "$("$program" audit < "$work/output")" != clean,5 ]; then
+    echo "$script: a storm of one packet a sender: status $got"
+    cat "$work/output" "$work/errors"
+    failed=1
+fi
+# 15 packets of 8 senders: 120 arrivals, 120 departures and 2 updates, neither of which can be too soon.
+for _ in 1 2 3; do
+    found=$("$program" storm --senders 8 --packets 15 | "$program" audit)
+    if [ "$found" != clean,242 ]; then
+        echo "$script: a storm of eight senders with 15 packets each: $found"
+        failed=1
+    fi
+done
+# 50 packets of 8 senders: 400 arrivals, 400 departures and 4 updates, of which those that come too soon are no events.
+for _ in 1 2; do
+    found=$("$program" storm --senders 8 --packets 50 --seed 7 | "$program" audit)
+    case $found in
+        clean,80[0-4]) ;;
+        *)
+            echo "$script: a storm of eight senders: $found"
+            failed=1
+            ;;
+    esac
+done
+# Each option alone, and all.
+for words in '--senders 2' '--packets 7' '--seed 0' '--senders=2 --packets=7 --seed=18446744073709551615'; do
+    "$program" storm $words > "$work/output" 2> "$work/errors"
+    got=$?
+    # (the default is a hundred packets of two senders)
+    packets=100
+    case $words in *7*) packets=7 ;; esac
+    arrivals=$(grep -c '^arrive,' "$work/output")
+    if [ "$got" != 0 ] || [ -s "$work/errors" ] || [ "$arrivals" != $((2 * packets)) ] ||
+        [ "$("$program" audit < "$work/output" | cut -d, -f1)" != clean ]; then
+        echo "$script: storm $words: status $got, $arrivals arrivals, $(cat "$work/errors")"
+        failed=1
+    fi
+done
+# Its threads run beside one another: with a hundred packets each the caller changes at least a hundred times, as --count says. It says the
+# number of events, too.
+"$program" storm --senders 8 --packets 100 --count > "$work/output" 2> "$work/errors"
+events=$("$program" audit < "$work/output")
+read -r _ told _ changes _ < "$work/errors"
+counted=$(awk -F, 'NR > 2 && $2 != last { n++ } NR > 1 { last = $2 } END { print n }' "$work/output")
+if [ "$events" != "clean,$told" ] || [ "$changes" != "$counted" ] || [ "$changes" -lt 100 ] || [ "$(wc -l < "$work/errors")" != 1 ]; then
+    echo "$script: a storm and its counts: $events, $counted changes of caller, $(cat "$work/errors")"
+    failed=1
+fi
+# Changes of the parameters and folds take part: seven changes, of which the first sets a reference delay of 5 ms and the second the default one,
+# and as many events as without the folds, which hand out half of them.
+"$program" storm --senders 8 --packets 100 --changes 7 --folds 9 > "$work/output" 2> "$work/errors"
+got=$?
+changed=$(awk -F, '$1 == "params" { print $4 }' "$work/output" | sort | uniq -c | tr -s ' \n' ' ')
+events=$("$program" audit < "$work/output")
+if [ "$got" != 0 ] || [ -s "$work/errors" ] || [ "$changed" != " 3 15000000 4 5000000 " ] ||
+    [ "$(grep -c '^arrive,' "$work/output")" != 800 ] || [ "$(grep -c '^depart,' "$work/output")" != 800 ] || [ "${events%%,*}" != clean ]; then
+    echo "$script: a storm with changes and folds: status $got, $events, changes $changed, $(cat "$work/errors")"
+    failed=1
+fi
+# At a load of 1.2 packets are marked and dropped early. (Some twenty marks come as the probability rises; where the machine is busy, and senders take
+# turns, it may pass the threshold for marks between two updates: so a storm without one is made again.)
+for _ in 1 2 3; do
+    "$program" storm --senders 4 --packets 2000 --load 120 > "$work/output" 2> "$work/errors"
+    counts=$(awk -F, '$1 == "arrive" { n[$8]++ } END { print (n["early"] > 0) (n["mark"] > 0) }' "$work/output")
+    [ "$counts" = 11 ] && break
+done
+if [ "$counts" != 11 ] || [ "$("$program" audit < "$work/output" | cut -d, -f1)" != clean ] || [ -s "$work/errors" ]; then
+    echo "$script: a storm at a load of 1.2: $counts, $(cat "$work/errors")"
+    failed=1
+fi
+# Twenty storms of eight senders with two thousand packets each: every history is audited clean.
+for seed in $(seq 20); do
+    "$program" storm --senders 8 --packets 2000 --seed "$seed" > "$work/output" 2> "$work/errors"
+    got=$?
+    found=$("$program" audit < "$work/output")
+    if [ "$got" != 0 ] || [ -s "$work/errors" ] || [ "$found" != "clean,$(($(wc -l < "$work/output") - 1))" ]; then
+        echo "$script: storm $seed: status $got, $found, $(cat "$work/errors")"
+        failed=1
+    fi
+done
+full 'a storm' storm --packets 1 < /dev/null
+exit "$failed"

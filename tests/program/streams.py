@@ -1,0 +1,119 @@
+#!/usr/bin/env python3
+"""Runs the built program with standard streams that are closed, full or broken, at a terminal, interrupted, and with words that are not
+UTF-8.
+
+usage: tests/program/streams.py [PROGRAM]      PROGRAM: crates/pie/out/pie where none is given
+needs: program"""
+import os
+import pty
+import re
+import signal
+import subprocess
+import sys
+import tempfile
+import time
+
+sys.path.insert(0, f"{os.path.dirname(os.path.abspath(__file__))}/../shared")
+from checks import check, finish  # noqa: E402
+from running import PROGRAM, READ, READERS, WRITE, hold_readers, shell  # noqa: E402
+
+
+def streams():
+    """Standard streams that are closed, full or broken. A run that has nothing to say on the error stream does not need it."""
+    for words in [["run"], *READERS.values()]:
+        name = " ".join(words)
+        good = "printf 'open,0,4,16,100\\n%s' | " % ("" if name == "run" else "depart,1,1,empty\\n")
+        check(shell(f'"$1" {name} <&-') == (1, b"", READ), name, "without standard input")
+        check(shell(f'{good} "$1" {name} >&-') == (1, b"", WRITE), name, "without standard output")
+        check(shell(f'{good} "$1" {name} >/dev/full') == (1, b"", WRITE), name, "on a full device")
+        check(shell(f'printf "dep" | "$1" {name} 2>&-') == (1, b"", b""), name, "with a fault, without standard error")
+        check(shell(f'printf "dep" | "$1" {name} 2>/dev/full') == (1, b"", b""), name, "with a fault, standard error full")
+        check(shell(f'{good} "$1" {name} 2>&-')[0] == 0, name, "without a fault, without standard error")
+        check(shell(f'"$1" {name} <&- >&- 2>&-') == (1, b"", b""), name, "without any stream")
+        check(shell(f'"$1" {name} </') == (1, b"", READ), name, "with a folder as input")
+    check(shell('"$1" storm --packets 1 <&- 2>&-')[0] == 0, "a storm without standard input and error")
+    early_end = '"$1" storm --packets 2000 | head -n 1 >/dev/null; exit ${PIPESTATUS[0]}'
+    for line in ['"$1" storm --packets 1 >&-', '"$1" storm --packets 1 >/dev/full', early_end]:
+        check(shell(line) == (1, b"", WRITE), line)
+    check(shell('"$1" run --help >/dev/full') == (1, b"", WRITE), "help on a full device")
+    check(shell('"$1" --help >&-') == (1, b"", WRITE), "help without standard output")
+    check(shell('"$1" <&- >&- 2>&-')[0] == 1, "no subcommand and no stream")
+    # (the reader of the pipe is gone long before the history has been written)
+    broken = '(printf "open,0,4,1048576,4194304\\n"; yes depart,1,1 | head -n 300000) | ("$1" run; echo $? >&3) 3>&2 | head -n 1 >/dev/null'
+    check(shell(broken)[2] == WRITE + b"1\n", "a broken pipe")
+
+
+def at_terminal(words, path, is_output_terminal):
+    """What is written to standard error, which is a terminal; standard output is one too, or written to nowhere."""
+    errors, error_end = pty.openpty()
+    output, output_end = pty.openpty()
+    with open(path, "rb") as text:
+        process = subprocess.Popen([PROGRAM, *words], stdin=text, stdout=output_end if is_output_terminal else subprocess.DEVNULL, stderr=error_end)
+    os.close(error_end)
+    os.close(output_end)
+    written = b""
+    try:
+        while piece := os.read(errors, 65536):
+            written += piece
+    except OSError:
+        pass
+    process.wait(timeout=60)
+    os.close(errors)
+    os.close(output)
+    return written
+
+
+def terminals():
+    """Progress: shown and wiped where standard error is a terminal, but not where standard output is one too and is written meanwhile."""
+    shown = re.compile(rb"(\r\x1b\[K\d+\.\d million records, \d+ MB(, \d+ MB/s)?)+\r\x1b\[K")
+    with tempfile.TemporaryDirectory() as work:
+        path = f"{work}/history"
+        with open(path, "wb") as text:
+            text.write(b"rolling,0,4,16,1099511627776\n" + b"".join(b"depart,1,%d,empty\n" % moment for moment in range(1, 800_001)))
+        rows = [(["audit"], False, True), (["audit"], True, True), (["explain", "--summary"], False, True), (["explain", "--summary"], True, False),
+                (["migrate"], False, True), (["migrate", "-o", f"{work}/made"], True, True), (["explain", "--summary", "--progress"], True, True)]
+        for words, is_output_terminal, is_shown in rows:
+            got = at_terminal(words, path, is_output_terminal)
+            check(bool(shown.fullmatch(got)) if is_shown else got == b"", "progress at a terminal", words, is_output_terminal, got[-200:])
+
+
+def interrupted():
+    """An interrupt (Ctrl-C) leaves what has the name of -o, and what was written until then beside it."""
+    opening, moments = b"rolling,0,4,16,1099511627776\n", range(1, 100_001)
+    with tempfile.TemporaryDirectory() as work:
+        made = f"{work}/made"
+        with open(made, "wb") as file:
+            file.write(b"older\n")
+        process = subprocess.Popen([PROGRAM, "run", "-o", made, "--force"], stdin=subprocess.PIPE, stderr=subprocess.PIPE)
+        process.stdin.write(opening + b"".join(b"depart,1,%d\n" % moment for moment in moments))
+        process.stdin.flush()
+        for _ in range(3000):
+            if os.path.exists(f"{made}.partial") and os.path.getsize(f"{made}.partial"):
+                break
+            time.sleep(0.01)
+        process.send_signal(signal.SIGINT)
+        process.wait(timeout=60)
+        left = {it.name: open(it, "rb").read() for it in os.scandir(work)}
+    check(process.returncode == -signal.SIGINT and left.pop("made") == b"older\n", "an interrupt", process.returncode, list(left))
+    whole = opening + b"".join(b"depart,1,%d,empty\n" % moment for moment in moments)
+    check(list(left) == ["made.partial"] and left["made.partial"] and whole.startswith(left["made.partial"]), "an interrupt leaves", list(left))
+
+
+def words():
+    for line in ['"$1" $(printf "r\\377n")', '"$1" run $(printf "\\377")']:
+        check(shell(line + " </dev/null") == (1, b"", b"pie: a word of the command line is not UTF-8\n"), line)
+    for line in ['"$1"', '"$1" runs', '"$1" run more', '"$1" run one more', '"$1" run --wrong', '"$1" ""']:
+        status, output, errors = shell(line + " </dev/null")
+        check(status == 1 and not output and errors, line)
+
+
+def main():
+    hold_readers()
+    streams()
+    terminals()
+    interrupted()
+    words()
+    finish()
+
+
+main()

@@ -1,0 +1,122 @@
+#!/usr/bin/env python3
+"""Holds `pie explain --summary` and `--every` to a computation of its own over the records of `pie explain --all --csv`: of each history of
+examples/, and of random ones by tests/shared/reference.py, the summaries in words and as CSV, of all events, of those within some moments, and of
+each period, with lengths in each way of writing them. Exit status 1 where something differs.
+
+usage: tests/program/summary.py [PROGRAM [FIRST_SEED [RUNS [STEPS]]]]      PROGRAM: crates/pie/out/pie where none is given
+needs: program
+"""
+import os
+import sys
+from itertools import compress
+
+sys.path.insert(0, f"{os.path.dirname(os.path.abspath(__file__))}/../shared")
+from checks import expect  # noqa: E402
+from explaining import LOST, hold_each, pie, records, within, written  # noqa: E402
+
+VERDICTS = {"enqueue": "queued", "mark": "queued and marked", "early": "dropped early"}
+VERDICTS |= {"bytes": "dropped, no room in bytes", "packets": "dropped, no room in packets"}
+PICKED = [f"picked_by_{how}{fate}" for how in ("sum", "word") for fate in ("", "_not_capable", "_not_below")]
+CAUSES = "no_room_in_bytes no_room_in_packets inactive burst_allowed low_delay short_queue no_probability little_accumulated".split()
+CAUSES += [*PICKED, "word_not_below"]
+
+
+def millis(time):
+    return f"{time // 10**6}.{time % 10**6:06} ms ({time} ns)"
+
+
+def share(part, whole):
+    parts = part * 10**6 // max(whole, 1)
+    return f"{part}, {parts // 10**4}.{parts % 10**4:04} %"
+
+
+def series(numbers):
+    return numbers[0] if numbers else 0, numbers[-1] if numbers else 0, max(numbers, default=0)
+
+
+def turned(rows, was, now):
+    return [int(row["effective_moment"]) for row in rows if row["active"] == was and row["active_after"] == now]
+
+
+def numbers(rows):
+    """The numbers of a summary of these records, in the order of its CSV."""
+    moments = [int(row["effective_moment"]) for row in rows]
+    arrivals = [row for row in rows if row["kind"] == "arrive"]
+    waits = [int(row["waited"]) for row in rows if row["verdict"] == "left"]
+    updates = [row for row in rows if row["kind"] == "update"]
+    # An active update takes the delay of its own moment, of which its record has the value before it.
+    delays = [int(row["delay"]) for row in updates if row["active"] == "1"]
+    probs = [int(row["probability_after"]) for row in rows]
+    found = {"events": len(rows), "first_moment": series(moments)[0], "last_moment": series(moments)[1]}
+    found |= {"arrivals": len(arrivals), "arrived_bytes": sum(int(row["size"]) for row in arrivals)}
+    found |= {verdict: sum(row["verdict"] == verdict for row in arrivals) for verdict in VERDICTS}
+    found |= {cause: sum(row["cause"] == cause for row in arrivals) for cause in CAUSES}
+    found |= {"left": len(waits), "greatest_wait": series(waits)[2], "mean_wait": sum(waits) // max(len(waits), 1)}
+    found |= {"updates": len(updates), "greatest_delay": series(delays)[2], "last_delay": series(delays)[1]}
+    found |= {"greatest_probability": series(probs)[2], "last_probability": series(probs)[1]}
+    for way, was, now in (("on", "0", "1"), ("off", "1", "0")):
+        when = turned(rows, was, now)
+        found |= {f"turned_{way}": len(when), f"first_turned_{way}": series(when)[0], f"last_turned_{way}": series(when)[1]}
+    return found
+
+
+def percent(prob):
+    return f"{prob // 10**10}.{prob % 10**10 // 10**6:04} % ({prob})"
+
+
+def in_words(n):
+    lines = [f"{n['events']} events, from {millis(n['first_moment'])} to {millis(n['last_moment'])}"]
+    lines += [f"  {n['arrivals']} arrivals, {n['arrived_bytes']} bytes"]
+    lines += [f"    {words}: {share(n[verdict], n['arrivals'])}" for verdict, words in VERDICTS.items()]
+    lines += ["  by what decided them"] + [f"    {cause}: {share(n[cause], n['arrivals'])}" for cause in CAUSES if n[cause]]
+    lines += [f"  {n['left']} packets left; they had waited at most {millis(n['greatest_wait'])},", f"    and in the mean {millis(n['mean_wait'])}"]
+    lines += [f"  {n['updates']} updates; the greatest delay was {millis(n['greatest_delay'])},", f"    and the last {millis(n['last_delay'])}"]
+    lines += [f"  the greatest probability was {percent(n['greatest_probability'])}, and the last {percent(n['last_probability'])}"]
+    for way in ("on", "off"):
+        if n[f"turned_{way}"]:
+            lines += [f"  turned {way} {n[f'turned_{way}']} times, first at {millis(n[f'first_turned_{way}'])},"]
+            lines += [f"    and last at {millis(n[f'last_turned_{way}'])}"]
+    return "".join(line + "\n" for line in lines)
+
+
+def in_csv(summaries):
+    lines = [summaries[0].keys()] + [(str(value) for value in n.values()) for n in summaries]
+    return "".join(",".join(line) + "\n" for line in lines)
+
+
+def by_period(rows, every):
+    """The numbers of each period that has a record; of one summary of nothing where there is no record."""
+    periods = [int(row["effective_moment"]) // every for row in rows]
+    return [numbers([row for row, period in zip(rows, periods) if period == wanted]) for wanted in sorted(set(periods))] or [numbers([])]
+
+
+def hold(name, history, words):
+    _, rows, moments = records(name, history)
+    length = max(moments[-1] - moments[0], 100)
+    for options, are_kept in within(moments, words):
+        kept = list(compress(rows, are_kept))
+        lost = [row for row in kept if row["verdict"] in LOST]
+        for which, some in (((), kept), (("--all",), kept), (("--lost",), lost)):
+            every = words.choice((10**6, 10**9, length // 2 + 1, length // words.randrange(3, 30) + 1))
+            period = f"--every={written(every, words)}"
+            for form, told in (((), lambda n: "".join(map(in_words, n))), (("--csv",), in_csv)):
+                expect(f"{name}: --summary {form} {which} {options}", pie(history, "--summary", *form, *which, *options), (0, told([numbers(some)]), ""))
+                got = pie(history, *options, *which, *form, period, *words.choice(((), ("--summary",))))
+                expect(f"{name}: {period} {form} {which} {options}", got, (0, told(by_period(some, every)), ""))
+
+
+def lengths():
+    """Texts that are no length of a period."""
+    history = "open,0,4,16,100\nreset,1,1500000,done\n"
+    for text in ("0", "0ms", "0.000000s"):
+        expect(f"--every {text}", pie(history, "--every", text), (1, "", "pie: --every: a period lasts at least 1 ns\n"))
+    form = "pie: --every: a moment is whole nanoseconds, or a number with ns, us, ms or s, such as 1500000, 1.5ms or 2s\n"
+    expect("--every soon", pie(history, "--summary", "--every", "soon"), (1, "", form))
+
+
+def main():
+    lengths()
+    hold_each(hold, "they are summed up as they have to be")
+
+
+main()

@@ -1,0 +1,117 @@
+#!/usr/bin/env bash
+# The words of the built program's command line: each help, each mistake, the version.
+# usage: tests/program/words.sh [PROGRAM]      PROGRAM: crates/pie/out/pie where none is given
+# needs: program
+. "$(dirname "$0")/../shared/expect.sh"
+
+expect 'a version' 0 'pie 0.1.0\n' '' '' --version
+expect 'a version, in short' 0 'pie 0.1.0\n' '' '' -V
+
+# Help is the text that is stored for it (help/NAME.txt is what `pie NAME --help` writes, and pie.txt what `pie --help` does).
+# help NAME WORDS..
+help() {
+    local want=$here/help/$1.txt
+    shift
+    "$program" "$@" < /dev/null > "$work/output" 2> "$work/errors"
+    local got=$?
+    if [ "$got" != 0 ] || [ -s "$work/errors" ] || ! cmp -s "$work/output" "$want"; then
+        echo "$script: $*: status $got, or other help:"
+        diff "$want" "$work/output"
+        cat "$work/errors"
+        failed=1
+    fi
+}
+help pie --help
+help pie -h
+help pie help
+for name in run audit explain migrate storm params; do
+    help "$name" "$name" --help
+    help "$name" "$name" -h
+    help "$name" help "$name"
+done
+
+# A mistake ends with 1, writes nothing to the output, and the first line on the error stream says what was wrong with which word, also
+# of the ninth and any later one.
+# mistake LINE WORDS..
+mistake() {
+    local line=$1
+    shift
+    "$program" "$@" < /dev/null > "$work/output" 2> "$work/errors"
+    local got=$?
+    if [ "$got" != 1 ] || [ -s "$work/output" ] || [ "$(head -n 1 "$work/errors")" != "$line" ]; then
+        echo "$script: $*: status $got, and not the mistake '$line':"
+        cat "$work/output" "$work/errors"
+        failed=1
+    fi
+}
+mistake "error: 'pie' requires a subcommand but one was not provided"
+mistake "error: unrecognized subcommand 'runs'" runs
+mistake "error: unrecognized subcommand ''" ''
+mistake "error: unrecognized subcommand 'walk'" help walk
+mistake "error: unexpected argument '--fast' found" --fast
+mistake "error: unexpected argument 'more' found" run one more
+mistake "error: unexpected argument 'more' found" migrate one more
+mistake 'pie: one: No such file or directory (os error 2)' audit one more
+for name in run audit migrate; do
+    mistake "error: unexpected argument '--wrong' found" "$name" --wrong
+    mistake "error: unexpected argument '-x' found" "$name" -x
+done
+mistake "error: invalid value '0' for '--event <N>': 0 is not in 1..18446744073709551615" explain --event 0
+mistake "error: invalid value 'one' for '--event <N>': invalid digit found in string" explain --event one
+mistake "error: unexpected argument '-1' found" explain --tag -1
+mistake "error: invalid value '18446744073709551616' for '--tag <N>': number too large to fit in target type" explain --tag 18446744073709551616
+mistake "error: a value is required for '--tag <N>' but none was supplied" explain --tag
+mistake "error: unexpected value 'yes' for '--lost' found; no more were expected" explain --lost=yes
+mistake "error: the argument '--lost' cannot be used multiple times" explain --lost --lost
+mistake "error: unexpected argument 'more' found" explain one more
+mistake "error: invalid value '1' for '--senders <N>': 1 is not in 2..=8" storm --senders 1
+mistake "error: invalid value '9' for '--senders <N>': 9 is not in 2..=8" storm --senders 9
+mistake "error: invalid value 'two' for '--senders <N>': invalid digit found in string" storm --senders two
+mistake "error: invalid value '0' for '--packets <N>': 0 is not in 1..=10000" storm --packets 0
+mistake "error: invalid value '10001' for '--packets <N>': 10001 is not in 1..=10000" storm --packets 10001
+mistake "error: invalid value '18446744073709551616' for '--seed <N>': number too large to fit in target type" storm --seed 18446744073709551616
+mistake "error: unexpected argument '-1' found" storm --seed -1
+mistake "error: invalid value '33' for '--alpha <N>': 33 is not in 0..=32" params --alpha 33
+mistake "error: invalid value '49' for '--load <N>': 49 is not in 50..=200" storm --load 49
+mistake "error: invalid value '201' for '--load <N>': 201 is not in 50..=200" storm --load 201
+mistake "error: invalid value '101' for '--changes <N>': 101 is not in 0..=100" storm --changes 101
+mistake "error: invalid value '101' for '--folds <N>': 101 is not in 0..=100" storm --folds 101
+mistake "error: unexpected argument '--fast' found" storm --fast
+# The ninth word, and the tenth to the twelfth.
+mistake "error: unexpected argument '--fast' found" storm --senders 3 --packets 10 --seed 7 --fast
+mistake "error: unexpected argument 'more' found" storm --senders 3 --packets 10 --seed 7 more
+mistake "error: the argument '--seed <N>' cannot be used multiple times" storm --senders 3 --packets 10 --seed 7 --seed 8
+mistake "error: a value is required for '--tag <N>' but none was supplied" explain --csv --lost --all --event 1 --tag
+mistake 'pie: explain takes one of --event N, --tag T, --lost, --marked and --all, or --summary or --every; see pie explain --help' \
+    explain --csv --lost --all --event 1 --tag 2
+mistake "error: unexpected argument 'eleven' found" explain --csv --lost --all --event 1 --tag 2 ten eleven
+mistake "error: unexpected argument '--twelve' found" explain --csv --lost --all --event 1 --tag 2 --twelve
+
+"$program" > "$work/output" 2> "$work/errors" < /dev/null
+got=$?
+if [ "$got" != 1 ] || [ -s "$work/output" ] || ! [ -s "$work/errors" ]; then
+    echo "$script: without a subcommand: status $got"
+    failed=1
+fi
+# Words that are no command line: a text on the error stream alone.
+for words in walk 'run fast' 'audit twice' 'explain --csv --fast' 'migrate now'; do
+    "$program" $words > "$work/output" 2> "$work/errors" < /dev/null
+    got=$?
+    if [ "$got" != 1 ] || [ -s "$work/output" ] || ! [ -s "$work/errors" ]; then
+        echo "$script: pie $words: status $got"
+        failed=1
+    fi
+done
+# Help is answered on the output, with an example.
+for words in --help 'run --help' 'audit --help' 'explain --help' 'migrate --help' 'storm --help' help; do
+    "$program" $words > "$work/output" 2> "$work/errors" < /dev/null
+    got=$?
+    if [ "$got" != 0 ] || [ -s "$work/errors" ] || ! grep -q Example "$work/output"; then
+        echo "$script: pie $words: status $got"
+        failed=1
+    fi
+done
+for words in --help --version 'audit --help' 'run --help'; do
+    full "pie $words" $words < /dev/null
+done
+exit "$failed"

@@ -1,0 +1,48 @@
+"""What scripts in Python share: ROOT is the repository, NAME the script's name. `check` tells each failure, and `finish` how many there were;
+`expect` ends at the first."""
+import os
+import shutil
+import subprocess
+import sys
+from pathlib import Path
+
+sys.dont_write_bytecode = True
+ROOT = Path(__file__).resolve().parents[2]
+NAME = Path(sys.argv[0]).resolve().relative_to(ROOT)
+
+failures = []
+
+
+def program():
+    """The program that is tested: the first word of the command line, and else the one that the repository built."""
+    return str(Path(sys.argv[1] if sys.argv[1:] else ROOT / "crates/pie/out/pie").resolve())
+
+
+def refusing(folder, what):
+    """refuse.c, compiled in this folder; without a compiler nothing, and it is told that no request for these was refused."""
+    compiler = shutil.which(os.environ.get("CC", "cc"))
+    if not compiler:
+        print(f"NOT RUN: {NAME}: no C compiler here, so no request for {what} was refused")
+        return None
+    library = f"{folder}/refuse.so"
+    subprocess.run([compiler, "-O2", "-Wall", "-Werror", "-shared", "-fPIC", "-o", library, ROOT / "tests/shared/refuse.c"], check=True)
+    return library
+
+
+def check(holds, *what):
+    if not holds:
+        failures.append(what)
+        print(f"{NAME}:", *what)
+
+
+def finish():
+    print(f"{NAME}: {len(failures)} failed")
+    sys.exit(1 if failures else 0)
+
+
+def expect(what, got, want):
+    if got != want:
+        print(f"{NAME}: {what}:")
+        for name, text in (("wanted", want), ("got", got)):
+            print(f"  {name}: {text!r}"[:2000])
+        sys.exit(1)

@@ -1,0 +1,164 @@
+/* Loaded before a program (LD_PRELOAD), refuses one of its requests: the n-th for memory (REFUSE_MEMORY=n), the n-th read of standard
+ * input (REFUSE_READ=n), the n-th write of standard output (REFUSE_WRITE=n), the n-th start of a thread (REFUSE_THREAD=n), or the n-th
+ * request of those that make, write, move and remove a file (REFUSE_FILE=n). With REFUSE_ON=1 those after it are refused as well. REFUSE_OVER=n refuses each request for more than n bytes of memory.
+ * A request that was refused makes the file that REFUSE_MET names. Where REFUSE_AFTER names a line that the program writes, only the
+ * requests from that line to the next one are counted, and at that next one it is said on standard error if a thread is still running. */
+#define _GNU_SOURCE
+#include <dlfcn.h>
+#include <errno.h>
+#include <fcntl.h>
+#include <pthread.h>
+#include <stdarg.h>
+#include <stdatomic.h>
+#include <stdlib.h>
+#include <string.h>
+#include <sys/stat.h>
+#include <sys/syscall.h>
+#include <unistd.h>
+
+extern void *__libc_malloc(size_t);
+extern void *__libc_realloc(void *, size_t);
+
+static atomic_long asked[5];
+
+/* Whether the line that REFUSE_AFTER names was the last that was written. */
+static atomic_int is_between;
+
+/* Whether a request is counted now, and the number that the variable names. */
+static int is_counted(const char *variable, long *number) {
+    const char *text = getenv(variable);
+    if (!text || !getenv("REFUSE_MET") || (getenv("REFUSE_AFTER") && !atomic_load(&is_between)))
+        return 0;
+    *number = atol(text);
+    return 1;
+}
+
+/* Says that a request was refused. */
+static int refuse(void) {
+    int file = syscall(SYS_openat, AT_FDCWD, getenv("REFUSE_MET"), O_CREAT | O_WRONLY, 0600);
+    if (file >= 0)
+        close(file);
+    return 1;
+}
+
+/* Whether this request, of the kind that the variable names, is one to refuse. */
+static int is_refused(int kind, const char *variable) {
+    long place;
+    if (!is_counted(variable, &place))
+        return 0;
+    long now = atomic_fetch_add(&asked[kind], 1) + 1;
+    return (now == place || (getenv("REFUSE_ON") && now > place)) && refuse();
+}
+
+/* Whether a request for so many bytes of memory is one to refuse. */
+static int is_memory_refused(size_t size) {
+    long most;
+    if (is_counted("REFUSE_OVER", &most) && size > (size_t)most)
+        return refuse();
+    return is_refused(0, "REFUSE_MEMORY");
+}
+
+/* Says so where another thread than this one is running a second from now. One that was joined may be listed for a moment longer. */
+static void look_for_threads(void) {
+    static const char found[] = "refuse.c: a thread is still running\n";
+    struct stat tasks;
+    for (int turn = 0; turn < 1000; turn++) {
+        if (stat("/proc/self/task", &tasks) || tasks.st_nlink <= 3)
+            return;
+        usleep(1000);
+    }
+    syscall(SYS_write, 2, found, sizeof found - 1);
+}
+
+/* Looks at a line that the program writes. */
+static void see_line(const void *from, size_t size) {
+    const char *after = getenv("REFUSE_AFTER");
+    if (!after)
+        return;
+    int is_it = size == strlen(after) + 1 && !memcmp(from, after, size - 1);
+    if (atomic_exchange(&is_between, is_it))
+        look_for_threads();
+}
+
+void *malloc(size_t size) {
+    if (is_memory_refused(size)) {
+        errno = ENOMEM;
+        return NULL;
+    }
+    return __libc_malloc(size);
+}
+
+void *realloc(void *old, size_t size) {
+    if (size && is_memory_refused(size)) {
+        errno = ENOMEM;
+        return NULL;
+    }
+    return __libc_realloc(old, size);
+}
+
+ssize_t read(int file, void *to, size_t size) {
+    if (file == 0 && is_refused(1, "REFUSE_READ")) {
+        errno = EIO;
+        return -1;
+    }
+    return syscall(SYS_read, file, to, size);
+}
+
+ssize_t write(int file, const void *from, size_t size) {
+    if (file == 1)
+        see_line(from, size);
+    if (file == 1 && is_refused(2, "REFUSE_WRITE")) {
+        errno = EIO;
+        return -1;
+    }
+    if (file > 2 && is_refused(4, "REFUSE_FILE")) {
+        errno = ENOSPC;
+        return -1;
+    }
+    return syscall(SYS_write, file, from, size);
+}
+
+ssize_t __write(int file, const void *from, size_t size) {
+    return write(file, from, size);
+}
+
+/* Refuses a request for a file with this error, or makes it. */
+#define UNLESS_REFUSED(error, request) (is_refused(4, "REFUSE_FILE") ? (errno = (error), -1) : (int)(request))
+
+int open(const char *name, int flags, ...) {
+    va_list rest;
+    va_start(rest, flags);
+    int mode = flags & O_CREAT ? va_arg(rest, int) : 0;
+    va_end(rest);
+    if (!(flags & O_CREAT))
+        return syscall(SYS_openat, AT_FDCWD, name, flags, mode);
+    return UNLESS_REFUSED(EACCES, syscall(SYS_openat, AT_FDCWD, name, flags, mode));
+}
+
+int fchmod(int file, mode_t mode) {
+    return UNLESS_REFUSED(EPERM, syscall(SYS_fchmod, file, mode));
+}
+
+int fsync(int file) {
+    return UNLESS_REFUSED(EIO, syscall(SYS_fsync, file));
+}
+
+int link(const char *from, const char *to) {
+    return UNLESS_REFUSED(EPERM, syscall(SYS_linkat, AT_FDCWD, from, AT_FDCWD, to, 0));
+}
+
+int rename(const char *from, const char *to) {
+    return UNLESS_REFUSED(EACCES, syscall(SYS_renameat2, AT_FDCWD, from, AT_FDCWD, to, 0));
+}
+
+int unlink(const char *name) {
+    return UNLESS_REFUSED(EACCES, syscall(SYS_unlinkat, AT_FDCWD, name, 0));
+}
+
+int pthread_create(pthread_t *thread, const pthread_attr_t *attributes, void *(*run)(void *), void *with) {
+    if (is_refused(3, "REFUSE_THREAD"))
+        return EAGAIN;
+    int (*create)(pthread_t *, const pthread_attr_t *, void *(*)(void *), void *) =
+        (int (*)(pthread_t *, const pthread_attr_t *, void *(*)(void *), void *))dlsym(RTLD_NEXT, "pthread_create");
+    return create(thread, attributes, run, with);
+}

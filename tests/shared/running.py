@@ -1,0 +1,58 @@
+"""What scripts share that run the built program on a text, or by a line of bash."""
+import os
+import re
+import subprocess
+
+from checks import check, program
+
+PROGRAM = program()
+# The commands that read a history, each with words by which it reads all of one. A command that is not here and by its help reads one is a failure.
+READERS = {"audit": ["audit"], "explain": ["explain", "--all"], "summary": ["explain", "--summary", "--every", "100us"], "migrate": ["migrate"]}
+READ, WRITE, MEMORY = b"pie: cannot read the input\n", b"pie: cannot write the output\n", b"pie: out of memory\n"
+
+# Every kind of record and nearly every answer.
+TRACE = b"""open,0,8,32,100,2,1,0,850000,0,1,100000,1000000000000,1024
+arrive,1,0,1,1024,not,0
+arrive,1,0,2,1024,not,0
+arrive,1,0,3,1024,not,0
+arrive,1,0,4,1024,not,0
+depart,3,1000
+depart,3,1001000
+update,4,1001000
+update,4,1001001
+update,4,1001002
+arrive,1,1001003,5,500,ect0,0
+arrive,2,1001003,6,500,not,0
+arrive,2,1001003,7,500,not,18446744073709551615
+arrive,2,1001003,8,65535,ect1,7
+show
+tally
+params,5,1001004,2,1,50,850000,0,1,100000,1000000000000,1024
+show
+reset,5,1001005
+update,5,1001005
+depart,3,999
+fold,40
+fold,4
+params,5,1001004,1,1,50,850000,0,1,100000,1000000000000,1024
+"""
+
+
+def hold_readers():
+    """Holds READERS to the program's help, which says of each command in a line what it reads; and each command has a help of its own."""
+    told = run(["--help"], b"")[1].decode().partition("Commands:")[2].partition("Options:")[0]
+    commands = dict(re.findall(r"^  (\w+) +(.+)$", told, re.M))
+    readers = {name for name, does in commands.items() if re.search(r"[Rr]eads? (a )?histor|from (a )?histor", does)}
+    check(readers == {words[0] for words in READERS.values()}, "by the program's help these read a history:", *sorted(readers))
+    for name in ["run", "storm", *readers]:
+        check(run([name, "--help"], b"")[0] == 0, "there is no", name)
+
+
+def run(words, text, **environment):
+    done = subprocess.run([PROGRAM, *words], input=text, capture_output=True, env={**os.environ, **environment}, timeout=60)
+    return done.returncode, done.stdout, done.stderr
+
+
+def shell(line):
+    done = subprocess.run(["bash", "-c", line, "bash", PROGRAM], capture_output=True, timeout=60)
+    return done.returncode, done.stdout, done.stderr

@@ -8,7 +8,7 @@ use std::thread::yield_now;
 /// How far a caller may run ahead of another, in nanoseconds of the plan.
 const AHEAD: u64 = 4_000_000;
 /// How often a caller looks at the others before it goes on without them.
-const LOOKS: u64 = 1_000_000;
+const LOOKS: u64 = 100_000;
 /// A caller that isn't there yet.
 const AWAY: u64 = 0;
 /// A caller that has made all its calls, or that the storm has not.

@@ -2,7 +2,7 @@
 
 use pie_book::{Book, Choices, FoldRefusal, Limits, Mode, OpenRefusal, Opening, Profile, Refusal};
 use pie_fixed::{Accu, Gain, Prob};
-use pie_params::{BadParam, Field, Params, RawParams};
+use pie_params::{BadParam, Elements, Field, Params, RawParams};
 use pie_queue::{ByteQueue, Ecn, Memory};
 use pie_record::TraceFault;
 use pie_trace::write_history;
@@ -84,7 +84,11 @@ fn is_history(alloc: Global, mode: Mode, profile: Profile, params: RawParams, wa
         moment: 0,
         limits: limits(),
         params,
-        choices: Choices { mode, profile },
+        choices: Choices {
+            mode,
+            profile,
+            elements: Elements::usual(),
+        },
     };
     let mut out = Vec::new(alloc);
     match write_history(alloc, &mut out, &opening, &[]) {

@@ -56,14 +56,14 @@ fn refusals_in_words(rt: HostRuntime) {
 
 /// Whether there is memory for a ring of the greatest size.
 fn is_largest_ring_made(alloc: Global) -> bool {
-    match ByteQueue::new(alloc, 65536) {
-        Ok(queue) => queue.packets() == 65536,
+    match ByteQueue::new(alloc, 1_048_576) {
+        Ok(queue) => queue.packets() == 1_048_576,
         Err(Memory) => false,
     }
 }
 
 #[test]
-fn a_ring_of_65536(rt: HostRuntime) {
+fn the_largest_ring(rt: HostRuntime) {
     assert!(rt; is_largest_ring_made(rt.alloc()));
 }
 

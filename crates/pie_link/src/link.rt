@@ -10,7 +10,9 @@ use crate::entry::Entry;
 use crate::kept_book::KeptBook;
 use crate::refusal::LinkRefusal;
 use atomic_table::TableRule;
-use pie_book::{Book, Choices, Elements, Limits, Mode, OpenRefusal, Opening, Profile, registers_look_back};
+use pie_book::{
+    Book, Choices, Elements, Limits, Mode, OpenRefusal, Opening, Profile, registers_look_back,
+};
 use pie_lock::{LockOpening, LockRule, OneNumber, Place, RuledLock, StillHeld};
 use pie_params::Params;
 use std::alloc::Global;

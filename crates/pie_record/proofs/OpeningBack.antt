@@ -310,7 +310,8 @@ three-back o accepted set false other =
 
 earlier-back : (o : Opening) → opening_refusal o.limits o.moment ≡ None → ParamsFit o.params → is_earlier o ≡ true → (b : Bool)
     → are_default o.params ≡ b → opening_of (earlier_row o.choices.profile o.choices.mode ++ params_row o b) ≡ Ok o
-earlier-back o accepted set early b same = by b same ∙ ap (λ (c : Choices). let opened : Result Opening TraceFault = Ok (made o c o.params) in opened) all
+earlier-back o accepted set early b same =
+    by b same ∙ ap (λ (c : Choices). let opened : Result Opening TraceFault = Ok (made o c o.params) in opened) all
   where
     each : (are_usual o.choices.elements ≡ true) × (are_of_version_two o.limits ≡ true)
     each = both (are_usual o.choices.elements) (are_of_version_two o.limits) early

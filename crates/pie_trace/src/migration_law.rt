@@ -10,8 +10,8 @@ ghost use Rattle.pie_record.specs.Text.{Row, records_of};
 use pie_book::{all_numbers_are_held, profile_one_is_always_active};
 
 /// What `migrate` writes, `HistoryLines` reads: the migrated text of every history whose first record opens one is of version two,
-/// or of version three where the history is, and tells that opening, the lines before the history's first fault, and then its end with no fault. So where the history has
-/// no fault, both texts tell the same.
+/// or of version three where the history is, and tells that opening, the lines before the history's first fault, and then its end
+/// with no fault. So where the history has no fault, both texts tell the same.
 ///
 /// It does nothing: its contract is the law (this project's own).
 pub fn migrated_histories_are_read_back()
@@ -30,8 +30,8 @@ pub fn migrating_again_changes_nothing()
 {}
 
 /// The history text of a run, migrated, is that of the run of the same trace with its first record in version two: of a trace of
-/// version one, of the trace that `open2` opens with profile one; a trace of a later version is written as it is. Where the trace has a fault, both are the text of the records
-/// before it.
+/// version one, of the trace that `open2` opens with profile one; a trace of a later version is written as it is. Where the trace has
+/// a fault, both are the text of the records before it.
 ///
 /// It does nothing: its contract is the law (this project's own).
 pub fn migrated_runs_are_runs_of_version_two()

@@ -30,7 +30,8 @@ const SEED: u64 = 1;
 const LOAD: u64 = 100;
 
 /// What is said where the word of a choice is none of its own.
-const NO_CHOICE: &str = "storm: --delay is rate or stamp, --picking derandomized or random, --step capped or uncapped, --size unscaled or scaled";
+const NO_CHOICE: &str =
+    "storm: --delay is rate or stamp, --picking derandomized or random, --step capped or uncapped, --size unscaled or scaled";
 
 /// Which of two choices an option names: the first where the words don't give it, and none where they give another word.
 fn choice<T: Copy>(
@@ -54,7 +55,14 @@ fn delay_of(options: &ArgMatches<'_>) -> Option<Delay>
     ensures { result ≡ delay_in (rows_of (found_of options.now)) }
 {
     let (one, other) = (Delay::Rate, Delay::Stamp);
-    choice(options, "delay", delay_word(one), one, delay_word(other), other)
+    choice(
+        options,
+        "delay",
+        delay_word(one),
+        one,
+        delay_word(other),
+        other,
+    )
 }
 
 /// How a packet is picked.
@@ -62,7 +70,14 @@ fn picking_of(options: &ArgMatches<'_>) -> Option<Picking>
     ensures { result ≡ picking_in (rows_of (found_of options.now)) }
 {
     let (one, other) = (Picking::Derandomized, Picking::Random);
-    choice(options, "picking", picking_word(one), one, picking_word(other), other)
+    choice(
+        options,
+        "picking",
+        picking_word(one),
+        one,
+        picking_word(other),
+        other,
+    )
 }
 
 /// How far an update may raise the probability.
@@ -70,7 +85,14 @@ fn step_of(options: &ArgMatches<'_>) -> Option<Step>
     ensures { result ≡ step_in (rows_of (found_of options.now)) }
 {
     let (one, other) = (Step::Capped, Step::Uncapped);
-    choice(options, "step", step_word(one), one, step_word(other), other)
+    choice(
+        options,
+        "step",
+        step_word(one),
+        one,
+        step_word(other),
+        other,
+    )
 }
 
 /// Whether a packet's size counts when it is picked.
@@ -78,7 +100,14 @@ fn size_of(options: &ArgMatches<'_>) -> Option<Size>
     ensures { result ≡ size_in (rows_of (found_of options.now)) }
 {
     let (one, other) = (Size::Unscaled, Size::Scaled);
-    choice(options, "size", size_word(one), one, size_word(other), other)
+    choice(
+        options,
+        "size",
+        size_word(one),
+        one,
+        size_word(other),
+        other,
+    )
 }
 
 /// RFC 8033's optional elements that these options choose; none where a word names no choice.

@@ -6,7 +6,7 @@
 # needs: program
 . "$(dirname "$0")/../shared/script.sh"
 first=${2:-1}
-runs=${3:-12}
+runs=${3:-16}
 steps=${4:-120}
 if ! command -v python3 > /dev/null; then
     echo "NOT RUN: $script: no python3 here, so no random traces were compared with the reference"

@@ -1,30 +1,37 @@
 #!/usr/bin/env bash
 # Runs each worked trace of tests/rows, and compares its history, byte for byte, with the one beside it, which was worked out by
-# hand. The audit of each is clean, with as many events as its history has lines that are no notes. Of a history that no run writes,
-# tests/rows/NAME.history, the audit says NAME.finding: its finding, or its fault.
+# hand; and each of tests/rows/choices, one for each choice of RFC 8033's optional elements and each combination of them in both profiles, whose
+# histories are those of a reference. Where NAME.fault is beside them the run ends with that fault and status 1, and else the audit of the
+# history is clean, with as many events as it has lines that are no notes. Of a history that no run writes, tests/rows/NAME.history, the audit
+# says NAME.finding: its finding, or its fault.
 # usage: tests/program/rows.sh [PROGRAM]      PROGRAM: crates/pie/out/pie where none is given
 # needs: program
 . "$(dirname "$0")/../shared/script.sh"
 rows=$top/tests/rows
 tried=0
-for trace in "$rows"/*.in; do
+: > "$work/none"
+for trace in "$rows"/*.in "$rows"/choices/*.in; do
     name=$(basename "$trace" .in)
-    history=$rows/$name.out
+    history=${trace%.in}.out
+    fault=${trace%.in}.fault
+    want=1
+    [ -e "$fault" ] || { fault=$work/none want=0; }
     "$program" run < "$trace" > "$work/output" 2> "$work/errors"
     got=$?
-    if [ "$got" != 0 ] || [ -s "$work/errors" ] || ! cmp -s "$work/output" "$history"; then
+    if [ "$got" != "$want" ] || ! cmp -s "$work/errors" "$fault" || ! cmp -s "$work/output" "$history"; then
         echo "$script: $name: status $got, or another history:"
         diff "$history" "$work/output"
         cat "$work/errors"
         failed=1
     fi
-    events=$(grep -cvE '^(open|open2|rolling|refused|folded|shown|tallied),' "$history")
+    tried=$((tried + 1))
+    [ "$want" = 0 ] || continue
+    events=$(grep -cvE '^(open|open2|open3|rolling|refused|folded|shown|tallied),' "$history")
     found=$("$program" audit < "$history")
     if [ "$found" != "clean,$events" ]; then
         echo "$script: $name: its audit is $found, and not clean,$events"
         failed=1
     fi
-    tried=$((tried + 1))
 done
 for history in "$rows"/*.history; do
     name=$(basename "$history" .history)
@@ -35,8 +42,8 @@ for history in "$rows"/*.history; do
         failed=1
     fi
 done
-if [ "$tried" -lt 18 ]; then
-    echo "$script: $tried rows, where 18 or more are wanted"
+if [ "$tried" -lt 52 ]; then
+    echo "$script: $tried rows, where 52 or more are wanted"
     failed=1
 fi
 exit "$failed"

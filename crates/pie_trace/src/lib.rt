@@ -1,4 +1,4 @@
-//! Traces of commands, and the history text that a run of a trace writes, in two versions.
+//! Traces of commands, and the history text that a run of a trace writes, in three versions.
 //!
 //! The definitions that the contracts cite stand in `specs/`, and for records in those of pie_record: a trace's first fault, and its history
 //! text.
@@ -11,7 +11,7 @@
 //! `write_history`: what was written is the opening's record and a record for each event (clause `written`), and it is read back as the same
 //! opening and events (`read_back`). `history_texts_are_read_back` is the same law of what a run writes.
 //!
-//! `migrate`: the history of either version in version two (`writes`), which tells the same opening and lines (`same`), or the
+//! `migrate`: the history in version two, or in version three as it is (`writes`), which tells the same opening and lines (`same`), or the
 //! history's first fault (`faults`). Laws: `migrated_histories_are_read_back`, `migrating_again_changes_nothing`,
 //! `migrated_runs_are_runs_of_version_two`.
 #![tactic(auto)]

@@ -1,7 +1,7 @@
 #!/usr/bin/env python3
 """Damages texts, and compares what the built program makes of each, its status, its output and its error stream, with what the reader and the
 reference of tests/shared/reference_texts.py make of it: of a trace `run`; of a history `audit`, `migrate` and `explain --all --csv`. First come
-malformed texts that were written by hand, and then the richest traces and their histories, of both versions and both profiles: each is cut at
+malformed texts that were written by hand, and then the richest traces and their histories, of each version and both profiles: each is cut at
 every byte, and each of its bytes is made another, a sample of two.
 
 With `every` each byte is made each of the 255 others, and nothing else is done; with two numbers K and N behind it only each N-th place from the
@@ -20,8 +20,13 @@ import reference_texts as plain  # noqa: E402
 from checks import NAME, check, finish  # noqa: E402
 from running import PROGRAM, TRACE, run  # noqa: E402
 
-# The same in version two and the second profile, whose controller the third arrival turns on.
-TRACES = [TRACE, TRACE.replace(b"open,", b"open2,2,bounded,").replace(b"100000,1000000000000", b"9000,1000000000000")]
+# The same in version two and the second profile, whose controller the third arrival turns on; and in version three with each element but the cap
+# another than the usual one.
+TRACES = [
+    TRACE,
+    TRACE.replace(b"open,", b"open2,2,bounded,").replace(b"100000,1000000000000", b"9000,1000000000000"),
+    TRACE.replace(b"open,", b"open3,1,stamp,random,capped,scaled,bounded,"),
+]
 
 # What a command has to end with of a text.
 COMMANDS = {"run": plain.run, "audit": plain.audit, "migrate": plain.migrate, "explain --all --csv": plain.explain}

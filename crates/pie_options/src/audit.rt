@@ -26,8 +26,9 @@ One line is written, and with files one for each, behind the name that the words
   differs,<event>   the first event that is not: its command would have been refused there, it has another answer, or it
                     sets parameters that are out of range; status 2
 
-A full tail is no reason to refuse a command here, since a fold may have made room at any time. A history of version two,
-which begins with open2, is decided by the profile that it names, and any other by profile 1. A record that cannot be
+A full tail is no reason to refuse a command here, since a fold may have made room at any time. A history that begins with
+open2 or open3 is decided by the profile and the elements that it names, any other by profile 1 and the usual ones.
+A record that cannot be
 read ends the audit with status 1 and no finding, also where an event before it differs; pie run --help says how records
 are written.
 

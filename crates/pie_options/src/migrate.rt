@@ -16,7 +16,7 @@ const ABOUT: &str =
 /// What `pie migrate --help` says below its options.
 const HELP: &str =
     "A history of version one begins with open or rolling. In version two it begins with open2,1,bounded or open2,1,rolling, each
-shown ends with 1, since its controller is always active, and all else stays. A history of version two is written as it is.
+shown ends with 1, since its controller is always active, and all else stays. One of version two or three is written as it is.
 pie audit finds the same in both, and pie run --help says how records are written.
 
 A record that cannot be read ends it with status 1; the records before it have been written.

@@ -26,6 +26,11 @@ The first record opens the controller:
   open2,<profile>,<mode>,<moment>,<packets>,<tail>,<events>[,<nine>]
       the same in version two: <mode> is bounded (as open) or rolling; <profile> is 1, or 2: then the controller is off
       at first, on once a third of limit_bytes waits, and off by an update with probability 0 and low delays (section 5.3)
+  open3,<profile>,<delay>,<picking>,<step>,<size>,<mode>,<moment>,<packets>,<tail>,<events>[,<nine>]
+      the same in version three: up to 1048576 packets and 2^47 events, and RFC 8033's optional elements, the usual word
+      first: <delay> is rate (by the departure rate, section 5.2) or stamp (what the packet that departed last had waited,
+      4.3: it stands still while the link does), <picking> derandomized (5.4) or random, <step> capped (5.5) or uncapped,
+      <size> unscaled, or scaled: packets below mean_pkt are picked less often
 
 <nine> is target,t_update,max_burst,alpha,beta,mean_pkt,limit_bytes,mark_ecnth,dq_threshold (RFC 8033):
   target        the wanted queueing delay in ns, 2 to 10^10                      (default 15000000)
@@ -52,7 +57,7 @@ Then, in any order:
   params,<caller>,<moment>,<nine>   new parameters: done
   fold,<n>                      the oldest <n> events leave the tail: folded,<n>
   show    shown,<count>,<moment>,<packets>,<bytes>,<prob>,<old delay>,<accumulated prob>,<burst>,<last update>,
-          <average>,<measuring>; and in version two <active>, 1 while the controller is on and else 0
+          <average>,<measuring>; and from version two on <active>, 1 while the controller is on and else 0
   tally   tallied,<arrivals>,<enqueued>,<marked>,<early>,<over bytes>,<over packets>,<left>,<left bytes>,<empty>,
           <updates>,<resets>,<parameter changes>,<largest queue>,<largest delay>,<time waited>
 

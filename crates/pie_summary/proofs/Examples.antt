@@ -8,6 +8,7 @@ use Rattle.pie_aqm.specs.declared.cause.Cause.{Cause}
 use Rattle.pie_aqm.specs.declared.cause.Cause.TheVariants.{NoRoomInBytes, NoRoomInPackets, Inactive, BurstAllowed, LowDelay, ShortQueue}
 use Rattle.pie_aqm.specs.declared.cause.Cause.TheVariants.{NoProbability, LittleAccumulated, PickedBySum, PickedByWord, WordNotBelow}
 use Rattle.pie_aqm.specs.declared.cause.Fate.TheVariants as fate
+use Rattle.pie_aqm.specs.CauseName.{word_of_cause}
 use Rattle.pie_aqm.specs.Places.{greatest, last_or, places}
 use Rattle.pie_book.specs.declared.command.Answer.{Answer}
 use Rattle.pie_book.specs.declared.command.Answer.TheVariants.{Enqueued, Marked, DroppedEarly, DroppedBytes, DroppedPackets, Empty, Left, Updated}
@@ -25,14 +26,14 @@ use Rattle.pie_summary.specs.Record.{turned_fields, update_fields, verdict_field
 use Rattle.pie_summary.specs.Series.{kept, series_of}
 use Rattle.pie_summary.specs.Summary.{header, summary_of}
 use Rattle.pie_summary.specs.Sums.{answer_place, cause_place, moment_at, sums_of, turned_at}
-use Rattle.pie_summary.specs.Words.{arrival_words, arrived_words, cause_name, cause_row, cause_words, delay_words, dropped_words, first_causes}
+use Rattle.pie_summary.specs.Words.{arrival_words, arrived_words, cause_row, cause_words, delay_words, dropped_words, first_causes}
 use Rattle.pie_summary.specs.Words.{head_words, later_words, left_words, mean, middle_causes, prob_words, queued_words, row_words, sum_causes, title}
 use Rattle.pie_summary.specs.Words.{turned_words, update_words, verdict_words, word_causes, words}
 
 -- all that a theorem on a worked list computes with
 unfoldable worked : Type 0
 unfolding greatest last_or places sums_of header digits millis per_cent share moment_fields verdict_fields first_fields middle_fields last_fields
-    left_fields update_fields turned_fields cause_fields later_fields record_of row_words queued_words dropped_words cause_name cause_row
+    left_fields update_fields turned_fields cause_fields later_fields record_of row_words queued_words dropped_words word_of_cause cause_row
     first_causes middle_causes sum_causes word_causes cause_words head_words arrived_words left_words delay_words prob_words update_words
     turned_words verdict_words title arrival_words later_words words
 worked = ⊤

@@ -1,24 +1,22 @@
 -- A summary as a CSV record.
-use Rattle.std.specs.Prelude.{ℕ, List, [], ◌∷◌, slice_index, codes}
+use Rattle.std.specs.Prelude.{ℕ, List, [], ◌∷◌, ◌++◌, map, slice_index, codes}
 use Rattle.std.specs.Fmt.{decimal}
+use Rattle.pie_aqm.specs.CauseName.{cause_names, word_of_cause}
 use Rattle.pie_explain.specs.Words.{joined}
 use Rattle.pie_summary.specs.declared.series.Series.{Series}
 use Rattle.pie_summary.specs.declared.sums.Sums.{Sums}
 use Rattle.pie_summary.specs.Words.{mean}
 
--- the names of the fields
+-- the names of the fields, in the middle of them the words of the causes
 abbrev pub field_names : List (List ℕ)
 field_names =
-    codes "events" ∷ codes "first_moment" ∷ codes "last_moment" ∷ codes "arrivals" ∷ codes "arrived_bytes"
-    ∷ codes "enqueue" ∷ codes "mark" ∷ codes "early" ∷ codes "bytes" ∷ codes "packets"
-    ∷ codes "no_room_in_bytes" ∷ codes "no_room_in_packets" ∷ codes "inactive" ∷ codes "burst_allowed" ∷ codes "low_delay" ∷ codes "short_queue"
-    ∷ codes "no_probability" ∷ codes "little_accumulated"
-    ∷ codes "picked_by_sum" ∷ codes "picked_by_sum_not_capable" ∷ codes "picked_by_sum_not_below"
-    ∷ codes "picked_by_word" ∷ codes "picked_by_word_not_capable" ∷ codes "picked_by_word_not_below" ∷ codes "word_not_below"
-    ∷ codes "left" ∷ codes "greatest_wait" ∷ codes "mean_wait"
+    (codes "events" ∷ codes "first_moment" ∷ codes "last_moment" ∷ codes "arrivals" ∷ codes "arrived_bytes"
+    ∷ codes "enqueue" ∷ codes "mark" ∷ codes "early" ∷ codes "bytes" ∷ codes "packets" ∷ [])
+    ++ map word_of_cause cause_names
+    ++ (codes "left" ∷ codes "greatest_wait" ∷ codes "mean_wait"
     ∷ codes "updates" ∷ codes "greatest_delay" ∷ codes "last_delay" ∷ codes "greatest_probability" ∷ codes "last_probability"
     ∷ codes "turned_on" ∷ codes "first_turned_on" ∷ codes "last_turned_on" ∷ codes "turned_off" ∷ codes "first_turned_off" ∷ codes "last_turned_off"
-    ∷ []
+    ∷ [])
 
 -- when events were
 unfoldable pub moment_fields : Series → List ℕ

@@ -2,9 +2,7 @@
 use Rattle.std.specs.Prelude.{ℕ, ◌==◌, Bool, true, false, List, map, Option, Some, None, count_by}
 use Rattle.std.specs.List.{filter_map, range_with_len}
 use Rattle.pie_aqm.specs.declared.cause.Cause.{Cause}
-use Rattle.pie_aqm.specs.declared.cause.Cause.TheVariants.{NoRoomInBytes, NoRoomInPackets, Inactive, BurstAllowed, LowDelay, ShortQueue}
-use Rattle.pie_aqm.specs.declared.cause.Cause.TheVariants.{NoProbability, LittleAccumulated, PickedBySum, PickedByWord, WordNotBelow}
-use Rattle.pie_aqm.specs.declared.cause.Fate.TheVariants as fate
+use Rattle.pie_aqm.specs.CauseName.{name_of, place_of_cause}
 use Rattle.pie_book.specs.declared.command.Command.{Command}
 use Rattle.pie_book.specs.declared.command.Command.TheVariants.{Arrive}
 use Rattle.pie_book.specs.declared.command.Answer.{Answer}
@@ -30,23 +28,8 @@ answer_place (Updated delay prob burst) = 7
 answer_place Done = 8
 
 -- the place of the count of what decided an arrival, in the order of the decision; 15 of any other event
-
 abbrev pub cause_place : Option Cause → ℕ
-cause_place (Some (NoRoomInBytes bytes size limit)) = 0
-cause_place (Some (NoRoomInPackets packets)) = 1
-cause_place (Some Inactive) = 2
-cause_place (Some (BurstAllowed burst)) = 3
-cause_place (Some (LowDelay old_delay target prob)) = 4
-cause_place (Some (ShortQueue bytes two_packets)) = 5
-cause_place (Some NoProbability) = 6
-cause_place (Some (LittleAccumulated accu prob)) = 7
-cause_place (Some (PickedBySum accu prob (fate.Marked threshold))) = 8
-cause_place (Some (PickedBySum accu prob fate.NotCapable)) = 9
-cause_place (Some (PickedBySum accu prob (fate.NotBelow threshold))) = 10
-cause_place (Some (PickedByWord accu prob word (fate.Marked threshold))) = 11
-cause_place (Some (PickedByWord accu prob word fate.NotCapable)) = 12
-cause_place (Some (PickedByWord accu prob word (fate.NotBelow threshold))) = 13
-cause_place (Some (WordNotBelow accu prob word)) = 14
+cause_place (Some cause) = place_of_cause (name_of cause)
 cause_place None = 15
 
 -- the effective moment of an event

@@ -6,7 +6,6 @@
 //! the numbers.
 #![tactic(auto)]
 
-mod cause_name;
 pub mod period;
 mod record;
 pub mod series;

@@ -4,7 +4,7 @@ ghost use Rattle.pie_explain.specs.declared.explanation.Explained.{Explained};
 ghost use Rattle.pie_summary.specs.Sums.{answer_place, cause_place, delay_by, size_by, turned_at, wait_by};
 
 use crate::series::Series;
-use pie_book::{Answer, Cause, Command, Fate};
+use pie_book::{Answer, Cause, Command};
 use pie_explain::Explained;
 
 /// The numbers of a summary, each over all events that it was shown.
@@ -54,29 +54,9 @@ fn cause_place(cause: Option<Cause>) -> usize
     ensures place { result ≡ cause_place cause }
     ensures within { result < 16 }
 {
-    let Some(cause) = cause else {
-        return 15;
-    };
     match cause {
-        Cause::NoRoomInBytes { .. } => 0,
-        Cause::NoRoomInPackets { .. } => 1,
-        Cause::Inactive => 2,
-        Cause::BurstAllowed { .. } => 3,
-        Cause::LowDelay { .. } => 4,
-        Cause::ShortQueue { .. } => 5,
-        Cause::NoProbability => 6,
-        Cause::LittleAccumulated { .. } => 7,
-        Cause::PickedBySum { fate, .. } => match fate {
-            Fate::Marked { .. } => 8,
-            Fate::NotCapable => 9,
-            Fate::NotBelow { .. } => 10,
-        },
-        Cause::PickedByWord { fate, .. } => match fate {
-            Fate::Marked { .. } => 11,
-            Fate::NotCapable => 12,
-            Fate::NotBelow { .. } => 13,
-        },
-        Cause::WordNotBelow { .. } => 14,
+        Some(cause) => cause.name().place(),
+        None => 15,
     }
 }
 

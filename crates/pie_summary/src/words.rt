@@ -4,9 +4,9 @@ ghost use Rattle.pie_summary.specs.Words.{arrival_words, arrived_words, cause_ro
 ghost use Rattle.pie_summary.specs.Words.{later_words, left_words, mean, middle_causes, prob_words, queued_words, row_words, sum_causes, title};
 ghost use Rattle.pie_summary.specs.Words.{turned_words, update_words, verdict_words, word_causes, words};
 
-use crate::cause_name::{CauseName, cause_name};
 use crate::series::Series;
 use crate::sums::Sums;
+use pie_aqm::CauseName;
 use pie_explain::{Millis, PerCent, Share};
 use std::alloc::AllocError;
 
@@ -21,13 +21,19 @@ fn push_row(page: &mut String, name: &str, count: u64, all: u64) -> Result<(), A
 
 /// How many arrivals a cause decided, where it decided some.
 #[tactic(auto, unfolding(crate::specs::Words::cause_row))]
-fn push_cause(page: &mut String, name: CauseName, count: u64, all: u64) -> Result<(), AllocError>
-    ensures { OnOk result (string_bytes page.new ≡ string_bytes page.old ++ cause_row name count all) }
+fn push_cause(
+    page: &mut String,
+    name: CauseName,
+    causes: &[u64; 16],
+    all: u64,
+) -> Result<(), AllocError>
+    ensures { OnOk result (string_bytes page.new ≡ string_bytes page.old ++ cause_row name causes.now all) }
 {
+    let count = causes[name.place()];
     if count == 0 {
         return Ok(());
     }
-    push_row(page, cause_name(name), count, all)
+    push_row(page, name.word(), count, all)
 }
 
 /// How many arrivals were queued.
@@ -54,10 +60,10 @@ fn push_dropped(page: &mut String, answers: &[u64; 9], all: u64) -> Result<(), A
 fn push_first(page: &mut String, causes: &[u64; 16], all: u64) -> Result<(), AllocError>
     ensures { OnOk result (string_bytes page.new ≡ string_bytes page.old ++ first_causes causes.now all) }
 {
-    push_cause(page, CauseName::NoRoomInBytes, causes[0], all)?;
-    push_cause(page, CauseName::NoRoomInPackets, causes[1], all)?;
-    push_cause(page, CauseName::Inactive, causes[2], all)?;
-    push_cause(page, CauseName::BurstAllowed, causes[3], all)
+    push_cause(page, CauseName::NoRoomInBytes, causes, all)?;
+    push_cause(page, CauseName::NoRoomInPackets, causes, all)?;
+    push_cause(page, CauseName::Inactive, causes, all)?;
+    push_cause(page, CauseName::BurstAllowed, causes, all)
 }
 
 /// .. little delay, little that waits, a small probability.
@@ -65,10 +71,10 @@ fn push_first(page: &mut String, causes: &[u64; 16], all: u64) -> Result<(), All
 fn push_middle(page: &mut String, causes: &[u64; 16], all: u64) -> Result<(), AllocError>
     ensures { OnOk result (string_bytes page.new ≡ string_bytes page.old ++ middle_causes causes.now all) }
 {
-    push_cause(page, CauseName::LowDelay, causes[4], all)?;
-    push_cause(page, CauseName::ShortQueue, causes[5], all)?;
-    push_cause(page, CauseName::NoProbability, causes[6], all)?;
-    push_cause(page, CauseName::LittleAccumulated, causes[7], all)
+    push_cause(page, CauseName::LowDelay, causes, all)?;
+    push_cause(page, CauseName::ShortQueue, causes, all)?;
+    push_cause(page, CauseName::NoProbability, causes, all)?;
+    push_cause(page, CauseName::LittleAccumulated, causes, all)
 }
 
 /// .. the accumulated probability.
@@ -76,9 +82,9 @@ fn push_middle(page: &mut String, causes: &[u64; 16], all: u64) -> Result<(), Al
 fn push_by_sum(page: &mut String, causes: &[u64; 16], all: u64) -> Result<(), AllocError>
     ensures { OnOk result (string_bytes page.new ≡ string_bytes page.old ++ sum_causes causes.now all) }
 {
-    push_cause(page, CauseName::PickedBySum, causes[8], all)?;
-    push_cause(page, CauseName::PickedBySumNotCapable, causes[9], all)?;
-    push_cause(page, CauseName::PickedBySumNotBelow, causes[10], all)
+    push_cause(page, CauseName::PickedBySum, causes, all)?;
+    push_cause(page, CauseName::PickedBySumNotCapable, causes, all)?;
+    push_cause(page, CauseName::PickedBySumNotBelow, causes, all)
 }
 
 /// .. the random word.
@@ -86,10 +92,10 @@ fn push_by_sum(page: &mut String, causes: &[u64; 16], all: u64) -> Result<(), Al
 fn push_by_word(page: &mut String, causes: &[u64; 16], all: u64) -> Result<(), AllocError>
     ensures { OnOk result (string_bytes page.new ≡ string_bytes page.old ++ word_causes causes.now all) }
 {
-    push_cause(page, CauseName::PickedByWord, causes[11], all)?;
-    push_cause(page, CauseName::PickedByWordNotCapable, causes[12], all)?;
-    push_cause(page, CauseName::PickedByWordNotBelow, causes[13], all)?;
-    push_cause(page, CauseName::WordNotBelow, causes[14], all)
+    push_cause(page, CauseName::PickedByWord, causes, all)?;
+    push_cause(page, CauseName::PickedByWordNotCapable, causes, all)?;
+    push_cause(page, CauseName::PickedByWordNotBelow, causes, all)?;
+    push_cause(page, CauseName::WordNotBelow, causes, all)
 }
 
 /// How many arrivals each cause decided.

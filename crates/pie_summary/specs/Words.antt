@@ -10,6 +10,7 @@ use Rattle.pie_aqm.specs.declared.cause_name.CauseName.TheVariants.{PickedBySumN
 use Rattle.pie_aqm.specs.declared.cause_name.CauseName.TheVariants.{PickedByWordNotBelow, WordNotBelow}
 use Rattle.pie_summary.specs.declared.series.Series.{Series}
 use Rattle.pie_summary.specs.declared.sums.Sums.{Sums}
+use Rattle.pie_summary.specs.Ranges.{end_within, first_up_to}
 
 -- ---- counts of arrivals
 
@@ -81,6 +82,15 @@ left_words waits =
     joined (codes "  " ∷ decimal waits.count ∷ codes " packets left; they had waited at most " ∷ millis waits.greatest
     ∷ codes ",\n    and in the mean " ∷ millis (mean waits) ∷ codes "\n" ∷ [])
 
+-- the wait that at most a hundredth of the packets that left exceeded, by the ranges of the waits: that of the packet at the last place but
+-- a hundredth, or up to a tenth more
+abbrev pub wait_99 : List ℕ → Series → ℕ
+wait_99 ranges waits = end_within (first_up_to ranges (waits.count - waits.count / 100)) waits.greatest
+
+unfoldable pub carried_words : ℕ → ℕ → List ℕ
+carried_words most carried =
+    joined (codes "    99 of 100 had waited at most " ∷ millis most ∷ codes "\n    they carried " ∷ decimal carried ∷ codes " bytes\n" ∷ [])
+
 -- the delays that so many updates took
 unfoldable pub delay_words : ℕ → ℕ → ℕ → List ℕ
 delay_words updates greatest last =
@@ -94,6 +104,12 @@ prob_words greatest last = joined (codes "  the greatest probability was " ∷ p
 
 unfoldable pub update_words : ℕ → Series → Series → List ℕ
 update_words updates delays probs = joined (delay_words updates delays.greatest delays.last ∷ prob_words probs.greatest probs.last ∷ [])
+
+-- what the delays were beside the target, and what was left of the burst allowance
+unfoldable pub target_words : ℕ → ℕ → ℕ → List ℕ
+target_words above target burst =
+    joined (codes "  delays were above the target for " ∷ millis above ∷ codes ";\n    at the end it was " ∷ millis target
+    ∷ codes ",\n    and the burst allowance " ∷ millis burst ∷ codes "\n" ∷ [])
 
 -- when the controller turned on, or off; nothing where it never did
 unfoldable pub turned_words : List ℕ → Series → List ℕ
@@ -113,11 +129,11 @@ unfoldable pub arrival_words : Sums → List ℕ
 arrival_words sums =
     joined (verdict_words sums.arrived sums.answers ∷ title ∷ cause_words sums.causes sums.arrived.count ∷ [])
 
-unfoldable pub later_words : Sums → List ℕ
-later_words sums =
-    joined (left_words sums.waits ∷ update_words (slice_index sums.answers 7) sums.delays sums.probs ∷ turned_words (codes "on") sums.turned_on
-    ∷ turned_words (codes "off") sums.turned_off ∷ [])
+unfoldable pub later_words : Sums → ℕ → List ℕ
+later_words sums most =
+    joined (left_words sums.waits ∷ carried_words most sums.carried ∷ update_words (slice_index sums.answers 7) sums.delays sums.probs
+    ∷ target_words sums.above sums.target sums.burst ∷ turned_words (codes "on") sums.turned_on ∷ turned_words (codes "off") sums.turned_off ∷ [])
 
--- a summary of these numbers
-unfoldable pub words : Sums → List ℕ
-words sums = joined (head_words sums.moments ∷ arrival_words sums ∷ later_words sums ∷ [])
+-- a summary of these numbers, with the wait of 99 of 100
+unfoldable pub words : Sums → ℕ → List ℕ
+words sums most = joined (head_words sums.moments ∷ arrival_words sums ∷ later_words sums most ∷ [])

@@ -7,6 +7,7 @@
 #![tactic(auto)]
 
 pub mod period;
+pub mod ranges;
 mod record;
 pub mod series;
 pub mod summary;
@@ -14,6 +15,7 @@ pub mod sums;
 mod words;
 
 pub use period::Period;
+pub use ranges::Ranges;
 pub use series::Series;
 pub use summary::Summary;
 pub use sums::Sums;

@@ -1,9 +1,10 @@
 //! A summary in words.
 ghost use Rattle.std.specs.Prelude.{◌≡◌, ◌++◌, OnOk, string_bytes};
-ghost use Rattle.pie_summary.specs.Words.{arrival_words, arrived_words, cause_row, cause_words, delay_words, dropped_words, first_causes, head_words};
+ghost use Rattle.pie_summary.specs.Words.{arrival_words, arrived_words, carried_words, cause_row, cause_words, delay_words, dropped_words, first_causes, head_words};
 ghost use Rattle.pie_summary.specs.Words.{later_words, left_words, mean, middle_causes, prob_words, queued_words, row_words, sum_causes, title};
-ghost use Rattle.pie_summary.specs.Words.{turned_words, update_words, verdict_words, word_causes, words};
+ghost use Rattle.pie_summary.specs.Words.{target_words, turned_words, update_words, verdict_words, wait_99, word_causes, words};
 
+use crate::ranges::Ranges;
 use crate::series::Series;
 use crate::sums::Sums;
 use pie_aqm::CauseName;
@@ -147,6 +148,24 @@ fn push_left(page: &mut String, waits: &Series) -> Result<(), AllocError>
     )
 }
 
+/// The wait that at most a hundredth of the packets that left exceeded, or up to a tenth more; no more than the greatest.
+pub(crate) fn wait_99(ranges: &Ranges, waits: &Series) -> u64
+    ensures { result ≡ wait_99 ranges.now waits.now }
+{
+    ranges.end_of(waits.count - waits.count / 100, waits.greatest)
+}
+
+/// How long 99 of 100 packets had waited at most, and how many bytes left.
+#[tactic(auto, unfolding(crate::specs::Words::carried_words))]
+fn push_carried(page: &mut String, most: Millis, carried: u64) -> Result<(), AllocError>
+    ensures { OnOk result (string_bytes page.new ≡ string_bytes page.old ++ carried_words most.0 carried) }
+{
+    write!(
+        page,
+        "    99 of 100 had waited at most {most}\n    they carried {carried} bytes\n"
+    )
+}
+
 /// How many updates there were, and the delays that they took.
 #[tactic(auto, unfolding(crate::specs::Words::delay_words))]
 fn push_delays(
@@ -186,6 +205,22 @@ fn push_updates(
 {
     push_delays(page, updates, Millis(delays.greatest), Millis(delays.last))?;
     push_probs(page, PerCent(probs.greatest), PerCent(probs.last))
+}
+
+/// How long the delays were above the target, and the target and the burst allowance at the end.
+#[tactic(auto, unfolding(crate::specs::Words::target_words))]
+fn push_target(
+    page: &mut String,
+    above: Millis,
+    target: Millis,
+    burst: Millis,
+) -> Result<(), AllocError>
+    ensures { OnOk result (string_bytes page.new ≡ string_bytes page.old ++ target_words above.0 target.0 burst.0) }
+{
+    write!(
+        page,
+        "  delays were above the target for {above};\n    at the end it was {target},\n    and the burst allowance {burst}\n"
+    )
 }
 
 /// When the controller turned on, or off.
@@ -233,21 +268,28 @@ fn push_arrivals(page: &mut String, sums: &Sums) -> Result<(), AllocError>
 
 /// How long packets waited, what the updates made, and when the controller turned.
 #[tactic(auto, unfolding(crate::specs::Words::later_words))]
-fn push_later(page: &mut String, sums: &Sums) -> Result<(), AllocError>
-    ensures { OnOk result (string_bytes page.new ≡ string_bytes page.old ++ later_words sums.now) }
+fn push_later(page: &mut String, sums: &Sums, most: u64) -> Result<(), AllocError>
+    ensures { OnOk result (string_bytes page.new ≡ string_bytes page.old ++ later_words sums.now most) }
 {
     push_left(page, &sums.waits)?;
+    push_carried(page, Millis(most), sums.carried)?;
     push_updates(page, sums.answers[7], &sums.delays, &sums.probs)?;
+    push_target(
+        page,
+        Millis(sums.above),
+        Millis(sums.target),
+        Millis(sums.burst),
+    )?;
     push_turned(page, "on", &sums.turned_on)?;
     push_turned(page, "off", &sums.turned_off)
 }
 
-/// Writes a summary in words.
+/// Writes a summary in words, with the wait of 99 of 100.
 #[tactic(auto, unfolding(crate::specs::Words::words))]
-pub(crate) fn push_words(page: &mut String, sums: &Sums) -> Result<(), AllocError>
-    ensures { OnOk result (string_bytes page.new ≡ string_bytes page.old ++ words sums.now) }
+pub(crate) fn push_words(page: &mut String, sums: &Sums, most: u64) -> Result<(), AllocError>
+    ensures { OnOk result (string_bytes page.new ≡ string_bytes page.old ++ words sums.now most) }
 {
     push_head(page, &sums.moments)?;
     push_arrivals(page, sums)?;
-    push_later(page, sums)
+    push_later(page, sums, most)
 }

@@ -9,7 +9,7 @@ _pie() {
             audit) words='--progress --help' ;;
             migrate) words='--progress --output --force --help' ;;
             explain) words='--event --tag --lost --marked --all --from --to --summary --every --csv --progress --output --force --help' ;;
-            storm) words='--senders --packets --seed --load --changes --folds --count --help' ;;
+            storm) words='--senders --packets --seed --load --changes --folds --profile --delay --picking --step --size --count --help' ;;
             params) words='--rate --target --tupdate --limit --alpha --beta --ecn --bytemode --dq_rate_estimator --help' ;;
             help) words='run audit explain migrate storm params help' ;;
             *) words='' ;;

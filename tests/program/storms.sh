@@ -88,5 +88,31 @@ for seed in $(seq 20); do
         failed=1
     fi
 done
+# Each choice of the controller's elements, in both profiles: the history opens with it, and is clean.
+for profile in 1 2; do
+    for choice in --delay=stamp --picking=random --step=uncapped --size=scaled '--delay=stamp --picking=random --step=uncapped --size=scaled'; do
+        "$program" storm --senders 4 --packets 300 --load 150 --changes 3 --folds 2 --profile "$profile" $choice > "$work/output" 2> "$work/errors"
+        got=$?
+        opening=open3,$profile,rate,derandomized,capped,unscaled
+        for word in $choice; do
+            case $word in
+                --delay=*) opening=${opening/,rate,/,stamp,} ;;
+                --picking=*) opening=${opening/,derandomized,/,random,} ;;
+                --step=*) opening=${opening/,capped,/,uncapped,} ;;
+                --size=*) opening=${opening/%,unscaled/,scaled} ;;
+            esac
+        done
+        begins=$(head -n 1 "$work/output")
+        if [ "$got" != 0 ] || [ -s "$work/errors" ] || [ "${begins#"$opening",bounded,0,1024,}" = "$begins" ] ||
+            [ "$("$program" audit < "$work/output" | cut -d, -f1)" != clean ]; then
+            echo "$script: storm --profile $profile $choice: status $got, $begins, $(cat "$work/errors")"
+            failed=1
+        fi
+    done
+done
+for words in --delay=stamps --picking=rate --step=Capped --size=scaled,; do
+    expect "storm $words" 1 '' 'pie: storm: --delay is rate or stamp, --picking derandomized or random, --step capped or uncapped, --size unscaled or scaled\n' \
+        '' storm $words
+done
 full 'a storm' storm --packets 1 < /dev/null
 exit "$failed"

@@ -6,7 +6,7 @@ ghost use Rattle.pie_audit.specs.Text.{text_finding};
 
 use pie_trace::migrated_histories_are_read_back;
 
-/// The finding of a history without a fault is that of its migrated text, in either version.
+/// The finding of a history without a fault is that of its migrated text, in each version.
 ///
 /// It does nothing: its contract is the law (this project's own).
 pub fn migration_keeps_the_finding()

@@ -3,7 +3,7 @@
 use crate::report::{checksum, nanos};
 use crate::words::Words;
 use pie_book::{Answer, Book, Choices, Command, Core, Event, Limits, Mode, Profile};
-use pie_params::Params;
+use pie_params::{Elements, Params};
 use pie_queue::{Ecn, Packet};
 use std::alloc::Global;
 use std::io;
@@ -157,6 +157,7 @@ fn measure_book<R: Clock + Print>(rt: &R, alloc: Global, name: &str, mode: Mode)
     let choices = Choices {
         mode,
         profile: Profile::One,
+        elements: Elements::usual(),
     };
     let Ok(mut book) = Book::open_with(alloc, limits(), params, 0, choices) else {
         return Ok(());

@@ -7,7 +7,7 @@ ghost use Rattle.std.specs.Prelude.{◌≡◌, All, IfOk, IfSome};
 use crate::report::{checksum, nanos, sum, throughput};
 use pie_book::{Book, Choices, Command, Limits, Mode, Profile};
 use pie_link::{Caller, Link};
-use pie_params::Params;
+use pie_params::{Elements, Params};
 use pie_queue::{Ecn, Packet};
 use std::alloc::{AllocError, Global};
 use std::rt::Clock;
@@ -54,6 +54,7 @@ fn choices() -> Choices {
     Choices {
         mode: Mode::Rolling,
         profile: Profile::One,
+        elements: Elements::usual(),
     }
 }
 

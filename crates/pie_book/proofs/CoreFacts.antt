@@ -8,7 +8,6 @@ use Rattle.std.proofs.lemmas.List.Elements.{All-append, All-cons, All-head, All-
 use Rattle.std.proofs.lemmas.List.Sums.{sum_by-append}
 use Rattle.pie_book.specs.Types.{Packet, Waiting, One, Arrival, Verdict, Held, Command, Arrive, Depart, Update, Reset, SetParams, Answer, Enqueued}
 use Rattle.pie_book.specs.Types.{Event, Opening, Stats, Registers}
-use Rattle.pie_params.specs.Elements.{usual}
 use Rattle.pie_queue.specs.Queue.{bytes_of}
 use Rattle.pie_aqm.specs.declared.verdict.Verdict.TheVariants as verdict
 use Rattle.pie_aqm.specs.Calls.{after_call, shown_by}
@@ -176,7 +175,7 @@ Shows-opened opening core packets events held count waiting stats = record {
   count = count;
   moment = let start : max opening.moment 0 ≡ opening.moment = omega arith in ap (λ (h : Held). h.moment) held ∙ sym start;
   waiting = waiting;
-  controller = rw held (Shows_opened opening.choices.profile usual opening.params opening.moment);
+  controller = rw held (Shows_opened opening.choices.profile opening.choices.elements opening.params opening.moment);
   stats = stats;
 }
 

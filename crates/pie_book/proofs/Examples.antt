@@ -3,6 +3,7 @@
 use Rattle.std.specs.Prelude.{ℕ, ◌≡◌, List, [], ◌∷◌, Some, None, true, false, map, ⊤}
 use Rattle.std.proofs.Common.{refl}
 use Rattle.pie_params.specs.Profile.{default_profile}
+use Rattle.pie_params.specs.Elements.{usual}
 use Rattle.pie_book.specs.Types.{RawParams, Packet, Waiting, One, Command, Arrive, Depart, Update, Reset, SetParams, Answer, Enqueued, Marked}
 use Rattle.pie_book.specs.Types.{DroppedEarly, DroppedBytes, DroppedPackets, Empty, Left, Updated, Done, Event, Mode, Bounded, Opening}
 use Rattle.pie_queue.specs.declared.ecn.Ecn.TheVariants.{NotEct, Ect0, Ce}
@@ -11,7 +12,7 @@ use Rattle.pie_control.specs.Events.{ControlEvent}
 use Rattle.pie_early.specs.Events.{EarlyEvent}
 use Rattle.pie_book.specs.declared.opening.Limits.{Limits}
 use Rattle.pie_book.specs.declared.refusal.OpenRefusal.TheVariants as open_refusal
-use Rattle.pie_book.specs.Opening.{are_in_range, opening_refusal}
+use Rattle.pie_book.specs.Opening.{are_in_range, are_of_version_two, opening_refusal}
 use Rattle.pie_book.specs.Deed.{Deed, deed, fits, handed_in, admission, departure, is_update, queued, marked, dropped_early, dropped_bytes}
 use Rattle.pie_book.specs.Deed.{dropped_packets, departed, found_none, updated, was_reset, set, nothing}
 use Rattle.pie_aqm.specs.History.{active_of, arrivals_shown, control_of, delay_noted, departures_of, departures_shown, early_of, held_of}
@@ -48,7 +49,8 @@ limits packets tail events = record { packets = packets; tail = tail; events = e
 
 -- an opening at moment 0
 abbrev pub opened_with : Mode → Limits → RawParams → Opening
-opened_with mode limits params = record { moment = 0; limits = limits; params = params; choices = record { mode = mode; profile = One } }
+opened_with mode limits params =
+    record { moment = 0; limits = limits; params = params; choices = record { mode = mode; profile = One; elements = usual } }
 
 -- .. of a bounded book with the default parameters
 abbrev pub opened : ℕ → ℕ → ℕ → Opening
@@ -228,11 +230,16 @@ unfolding worked
 changed-params = refl
 
 -- each limit at both ends of its range
-ranges : (map are_in_range (limits 1 1 1 ∷ limits 65536 1048576 1099511627776 ∷ []) ≡ true ∷ true ∷ [])
-    × (map are_in_range (limits 0 1 1 ∷ limits 65537 1 1 ∷ []) ≡ false ∷ false ∷ [])
+ranges : (map are_in_range (limits 1 1 1 ∷ limits 1048576 1048576 140737488355328 ∷ []) ≡ true ∷ true ∷ [])
+    × (map are_in_range (limits 0 1 1 ∷ limits 1048577 1 1 ∷ []) ≡ false ∷ false ∷ [])
     × (map are_in_range (limits 1 0 1 ∷ limits 1 1048577 1 ∷ []) ≡ false ∷ false ∷ [])
-    × (map are_in_range (limits 1 1 0 ∷ limits 1 1 1099511627777 ∷ []) ≡ false ∷ false ∷ [])
+    × (map are_in_range (limits 1 1 0 ∷ limits 1 1 140737488355329 ∷ []) ≡ false ∷ false ∷ [])
 ranges = (refl, refl, refl, refl)
+
+-- the limits of versions one and two of the records, at their upper ends
+version_two : map are_of_version_two (limits 65536 1048576 1099511627776 ∷ limits 65537 1 1 ∷ limits 1 1 1099511627777 ∷ [])
+    ≡ true ∷ false ∷ false ∷ []
+version_two = refl
 
 -- bad limits are told before a moment above 2^60 - 1
 openings : (opening_refusal (limits 0 1 1) 1152921504606846976 ≡ Some open_refusal.BadLimits)

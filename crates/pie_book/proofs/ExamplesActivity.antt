@@ -1,5 +1,6 @@
 -- A controller that turns itself off and on, on two worked histories: each theorem computes.
 use Rattle.std.proofs.Common.{refl, ℕ, ◌≡◌, List, [], ◌∷◌, take, Some, None, true, false, map}
+use Rattle.pie_params.specs.Elements.{usual}
 use Rattle.pie_book.specs.Types.{Profile, One, Two, Arrive, Depart, Update, Reset, Answer, Enqueued, DroppedBytes, Left, Updated, Done, Event}
 use Rattle.pie_book.specs.Types.{Bounded, Opening}
 use Rattle.pie_book.specs.declared.refusal.Refusal.TheVariants.{TooSoon}
@@ -13,7 +14,7 @@ in_profile profile = record {
   moment = 0;
   limits = limits 8 32 100;
   params = nine 2 1 5 850000 0 1 9000 1000000000000 1024;
-  choices = record { mode = Bounded; profile = profile };
+  choices = record { mode = Bounded; profile = profile; elements = usual };
 }
 
 abbrev arrives : ℕ → ℕ → Event

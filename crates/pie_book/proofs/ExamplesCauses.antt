@@ -114,6 +114,6 @@ no_arrivals : map (cause_after opening two_departed) (Depart 1 ∷ Update 1 ∷ 
 no_arrivals = refl
 
 -- in profile two a controller that no arrival turned on
-while_inactive : cause_after (record (room_for 5) { choices = record { mode = Bounded; profile = Two } }) [] (Arrive 0 (packet 1 5) 0) ≡ Some Inactive
+while_inactive : cause_after (record (room_for 5) { choices = record { mode = Bounded; profile = Two; elements = usual } }) [] (Arrive 0 (packet 1 5) 0) ≡ Some Inactive
 unfolding worked
 while_inactive = refl

@@ -9,7 +9,6 @@ use Rattle.pie_aqm.specs.Steps as Steps
 use Rattle.pie_aqm.specs.Steps.{anew, bytes_with, judged}
 use Rattle.pie_aqm.proofs.InRange.{threshold-holds}
 use Rattle.pie_aqm.proofs.Places.{place_of}
-use Rattle.pie_params.specs.Elements.{usual}
 use Rattle.pie_book.specs.Call.{arrival_of, departure_call}
 use Rattle.pie_book.specs.Core.{CoreView, Shows, closed, refusal_of}
 use Rattle.pie_book.specs.Decision.{IsLegal, IsLegalAt}
@@ -25,7 +24,7 @@ first_core opening = record {
   packets = opening.limits.packets;
   events = opening.limits.events;
   count = 0;
-  held = Steps.opened opening.choices.profile usual opening.params opening.moment;
+  held = Steps.opened opening.choices.profile opening.choices.elements opening.params opening.moment;
   waiting = [];
   stats = no_stats;
 }

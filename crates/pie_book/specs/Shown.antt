@@ -4,7 +4,6 @@ use Rattle.std.specs.Prelude.{ℕ, List, [], ◌∷◌, map}
 use Rattle.pie_aqm.specs.declared.verdict.Verdict.TheVariants as verdict
 use Rattle.pie_aqm.specs.Events.{ControllerEvent, Opened, Arrived, Departed, Passed, Updated, Reset, Changed}
 use Rattle.pie_aqm.specs.Places.{Place, places, up_to}
-use Rattle.pie_params.specs.Elements.{usual}
 use Rattle.pie_book.specs.Types.{Waiting, Command, Arrive, Event, Opening}
 use Rattle.pie_book.specs.Deed.{Deed, deed_of, handed_in, queued, marked, dropped_early, dropped_bytes, dropped_packets, departed, found_none}
 use Rattle.pie_book.specs.Deed.{updated, was_reset, set, nothing}
@@ -12,7 +11,8 @@ use Rattle.pie_book.specs.History.{bytes_after, waiting_after}
 
 -- what the controller was opened with
 abbrev pub opened_of : Opening → Opened
-opened_of opening = record { profile = opening.choices.profile; elements = usual; params = opening.params; moment = opening.moment }
+opened_of opening =
+    record { profile = opening.choices.profile; elements = opening.choices.elements; params = opening.params; moment = opening.moment }
 
 -- the size of the packet that arrives, 0 with none
 abbrev pub arriving_size : Command → ℕ

@@ -8,7 +8,7 @@ pub record TallyView : Type 0 where
 
 -- no statistic is greater than so many events can make it
 pub record IsReached (count : ℕ) (stats : Stats) : Type 0 where
-  pub most : count ≤ 2 ^ 40
+  pub most : count ≤ 2 ^ 47
   pub arrivals : stats.arrivals ≤ count
   pub enqueued : stats.enqueued ≤ count
   pub marked : stats.marked ≤ count

@@ -1,5 +1,6 @@
 -- The types that definitions here speak of, and their cases.
 pub use Rattle.pie_params.specs.declared.raw.RawParams.{RawParams}
+pub use Rattle.pie_params.specs.declared.elements.Elements.{Elements}
 pub use Rattle.pie_queue.specs.declared.packet.Packet.{Packet}
 pub use Rattle.pie_queue.specs.declared.packet.Waiting.{Waiting}
 pub use Rattle.pie_aqm.specs.declared.profile.Profile.{Profile}

@@ -40,7 +40,7 @@ pub use cause::{Cause, Fate};
 pub use command::{Answer, Command, Event};
 pub use deciding_core::Core;
 pub use law::{folds_change_no_answer, profile_one_is_always_active, registers_look_back};
-pub use opening::{Choices, Limits, Mode, Opening, Profile};
+pub use opening::{Choices, Elements, Limits, Mode, Opening, Profile};
 pub use ranges::all_numbers_are_held;
 pub use refusal::{FoldRefusal, OpenRefusal, Refusal};
 pub use registers::Registers;

@@ -3,28 +3,29 @@
 ghost use Rattle.std.specs.Prelude.{◌≡◌};
 
 pub use pie_aqm::Profile;
+pub use pie_params::Elements;
 use pie_params::Params;
 
 /// The limits of a book (this project's own), not yet looked at.
 #[derive(Clone, Copy, Debug, PartialEq, Eq)]
 pub struct Limits {
-    /// How many packets the ring holds: 1 to 65536.
+    /// How many packets the ring holds: 1 to `2^20`.
     pub packets: u32,
     /// How many events the tail holds: 1 to 1048576.
     pub tail: u32,
-    /// How many events there may be in all: 1 to `2^40`.
+    /// How many events there may be in all: 1 to `2^47`.
     pub events: u64,
 }
 
 impl Limits {
-    ghost use Rattle.pie_book.specs.Opening.{are_in_range};
+    ghost use Rattle.pie_book.specs.Opening.{are_in_range, are_of_version_two};
 
     /// The greatest ring, in packets.
-    pub const MOST_PACKETS: u32 = 65536;
+    pub const MOST_PACKETS: u32 = 1_048_576;
     /// The longest tail, in events.
     pub const LONGEST_TAIL: u32 = 1_048_576;
-    /// The most events.
-    pub const MOST_EVENTS: u64 = 1 << 40;
+    /// The most events: about a month and a half of the smallest frames at 10 Gbit/s, each with its departure.
+    pub const MOST_EVENTS: u64 = 1 << 47;
 
     /// Whether each limit is in its range.
     pub fn are_in_range(self) -> bool
@@ -33,6 +34,14 @@ impl Limits {
         (1 <= self.packets && self.packets <= Self::MOST_PACKETS)
             && (1 <= self.tail && self.tail <= Self::LONGEST_TAIL)
             && (1 <= self.events && self.events <= Self::MOST_EVENTS)
+    }
+
+    /// Whether a text of version one or two can open with these limits, which are in their ranges: at most 65536 packets, and at
+    /// most `2^40` events.
+    pub fn are_of_version_two(self) -> bool
+        ensures { result ≡ are_of_version_two self }
+    {
+        self.packets <= 65536 && self.events <= 1 << 40
     }
 }
 
@@ -45,13 +54,15 @@ pub enum Mode {
     Rolling,
 }
 
-/// What else is chosen at an opening (this project's own).
+/// What else is chosen at an opening, for as long as the book lasts (this project's own).
 #[derive(Clone, Copy, Debug, PartialEq, Eq)]
 pub struct Choices {
     /// What a full tail does.
     pub mode: Mode,
     /// When the controller works.
     pub profile: Profile,
+    /// RFC 8033's optional elements (its section 5).
+    pub elements: Elements,
 }
 
 /// What a book was opened with, kept as it was handed in.
@@ -63,6 +74,6 @@ pub struct Opening {
     pub limits: Limits,
     /// The parameters.
     pub params: Params,
-    /// What a full tail does, and when the controller works.
+    /// What a full tail does, when the controller works, and its optional elements.
     pub choices: Choices,
 }

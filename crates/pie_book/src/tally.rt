@@ -68,7 +68,7 @@ impl Tally {
 
     /// One more arrival, with its verdict.
     pub(crate) fn arrived(&mut self, verdict: Verdict)
-        requires { self.old.count < 2 ^ 40 }
+        requires { self.old.count < 2 ^ 47 }
         ensures count { self.new.count ≡ self.old.count + 1 }
         ensures stats { (packet : Packet) → self.new.stats ≡ counted self.old.stats (arrival_deed packet (answer_of verdict)) 0 0 }
     {
@@ -85,7 +85,7 @@ impl Tally {
 
     /// One more packet departed, of this size, after this many nanoseconds.
     pub(crate) fn departed(&mut self, packet: Packet, waited: u64)
-        requires count { self.old.count < 2 ^ 40 }
+        requires count { self.old.count < 2 ^ 47 }
         requires size { packet.size ≤ 65535 }
         requires waited { waited ≤ 2 ^ 60 }
         ensures { self.new ≡ record { count = self.old.count + 1; stats = counted self.old.stats (departed packet) 0 waited } }
@@ -98,7 +98,7 @@ impl Tally {
 
     /// One more departure that found no packet.
     pub(crate) fn found_none(&mut self)
-        requires { self.old.count < 2 ^ 40 }
+        requires { self.old.count < 2 ^ 47 }
         ensures { self.new ≡ record { count = self.old.count + 1; stats = counted self.old.stats found_none 0 0 } }
     {
         self.count += 1;
@@ -107,7 +107,7 @@ impl Tally {
 
     /// One more update, with this delay.
     pub(crate) fn updated(&mut self, delay: u64)
-        requires { self.old.count < 2 ^ 40 }
+        requires { self.old.count < 2 ^ 47 }
         ensures { self.new ≡ record { count = self.old.count + 1; stats = counted self.old.stats updated delay 0 } }
     {
         self.count += 1;
@@ -117,7 +117,7 @@ impl Tally {
 
     /// One more reset.
     pub(crate) fn was_reset(&mut self)
-        requires { self.old.count < 2 ^ 40 }
+        requires { self.old.count < 2 ^ 47 }
         ensures { self.new ≡ record { count = self.old.count + 1; stats = counted self.old.stats was_reset 0 0 } }
     {
         self.count += 1;
@@ -126,7 +126,7 @@ impl Tally {
 
     /// One more change of the parameters.
     pub(crate) fn changed(&mut self)
-        requires { self.old.count < 2 ^ 40 }
+        requires { self.old.count < 2 ^ 47 }
         ensures count { self.new.count ≡ self.old.count + 1 }
         ensures stats { (params : RawParams) → self.new.stats ≡ counted self.old.stats (set params) 0 0 }
     {
@@ -144,7 +144,7 @@ impl Tally {
     /// How many events there were.
     pub(crate) fn count(&self) -> u64
         ensures value { result ≡ self.now.count }
-        ensures within { result ≤ 2 ^ 40 }
+        ensures within { result ≤ 2 ^ 47 }
     {
         self.count
     }

@@ -1,26 +1,77 @@
 -- How `pie storm` ends, and what it writes.
-use Rattle.std.specs.Prelude.{ℕ, ◌≡◌, ◌⊎◌, List, Option}
-use Rattle.clap.specs.Words.{Row}
+use Rattle.std.specs.Prelude.{ℕ, ◌≡◌, ◌==◌, ◌⊎◌, List, Option, Some, None, codes, option_and_then, if◌then◌else◌}
+use Rattle.clap.specs.Words.{Row, Text, first_of}
+use Rattle.pie_aqm.specs.declared.profile.Profile.{Profile}
+use Rattle.pie_aqm.specs.declared.profile.Profile.TheVariants.{One, Two}
+use Rattle.pie_params.specs.declared.elements.Elements.{Elements}
+use Rattle.pie_params.specs.declared.elements.Delay.{Delay}
+use Rattle.pie_params.specs.declared.elements.Delay.TheVariants.{Rate, Stamp}
+use Rattle.pie_params.specs.declared.elements.Picking.{Picking}
+use Rattle.pie_params.specs.declared.elements.Picking.TheVariants.{Derandomized, Random}
+use Rattle.pie_params.specs.declared.elements.Step.{Step}
+use Rattle.pie_params.specs.declared.elements.Step.TheVariants.{Capped, Uncapped}
+use Rattle.pie_params.specs.declared.elements.Size.{Size}
+use Rattle.pie_params.specs.declared.elements.Size.TheVariants.{Unscaled, Scaled}
+use Rattle.pie_record.specs.FirstRecord.{which_of}
+use Rattle.pie_record.specs.Words.{delay_word, picking_word, size_word, step_word}
 use Rattle.pie_storm.specs.declared.numbers.StormNumbers.{StormNumbers}
 use Rattle.pie_storm.specs.declared.plan.Plan.{Plan}
-use Rattle.pie_options.specs.Words.{changes_in, folds_in, load_in, packets_in, seed_in, senders_in}
+use Rattle.pie_options.specs.Words.{changes_in, folds_in, load_in, packets_in, profile_in, seed_in, senders_in}
 use Rattle.pie_storm.specs.StormHistory.{WritesStorm}
 use Rattle.pie_storm.specs.StormPlan.{IsStormPlan}
 
--- the numbers of the plan that the options ask for
-abbrev pub numbers_in : List Row → StormNumbers
-numbers_in options = record {
+-- which of two choices a word names, and the first with no word
+abbrev pub choice_by : {T : Type 0} → List ℕ → T → List ℕ → T → Option Text → Option T
+choice_by first one second other None = Some one
+choice_by first one second other (Some word) = which_of first one second other word
+
+-- .. that an option is given
+abbrev pub choice_in : {T : Type 0} → Text → List ℕ → T → List ℕ → T → List Row → Option T
+choice_in name first one second other options = choice_by first one second other (first_of name options)
+
+-- RFC 8033's optional elements: where the delay comes from
+abbrev pub delay_in : List Row → Option Delay
+delay_in options = choice_in (codes "delay") (delay_word Rate) Rate (delay_word Stamp) Stamp options
+
+-- .. how a packet is picked
+abbrev pub picking_in : List Row → Option Picking
+picking_in options = choice_in (codes "picking") (picking_word Derandomized) Derandomized (picking_word Random) Random options
+
+-- .. how far an update may raise the probability
+abbrev pub step_in : List Row → Option Step
+step_in options = choice_in (codes "step") (step_word Capped) Capped (step_word Uncapped) Uncapped options
+
+-- .. and whether a packet's size counts
+abbrev pub size_in : List Row → Option Size
+size_in options = choice_in (codes "size") (size_word Unscaled) Unscaled (size_word Scaled) Scaled options
+
+-- the elements that the options choose, where each word names a choice
+unfoldable pub elements_in : List Row → Option Elements
+elements_in options =
+    option_and_then (λ delay. option_and_then (λ picking. option_and_then (λ step. option_and_then (λ size.
+    Some (record { delay = delay; picking = picking; step = step; size = size })) (size_in options)) (step_in options)) (picking_in options))
+    (delay_in options)
+
+-- the profile of this number
+abbrev pub profile_by : ℕ → Profile
+profile_by number = if number == 1 then One else Two
+
+-- the numbers of the plan that the options ask for, with these elements
+abbrev pub numbers_in : Elements → List Row → StormNumbers
+numbers_in elements options = record {
   senders = senders_in options;
   packets = packets_in options;
   seed = seed_in options;
   load = load_in options;
   changes = changes_in options;
   folds = folds_in options;
+  profile = profile_by (profile_in options);
+  elements = elements;
 }
 
--- the history of a storm of the plan that the options ask for was written, and the status is 0; or it is 1, where memory, a thread or
--- the writer failed
+-- the history of a storm of the plan that the options ask for was written, and the status is 0; or it is 1, where a word names no choice,
+-- or memory, a thread or the writer failed
 abbrev pub EndsStorm : List Row → ℕ → Option (List ℕ) → Option (List ℕ) → Type 0
 EndsStorm options status before now =
-    (status ≡ 1) ⊎ ((status ≡ 0) × ((plan : Plan) × IsStormPlan (numbers_in options) plan
-    × WritesStorm plan before now))
+    (status ≡ 1) ⊎ ((status ≡ 0) × ((elements : Elements) × (elements_in options ≡ Some elements)
+    × ((plan : Plan) × IsStormPlan (numbers_in elements options) plan × WritesStorm plan before now)))

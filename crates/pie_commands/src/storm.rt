@@ -1,13 +1,18 @@
 //! `pie storm`: the storm that the options ask for, whose history is written.
-ghost use Rattle.std.specs.Prelude.{◌≡◌};
+ghost use Rattle.std.specs.Prelude.{◌≡◌, Some};
 ghost use Rattle.clap.specs.Words.{found_of, rows_of};
-ghost use Rattle.pie_commands.specs.StormEnds.{EndsStorm, numbers_in};
+ghost use Rattle.pie_commands.specs.StormEnds.{EndsStorm, choice_in, delay_in, elements_in, numbers_in, picking_in};
+ghost use Rattle.pie_commands.specs.StormEnds.{profile_by, size_in, step_in};
+ghost use Rattle.pie_options.specs.Words.{profile_in};
 ghost use Rattle.pie_storm.specs.StormPlan.{HasStormRange};
 
 use crate::end::{DONE, fault};
 use clap::ArgMatches;
-use pie_book::Event;
+use pie_book::{Event, Profile};
 use pie_options::{flag, number_or};
+use pie_params::{Delay, Elements, Picking, Size, Step};
+use pie_record::first_record::which_of;
+use pie_record::words::{delay_word, picking_word, size_word, step_word};
 use pie_storm::{StormNumbers, write_storm};
 use std::alloc::Global;
 use std::io::Write;
@@ -24,9 +29,88 @@ const SEED: u64 = 1;
 /// How many packets come for each hundred that the link sends, where the words name no number.
 const LOAD: u64 = 100;
 
-/// The numbers of the plan that these options ask for.
-fn numbers_of(options: &ArgMatches<'_>) -> StormNumbers
-    ensures asked { result ≡ numbers_in (rows_of (found_of options.now)) }
+/// What is said where the word of a choice is none of its own.
+const NO_CHOICE: &str = "storm: --delay is rate or stamp, --picking derandomized or random, --step capped or uncapped, --size unscaled or scaled";
+
+/// Which of two choices an option names: the first where the words don't give it, and none where they give another word.
+fn choice<T: Copy>(
+    options: &ArgMatches<'_>,
+    name: &str,
+    first: &[u8],
+    one: T,
+    second: &[u8],
+    other: T,
+) -> Option<T>
+    ensures { result ≡ choice_in name.now first.now one second.now other (rows_of (found_of options.now)) }
+{
+    match options.get_str(name) {
+        Some(word) => which_of(first, one, second, other, word.as_bytes()),
+        None => Some(one),
+    }
+}
+
+/// Where an update takes the delay from.
+fn delay_of(options: &ArgMatches<'_>) -> Option<Delay>
+    ensures { result ≡ delay_in (rows_of (found_of options.now)) }
+{
+    let (one, other) = (Delay::Rate, Delay::Stamp);
+    choice(options, "delay", delay_word(one), one, delay_word(other), other)
+}
+
+/// How a packet is picked.
+fn picking_of(options: &ArgMatches<'_>) -> Option<Picking>
+    ensures { result ≡ picking_in (rows_of (found_of options.now)) }
+{
+    let (one, other) = (Picking::Derandomized, Picking::Random);
+    choice(options, "picking", picking_word(one), one, picking_word(other), other)
+}
+
+/// How far an update may raise the probability.
+fn step_of(options: &ArgMatches<'_>) -> Option<Step>
+    ensures { result ≡ step_in (rows_of (found_of options.now)) }
+{
+    let (one, other) = (Step::Capped, Step::Uncapped);
+    choice(options, "step", step_word(one), one, step_word(other), other)
+}
+
+/// Whether a packet's size counts when it is picked.
+fn size_of(options: &ArgMatches<'_>) -> Option<Size>
+    ensures { result ≡ size_in (rows_of (found_of options.now)) }
+{
+    let (one, other) = (Size::Unscaled, Size::Scaled);
+    choice(options, "size", size_word(one), one, size_word(other), other)
+}
+
+/// RFC 8033's optional elements that these options choose; none where a word names no choice.
+fn elements_of(options: &ArgMatches<'_>) -> Option<Elements>
+    ensures { result ≡ elements_in (rows_of (found_of options.now)) }
+{
+    let delay = delay_of(options)?;
+    let picking = picking_of(options)?;
+    let step = step_of(options)?;
+    let size = size_of(options)?;
+    Some(Elements {
+        delay,
+        picking,
+        step,
+        size,
+    })
+}
+
+/// The profile that these options choose.
+fn profile_of(options: &ArgMatches<'_>) -> Profile
+    ensures { result ≡ profile_by (profile_in (rows_of (found_of options.now))) }
+{
+    if number_or(options, "profile", 1, 2, 1) == 1 {
+        Profile::One
+    } else {
+        Profile::Two
+    }
+}
+
+/// The numbers of the plan that these options ask for, with these elements.
+fn numbers_of(options: &ArgMatches<'_>, elements: Elements) -> StormNumbers
+    ensures asked { result ≡ numbers_in elements (rows_of (found_of options.now)) }
     ensures ranges { HasStormRange result }
 {
     StormNumbers {
@@ -36,11 +120,13 @@ fn numbers_of(options: &ArgMatches<'_>) -> StormNumbers
         load: number_or(options, "load", 50, 200, LOAD),
         changes: number_or(options, "changes", 0, 100, 0),
         folds: number_or(options, "folds", 0, 100, 0),
+        profile: profile_of(options),
+        elements,
     }
 }
 
 /// `pie storm`: makes the storm that these options ask for, audits its events and writes their history. Ends with 0, or with 1
-/// where memory, a thread or the writer fails.
+/// where the word of a choice is none of its own, or memory, a thread or the writer fails.
 pub(crate) fn make_storm<H: Threads + Wait + Sync, W: Write, E: Write>(
     rt: &H,
     alloc: Global,
@@ -50,7 +136,10 @@ pub(crate) fn make_storm<H: Threads + Wait + Sync, W: Write, E: Write>(
 ) -> u8
     ensures { EndsStorm (rows_of (found_of options.now)) result (W.contents output.old) (W.contents output.new) }
 {
-    let made = match pie_storm::make_storm(rt, alloc, numbers_of(options)) {
+    let Some(elements) = elements_of(options) else {
+        return fault(errors, NO_CHOICE);
+    };
+    let made = match pie_storm::make_storm(rt, alloc, numbers_of(options, elements)) {
         Ok(made) => made,
         Err(why) => return fault(errors, why),
     };

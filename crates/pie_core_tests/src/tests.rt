@@ -2,7 +2,7 @@
 
 use pie_book::{Book, Choices, FoldRefusal, Limits, Mode, OpenRefusal, Opening, Profile, Refusal};
 use pie_fixed::{Accu, Gain, Prob};
-use pie_params::{BadParam, Field, Params, RawParams};
+use pie_params::{BadParam, Elements, Field, Params, RawParams};
 use pie_queue::{ByteQueue, Ecn, Memory};
 use pie_record::TraceFault;
 use pie_trace::write_history;
@@ -56,14 +56,14 @@ fn refusals_in_words(rt: HostRuntime) {
 
 /// Whether there is memory for a ring of the greatest size.
 fn is_largest_ring_made(alloc: Global) -> bool {
-    match ByteQueue::new(alloc, 65536) {
-        Ok(queue) => queue.packets() == 65536,
+    match ByteQueue::new(alloc, 1_048_576) {
+        Ok(queue) => queue.packets() == 1_048_576,
         Err(Memory) => false,
     }
 }
 
 #[test]
-fn a_ring_of_65536(rt: HostRuntime) {
+fn the_largest_ring(rt: HostRuntime) {
     assert!(rt; is_largest_ring_made(rt.alloc()));
 }
 
@@ -84,7 +84,11 @@ fn is_history(alloc: Global, mode: Mode, profile: Profile, params: RawParams, wa
         moment: 0,
         limits: limits(),
         params,
-        choices: Choices { mode, profile },
+        choices: Choices {
+            mode,
+            profile,
+            elements: Elements::usual(),
+        },
     };
     let mut out = Vec::new(alloc);
     match write_history(alloc, &mut out, &opening, &[]) {

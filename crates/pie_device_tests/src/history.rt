@@ -5,7 +5,7 @@ ghost use Rattle.pie_aqm.specs.declared.profile.Profile.TheVariants.{One};
 
 use crate::failing::FailingWriter;
 use pie_book::{Answer, Choices, Command, Event, Limits, Mode, Opening, Profile};
-use pie_params::Params;
+use pie_params::{Elements, Params};
 use pie_queue::{Ecn, Packet};
 use pie_trace::{HistoryLines, Line, TraceFault, write_history};
 use std::alloc::Global;
@@ -64,6 +64,7 @@ pub(crate) fn opening() -> Opening
         choices: Choices {
             mode: Mode::Bounded,
             profile: Profile::One,
+            elements: Elements::usual(),
         },
     }
 }

@@ -2,6 +2,7 @@
 ghost use Rattle.std.specs.Prelude.{◌≡◌, ◌+◌, ◌<◌, ◌↔◌, All, Some, None, IsOk, IsErr, IfOk, IfErr, OnOk, OnErr, List};
 ghost use Rattle.pie_book.specs.declared.opening.Mode.TheVariants.{Bounded};
 ghost use Rattle.pie_aqm.specs.declared.profile.Profile.TheVariants.{One};
+ghost use Rattle.pie_params.specs.Elements.{usual};
 ghost use Rattle.pie_link.specs.declared.entry.Entry.{Entry};
 
 use crate::caller::Caller;
@@ -9,7 +10,9 @@ use crate::entry::Entry;
 use crate::kept_book::KeptBook;
 use crate::refusal::LinkRefusal;
 use atomic_table::TableRule;
-use pie_book::{Book, Choices, Limits, Mode, OpenRefusal, Opening, Profile, registers_look_back};
+use pie_book::{
+    Book, Choices, Elements, Limits, Mode, OpenRefusal, Opening, Profile, registers_look_back,
+};
 use pie_lock::{LockOpening, LockRule, OneNumber, Place, RuledLock, StillHeld};
 use pie_params::Params;
 use std::alloc::Global;
@@ -39,7 +42,8 @@ impl Link {
     ghost use Rattle.pie_link.specs.Headline.{KeepsOneHistory};
     ghost use Rattle.pie_link.specs.Opening.{link_refusal, IsRefusedFor};
 
-    /// Opens a link over a bounded book: `open_with` at `Mode::Bounded`.
+    /// Opens a link over a bounded book of profile one with the usual elements: `open_with` at `Mode::Bounded`, `Profile::One` and
+    /// `Elements::usual()`.
     ///
     /// # Errors
     ///
@@ -54,7 +58,7 @@ impl Link {
         ensures refused { IfErr result (IsRefusedFor (link_refusal limits moment callers)) }
         ensures allowed { OnOk result (link_refusal limits moment callers ≡ None) }
         ensures opening { IfOk result (λ opened. opened.0.origin
-            ≡ Some (record { moment = moment; limits = limits; params = params; choices = record { mode = Bounded; profile = One } })) }
+            ≡ Some (record { moment = moment; limits = limits; params = params; choices = record { mode = Bounded; profile = One; elements = usual } })) }
         ensures callers { IfOk result (λ opened. opened.0.numbers ≡ callers) }
         ensures caller { IfOk result (λ opened. opened.1 ≡ first_pass opened.0 callers) }
         ensures headline { IfOk result (λ opened. KeepsOneHistory
@@ -63,6 +67,7 @@ impl Link {
         let choices = Choices {
             mode: Mode::Bounded,
             profile: Profile::One,
+            elements: Elements::usual(),
         };
         Link::open_with(alloc, limits, params, moment, callers, choices)
     }

@@ -7,7 +7,7 @@ use pie_book::{
     Registers, Stats,
 };
 use pie_fixed::Nanos;
-use pie_params::Params;
+use pie_params::{Elements, Params};
 use pie_queue::{ByteQueue, Ecn, Memory, Packet};
 use std::alloc::Global;
 use std::io;
@@ -101,7 +101,7 @@ fn core(rt: &impl Print, alloc: Global) -> io::Result<()> {
 fn core_with(rt: &impl Print, alloc: Global) -> io::Result<()> {
     let params = Params::default_profile();
     begin(rt, "Core::open_with")?;
-    let made = Core::open_with(alloc, limits(), params, 0, Profile::Two);
+    let made = Core::open_with(alloc, limits(), params, 0, Profile::Two, Elements::usual());
     tell_core(rt, "Core::open_with", made)
 }
 
@@ -128,6 +128,7 @@ fn book_with(rt: &impl Print, alloc: Global) -> io::Result<()> {
     let choices = Choices {
         mode: Mode::Rolling,
         profile: Profile::Two,
+        elements: Elements::usual(),
     };
     begin(rt, "Book::open_with")?;
     let made = Book::open_with(alloc, limits(), params, 0, choices);

@@ -6,7 +6,7 @@ use crate::books::{limits, moments, packet};
 use crate::report::begin;
 use pie_book::{Choices, Event, FoldRefusal, Mode, Profile, Registers};
 use pie_link::{Caller, Link, LinkRefusal, Told, Tried};
-use pie_params::Params;
+use pie_params::{Elements, Params};
 use std::alloc::Global;
 use std::io;
 use std::sync::Wait;
@@ -45,6 +45,7 @@ fn open_with(rt: &impl Print, alloc: Global) -> io::Result<()> {
     let choices = Choices {
         mode: Mode::Rolling,
         profile: Profile::Two,
+        elements: Elements::usual(),
     };
     begin(rt, "Link::open_with")?;
     let made = Link::open_with(alloc, limits(), params, 0, 3, choices);

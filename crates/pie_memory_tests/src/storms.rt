@@ -2,7 +2,8 @@
 
 use crate::books::{limits, packet};
 use crate::report::begin;
-use pie_params::Params;
+use pie_book::Profile;
+use pie_params::{Elements, Params};
 use pie_storm::{Arrival, Change, NoGate, Plan, storm};
 use std::alloc::{AllocError, Global};
 use std::io;
@@ -48,6 +49,8 @@ fn plan(alloc: Global) -> Result<Plan, AllocError> {
         limits: limits(),
         params,
         moment: 0,
+        profile: Profile::One,
+        elements: Elements::usual(),
         arrivals: arrivals(alloc)?,
         departs: one(alloc, 3)?,
         updates: one(alloc, 15_000_000)?,

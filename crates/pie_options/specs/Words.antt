@@ -61,7 +61,8 @@ rules_for Explain = number_rule (codes "event") 1 (2 ^ 64 - 1) ∷ number_rule (
 rules_for Migrate = progress_rule ∷ output_rule ∷ force_rule ∷ file_rule ∷ []
 rules_for Storm = number_rule (codes "senders") 2 8 ∷ number_rule (codes "packets") 1 10_000 ∷ number_rule (codes "seed") 0 (2 ^ 64 - 1)
     ∷ number_rule (codes "load") 50 200 ∷ number_rule (codes "changes") 0 100 ∷ number_rule (codes "folds") 0 100
-    ∷ flag_rule (codes "count") ∷ []
+    ∷ number_rule (codes "profile") 1 2 ∷ text_rule (codes "delay") ∷ text_rule (codes "picking") ∷ text_rule (codes "step")
+    ∷ text_rule (codes "size") ∷ flag_rule (codes "count") ∷ []
 rules_for Params = text_rule (codes "rate") ∷ text_rule (codes "target") ∷ text_rule (codes "tupdate") ∷ text_rule (codes "limit")
     ∷ number_rule (codes "alpha") 0 32 ∷ number_rule (codes "beta") 0 32 ∷ flag_rule (codes "ecn") ∷ flag_rule (codes "bytemode")
     ∷ flag_rule (codes "dq_rate_estimator") ∷ []
@@ -130,7 +131,7 @@ is_forced options = flag_given (codes "force") options
 abbrev pub output_in : List Row → Option Text
 output_in options = first_of (codes "output") options
 
--- the six numbers of `pie storm`
+-- the seven numbers of `pie storm`
 abbrev pub senders_in : List Row → ℕ
 senders_in options = number_or (codes "senders") 2 8 2 options
 
@@ -148,3 +149,6 @@ changes_in options = number_or (codes "changes") 0 100 0 options
 
 abbrev pub folds_in : List Row → ℕ
 folds_in options = number_or (codes "folds") 0 100 0 options
+
+abbrev pub profile_in : List Row → ℕ
+profile_in options = number_or (codes "profile") 1 2 1 options

@@ -22,6 +22,9 @@ evenly over that time. All moments are planned, and no clock is read. The random
 of the seed, but who comes first is the machine's choice: so two storms may have other histories. The threads
 start together, and none runs further ahead of another than four milliseconds of the plan, unless that one is not scheduled.
 
+With --profile, --delay, --picking, --step and --size the controller is one with other choices of RFC 8033's elements, whose
+sections are named above. A delay by time stamps stands still while a link stalls, since no packet departs.
+
 The history opens with the default parameters, as pie run writes it. It has the folded events and those that were left. They are
 audited before it is written.
 
@@ -63,6 +66,31 @@ pub(crate) fn command<'a>(alloc: Global) -> Result<Command<'a>, AllocError>
             name: "folds",
             takes: Takes::Number(0, 100),
             help: "How often recorded events are taken out of the link, 0 to 100; 0 by default",
+        },
+        Argument {
+            name: "profile",
+            takes: Takes::Number(1, 2),
+            help: "1: the controller is always active; 2: it turns itself off and on (5.3); 1 by default",
+        },
+        Argument {
+            name: "delay",
+            takes: Takes::Value("rate|stamp"),
+            help: "Where an update takes the delay from: the departure rate (5.2), or time stamps (4.3); rate by default",
+        },
+        Argument {
+            name: "picking",
+            takes: Takes::Value("derandomized|random"),
+            help: "Whether probabilities accumulate (5.4), or the random word alone picks; derandomized by default",
+        },
+        Argument {
+            name: "step",
+            takes: Takes::Value("capped|uncapped"),
+            help: "Whether an update's rise is capped at 2 % from a probability of 10 % on (5.5); capped by default",
+        },
+        Argument {
+            name: "size",
+            takes: Takes::Value("unscaled|scaled"),
+            help: "Whether packets below mean_pkt are picked less often, in proportion; unscaled by default",
         },
         Argument {
             name: "count",

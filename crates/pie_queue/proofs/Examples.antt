@@ -41,10 +41,10 @@ no_size_of_0 taken = let least = taken.0 in omega arith
 no_size_of_65536 : IsSize 65_536 → ⊥
 no_size_of_65536 taken = let most = taken.1 in omega arith
 
--- a ring holds 65536 packets at most
-no_ring_of_65537 : (queue : Queue) → queue.packets ≡ 65_537 → IsQueue queue → ⊥
-no_ring_of_65537 queue is kept = let most = kept.ring in omega arith
+-- a ring holds 2 ^ 20 packets at most
+no_ring_of_1048577 : (queue : Queue) → queue.packets ≡ 1_048_577 → IsQueue queue → ⊥
+no_ring_of_1048577 queue is kept = let most = kept.ring in omega arith
 
--- the greatest sum, of 65536 packets of 65535 bytes, lies below 2 ^ 32
-greatest_sum : 65535 * 65536 + 2 ^ 16 ≡ 2 ^ 32
+-- the greatest sum, of 2 ^ 20 packets of 65535 bytes, lies below 2 ^ 36
+greatest_sum : 65535 * 2 ^ 20 + 2 ^ 20 ≡ 2 ^ 36
 greatest_sum = refl

@@ -1,5 +1,5 @@
 -- What a contract sees of a byte queue: the packets that wait, in order, and how many the ring holds.
-use Rattle.std.specs.Prelude.{ℕ, List, ◌≤◌, length, sum_by, All}
+use Rattle.std.specs.Prelude.{ℕ, List, ◌≤◌, ◌^◌, length, sum_by, All}
 use Rattle.pie_queue.specs.declared.packet.Waiting.{Waiting}
 
 -- the packets that wait, the oldest first, and how many there may be
@@ -21,6 +21,6 @@ HasSize entry = IsSize entry.packet.size
 
 -- what a byte queue keeps: no more packets than the ring holds, each of a size that a queue takes
 pub record IsQueue (queue : Queue) : Type 0 where
-  pub ring : queue.packets ≤ 65536
+  pub ring : queue.packets ≤ 2 ^ 20
   pub within : length queue.waiting ≤ queue.packets
   pub sizes : All HasSize queue.waiting

@@ -1,5 +1,5 @@
 //! The queue of packets: a ring, and the running sum of the sizes.
-ghost use Rattle.std.specs.Prelude.{◌≡◌, ◌≤◌, ◌*◌, ◌↔◌, [], ◌∷◌, ◌++◌, length, drop, nat_le, slice_get, IsErr, IsTrue, IfOk, IfErr, IfSome, OnOk};
+ghost use Rattle.std.specs.Prelude.{◌≡◌, ◌≤◌, ◌*◌, ◌^◌, ◌↔◌, [], ◌∷◌, ◌++◌, length, drop, nat_le, slice_get, IsErr, IsTrue, IfOk, IfErr, IfSome, OnOk};
 ghost use Rattle.std.specs.Bool.{OnTrue, OnFalse};
 ghost use Rattle.pie_queue.specs.Queue.{IsSize, bytes_of};
 
@@ -36,14 +36,15 @@ impl Model for ByteQueue {
 }
 
 impl ByteQueue {
-    /// An empty queue that holds at most `packets` packets, 1 to 65536. Its whole memory is taken here.
+    /// An empty queue that holds at most `packets` packets, 1 to `2^20`. Its whole memory is taken here, for so
+    /// many packets and no more.
     ///
     /// # Errors
     ///
     /// `Memory` where there was none for the ring.
     pub fn new(alloc: Global, packets: u32) -> Result<ByteQueue, Memory>
         requires at_least_one { 1 ≤ packets }
-        requires at_most { packets ≤ 65536 }
+        requires at_most { packets ≤ 2 ^ 20 }
         ensures { IfOk result (λ queue. queue ≡ record { waiting = []; packets = packets }) }
     {
         match HeapCircularBuffer::with_capacity(alloc, packets as usize) {
@@ -101,18 +102,18 @@ impl ByteQueue {
         true
     }
 
-    /// The sum of the sizes of the packets that wait, in bytes: at most 65535 times 65536.
+    /// The sum of the sizes of the packets that wait, in bytes: at most 65535 times `2^20`.
     pub fn bytes(&self) -> u64
         ensures sum { result ≡ bytes_of self.now.waiting }
-        ensures within { result ≤ 65535 * 65536 }
+        ensures within { result ≤ 65535 * 2 ^ 20 }
     {
         self.bytes
     }
 
-    /// How many packets wait: at most 65536.
+    /// How many packets wait: at most `2^20`.
     pub fn len(&self) -> usize
         ensures count { result ≡ length self.now.waiting }
-        ensures within { (result ≤ self.now.packets) × (self.now.packets ≤ 65536) }
+        ensures within { (result ≤ self.now.packets) × (self.now.packets ≤ 2 ^ 20) }
     {
         self.ring.len()
     }
@@ -124,7 +125,7 @@ impl ByteQueue {
         self.ring.is_empty()
     }
 
-    /// How many packets the ring holds at most, 1 to 65536.
+    /// How many packets the ring holds at most, 1 to `2^20`.
     pub fn packets(&self) -> usize
         ensures { result ≡ self.now.packets }
     {

@@ -1,11 +1,17 @@
 -- What records of a history say, and the records that a history is written as: each theorem computes.
-use Rattle.std.specs.Prelude.{◌≡◌, ℕ, List, [], ◌∷◌, ◌++◌, Option, Some, None, Ok, Err, codes, map, refl}
+use Rattle.std.specs.Prelude.{◌≡◌, ℕ, List, [], ◌∷◌, ◌++◌, Option, Some, None, Result, Ok, Err, codes, map, refl}
 use Rattle.std.specs.Fmt.{digits}
 use Rattle.csv.specs.Machine.{next_record}
 use Rattle.csv.specs.Reading.{records_from, strip_bom}
 use Rattle.csv.specs.Records.{field_at}
 use Rattle.csv.specs.Writing.{fields_text, is_blank}
+use Rattle.pie_params.specs.Elements.{usual}
 use Rattle.pie_params.specs.Profile.{default_profile}
+use Rattle.pie_params.specs.declared.elements.Elements.{Elements}
+use Rattle.pie_params.specs.declared.elements.Delay.TheVariants.{Stamp}
+use Rattle.pie_params.specs.declared.elements.Picking.TheVariants.{Random}
+use Rattle.pie_params.specs.declared.elements.Size.TheVariants.{Scaled}
+use Rattle.pie_params.specs.declared.elements.Step.TheVariants.{Uncapped}
 use Rattle.pie_params.specs.declared.raw.RawParams.{RawParams}
 use Rattle.pie_queue.specs.declared.ecn.Ecn.{Ecn}
 use Rattle.pie_queue.specs.declared.ecn.Ecn.TheVariants as ecn
@@ -21,13 +27,15 @@ use Rattle.pie_book.specs.declared.opening.Mode.TheVariants.{Bounded, Rolling}
 use Rattle.pie_book.specs.declared.opening.Opening.{Opening}
 use Rattle.pie_aqm.specs.declared.profile.Profile.{Profile}
 use Rattle.pie_aqm.specs.declared.profile.Profile.TheVariants.{One, Two}
+use Rattle.pie_record.specs.declared.fault.OpenFault.TheVariants as open_fault
 use Rattle.pie_record.specs.declared.fault.TraceFault.{TraceFault}
 use Rattle.pie_record.specs.declared.fault.TraceFault.TheVariants as fault
 use Rattle.pie_record.specs.declared.history_record.Line.{Line}
 use Rattle.pie_record.specs.declared.history_record.Line.TheVariants.{Made, Unmakeable, Note}
 use Rattle.pie_record.specs.declared.version.Version.TheVariants as version
 use Rattle.pie_record.specs.Number.{number}
-use Rattle.pie_record.specs.FirstRecord.{draft_at, first_kind, limits_at, mode_of, profile_of, version_of, version_one_fields, version_two_fields}
+use Rattle.pie_record.specs.FirstRecord.{draft_at, elements_at, first_kind, limits_at, profile_of, version_of, version_one_fields}
+use Rattle.pie_record.specs.FirstRecord.{version_three_fields, version_two_fields, which_of}
 use Rattle.pie_record.specs.Field.{ecn_of, packet_at, params_at}
 use Rattle.pie_record.specs.Command.{arrival_at, change_at, command_at, command_kind}
 use Rattle.pie_record.specs.HistoryRecord.{answer_at, departure_at, event_line, line_of, note_line, numbers_at, registers_at, shown_line, update_at}
@@ -61,7 +69,7 @@ opened_as mode params = record {
   moment = 0;
   limits = record { packets = 4; tail = 16; events = 100 };
   params = params;
-  choices = record { mode = mode; profile = One };
+  choices = record { mode = mode; profile = One; elements = usual };
 }
 
 abbrev one_arrival : List ℕ
@@ -72,7 +80,7 @@ one_arrival-lines : (history_opening (records_of one_arrival) ≡ Ok (opened_as 
     × (lines_of one_arrival ≡ Made (arrival Enqueued) ∷ Made (event 2 (Depart 25) (Left (packet ecn.Ect0))) ∷ Made (event 2 (Depart 30) Empty) ∷ [])
     × (fault_in one_arrival ≡ None)
 unfolding records_from next_record strip_bom field_at digits fields_text is_blank number ecn_of params_at first_kind version_of profile_of
-    mode_of limits_at draft_at version_one_fields version_two_fields opening_of rows_text answer_fields verdict_of command_at packet_at
+    which_of limits_at draft_at version_one_fields version_two_fields opening_of rows_text answer_fields verdict_of command_at packet_at
     command_kind arrival_at event_line answer_at departure_at update_at change_at numbers_at registers_at note_line shown_line line_of
     told_by lines_from fault_from history_opening history_version after_opening opening_row command_fields
 one_arrival-lines = (refl, refl, refl)
@@ -96,7 +104,7 @@ kinds-lines : lines_of (
     ∷ Made (arrival Marked) ∷ Made (arrival DroppedEarly) ∷ Made (arrival DroppedBytes) ∷ Made (arrival DroppedPackets) ∷ Note ∷ Note ∷ Note ∷ Note
     ∷ []
 unfolding records_from next_record strip_bom field_at digits fields_text is_blank number ecn_of params_at first_kind version_of profile_of
-    mode_of limits_at draft_at version_one_fields version_two_fields opening_of rows_text answer_fields verdict_of command_at packet_at
+    which_of limits_at draft_at version_one_fields version_two_fields opening_of rows_text answer_fields verdict_of command_at packet_at
     command_kind arrival_at event_line answer_at departure_at update_at change_at numbers_at registers_at note_line shown_line line_of
     told_by lines_from fault_from history_opening history_version after_opening opening_row command_fields
 kinds-lines = refl
@@ -119,7 +127,7 @@ faults-in : map (λ last. fault_in (codes "open,0,4,16,100\ndepart,1,1,empty\n" 
     ≡ Some (fault.Kind 3) ∷ Some (fault.Kind 3) ∷ Some (fault.Fields 3) ∷ Some (fault.Word 3) ∷ Some (fault.Word 3) ∷ Some (fault.Word 3)
     ∷ Some (fault.Number 3) ∷ Some (fault.Word 3) ∷ Some (fault.Word 3) ∷ Some (fault.Number 3) ∷ Some (fault.Number 3) ∷ Some (fault.Number 3) ∷ []
 unfolding records_from next_record strip_bom field_at digits fields_text is_blank number ecn_of params_at first_kind version_of profile_of
-    mode_of limits_at draft_at version_one_fields version_two_fields opening_of rows_text answer_fields verdict_of command_at packet_at
+    which_of limits_at draft_at version_one_fields version_two_fields opening_of rows_text answer_fields verdict_of command_at packet_at
     command_kind arrival_at event_line answer_at departure_at update_at change_at numbers_at registers_at note_line shown_line line_of
     told_by lines_from fault_from history_opening history_version after_opening opening_row command_fields
 faults-in = refl
@@ -131,7 +139,7 @@ faulty-lines : (lines_of (codes "open,0,4,16,100\nrefused,1,1\ndep\nrefused,1,1\
     × (fault_from version.One 4 2 (records_of (codes "refused,1,1\nrefused,1,1\ndep\n")) ≡ Some (fault.Kind 4))
     × (history_opening [] ≡ Err fault.NoOpen)
 unfolding records_from next_record strip_bom field_at digits fields_text is_blank number ecn_of params_at first_kind version_of profile_of
-    mode_of limits_at draft_at version_one_fields version_two_fields opening_of rows_text answer_fields verdict_of command_at packet_at
+    which_of limits_at draft_at version_one_fields version_two_fields opening_of rows_text answer_fields verdict_of command_at packet_at
     command_kind arrival_at event_line answer_at departure_at update_at change_at numbers_at registers_at note_line shown_line line_of
     told_by lines_from fault_from history_opening history_version after_opening opening_row command_fields
 faulty-lines = (refl, refl, refl, refl, refl)
@@ -147,7 +155,7 @@ shown-lines : map (λ last. fault_in (codes "open2,2,bounded,0,4,16,100\n" ++ la
     ∷ [])
     ≡ None ∷ None ∷ Some (fault.Fields 2) ∷ Some (fault.Number 2) ∷ Some (fault.Number 2) ∷ Some (fault.Kind 2) ∷ []
 unfolding records_from next_record strip_bom field_at digits fields_text is_blank number ecn_of params_at first_kind version_of profile_of
-    mode_of limits_at draft_at version_one_fields version_two_fields opening_of rows_text answer_fields verdict_of command_at packet_at
+    which_of limits_at draft_at version_one_fields version_two_fields opening_of rows_text answer_fields verdict_of command_at packet_at
     command_kind arrival_at event_line answer_at departure_at update_at change_at numbers_at registers_at note_line shown_line line_of
     told_by lines_from fault_from history_opening history_version after_opening opening_row command_fields
 shown-lines = refl
@@ -173,7 +181,7 @@ kinds-written : rows_text (written_rows (opened_as Bounded default_profile) (
     ++ codes "reset,65535,2,done\n"
     ++ codes "params,0,2,15000000,15000000,150000000,125,1250,1024,262144,100000000000,16384,done\n"
 unfolding records_from next_record strip_bom field_at digits fields_text is_blank number ecn_of params_at first_kind version_of profile_of
-    mode_of limits_at draft_at version_one_fields version_two_fields opening_of rows_text answer_fields verdict_of command_at packet_at
+    which_of limits_at draft_at version_one_fields version_two_fields opening_of rows_text answer_fields verdict_of command_at packet_at
     command_kind arrival_at event_line answer_at departure_at update_at change_at numbers_at registers_at note_line shown_line line_of
     told_by lines_from fault_from history_opening history_version after_opening opening_row command_fields
 kinds-written = refl
@@ -201,7 +209,7 @@ openings-written : map (λ opening. rows_text (opening_row opening ∷ []))
     ∷ codes "rolling,0,4,16,100,15000000,15000000,150000000,125,0,1024,262144,100000000000,16384\n"
     ∷ []
 unfolding records_from next_record strip_bom field_at digits fields_text is_blank number ecn_of params_at first_kind version_of profile_of
-    mode_of limits_at draft_at version_one_fields version_two_fields opening_of rows_text answer_fields verdict_of command_at packet_at
+    which_of limits_at draft_at version_one_fields version_two_fields opening_of rows_text answer_fields verdict_of command_at packet_at
     command_kind arrival_at event_line answer_at departure_at update_at change_at numbers_at registers_at note_line shown_line line_of
     told_by lines_from fault_from history_opening history_version after_opening opening_row command_fields
 openings-written = refl
@@ -212,7 +220,7 @@ opened_in profile mode params = record {
   moment = 0;
   limits = record { packets = 4; tail = 16; events = 100 };
   params = params;
-  choices = record { mode = mode; profile = profile };
+  choices = record { mode = mode; profile = profile; elements = usual };
 }
 
 versions-written : map (λ opening. rows_text (opening_row opening ∷ []))
@@ -222,7 +230,86 @@ versions-written : map (λ opening. rows_text (opening_row opening ∷ []))
     ∷ codes "open2,2,rolling,0,4,16,100,15000000,15000000,150000000,125,0,1024,262144,100000000000,16384\n"
     ∷ []
 unfolding records_from next_record strip_bom field_at digits fields_text is_blank number ecn_of params_at first_kind version_of profile_of
-    mode_of limits_at draft_at version_one_fields version_two_fields opening_of rows_text answer_fields verdict_of command_at packet_at
+    which_of limits_at draft_at version_one_fields version_two_fields opening_of rows_text answer_fields verdict_of command_at packet_at
     command_kind arrival_at event_line answer_at departure_at update_at change_at numbers_at registers_at note_line shown_line line_of
     told_by lines_from fault_from history_opening history_version after_opening opening_row command_fields
 versions-written = refl
+
+-- version three exactly where an element is not the usual one, or a limit is above those of version two
+abbrev opened_by : Elements → ℕ → ℕ → RawParams → Opening
+opened_by elements packets events params = record {
+  moment = 0;
+  limits = record { packets = packets; tail = 16; events = events };
+  params = params;
+  choices = record { mode = Bounded; profile = One; elements = elements };
+}
+
+third-written : map (λ opening. rows_text (opening_row opening ∷ [])) (
+    opened_by usual 65536 1099511627776 default_profile
+    ∷ opened_by usual 65537 100 default_profile
+    ∷ opened_by usual 4 1099511627777 default_profile
+    ∷ opened_by (record usual { delay = Stamp }) 4 100 default_profile
+    ∷ opened_by (record usual { picking = Random }) 4 100 default_profile
+    ∷ opened_by (record usual { step = Uncapped }) 4 100 default_profile
+    ∷ opened_by (record usual { size = Scaled }) 4 100 (with_beta 0)
+    ∷ [])
+    ≡ codes "open,0,65536,16,1099511627776\n"
+    ∷ codes "open3,1,rate,derandomized,capped,unscaled,bounded,0,65537,16,100\n"
+    ∷ codes "open3,1,rate,derandomized,capped,unscaled,bounded,0,4,16,1099511627777\n"
+    ∷ codes "open3,1,stamp,derandomized,capped,unscaled,bounded,0,4,16,100\n"
+    ∷ codes "open3,1,rate,random,capped,unscaled,bounded,0,4,16,100\n"
+    ∷ codes "open3,1,rate,derandomized,uncapped,unscaled,bounded,0,4,16,100\n"
+    ∷ codes "open3,1,rate,derandomized,capped,scaled,bounded,0,4,16,100,15000000,15000000,150000000,125,0,1024,262144,100000000000,16384\n"
+    ∷ []
+unfolding records_from next_record strip_bom field_at digits fields_text is_blank number ecn_of params_at first_kind version_of profile_of
+    which_of limits_at draft_at version_one_fields version_two_fields opening_of rows_text answer_fields verdict_of command_at packet_at
+    command_kind arrival_at event_line answer_at departure_at update_at change_at numbers_at registers_at note_line shown_line line_of
+    told_by lines_from fault_from history_opening history_version after_opening opening_row command_fields
+third-written = refl
+
+-- ---- openings of version three
+
+abbrev limits_refused : Result Opening TraceFault
+limits_refused = Err (fault.Opening open_fault.Limits)
+
+-- what a text opens, or its fault
+abbrev opened_in_text : List ℕ → Result Opening TraceFault
+opened_in_text text = history_opening (records_of text)
+
+-- the greatest limits of version three, which the earlier ones refuse as limits, before a bad moment
+third-limits : map opened_in_text (
+    codes "open3,1,rate,derandomized,capped,unscaled,bounded,0,1048576,16,140737488355328\n"
+    ∷ codes "open3,1,rate,derandomized,capped,unscaled,bounded,0,1048577,16,100\n"
+    ∷ codes "open3,1,rate,derandomized,capped,unscaled,bounded,1152921504606846976,4,16,140737488355329\n"
+    ∷ codes "open2,1,bounded,1152921504606846976,65537,16,100\n"
+    ∷ codes "rolling,0,4,16,1099511627777\n"
+    ∷ codes "open,0,65537,16,100\n"
+    ∷ codes "open3,1,rate,derandomized,capped,unscaled,bounded,1152921504606846976,65537,16,100\n"
+    ∷ [])
+    ≡ Ok (opened_by usual 1048576 140737488355328 default_profile) ∷ limits_refused ∷ limits_refused ∷ limits_refused ∷ limits_refused
+    ∷ limits_refused ∷ Err (fault.Opening open_fault.Moment) ∷ []
+unfolding records_from next_record strip_bom field_at digits fields_text is_blank number ecn_of params_at first_kind version_of profile_of
+    which_of limits_at draft_at version_one_fields version_two_fields opening_of rows_text answer_fields verdict_of command_at packet_at
+    command_kind arrival_at event_line answer_at departure_at update_at change_at numbers_at registers_at note_line shown_line line_of
+    told_by lines_from fault_from history_opening history_version after_opening opening_row command_fields elements_at
+    version_three_fields
+third-limits = refl
+
+-- its fields from left to right: the profile is a number, the elements and the mode are words
+third-faults : map opened_in_text (
+    codes "open3,1,rate,random,capped,scaled,bounded,0,4,16\n"
+    ∷ codes "open3,3,rat,random,capped,scaled,bounded,0,4,16,100\n"
+    ∷ codes "open3,2,rat,random,capped,scaled,bounded,x,4,16,100\n"
+    ∷ codes "open3,2,stamp,capped,random,scaled,bounded,x,4,16,100\n"
+    ∷ codes "open3,2,stamp,random,capped,,bounded,x,4,16,100\n"
+    ∷ codes "open3,2,stamp,random,capped,scaled,full,x,4,16,100\n"
+    ∷ codes "open3,2,stamp,random,capped,scaled,rolling,x,4,16,100\n"
+    ∷ [])
+    ≡ Err (fault.Fields 1) ∷ Err (fault.Number 1) ∷ Err (fault.Word 1) ∷ Err (fault.Word 1) ∷ Err (fault.Word 1) ∷ Err (fault.Word 1)
+    ∷ Err (fault.Number 1) ∷ []
+unfolding records_from next_record strip_bom field_at digits fields_text is_blank number ecn_of params_at first_kind version_of profile_of
+    which_of limits_at draft_at version_one_fields version_two_fields opening_of rows_text answer_fields verdict_of command_at packet_at
+    command_kind arrival_at event_line answer_at departure_at update_at change_at numbers_at registers_at note_line shown_line line_of
+    told_by lines_from fault_from history_opening history_version after_opening opening_row command_fields elements_at
+    version_three_fields
+third-faults = refl

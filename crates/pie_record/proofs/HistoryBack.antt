@@ -1,6 +1,6 @@
 -- A text of an opening's record and of records that each tell a line is read back as that opening and those lines.
 use Rattle.std.proofs.Common.{◌≡◌, ◌≤◌, ◌<◌, ◌+◌, ◌^◌, ℕ, suc, List, [], ◌∷◌, ◌++◌, map, length, false, refl, sym, ap, subst, ◌∙◌, arith}
-use Rattle.std.specs.Prelude.{All, nat_lt, Option, Some, None, Result, Ok, Err, IfSome, OnOk}
+use Rattle.std.specs.Prelude.{All, Bool, true, drop, nat_lt, Option, Some, None, Result, Ok, Err, IfSome, OnOk, if◌then◌else◌}
 use Rattle.std.specs.Io.KnownBytes.{Appends}
 use Rattle.std.proofs.lemmas.Bool.Decides.{nat_tests}
 use Rattle.std.proofs.lemmas.List.Elements.{All-cons, All-head, All-nil, All-tail}
@@ -29,7 +29,7 @@ use Rattle.pie_record.specs.HistoryLines.{Coming, after_opening, coming_after, c
 use Rattle.pie_record.specs.HistoryLines.{told_by}
 use Rattle.pie_book.specs.Ranges.{ParamsFit}
 use Rattle.pie_record.specs.ReadBack.{Begins, EventFits, TellEach, TellsHistory}
-use Rattle.pie_record.specs.Write.{choices_row, command_fields, event_row, opening_row, written_rows}
+use Rattle.pie_record.specs.Write.{command_fields, earlier_row, event_row, is_earlier, opening_row, version_three_row, written_rows}
 use Rattle.pie_record.specs.Words.{mode_word, profile_number}
 use Rattle.pie_record.proofs.EventBack.{line-back}
 use Rattle.pie_record.proofs.HistoryFacts.{told_by-line}
@@ -132,12 +132,17 @@ rows-many (event ∷ events) = ap suc (rows-many events)
 
 opening_row-begins : (o : Opening) → Begins (opening_row o)
 unfolding opening_row
-opening_row-begins o = by o.choices.profile o.choices.mode _
+opening_row-begins o = either (is_earlier o) _
   where
-    by : (profile : Profile) (mode : Mode) (rest : Row) → Begins (choices_row profile mode ++ rest)
+    by : (profile : Profile) (mode : Mode) (rest : Row) → Begins (earlier_row profile mode ++ rest)
     by One Bounded rest = record { kind = kinds.Open; rest = rest; is = refl }
     by One Rolling rest = record { kind = kinds.Rolling; rest = rest; is = refl }
     by Two mode rest = record { kind = kinds.Open2; rest = profile_number Two ∷ mode_word mode ∷ rest; is = refl }
+
+    either : (b : Bool) (rest : Row)
+        → Begins ((if b then earlier_row o.choices.profile o.choices.mode else version_three_row o.choices) ++ rest)
+    either true rest = by o.choices.profile o.choices.mode rest
+    either false rest = record { kind = kinds.Open3; rest = drop 1 (version_three_row o.choices) ++ rest; is = refl }
 
 pub written-back : (opening : Opening) (events : List Event) → opening_refusal opening.limits opening.moment ≡ None → ParamsFit opening.params
     → All EventFits events → length events < 2 ^ 32

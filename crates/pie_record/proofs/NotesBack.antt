@@ -13,10 +13,10 @@ use Rattle.pie_book.specs.declared.stats.Stats.{Stats}
 use Rattle.pie_book.specs.Ranges.{RegistersFit, StatsFit}
 use Rattle.pie_record.specs.declared.history_record.Line.TheVariants as line
 use Rattle.pie_record.specs.declared.version.Version.{Version}
-use Rattle.pie_record.specs.declared.version.Version.TheVariants.{One, Two}
+use Rattle.pie_record.specs.declared.version.Version.TheVariants.{One, Two, Three}
 use Rattle.pie_record.specs.Field.{most_u128, most_u32, most_u64}
 use Rattle.pie_record.specs.Command.{command_kind}
-use Rattle.pie_record.specs.HistoryRecord.{line_of, note_line, numbers_at, registers_at, shown_line}
+use Rattle.pie_record.specs.HistoryRecord.{active_line, line_of, note_line, numbers_at, registers_at, shown_line}
 use Rattle.pie_record.specs.Number.{number}
 use Rattle.pie_record.specs.Answer.{flag, folded_row, refused_row, shown_row, tallied_row}
 use Rattle.pie_record.proofs.NumberFacts.{number-decimal, number-value}
@@ -66,6 +66,24 @@ back-flag : (b : Bool) → number 1 (decimal (flag b)) ≡ Some (flag b)
 back-flag true = number-decimal 1 1 (omega arith) (omega arith)
 back-flag false = number-decimal 1 0 (omega arith) (omega arith)
 
+active-note : (r : Registers) → RegistersFit r → active_line (shown_row Two r) ≡ Ok line.Note
+unfolding registers_at numbers_at field_at shown_row
+active-note r f =
+    rw (
+      back r.count f.count,
+      back r.moment f.moment,
+      back-short r.packets f.packets,
+      back r.bytes f.bytes,
+      back r.prob f.prob,
+      back r.old f.old,
+      back r.accu f.accu,
+      back r.burst f.burst,
+      back r.last f.last,
+      back r.average f.average,
+      back-flag r.measuring,
+      back-flag r.active,
+    ) refl
+
 pub shown-note : (version : Version) (r : Registers) → RegistersFit r → line_of version (shown_row version r) ≡ Ok line.Note
 unfolding line_of command_kind shown_line registers_at numbers_at field_at shown_row
 shown-note One r f =
@@ -82,21 +100,8 @@ shown-note One r f =
       back r.average f.average,
       back-flag r.measuring,
     ) refl
-shown-note Two r f =
-    rw (
-      back r.count f.count,
-      back r.moment f.moment,
-      back-short r.packets f.packets,
-      back r.bytes f.bytes,
-      back r.prob f.prob,
-      back r.old f.old,
-      back r.accu f.accu,
-      back r.burst f.burst,
-      back r.last f.last,
-      back r.average f.average,
-      back-flag r.measuring,
-      back-flag r.active,
-    ) refl
+shown-note Two r f = active-note r f
+shown-note Three r f = active-note r f
 
 pub tallied-note : (version : Version) (s : Stats) → StatsFit s → line_of version (tallied_row s) ≡ Ok line.Note
 unfolding line_of command_kind note_line numbers_at field_at tallied_row

@@ -8,4 +8,7 @@ pub enum Version {
     One,
     /// The first record is `open2`: it names the profile and the mode, and `shown` ends with whether the controller works.
     Two,
+    /// The first record is `open3`: it names RFC 8033's optional elements as well, and its limits may be greater. All other records are
+    /// those of version two.
+    Three,
 }

@@ -5,7 +5,7 @@ use Rattle.std.specs.declared.alloc.Global.{Global}
 use Rattle.pie_book.specs.declared.command.Command.{Command}
 use Rattle.pie_book.specs.declared.command.Command.TheVariants.{Arrive, Depart, Update, SetParams}
 use Rattle.pie_book.specs.declared.opening.Mode.TheVariants.{Bounded}
-use Rattle.pie_aqm.specs.declared.profile.Profile.TheVariants.{One}
+use Rattle.pie_book.specs.declared.opening.Choices.{Choices}
 use Rattle.pie_book.specs.declared.opening.Opening.{Opening}
 use Rattle.pie_book.specs.Opening.{last_moment}
 use Rattle.pie_book.specs.Deed.{handed_in}
@@ -14,9 +14,13 @@ use Rattle.pie_storm.specs.declared.plan.Arrival.{Arrival}
 use Rattle.pie_storm.specs.declared.plan.Change.{Change}
 use Rattle.pie_storm.specs.declared.plan.Plan.{Plan}
 
--- the opening of the link: its book is bounded
+-- the choices of the link's opening: its book is bounded
+abbrev pub choices_of : Plan → Choices
+choices_of plan = record { mode = Bounded; profile = plan.profile; elements = plan.elements }
+
+-- the opening of the link
 abbrev pub opening_of : Plan → Opening
-opening_of plan = record { moment = plan.moment; limits = plan.limits; params = plan.params; choices = record { mode = Bounded; profile = One } }
+opening_of plan = record { moment = plan.moment; limits = plan.limits; params = plan.params; choices = choices_of plan }
 
 -- how many senders there are
 abbrev pub senders : Plan → ℕ

@@ -108,6 +108,8 @@ pub record IsStormPlan (n : StormNumbers) (plan : Plan) : Type 0 where
   pub limits : plan.limits ≡ record { packets = 1024; tail = command_count n; events = command_count n }
   pub params : plan.params ≡ default_profile
   pub moment : plan.moment ≡ 0
+  pub profile : plan.profile ≡ n.profile
+  pub elements : plan.elements ≡ n.elements
   pub arrivals : map held_by plan.arrivals.items ≡ map (arrivals_of n.packets n.seed) (range_with_len 1 n.senders)
   pub departs : plan.departs.items ≡ departs_of n.senders n.packets n.load
   pub updates : plan.updates.items ≡ updates_of n.packets

@@ -1,6 +1,8 @@
 //! The numbers that a storm's plan is made of.
 
-/// The numbers that a storm's plan is made of (this project's own).
+use pie_book::{Elements, Profile};
+
+/// The numbers that a storm's plan is made of, and the choices that its book is opened with (this project's own).
 #[derive(Clone, Copy, Debug, PartialEq, Eq)]
 pub struct StormNumbers {
     /// How many senders there are: 2 to 8.
@@ -15,4 +17,8 @@ pub struct StormNumbers {
     pub changes: u64,
     /// How many folds there are: 0 to 100.
     pub folds: u64,
+    /// When the controller works.
+    pub profile: Profile,
+    /// RFC 8033's optional elements (its section 5).
+    pub elements: Elements,
 }

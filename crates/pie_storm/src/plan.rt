@@ -1,9 +1,10 @@
 //! What a storm is asked to do.
 ghost use Rattle.std.specs.Prelude.{◌≡◌, ◌≤◌, ◌^◌, ◌-◌, ◌↔◌, IsTrue, All, Option, length, map, min, slice_get};
-ghost use Rattle.pie_storm.specs.Plans.{IsMoment, IsSoundArrival, IsSound, arrive, change, commands_of, count_of, planned, senders};
+ghost use Rattle.pie_storm.specs.Plans.{IsMoment, IsSoundArrival, IsSound, arrive, change, choices_of, commands_of, count_of, planned};
+ghost use Rattle.pie_storm.specs.Plans.{senders};
 ghost use Rattle.pie_book.specs.declared.command.Command.TheVariants.{Depart, Update};
 
-use pie_book::{Command, Limits};
+use pie_book::{Choices, Command, Elements, Limits, Mode, Profile};
 use pie_params::Params;
 use pie_queue::Packet;
 
@@ -38,6 +39,10 @@ pub struct Plan {
     pub params: Params,
     /// The moment that the book is opened at.
     pub moment: u64,
+    /// When the controller works.
+    pub profile: Profile,
+    /// RFC 8033's optional elements (its section 5).
+    pub elements: Elements,
     /// The packets of each sender: 2 to 8 lists.
     pub arrivals: Vec<Vec<Arrival>>,
     /// The moments of the departures.
@@ -119,6 +124,17 @@ impl Plan {
                 .iter()
                 .all(|change| change.moment <= LAST_MOMENT)
             && self.has_room()
+    }
+
+    /// What the book is opened with besides: it is bounded.
+    pub(crate) fn choices(&self) -> Choices
+        ensures { result ≡ choices_of self.now }
+    {
+        Choices {
+            mode: Mode::Bounded,
+            profile: self.profile,
+            elements: self.elements,
+        }
     }
 
     /// How many commands a caller has to make.

@@ -167,7 +167,7 @@ fn folds_of(alloc: Global, senders: u64, packets: u64, folds: u64) -> Result<Vec
     Ok(list)
 }
 
-/// The plan of a storm (this project's own) with default parameters from moment 0 on. Each sender has a packet each millisecond, of 64 to
+/// The plan of a storm (this project's own) with default parameters from moment 0 on, and these choices. Each sender has a packet each millisecond, of 64 to
 /// 1500 bytes and any ECN field, whose size, ECN field and random word are three words of a generator that is made of `seed` and the
 /// sender's number. As many departures are spread evenly over that time at a `load` of 100, and over `load` hundredths of it at any other.
 /// An update is made at each due moment while packets arrive. The changes are spread evenly over that time, to a reference delay of 5 ms and
@@ -186,6 +186,8 @@ pub fn storm_plan(alloc: Global, numbers: StormNumbers) -> Result<Plan, Memory>
         seed,
         changes,
         folds,
+        profile,
+        elements,
         ..
     } = numbers;
     let (senders, packets) = (u64::from(numbers.senders), u64::from(numbers.packets));
@@ -213,6 +215,8 @@ pub fn storm_plan(alloc: Global, numbers: StormNumbers) -> Result<Plan, Memory>
         },
         params: Params::default_profile(),
         moment: 0,
+        profile,
+        elements,
         arrivals,
         departs,
         updates,

@@ -1,5 +1,5 @@
 //! The storm: a link under many threads at once, recorded.
-ghost use Rattle.std.specs.Prelude.{◌≡◌, ◌+◌, ◌*◌, ◌^◌, ◌≤◌, ◌≢◌, ◌↔◌, ◌++◌, List, [], false, Some, None, Err, IfSome, IfOk, IfErr};
+ghost use Rattle.std.specs.Prelude.{◌≡◌, ◌+◌, ◌*◌, ◌^◌, ◌≤◌, ◌≢◌, ◌↔◌, ◌++◌, List, [], false, Some, None, Err, IfSome, IfOk, IfErr, OnOk};
 ghost use denote.Param.Send.{IsSync};
 ghost use Rattle.pie_book.specs.declared.command.Event.{Event};
 ghost use Rattle.pie_book.specs.Book.{Tells};
@@ -13,13 +13,14 @@ ghost use Rattle.pie_link.specs.Opening.{IsRefusedFor, link_refusal};
 ghost use Rattle.pie_storm.specs.Plans.{IsSound, opening_of, planned, senders};
 ghost use Rattle.pie_storm.specs.Storms.{AllCameAt, AreFoldedAt, CameAt, IsStorm, MadeAll, MadeFolds, NoneElseFoldsAt, OnlyMadeAt, folder};
 ghost use Rattle.pie_link.specs.Views.{StaysOne};
+ghost use Rattle.pie_lock.specs.Promises.{first_pass};
 
 use crate::ending::{StormEnd, StormFault};
 use crate::gate::Gate;
 use crate::plan::Plan;
 use crate::worker::{Folding, Work, make_calls};
 use pie_book::{Book, Event};
-use pie_link::{Caller, Link, entries_look_back};
+use pie_link::{Caller, Link, LinkRefusal, entries_look_back};
 use std::alloc::Global;
 use std::sync::Wait;
 use std::thread;
@@ -198,7 +199,7 @@ pub fn storm<R: Threads + Wait + Sync, G: Gate + Sync>(
         return Err(StormFault::BadPlan);
     }
     let callers = plan.arrivals.len() as u16 + 5;
-    let (link, starter) = match Link::open(alloc, plan.limits, plan.params, plan.moment, callers) {
+    let (link, starter) = match open_link(alloc, plan, callers) {
         Ok(opened) => opened,
         Err(why) => return Err(StormFault::Opening(why)),
     };
@@ -214,6 +215,25 @@ pub fn storm<R: Threads + Wait + Sync, G: Gate + Sync>(
         unreachable!()
     };
     end_of(alloc, book, too_soon, folding)
+}
+
+// The link of a plan, and a caller with all its numbers.
+fn open_link(alloc: Global, plan: &Plan, callers: u16) -> Result<(Link, Caller), LinkRefusal>
+    ensures refused { IfErr result (IsRefusedFor (link_refusal plan.now.limits plan.now.moment callers)) }
+    ensures allowed { OnOk result (link_refusal plan.now.limits plan.now.moment callers ≡ None) }
+    ensures opening { IfOk result (λ opened. opened.0.origin ≡ Some (opening_of plan.now)) }
+    ensures callers { IfOk result (λ opened. opened.0.numbers ≡ callers) }
+    ensures caller { IfOk result (λ opened. opened.1 ≡ first_pass opened.0 callers) }
+{
+    let choices = plan.choices();
+    Link::open_with(
+        alloc,
+        plan.limits,
+        plan.params,
+        plan.moment,
+        callers,
+        choices,
+    )
 }
 
 // What the storm ended with: the folded events, and then the tail of the closed book.

@@ -15,7 +15,7 @@ use crate::plan::Plan;
 use crate::planning::storm_plan;
 use crate::starter::storm;
 use pie_audit::{Auditor, Finding};
-use pie_book::{Choices, Event, Mode, OpenRefusal, Opening, Profile};
+use pie_book::{Event, OpenRefusal, Opening};
 use pie_trace::{Line, TraceFault, write_history};
 use std::alloc::Global;
 use std::io::Write;
@@ -78,10 +78,7 @@ fn opening_of(plan: &Plan) -> Opening
         moment: plan.moment,
         limits: plan.limits,
         params: plan.params,
-        choices: Choices {
-            mode: Mode::Bounded,
-            profile: Profile::One,
-        },
+        choices: plan.choices(),
     }
 }
 

@@ -5,6 +5,7 @@ use Rattle.csv.specs.Machine.{next_record}
 use Rattle.csv.specs.Reading.{records_from, strip_bom}
 use Rattle.csv.specs.Records.{field_at}
 use Rattle.csv.specs.Writing.{fields_text, is_blank}
+use Rattle.pie_params.specs.Elements.{usual}
 use Rattle.pie_params.specs.Profile.{default_profile}
 use Rattle.pie_params.specs.declared.raw.RawParams.{RawParams}
 use Rattle.pie_queue.specs.declared.ecn.Ecn.TheVariants as ecn
@@ -24,7 +25,8 @@ use Rattle.pie_record.specs.declared.fault.TraceFault.TheVariants as fault
 use Rattle.pie_record.specs.declared.trace_record.Request.TheVariants.{Ask, BadParams, Fold, Show, Tally}
 use Rattle.pie_record.specs.declared.version.Version.TheVariants as version
 use Rattle.pie_record.specs.Number.{number}
-use Rattle.pie_record.specs.FirstRecord.{draft_at, first_kind, limits_at, mode_of, profile_of, version_of, version_one_fields, version_two_fields}
+use Rattle.pie_record.specs.FirstRecord.{draft_at, first_kind, limits_at, profile_of, version_of, version_one_fields, version_two_fields}
+use Rattle.pie_record.specs.FirstRecord.{which_of}
 use Rattle.pie_record.specs.Field.{packet_at, ecn_of, params_at}
 use Rattle.pie_record.specs.Command.{arrival_at, change_at, command_at, command_kind}
 use Rattle.pie_record.specs.TraceRecord.{command_request, fold_request, request_of}
@@ -86,7 +88,7 @@ requests : map request_of (arrive_row ∷ depart_row ∷ (codes "update" ∷ cod
     ≡ Ok (Ask 1 (Arrive 10 (record { tag = 7; size = 1500; ecn = ecn.Ect0 }) 0)) ∷ Ok (Ask 2 (Depart 25)) ∷ Ok (Ask 3 (Update 4))
     ∷ Ok (Ask 5 (Reset 6))
     ∷ Ok (Ask 7 (SetParams 8 nine_params)) ∷ Ok (Fold 9) ∷ Ok Show ∷ Ok Tally ∷ []
-unfolding number ecn_of params_at first_kind version_of profile_of mode_of limits_at draft_at version_one_fields version_two_fields
+unfolding number ecn_of params_at first_kind version_of profile_of which_of limits_at draft_at version_one_fields version_two_fields
     command_kind command_at arrival_at packet_at command_request change_at fold_request request_of field_at
 requests = refl
 
@@ -98,7 +100,7 @@ bad_params : map request_of (
     ∷ codes "x" ∷ [])
     ∷ [])
     ≡ Ok BadParams ∷ Err flaw.Number ∷ []
-unfolding number ecn_of params_at first_kind version_of profile_of mode_of limits_at draft_at version_one_fields version_two_fields
+unfolding number ecn_of params_at first_kind version_of profile_of which_of limits_at draft_at version_one_fields version_two_fields
     command_kind command_at arrival_at packet_at command_request change_at fold_request request_of field_at
 bad_params = refl
 
@@ -106,14 +108,14 @@ bad_params = refl
 flaws : map request_of (open_row ∷ (codes "rolling" ∷ []) ∷ (codes "open2" ∷ codes "1" ∷ codes "bounded" ∷ codes "0" ∷ codes "4" ∷ codes "16"
     ∷ codes "100" ∷ []) ∷ (codes "shown" ∷ []) ∷ [] ∷ (codes "depart" ∷ codes "x" ∷ []) ∷ (codes "depart" ∷ codes "65536" ∷ codes "1" ∷ []) ∷ [])
     ≡ Err flaw.Kind ∷ Err flaw.Kind ∷ Err flaw.Kind ∷ Err flaw.Kind ∷ Err flaw.Kind ∷ Err flaw.Fields ∷ Err flaw.Number ∷ []
-unfolding number ecn_of params_at first_kind version_of profile_of mode_of limits_at draft_at version_one_fields version_two_fields
+unfolding number ecn_of params_at first_kind version_of profile_of which_of limits_at draft_at version_one_fields version_two_fields
     command_kind command_at arrival_at packet_at command_request change_at fold_request request_of field_at
 flaws = refl
 
 -- of several bad fields the first counts
 first_flaws : (request_of (codes "arrive" ∷ codes "1" ∷ codes "10" ∷ codes "7" ∷ codes "01" ∷ codes "ect2" ∷ codes "0" ∷ []) ≡ Err flaw.Number)
     × (request_of (codes "arrive" ∷ codes "1" ∷ codes "10" ∷ codes "7" ∷ codes "1" ∷ codes "ect2" ∷ codes "00" ∷ []) ≡ Err flaw.Word)
-unfolding number ecn_of params_at first_kind version_of profile_of mode_of limits_at draft_at version_one_fields version_two_fields
+unfolding number ecn_of params_at first_kind version_of profile_of which_of limits_at draft_at version_one_fields version_two_fields
     command_kind command_at arrival_at packet_at command_request change_at fold_request request_of field_at
 first_flaws = (refl, refl)
 
@@ -122,16 +124,16 @@ opened : (opening_of open_row ≡ Ok (record {
   moment = 0;
   limits = record { packets = 4; tail = 16; events = 100 };
   params = default_profile;
-  choices = record { mode = Bounded; profile = One };
+  choices = record { mode = Bounded; profile = One; elements = usual };
 }))
     × (opening_of (codes "rolling" ∷ codes "5" ∷ codes "4" ∷ codes "16" ∷ codes "100" ∷ nine)
     ≡ Ok (record {
       moment = 5;
       limits = record { packets = 4; tail = 16; events = 100 };
       params = nine_params;
-      choices = record { mode = Rolling; profile = One };
+      choices = record { mode = Rolling; profile = One; elements = usual };
     }))
-unfolding opening_of number ecn_of params_at first_kind version_of profile_of mode_of limits_at draft_at version_one_fields
+unfolding opening_of number ecn_of params_at first_kind version_of profile_of which_of limits_at draft_at version_one_fields
     version_two_fields command_kind command_at arrival_at packet_at command_request change_at fold_request request_of field_at
 opened = (refl, refl)
 
@@ -145,13 +147,13 @@ opening_with params mode profile =
       moment = 5;
       limits = record { packets = 4; tail = 16; events = 100 };
       params = params;
-      choices = record { mode = mode; profile = profile };
+      choices = record { mode = mode; profile = profile; elements = usual };
     }
 
 opened_in_version_two : (opening_of (open2_row (codes "2") (codes "bounded")) ≡ Ok (opening_with default_profile Bounded Two))
     × (opening_of (open2_row (codes "1") (codes "rolling")) ≡ Ok (opening_with default_profile Rolling One))
     × (opening_of (open2_row (codes "2") (codes "rolling") ++ nine) ≡ Ok (opening_with nine_params Rolling Two))
-unfolding opening_of number ecn_of params_at first_kind version_of profile_of mode_of limits_at draft_at version_one_fields version_two_fields
+unfolding opening_of number ecn_of params_at first_kind version_of profile_of which_of limits_at draft_at version_one_fields version_two_fields
     request_of field_at
 opened_in_version_two = (refl, refl, refl)
 
@@ -170,7 +172,7 @@ not_opened_in_version_two : map opening_of (
     ≡ Err (fault.Fields 1) ∷ Err (fault.Fields 1) ∷ Err (fault.Number 1) ∷ Err (fault.Number 1) ∷ Err (fault.Number 1) ∷ Err (fault.Word 1)
     ∷ Err (fault.Number 1)
     ∷ Err (fault.Word 1) ∷ Err (fault.Number 1) ∷ []
-unfolding opening_of number ecn_of params_at first_kind version_of profile_of mode_of limits_at draft_at version_one_fields version_two_fields
+unfolding opening_of number ecn_of params_at first_kind version_of profile_of which_of limits_at draft_at version_one_fields version_two_fields
     request_of field_at
 not_opened_in_version_two = refl
 
@@ -185,14 +187,14 @@ not_opened : (opening_of depart_row ≡ Err fault.NoOpen)
     × (opening_of (codes "open" ∷ codes "00" ∷ codes "0" ∷ codes "4" ∷ codes "2" ∷ []) ≡ Err (fault.Number 1))
     × (opening_of (codes "open" ∷ codes "1152921504606846976" ∷ codes "0" ∷ codes "4" ∷ codes "2" ∷ []) ≡ Err (fault.Opening open_fault.Limits))
     × (opening_of (codes "open" ∷ codes "1152921504606846976" ∷ codes "4" ∷ codes "4" ∷ codes "2" ∷ []) ≡ Err (fault.Opening open_fault.Moment))
-unfolding opening_of number ecn_of params_at first_kind version_of profile_of mode_of limits_at draft_at version_one_fields
+unfolding opening_of number ecn_of params_at first_kind version_of profile_of which_of limits_at draft_at version_one_fields
     version_two_fields command_kind command_at arrival_at packet_at command_request change_at fold_request request_of field_at
 not_opened = (refl, refl, refl, refl, refl)
 
 -- a record past the greatest number is that fault, whatever it says
 too_long : (record_fault 3 4 (codes "shown" ∷ []) ≡ Some fault.TooLong) × (record_fault 4 4 (codes "shown" ∷ []) ≡ Some (fault.Kind 4))
     × (record_fault 4 4 depart_row ≡ None)
-unfolding record_fault number ecn_of params_at first_kind version_of profile_of mode_of limits_at draft_at version_one_fields
+unfolding record_fault number ecn_of params_at first_kind version_of profile_of which_of limits_at draft_at version_one_fields
     version_two_fields command_kind command_at arrival_at packet_at command_request change_at fold_request request_of field_at
 too_long = (refl, refl, refl)
 
@@ -200,13 +202,13 @@ faults : (fault_of 9 [] ≡ Some fault.NoOpen) × (fault_of 0 [] ≡ Some fault.
     × (fault_of 0 (open_row ∷ []) ≡ Some fault.TooLong) × (fault_of 1 (open_row ∷ depart_row ∷ []) ≡ Some fault.TooLong)
     × (fault_of 2 (open_row ∷ depart_row ∷ []) ≡ None) × (fault_of 9 (open_row ∷ depart_row ∷ open_row ∷ []) ≡ Some (fault.Kind 3))
     × (fault_of 9 (open_row ∷ depart_row ∷ (codes "depart" ∷ []) ∷ open_row ∷ []) ≡ Some (fault.Fields 3))
-unfolding fault_of first_fault record_fault opening_of number ecn_of params_at first_kind version_of profile_of mode_of limits_at draft_at
+unfolding fault_of first_fault record_fault opening_of number ecn_of params_at first_kind version_of profile_of which_of limits_at draft_at
     version_one_fields version_two_fields command_kind command_at arrival_at packet_at command_request change_at fold_request request_of
     field_at
 faults = (refl, refl, refl, refl, refl, refl, refl, refl)
 
 up_to_the_fault : before_fault 9 2 (depart_row ∷ open_row ∷ late_row ∷ []) ≡ depart_row ∷ []
-unfolding before_fault record_fault number ecn_of params_at first_kind version_of profile_of mode_of limits_at draft_at version_one_fields
+unfolding before_fault record_fault number ecn_of params_at first_kind version_of profile_of which_of limits_at draft_at version_one_fields
     version_two_fields command_kind command_at arrival_at packet_at command_request change_at fold_request request_of field_at
 up_to_the_fault = refl
 

@@ -28,7 +28,8 @@ use Rattle.pie_record.specs.declared.fault.OpenFault.TheVariants as open_fault
 use Rattle.pie_record.specs.declared.fault.TraceFault.{TraceFault}
 use Rattle.pie_record.specs.declared.fault.TraceFault.TheVariants as fault
 use Rattle.pie_record.specs.Number.{number}
-use Rattle.pie_record.specs.FirstRecord.{draft_at, first_kind, limits_at, mode_of, profile_of, version_of, version_one_fields, version_two_fields}
+use Rattle.pie_record.specs.FirstRecord.{draft_at, first_kind, limits_at, profile_of, version_of, version_one_fields, version_two_fields}
+use Rattle.pie_record.specs.FirstRecord.{which_of}
 use Rattle.pie_record.specs.Field.{packet_at, ecn_of, params_at}
 use Rattle.pie_record.specs.Command.{arrival_at, change_at, command_at, command_kind}
 use Rattle.pie_record.specs.TraceRecord.{command_request, fold_request, request_of}
@@ -57,7 +58,7 @@ bare-history =
 bare-runs : history_of bare ≡ bare-history
 unfolding held_after shown held_of now_of params_of active_of departures_shown updates_shown arrivals_shown verdict record_fault first_fault
     before_fault requests_of steps_of replies history_rows rows_text text_left fault_of history_text end_of number ecn_of params_at
-    first_kind version_of profile_of mode_of limits_at draft_at version_one_fields version_two_fields command_kind command_at arrival_at
+    first_kind version_of profile_of which_of limits_at draft_at version_one_fields version_two_fields command_kind command_at arrival_at
     packet_at command_request change_at fold_request request_of opening_of records_from next_record strip_bom field_at answer_fields
     refused_row folded_row shown_row tallied_row digits fields_text is_blank progress_after registers_after stats_after largest_queue
     largest_delay waited accumulated is_considered is_picked delay_of last_or places effective_moment greatest waiting_after departed_count
@@ -84,7 +85,7 @@ one_arrival-history =
 one_arrival-runs : history_of one_arrival ≡ one_arrival-history
 unfolding held_after shown held_of now_of params_of active_of departures_shown updates_shown arrivals_shown verdict record_fault first_fault
     before_fault requests_of steps_of replies history_rows rows_text text_left fault_of history_text end_of number ecn_of params_at
-    first_kind version_of profile_of mode_of limits_at draft_at version_one_fields version_two_fields command_kind command_at arrival_at
+    first_kind version_of profile_of which_of limits_at draft_at version_one_fields version_two_fields command_kind command_at arrival_at
     packet_at command_request change_at fold_request request_of opening_of records_from next_record strip_bom field_at answer_fields
     refused_row folded_row shown_row tallied_row digits fields_text is_blank progress_after registers_after stats_after largest_queue
     largest_delay waited accumulated is_considered is_picked delay_of last_or places effective_moment greatest waiting_after departed_count
@@ -117,7 +118,7 @@ falling-history =
 falling-runs : history_of falling ≡ falling-history
 unfolding held_after shown held_of now_of params_of active_of departures_shown updates_shown arrivals_shown verdict record_fault first_fault
     before_fault requests_of steps_of replies history_rows rows_text text_left fault_of history_text end_of number ecn_of params_at
-    first_kind version_of profile_of mode_of limits_at draft_at version_one_fields version_two_fields command_kind command_at arrival_at
+    first_kind version_of profile_of which_of limits_at draft_at version_one_fields version_two_fields command_kind command_at arrival_at
     packet_at command_request change_at fold_request request_of opening_of records_from next_record strip_bom field_at answer_fields
     refused_row folded_row shown_row tallied_row digits fields_text is_blank progress_after registers_after stats_after largest_queue
     largest_delay waited accumulated is_considered is_picked delay_of last_or places effective_moment greatest waiting_after departed_count
@@ -150,7 +151,7 @@ small_limit-history =
 small_limit-runs : history_of small_limit ≡ small_limit-history
 unfolding held_after shown held_of now_of params_of active_of departures_shown updates_shown arrivals_shown verdict record_fault first_fault
     before_fault requests_of steps_of replies history_rows rows_text text_left fault_of history_text end_of number ecn_of params_at
-    first_kind version_of profile_of mode_of limits_at draft_at version_one_fields version_two_fields command_kind command_at arrival_at
+    first_kind version_of profile_of which_of limits_at draft_at version_one_fields version_two_fields command_kind command_at arrival_at
     packet_at command_request change_at fold_request request_of opening_of records_from next_record strip_bom field_at answer_fields
     refused_row folded_row shown_row tallied_row digits fields_text is_blank progress_after registers_after stats_after largest_queue
     largest_delay waited accumulated is_considered is_picked delay_of last_or places effective_moment greatest waiting_after departed_count
@@ -195,7 +196,7 @@ rates-history =
 rates-runs : history_of rates ≡ rates-history
 unfolding held_after shown held_of now_of params_of active_of departures_shown updates_shown arrivals_shown verdict record_fault first_fault
     before_fault requests_of steps_of replies history_rows rows_text text_left fault_of history_text end_of number ecn_of params_at
-    first_kind version_of profile_of mode_of limits_at draft_at version_one_fields version_two_fields command_kind command_at arrival_at
+    first_kind version_of profile_of which_of limits_at draft_at version_one_fields version_two_fields command_kind command_at arrival_at
     packet_at command_request change_at fold_request request_of opening_of records_from next_record strip_bom field_at answer_fields
     refused_row folded_row shown_row tallied_row digits fields_text is_blank progress_after registers_after stats_after largest_queue
     largest_delay waited accumulated is_considered is_picked delay_of last_or places effective_moment greatest waiting_after departed_count
@@ -254,7 +255,7 @@ marks-runs : history_of (codes "open,0,8,32,100,2,1,0,850000,0,1,100000,10000000
     ≡ codes "open,0,8,32,100,2,1,0,850000,0,1,100000,1000000000000,1024\n" ++ marks_rest-history
 unfolding held_after shown held_of now_of params_of active_of departures_shown updates_shown arrivals_shown verdict record_fault first_fault
     before_fault requests_of steps_of replies history_rows rows_text text_left fault_of history_text end_of number ecn_of params_at
-    first_kind version_of profile_of mode_of limits_at draft_at version_one_fields version_two_fields command_kind command_at arrival_at
+    first_kind version_of profile_of which_of limits_at draft_at version_one_fields version_two_fields command_kind command_at arrival_at
     packet_at command_request change_at fold_request request_of opening_of records_from next_record strip_bom field_at answer_fields
     refused_row folded_row shown_row tallied_row digits fields_text is_blank progress_after registers_after stats_after largest_queue
     largest_delay waited accumulated is_considered is_picked delay_of last_or places effective_moment greatest waiting_after departed_count
@@ -268,7 +269,7 @@ marks_rolling-runs : history_of (codes "rolling,0,8,1,100,2,1,0,850000,0,1,10000
     ≡ codes "rolling,0,8,1,100,2,1,0,850000,0,1,100000,1000000000000,1024\n" ++ marks_rest-history
 unfolding held_after shown held_of now_of params_of active_of departures_shown updates_shown arrivals_shown verdict record_fault first_fault
     before_fault requests_of steps_of replies history_rows rows_text text_left fault_of history_text end_of number ecn_of params_at
-    first_kind version_of profile_of mode_of limits_at draft_at version_one_fields version_two_fields command_kind command_at arrival_at
+    first_kind version_of profile_of which_of limits_at draft_at version_one_fields version_two_fields command_kind command_at arrival_at
     packet_at command_request change_at fold_request request_of opening_of records_from next_record strip_bom field_at answer_fields
     refused_row folded_row shown_row tallied_row digits fields_text is_blank progress_after registers_after stats_after largest_queue
     largest_delay waited accumulated is_considered is_picked delay_of last_or places effective_moment greatest waiting_after departed_count
@@ -299,7 +300,7 @@ rolling-history =
 rolling-runs : history_of rolling ≡ rolling-history
 unfolding held_after shown held_of now_of params_of active_of departures_shown updates_shown arrivals_shown verdict record_fault first_fault
     before_fault requests_of steps_of replies history_rows rows_text text_left fault_of history_text end_of number ecn_of params_at
-    first_kind version_of profile_of mode_of limits_at draft_at version_one_fields version_two_fields command_kind command_at arrival_at
+    first_kind version_of profile_of which_of limits_at draft_at version_one_fields version_two_fields command_kind command_at arrival_at
     packet_at command_request change_at fold_request request_of opening_of records_from next_record strip_bom field_at answer_fields
     refused_row folded_row shown_row tallied_row digits fields_text is_blank progress_after registers_after stats_after largest_queue
     largest_delay waited accumulated is_considered is_picked delay_of last_or places effective_moment greatest waiting_after departed_count
@@ -326,7 +327,7 @@ exhausted-history =
 exhausted-runs : history_of exhausted ≡ exhausted-history
 unfolding held_after shown held_of now_of params_of active_of departures_shown updates_shown arrivals_shown verdict record_fault first_fault
     before_fault requests_of steps_of replies history_rows rows_text text_left fault_of history_text end_of number ecn_of params_at
-    first_kind version_of profile_of mode_of limits_at draft_at version_one_fields version_two_fields command_kind command_at arrival_at
+    first_kind version_of profile_of which_of limits_at draft_at version_one_fields version_two_fields command_kind command_at arrival_at
     packet_at command_request change_at fold_request request_of opening_of records_from next_record strip_bom field_at answer_fields
     refused_row folded_row shown_row tallied_row digits fields_text is_blank progress_after registers_after stats_after largest_queue
     largest_delay waited accumulated is_considered is_picked delay_of last_or places effective_moment greatest waiting_after departed_count
@@ -361,7 +362,7 @@ full_tail-history =
 full_tail-runs : history_of full_tail ≡ full_tail-history
 unfolding held_after shown held_of now_of params_of active_of departures_shown updates_shown arrivals_shown verdict record_fault first_fault
     before_fault requests_of steps_of replies history_rows rows_text text_left fault_of history_text end_of number ecn_of params_at
-    first_kind version_of profile_of mode_of limits_at draft_at version_one_fields version_two_fields command_kind command_at arrival_at
+    first_kind version_of profile_of which_of limits_at draft_at version_one_fields version_two_fields command_kind command_at arrival_at
     packet_at command_request change_at fold_request request_of opening_of records_from next_record strip_bom field_at answer_fields
     refused_row folded_row shown_row tallied_row digits fields_text is_blank progress_after registers_after stats_after largest_queue
     largest_delay waited accumulated is_considered is_picked delay_of last_or places effective_moment greatest waiting_after departed_count
@@ -393,7 +394,7 @@ turns_on-runs : (history_of (codes "open2,2" ++ turns_on_rest) ≡ codes "open2,
     × (history_of (codes "open2,1" ++ turns_on_rest) ≡ codes "open2,1" ++ turns_on-history (codes "1"))
 unfolding held_after shown held_of now_of params_of active_of departures_shown updates_shown arrivals_shown verdict record_fault first_fault
     before_fault requests_of steps_of replies history_rows rows_text text_left fault_of history_text end_of number ecn_of params_at
-    first_kind version_of profile_of mode_of limits_at draft_at version_one_fields version_two_fields command_kind command_at arrival_at
+    first_kind version_of profile_of which_of limits_at draft_at version_one_fields version_two_fields command_kind command_at arrival_at
     packet_at command_request change_at fold_request request_of opening_of records_from next_record strip_bom field_at answer_fields
     refused_row folded_row shown_row tallied_row digits fields_text is_blank progress_after registers_after stats_after largest_queue
     largest_delay waited accumulated is_considered is_picked delay_of last_or places effective_moment greatest waiting_after departed_count
@@ -425,7 +426,7 @@ first_record_faults : map first_fault_of (
     ∷ Some (fault.Opening open_fault.Limits) ∷ Some (fault.Opening open_fault.Moment) ∷ None
     ∷ Some (fault.Number 1) ∷ Some (fault.Word 1) ∷ Some (fault.Fields 1) ∷ Some (fault.Opening (open_fault.Param Target))
     ∷ Some (fault.Opening open_fault.Limits) ∷ []
-unfolding fault_of first_fault record_fault number ecn_of params_at first_kind version_of profile_of mode_of limits_at draft_at
+unfolding fault_of first_fault record_fault number ecn_of params_at first_kind version_of profile_of which_of limits_at draft_at
     version_one_fields version_two_fields command_kind command_at arrival_at packet_at command_request change_at fold_request request_of
     opening_of records_from next_record strip_bom field_at
 first_record_faults = refl
@@ -449,7 +450,7 @@ later_record_faults : map (λ line. first_fault_of (codes "open,0,4,16,100\n" ++
     ≡ Some (fault.Kind 2) ∷ Some (fault.Kind 2) ∷ Some (fault.Kind 2) ∷ Some (fault.Fields 2) ∷ Some (fault.Fields 2) ∷ Some (fault.Fields 2)
     ∷ Some (fault.Number 2)
     ∷ Some (fault.Number 2) ∷ Some (fault.Fields 2) ∷ Some (fault.Fields 2) ∷ Some (fault.Number 2) ∷ Some (fault.Word 2) ∷ None ∷ []
-unfolding fault_of first_fault record_fault number ecn_of params_at first_kind version_of profile_of mode_of limits_at draft_at
+unfolding fault_of first_fault record_fault number ecn_of params_at first_kind version_of profile_of which_of limits_at draft_at
     version_one_fields version_two_fields command_kind command_at arrival_at packet_at command_request change_at fold_request request_of
     opening_of records_from next_record strip_bom field_at
 later_record_faults = refl
@@ -458,7 +459,7 @@ later_record_faults = refl
 faulty-runs : history_of (codes "open,0,4,16,100\ndepart,1,1\ndep,1,1\ndepart,1,2\n") ≡ codes "open,0,4,16,100\ndepart,1,1,empty\n"
 unfolding held_after shown held_of now_of params_of active_of departures_shown updates_shown arrivals_shown verdict record_fault first_fault
     before_fault requests_of steps_of replies history_rows rows_text text_left fault_of history_text end_of number ecn_of params_at
-    first_kind version_of profile_of mode_of limits_at draft_at version_one_fields version_two_fields command_kind command_at arrival_at
+    first_kind version_of profile_of which_of limits_at draft_at version_one_fields version_two_fields command_kind command_at arrival_at
     packet_at command_request change_at fold_request request_of opening_of records_from next_record strip_bom field_at answer_fields
     refused_row folded_row shown_row tallied_row digits fields_text is_blank progress_after registers_after stats_after largest_queue
     largest_delay waited accumulated is_considered is_picked delay_of last_or places effective_moment greatest waiting_after departed_count
@@ -490,7 +491,7 @@ bare-ends : end_of (records_of bare) ≡ Some (record {
 })
 unfolding held_after shown held_of now_of params_of active_of departures_shown updates_shown arrivals_shown verdict record_fault first_fault
     before_fault requests_of steps_of replies history_rows rows_text text_left fault_of history_text end_of number ecn_of params_at
-    first_kind version_of profile_of mode_of limits_at draft_at version_one_fields version_two_fields command_kind command_at arrival_at
+    first_kind version_of profile_of which_of limits_at draft_at version_one_fields version_two_fields command_kind command_at arrival_at
     packet_at command_request change_at fold_request request_of opening_of records_from next_record strip_bom field_at answer_fields
     refused_row folded_row shown_row tallied_row digits fields_text is_blank progress_after registers_after stats_after largest_queue
     largest_delay waited accumulated is_considered is_picked delay_of last_or places effective_moment greatest waiting_after departed_count

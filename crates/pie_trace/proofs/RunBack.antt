@@ -28,6 +28,7 @@ use Rattle.pie_book.specs.Registers.{registers_after}
 use Rattle.pie_book.specs.Run.{Progress, event_of, fold_outcome, held_with_one, recorded, refused_or, start}
 use Rattle.pie_book.specs.Statistics.{stats_after}
 use Rattle.pie_record.specs.declared.fault.Flaw.{Flaw}
+use Rattle.pie_record.specs.declared.fault.OpenFault.TheVariants as open_fault
 use Rattle.pie_record.specs.declared.fault.TraceFault.{TraceFault}
 use Rattle.pie_record.specs.declared.fault.TraceFault.TheVariants as fault
 use Rattle.pie_record.specs.declared.trace_record.Request.{Request}
@@ -46,7 +47,7 @@ use Rattle.pie_record.specs.TraceRecord.{request_of}
 use Rattle.pie_record.specs.HistoryRecord.{line_of}
 use Rattle.pie_record.specs.ReadBack.{Begins, TellEach, TellsHistory}
 use Rattle.pie_trace.specs.RunLines.{line_told, lines_told, run_lines}
-use Rattle.pie_record.specs.FirstRecord.{first_fields, first_kind, kind_word, version_of}
+use Rattle.pie_record.specs.FirstRecord.{first_fields, first_kind, holds_limits, kind_word, version_of}
 use Rattle.pie_trace.specs.Reply.{Reply, after, history_row, reply, reply_to_command, reply_to_fold}
 use Rattle.pie_record.specs.Answer.{code_of}
 use Rattle.pie_trace.proofs.EndFacts.{history_text-read}
@@ -315,22 +316,27 @@ word-of (first ∷ rest) kind word same e =
 
 begins : (row : Row) (kind : FirstKind) → first_kind row ≡ Some kind → Begins row
 unfolding first_kind
-begins row kind = by (is_kind row (codes "open")) (is_kind row (codes "rolling")) (is_kind row (codes "open2")) refl refl refl
+begins row kind = by (is_kind row (codes "open")) (is_kind row (codes "rolling")) (is_kind row (codes "open2"))
+    (is_kind row (codes "open3")) refl refl refl refl
   where
-    by : (a b c : Bool) → is_kind row (codes "open") ≡ a → is_kind row (codes "rolling") ≡ b → is_kind row (codes "open2") ≡ c
-        → (if a then Some kinds.Open else if b then Some kinds.Rolling else if c then Some kinds.Open2 else None) ≡ Some kind → Begins row
-    by true b c p q r e = word-of row kinds.Open (codes "open") refl p
-    by false true c p q r e = word-of row kinds.Rolling (codes "rolling") refl q
-    by false false true p q r e = word-of row kinds.Open2 (codes "open2") refl r
-    by false false false p q r e = cc
+    by : (a b c d : Bool) → is_kind row (codes "open") ≡ a → is_kind row (codes "rolling") ≡ b → is_kind row (codes "open2") ≡ c
+        → is_kind row (codes "open3") ≡ d
+        → (if a then Some kinds.Open else if b then Some kinds.Rolling else if c then Some kinds.Open2 else if d then Some kinds.Open3 else None)
+        ≡ Some kind → Begins row
+    by true b c d p q r s e = word-of row kinds.Open (codes "open") refl p
+    by false true c d p q r s e = word-of row kinds.Rolling (codes "rolling") refl q
+    by false false true d p q r s e = word-of row kinds.Open2 (codes "open2") refl r
+    by false false false true p q r s e = word-of row kinds.Open3 (codes "open3") refl s
+    by false false false false p q r s e = cc
 
 pub record Checked (draft : Draft) (opening : Opening) : Type 0 where
   pub same : opening_in draft ≡ opening
   pub accepted : opening_refusal draft.limits draft.moment ≡ None
   pub in_range : first_bad draft.params ≡ None
 
-pub checked : (draft : Draft) (opening : Opening) → checked_opening (first_bad draft.params) draft ≡ Ok opening → Checked draft opening
-checked draft opening = by (first_bad draft.params) (opening_refusal draft.limits draft.moment) refl refl
+pub checked : (kind : FirstKind) (draft : Draft) (opening : Opening) → checked_opening kind (first_bad draft.params) draft ≡ Ok opening
+    → Checked draft opening
+checked kind draft opening = by (first_bad draft.params) refl
   where
     inner : (why : Option OpenRefusal) → opening_refusal draft.limits draft.moment ≡ why → first_bad draft.params ≡ None
         → refused_opening why draft ≡ Ok opening → Checked draft opening
@@ -339,19 +345,25 @@ checked draft opening = by (first_bad draft.params) (opening_refusal draft.limit
     inner (Some open_refusal.Moment) p q e = cc
     inner (Some open_refusal.Memory) p q e = cc
 
-    by : (bad : Option Field) (why : Option OpenRefusal) → first_bad draft.params ≡ bad → opening_refusal draft.limits draft.moment ≡ why
-        → checked_opening bad draft ≡ Ok opening → Checked draft opening
-    by (Some field) why q p e = cc
-    by None why q p e = inner (opening_refusal draft.limits draft.moment) refl q e
+    held : (holds : Bool) → first_bad draft.params ≡ None
+        → (if holds then refused_opening (opening_refusal draft.limits draft.moment) draft else Err (fault.Opening open_fault.Limits)) ≡ Ok opening
+        → Checked draft opening
+    held true q e = inner (opening_refusal draft.limits draft.moment) refl q e
+    held false q e = cc
+
+    by : (bad : Option Field) → first_bad draft.params ≡ bad → checked_opening kind bad draft ≡ Ok opening → Checked draft opening
+    by (Some field) q e = cc
+    by None q e = held (holds_limits kind draft.limits) q e
 
 pub opened : (row : Row) (opening : Opening) → opening_of row ≡ Ok opening → Opened row opening
 unfolding opening_of
 opened row opening = by (first_kind row) refl
   where
-    read : (kind : FirstKind) → first_kind row ≡ Some kind → (o : Result Draft Flaw) → opening_read o ≡ Ok opening → Opened row opening
+    read : (kind : FirstKind) → first_kind row ≡ Some kind → (o : Result Draft Flaw) → opening_read kind o ≡ Ok opening
+        → Opened row opening
     read kind is (Err what) e = cc
     read kind is (Ok draft) e =
-        let c = checked draft opening e in
+        let c = checked kind draft opening e in
         subst (λ (o : Opening). Opened row o) c.same (record { begins = begins row kind is; accepted = c.accepted; in_range = c.in_range })
 
     by : (o : Option FirstKind) → first_kind row ≡ o → opening_by o row ≡ Ok opening → Opened row opening

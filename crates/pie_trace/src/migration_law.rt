@@ -1,17 +1,16 @@
 //! The laws of migration.
 ghost use Rattle.std.specs.Prelude.{◌≡◌, ◌≤◌, ◌^◌, ◌∷◌, ℕ, List, None, Ok};
 ghost use Rattle.pie_book.specs.declared.opening.Opening.{Opening};
-ghost use Rattle.pie_record.specs.declared.version.Version.TheVariants.{Two};
 ghost use Rattle.pie_trace.specs.History.{history_text};
 ghost use Rattle.pie_record.specs.HistoryLines.{history_lines, history_opening, history_version};
-ghost use Rattle.pie_trace.specs.Migrate.{TellTheSame, first_in_two, history_fault, migrated_text};
+ghost use Rattle.pie_trace.specs.Migrate.{TellTheSame, first_in_two, history_fault, migrated_text, migrated_version};
 ghost use Rattle.pie_record.specs.ReadBack.{TellsHistory};
 ghost use Rattle.pie_record.specs.Text.{Row, records_of};
 
 use pie_book::{all_numbers_are_held, profile_one_is_always_active};
 
-/// What `migrate` writes, `HistoryLines` reads: the migrated text of every history whose first record opens one is of version two, and
-/// tells that opening, the lines before the history's first fault, and then its end with no fault. So where the history has
+/// What `migrate` writes, `HistoryLines` reads: the migrated text of every history whose first record opens one is of version two,
+/// or of version three where the history is, and tells that opening, the lines before the history's first fault, and then its end with no fault. So where the history has
 /// no fault, both texts tell the same.
 ///
 /// It does nothing: its contract is the law (this project's own).
@@ -19,7 +18,7 @@ pub fn migrated_histories_are_read_back()
     ensures tells { (rows : List Row) (opening : Opening) → history_opening rows ≡ Ok opening
         → TellsHistory (migrated_text (2 ^ 32) rows) opening (history_lines (2 ^ 32) rows) }
     ensures version { (rows : List Row) (opening : Opening) → history_opening rows ≡ Ok opening
-        → history_version (records_of (migrated_text (2 ^ 32) rows)) ≡ Two }
+        → history_version (records_of (migrated_text (2 ^ 32) rows)) ≡ migrated_version (history_version rows) }
     ensures same { (text : List ℕ) → history_fault (2 ^ 32) (records_of text) ≡ None → TellTheSame text (migrated_text (2 ^ 32) (records_of text)) }
 {}
 
@@ -31,7 +30,7 @@ pub fn migrating_again_changes_nothing()
 {}
 
 /// The history text of a run, migrated, is that of the run of the same trace with its first record in version two: of a trace of
-/// version one, of the trace that `open2` opens with profile one. Where the trace has a fault, both are the text of the records
+/// version one, of the trace that `open2` opens with profile one; a trace of a later version is written as it is. Where the trace has a fault, both are the text of the records
 /// before it.
 ///
 /// It does nothing: its contract is the law (this project's own).

@@ -3,8 +3,8 @@
 
 use super::packet;
 use crossbeam_utils::Backoff;
-use pie_book::{Event, Limits};
-use pie_params::Params;
+use pie_book::{Event, Limits, Profile};
+use pie_params::{Elements, Params};
 use pie_storm::{Arrival, Change, Gate, Plan, StormEnd, storm};
 use std::alloc::{AllocError, Global};
 use std::sync::Wait;
@@ -126,6 +126,8 @@ fn plan(alloc: Global, arrivals: Vec<Vec<Arrival>>) -> Plan {
         },
         params: Params::default_profile(),
         moment: 0,
+        profile: Profile::One,
+        elements: Elements::usual(),
         arrivals,
         departs: Vec::new(alloc),
         updates: Vec::new(alloc),

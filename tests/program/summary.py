@@ -19,6 +19,7 @@ VERDICTS |= {"bytes": "dropped, no room in bytes", "packets": "dropped, no room 
 PICKED = [f"picked_by_{how}{fate}" for how in ("sum", "word") for fate in ("", "_not_capable", "_not_below")]
 CAUSES = "no_room_in_bytes no_room_in_packets inactive burst_allowed low_delay short_queue no_probability little_accumulated".split()
 CAUSES += [*PICKED, "word_not_below"]
+DEFAULT_TARGET = 15_000_000
 
 
 def millis(time):
@@ -36,6 +37,33 @@ def series(numbers):
 
 def turned(rows, was, now):
     return [int(row["effective_moment"]) for row in rows if row["active"] == was and row["active_after"] == now]
+
+
+def percentile_99(waits):
+    """The wait that all but a hundredth of these, rounded down, did not exceed, raised to the last number with its first two digits, or to the
+    greatest of them where that is less; 0 of none."""
+    if not waits:
+        return 0
+    wait = str(sorted(waits)[len(waits) - len(waits) // 100 - 1])
+    return min(int(wait[:2] + "9" * (len(wait) - 2)), max(waits))
+
+
+def with_targets(history, rows):
+    """The records of all events of a history, each with the target before and after it, and how long it was since the update before it, or the
+    opening."""
+    opening, *others = [line.split(",") for line in history.splitlines()]
+    places = {"open": 1, "rolling": 1, "open2": 3, "open3": 7}
+    last, target = int(opening[places[opening[0]]]), DEFAULT_TARGET
+    if len(opening) > places[opening[0]] + 9:
+        target = int(opening[-9])
+    events = [fields for fields in others if fields[0] in ("arrive", "depart", "update", "reset", "params")]
+    for row, fields in zip(rows, events, strict=True):
+        row["target"], row["since"] = target, int(row["effective_moment"]) - last
+        if row["kind"] == "params":
+            target = int(fields[3])
+        if row["kind"] == "update":
+            last = int(row["effective_moment"])
+        row["target_after"] = target
 
 
 def numbers(rows):
@@ -57,6 +85,10 @@ def numbers(rows):
     for way, was, now in (("on", "0", "1"), ("off", "1", "0")):
         when = turned(rows, was, now)
         found |= {f"turned_{way}": len(when), f"first_turned_{way}": series(when)[0], f"last_turned_{way}": series(when)[1]}
+    found |= {"wait_99": percentile_99(waits), "carried_bytes": sum(int(row["size"]) for row in rows if row["verdict"] == "left")}
+    found |= {"last_target": rows[-1]["target_after"] if rows else 0}
+    found |= {"last_burst_allowance": int(rows[-1]["burst_allowance_after"]) if rows else 0}
+    found |= {"time_above_target": sum(row["since"] for row in updates if row["active"] == "1" and int(row["delay"]) > row["target"])}
     return found
 
 
@@ -70,8 +102,11 @@ def in_words(n):
     lines += [f"    {words}: {share(n[verdict], n['arrivals'])}" for verdict, words in VERDICTS.items()]
     lines += ["  by what decided them"] + [f"    {cause}: {share(n[cause], n['arrivals'])}" for cause in CAUSES if n[cause]]
     lines += [f"  {n['left']} packets left; they had waited at most {millis(n['greatest_wait'])},", f"    and in the mean {millis(n['mean_wait'])}"]
+    lines += [f"    99 of 100 had waited at most {millis(n['wait_99'])}", f"    they carried {n['carried_bytes']} bytes"]
     lines += [f"  {n['updates']} updates; the greatest delay was {millis(n['greatest_delay'])},", f"    and the last {millis(n['last_delay'])}"]
     lines += [f"  the greatest probability was {percent(n['greatest_probability'])}, and the last {percent(n['last_probability'])}"]
+    lines += [f"  delays were above the target for {millis(n['time_above_target'])};", f"    at the end it was {millis(n['last_target'])},"]
+    lines += [f"    and the burst allowance {millis(n['last_burst_allowance'])}"]
     for way in ("on", "off"):
         if n[f"turned_{way}"]:
             lines += [f"  turned {way} {n[f'turned_{way}']} times, first at {millis(n[f'first_turned_{way}'])},"]
@@ -92,6 +127,7 @@ def by_period(rows, every):
 
 def hold(name, history, words):
     _, rows, moments = records(name, history)
+    with_targets(history, rows)
     length = max(moments[-1] - moments[0], 100)
     for options, are_kept in within(moments, words):
         kept = list(compress(rows, are_kept))

@@ -6,3 +6,4 @@ pub mod Laws
 pub mod Sounds
 mod Examples
 pub mod Causes
+mod CauseNames

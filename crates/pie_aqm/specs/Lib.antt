@@ -6,3 +6,4 @@ pub mod Events
 pub mod History
 pub mod Calls
 pub mod Cause
+pub mod CauseName

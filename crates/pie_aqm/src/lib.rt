@@ -10,6 +10,7 @@
 #![tactic(auto)]
 
 mod cause;
+mod cause_name;
 mod controller;
 mod law;
 mod profile;
@@ -17,6 +18,7 @@ mod raw;
 mod verdict;
 
 pub use cause::{Cause, Fate};
+pub use cause_name::CauseName;
 pub use controller::Controller;
 pub use law::{calls_keep_it_sound, calls_look_back};
 pub use profile::Profile;

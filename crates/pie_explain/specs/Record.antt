@@ -3,9 +3,7 @@ use Rattle.std.specs.Prelude.{ℕ, Bool, true, false, List, [], ◌∷◌, ◌++
 use Rattle.std.specs.Fmt.{decimal}
 use Rattle.pie_queue.specs.declared.packet.Packet.{Packet}
 use Rattle.pie_aqm.specs.declared.cause.Cause.{Cause}
-use Rattle.pie_aqm.specs.declared.cause.Cause.TheVariants.{NoRoomInBytes, NoRoomInPackets, Inactive, BurstAllowed, LowDelay, ShortQueue}
-use Rattle.pie_aqm.specs.declared.cause.Cause.TheVariants.{NoProbability, LittleAccumulated, PickedBySum, PickedByWord, WordNotBelow}
-use Rattle.pie_aqm.specs.declared.cause.Fate.TheVariants as fate
+use Rattle.pie_aqm.specs.CauseName.{name_of, word_of_cause}
 use Rattle.pie_book.specs.declared.command.Command.{Command}
 use Rattle.pie_book.specs.declared.command.Command.TheVariants.{Arrive, Depart, Update, Reset, SetParams}
 use Rattle.pie_book.specs.declared.command.Answer.{Answer}
@@ -45,21 +43,7 @@ verdict_word Done = word_said said.Done
 -- the word of what decided an arrival; none for another event
 abbrev pub cause_word : Option Cause → List ℕ
 cause_word None = []
-cause_word (Some (NoRoomInBytes bytes size limit)) = codes "no_room_in_bytes"
-cause_word (Some (NoRoomInPackets packets)) = codes "no_room_in_packets"
-cause_word (Some Inactive) = codes "inactive"
-cause_word (Some (BurstAllowed burst)) = codes "burst_allowed"
-cause_word (Some (LowDelay old_delay target prob)) = codes "low_delay"
-cause_word (Some (ShortQueue bytes two_packets)) = codes "short_queue"
-cause_word (Some NoProbability) = codes "no_probability"
-cause_word (Some (LittleAccumulated accu prob)) = codes "little_accumulated"
-cause_word (Some (PickedBySum accu prob (fate.Marked threshold))) = codes "picked_by_sum"
-cause_word (Some (PickedBySum accu prob fate.NotCapable)) = codes "picked_by_sum_not_capable"
-cause_word (Some (PickedBySum accu prob (fate.NotBelow threshold))) = codes "picked_by_sum_not_below"
-cause_word (Some (PickedByWord accu prob word (fate.Marked threshold))) = codes "picked_by_word"
-cause_word (Some (PickedByWord accu prob word fate.NotCapable)) = codes "picked_by_word_not_capable"
-cause_word (Some (PickedByWord accu prob word (fate.NotBelow threshold))) = codes "picked_by_word_not_below"
-cause_word (Some (WordNotBelow accu prob word)) = codes "word_not_below"
+cause_word (Some cause) = word_of_cause (name_of cause)
 
 -- ---- the record
 

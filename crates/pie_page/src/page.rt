@@ -34,6 +34,11 @@ impl Page {
         }
     }
 
+    /// The allocator of its memory.
+    pub fn allocator(&self) -> Global {
+        self.alloc
+    }
+
     /// Adds bytes.
     ///
     /// # Errors

@@ -8,6 +8,7 @@ use Rattle.pie_aqm.specs.declared.cause.Cause.{Cause}
 use Rattle.pie_aqm.specs.declared.cause.Cause.TheVariants.{NoRoomInBytes, NoRoomInPackets, Inactive, BurstAllowed, LowDelay, ShortQueue}
 use Rattle.pie_aqm.specs.declared.cause.Cause.TheVariants.{NoProbability, LittleAccumulated, PickedBySum, PickedByWord, WordNotBelow}
 use Rattle.pie_aqm.specs.declared.cause.Fate.TheVariants as fate
+use Rattle.pie_aqm.specs.CauseName.{word_of_cause}
 use Rattle.pie_aqm.specs.Places.{greatest, last_or, places}
 use Rattle.pie_book.specs.declared.command.Answer.{Answer}
 use Rattle.pie_book.specs.declared.command.Answer.TheVariants.{Enqueued, Marked, DroppedEarly, DroppedBytes, DroppedPackets, Empty, Left, Updated}
@@ -20,21 +21,23 @@ use Rattle.pie_explain.specs.declared.explanation.Explained.{Explained}
 use Rattle.pie_explain.specs.Words.{millis, per_cent, share}
 use Rattle.pie_summary.specs.declared.series.Series.{Series}
 use Rattle.pie_summary.specs.Period.{begins, last_events, last_period, period_of}
-use Rattle.pie_summary.specs.Record.{cause_fields, first_fields, last_fields, later_fields, left_fields, middle_fields, moment_fields, record_of}
+use Rattle.pie_summary.specs.Record.{carried_fields, cause_fields, first_fields, last_fields, later_fields, left_fields, middle_fields, moment_fields, record_of}
 use Rattle.pie_summary.specs.Record.{turned_fields, update_fields, verdict_fields}
-use Rattle.pie_summary.specs.Series.{kept, series_of}
+use Rattle.pie_summary.specs.Counts.{kept}
+use Rattle.pie_summary.specs.Ranges.{end_within, first_up_to, range_end, range_of, ranges_of}
+use Rattle.pie_summary.specs.Series.{series_of}
 use Rattle.pie_summary.specs.Summary.{header, summary_of}
-use Rattle.pie_summary.specs.Sums.{answer_place, cause_place, moment_at, sums_of, turned_at}
-use Rattle.pie_summary.specs.Words.{arrival_words, arrived_words, cause_name, cause_row, cause_words, delay_words, dropped_words, first_causes}
+use Rattle.pie_summary.specs.Sums.{above_by, answer_place, cause_place, moment_at, sums_of, turned_at, waits_of}
+use Rattle.pie_summary.specs.Words.{arrival_words, arrived_words, cause_row, cause_words, delay_words, dropped_words, first_causes}
 use Rattle.pie_summary.specs.Words.{head_words, later_words, left_words, mean, middle_causes, prob_words, queued_words, row_words, sum_causes, title}
-use Rattle.pie_summary.specs.Words.{turned_words, update_words, verdict_words, word_causes, words}
+use Rattle.pie_summary.specs.Words.{carried_words, target_words, turned_words, update_words, verdict_words, word_causes, words}
 
 -- all that a theorem on a worked list computes with
 unfoldable worked : Type 0
 unfolding greatest last_or places sums_of header digits millis per_cent share moment_fields verdict_fields first_fields middle_fields last_fields
-    left_fields update_fields turned_fields cause_fields later_fields record_of row_words queued_words dropped_words cause_name cause_row
+    left_fields update_fields turned_fields cause_fields later_fields record_of row_words queued_words dropped_words word_of_cause cause_row
     first_causes middle_causes sum_causes word_causes cause_words head_words arrived_words left_words delay_words prob_words update_words
-    turned_words verdict_words title arrival_words later_words words
+    carried_fields carried_words target_words range_of range_end ranges_of waits_of turned_words verdict_words title arrival_words later_words words
 worked = ⊤
 
 -- ---- periods
@@ -47,6 +50,29 @@ periods = (refl, refl, refl)
 -- a period begins where another was before, and not with the first event
 beginnings : (begins None 2 ≡ false) × (begins (Some 2) 2 ≡ false) × (begins (Some 1) 2 ≡ true) × (begins (Some 0) 2 ≡ true)
 beginnings = (refl, refl, refl, refl)
+
+-- ---- ranges
+
+-- each of 0 to 99 is a range; then two digits tell one, 2^60 - 1 and 2^64 - 1 among them
+ranges : map range_of (0 ∷ 9 ∷ 10 ∷ 99 ∷ 100 ∷ 109 ∷ 110 ∷ 999 ∷ 1000 ∷ 1_152_921_504_606_846_975 ∷ 18_446_744_073_709_551_615 ∷ [])
+    ≡ 0 ∷ 9 ∷ 10 ∷ 99 ∷ 100 ∷ 100 ∷ 101 ∷ 189 ∷ 190 ∷ 1541 ∷ 1638 ∷ []
+unfolding worked
+ranges = refl
+
+range-ends : map range_end (0 ∷ 9 ∷ 10 ∷ 99 ∷ 100 ∷ 101 ∷ 189 ∷ 190 ∷ 1541 ∷ [])
+    ≡ 0 ∷ 9 ∷ 10 ∷ 99 ∷ 109 ∷ 119 ∷ 999 ∷ 1099 ∷ 1_199_999_999_999_999_999 ∷ []
+unfolding worked
+range-ends = refl
+
+-- three in the second place and two in the fourth: the first three are there by the second, the last two by the fourth, and no sixth is
+places-up-to : map (first_up_to (0 ∷ 3 ∷ 0 ∷ 2 ∷ [])) (0 ∷ 1 ∷ 3 ∷ 4 ∷ 5 ∷ 6 ∷ [])
+    ≡ Some 0 ∷ Some 1 ∷ Some 1 ∷ Some 3 ∷ Some 3 ∷ None ∷ []
+places-up-to = refl
+
+-- the end of a range, but no more than the greatest of all
+ends : (end_within (Some 104) 1000 ≡ 149) × (end_within (Some 104) 140 ≡ 140) × (end_within None 140 ≡ 140)
+unfolding worked
+ends = (refl, refl, refl)
 
 -- ---- series
 
@@ -71,6 +97,11 @@ turns : (turned_at true false true 40 ≡ Some 40) × (turned_at true true true 
     × (turned_at true true false 40 ≡ None) × (turned_at false true false 40 ≡ Some 40) × (turned_at false true true 40 ≡ None)
     × (turned_at false false false 40 ≡ None) × (turned_at false false true 40 ≡ None)
 turns = (refl, refl, refl, refl, refl, refl, refl, refl)
+
+-- an update counts from the one before where its delay is above the target, and the controller was active
+above-the-target : (map (λ delay. above_by true (Updated delay 0 0) 15_000_000 59) (14_999_999 ∷ 15_000_000 ∷ 15_000_001 ∷ []) ≡ 0 ∷ 0 ∷ 59 ∷ [])
+    × (above_by false (Updated 15_000_001 0 0) 15_000_000 59 ≡ 0) × (above_by true Empty 15_000_000 59 ≡ 0)
+above-the-target = (refl, refl, refl)
 
 abbrev packet : ℕ → ℕ → Packet
 packet tag size = record { tag = tag; size = size; ecn = NotEct }
@@ -179,6 +210,10 @@ fourteen-sums : sums_of fourteen ≡ record {
   probs = series 14 0 0 200_000_000_000 800_000_000_000;
   turned_on = series 2 40 405 405 445;
   turned_off = series 1 250 250 250 250;
+  carried = 2565;
+  above = 0;
+  target = 15_000_000;
+  burst = 0;
 }
 unfolding worked
 fourteen-sums = refl
@@ -194,6 +229,10 @@ no-sums : sums_of [] ≡ record {
   probs = series 0 0 0 0 0;
   turned_on = series 0 0 0 0 0;
   turned_off = series 0 0 0 0 0;
+  carried = 0;
+  above = 0;
+  target = 0;
+  burst = 0;
 }
 unfolding worked
 no-sums = refl
@@ -220,26 +259,28 @@ names =
     codes "events,first_moment,last_moment,arrivals,arrived_bytes,enqueue,mark,early,bytes,packets,no_room_in_bytes,no_room_in_packets,inactive,"
     ++ codes "burst_allowed,low_delay,short_queue,no_probability,little_accumulated,picked_by_sum,picked_by_sum_not_capable,picked_by_sum_not_below,"
     ++ codes "picked_by_word,picked_by_word_not_capable,picked_by_word_not_below,word_not_below,left,greatest_wait,mean_wait,updates,greatest_delay,"
-    ++ codes "last_delay,greatest_probability,last_probability,turned_on,first_turned_on,last_turned_on,turned_off,first_turned_off,last_turned_off\n"
+    ++ codes "last_delay,greatest_probability,last_probability,turned_on,first_turned_on,last_turned_on,turned_off,first_turned_off,last_turned_off,"
+    ++ codes "wait_99,carried_bytes,last_target,last_burst_allowance,time_above_target\n"
 
 -- one record of all
 all-record : summary_of (record { form = Csv; every = None }) fourteen
-    ≡ names ++ codes "14,40,499,6,68664,2,1,1,1,1,1,1,2,0,0,0,0,0,0,0,0,1,1,0,0,3,140,88,3,30,4,200000000000,0,2,40,405,1,250,250\n"
+    ≡ names ++ codes "14,40,499,6,68664,2,1,1,1,1,1,1,2,0,0,0,0,0,0,0,0,1,1,0,0,3,140,88,3,30,4,200000000000,0,2,40,405,1,250,250,140,2565,15000000,0,0\n"
 unfolding worked
 all-record = refl
 
 -- one of each period that has events
 period-records : summary_of (record { form = Csv; every = Some 100 }) fourteen
-    ≡ names ++ codes "2,40,99,1,1000,1,0,0,0,0,0,0,1,0,0,0,0,0,0,0,0,0,0,0,0,0,0,0,1,30,30,200000000000,200000000000,1,40,40,0,0,0\n"
-    ++ codes "3,100,151,2,2001,0,1,1,0,0,0,0,0,0,0,0,0,0,0,0,0,1,1,0,0,1,111,111,0,0,0,200000000000,200000000000,0,0,0,0,0,0\n"
-    ++ codes "3,250,299,0,0,0,0,0,0,0,0,0,0,0,0,0,0,0,0,0,0,0,0,0,0,1,140,140,2,4,4,0,0,0,0,0,1,250,250\n"
-    ++ codes "6,405,499,3,65663,1,0,0,1,1,1,1,1,0,0,0,0,0,0,0,0,0,0,0,0,1,15,15,0,0,0,0,0,1,405,405,0,0,0\n"
+    ≡ names ++ codes "2,40,99,1,1000,1,0,0,0,0,0,0,1,0,0,0,0,0,0,0,0,0,0,0,0,0,0,0,1,30,30,200000000000,200000000000,1,40,40,0,0,0,0,0,15000000,0,0\n"
+    ++ codes "3,100,151,2,2001,0,1,1,0,0,0,0,0,0,0,0,0,0,0,0,0,1,1,0,0,1,111,111,0,0,0,200000000000,200000000000,0,0,0,0,0,0,"
+    ++ codes "111,1000,15000000,0,0\n"
+    ++ codes "3,250,299,0,0,0,0,0,0,0,0,0,0,0,0,0,0,0,0,0,0,0,0,0,0,1,140,140,2,4,4,0,0,0,0,0,1,250,250,140,1501,15000000,0,0\n"
+    ++ codes "6,405,499,3,65663,1,0,0,1,1,1,1,1,0,0,0,0,0,0,0,0,0,0,0,0,1,15,15,0,0,0,0,0,1,405,405,0,0,0,15,64,15000000,0,0\n"
 unfolding worked
 period-records = refl
 
 -- where there is no event, one of none
 no-record : summary_of (record { form = Csv; every = Some 100 }) []
-    ≡ names ++ codes "0,0,0,0,0,0,0,0,0,0,0,0,0,0,0,0,0,0,0,0,0,0,0,0,0,0,0,0,0,0,0,0,0,0,0,0,0,0,0\n"
+    ≡ names ++ codes "0,0,0,0,0,0,0,0,0,0,0,0,0,0,0,0,0,0,0,0,0,0,0,0,0,0,0,0,0,0,0,0,0,0,0,0,0,0,0,0,0,0,0,0\n"
 unfolding worked
 no-record = refl
 
@@ -250,9 +291,12 @@ all-words : summary_of (record { form = Text; every = None }) fourteen
     ++ codes "    dropped, no room in packets: 1, 16.6666 %\n  by what decided them\n    no_room_in_bytes: 1, 16.6666 %\n"
     ++ codes "    no_room_in_packets: 1, 16.6666 %\n    inactive: 2, 33.3333 %\n    picked_by_word: 1, 16.6666 %\n"
     ++ codes "    picked_by_word_not_capable: 1, 16.6666 %\n  3 packets left; they had waited at most 0.000140 ms (140 ns),\n"
-    ++ codes "    and in the mean 0.000088 ms (88 ns)\n  3 updates; the greatest delay was 0.000030 ms (30 ns),\n"
+    ++ codes "    and in the mean 0.000088 ms (88 ns)\n    99 of 100 had waited at most 0.000140 ms (140 ns)\n"
+    ++ codes "    they carried 2565 bytes\n  3 updates; the greatest delay was 0.000030 ms (30 ns),\n"
     ++ codes "    and the last 0.000004 ms (4 ns)\n"
     ++ codes "  the greatest probability was 20.0000 % (200000000000), and the last 0.0000 % (0)\n"
+    ++ codes "  delays were above the target for 0.000000 ms (0 ns);\n    at the end it was 15.000000 ms (15000000 ns),\n"
+    ++ codes "    and the burst allowance 0.000000 ms (0 ns)\n"
     ++ codes "  turned on 2 times, first at 0.000040 ms (40 ns),\n    and last at 0.000405 ms (405 ns)\n"
     ++ codes "  turned off 1 times, first at 0.000250 ms (250 ns),\n    and last at 0.000250 ms (250 ns)\n"
 unfolding worked

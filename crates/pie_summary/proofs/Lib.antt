@@ -1,3 +1,5 @@
+pub mod CountFacts
+pub mod RangeFacts
 mod Examples
 pub mod SeriesFacts
 pub mod SumsFacts

@@ -7,11 +7,9 @@ use Rattle.std.proofs.lemmas.List.Sums.{sum_by_push}
 use Rattle.pie_aqm.specs.Places.{greatest}
 use Rattle.pie_aqm.proofs.Places.{greatest-push, last_or-push}
 use Rattle.pie_summary.specs.declared.series.Series.{Series}
-use Rattle.pie_summary.specs.Series.{first_with, kept, series_of}
-
--- a number that is kept at a greatest one, with more
-pub kept-more : (n more most : ℕ) → min (min n most + more) most ≡ min (n + more) most
-kept-more n more most = omega arith
+use Rattle.pie_summary.specs.Counts.{kept}
+use Rattle.pie_summary.specs.Series.{first_with, series_of}
+use Rattle.pie_summary.proofs.CountFacts.{kept-more}
 
 -- the first number of a list with one more
 first-push : (numbers : List ℕ) (number : ℕ) → first_with (kept (length numbers)) (slice_index numbers 0) number

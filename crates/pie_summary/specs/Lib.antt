@@ -1,3 +1,5 @@
+pub mod Counts
+pub mod Ranges
 pub mod Series
 pub mod Sums
 pub mod Period

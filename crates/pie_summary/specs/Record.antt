@@ -1,24 +1,22 @@
 -- A summary as a CSV record.
-use Rattle.std.specs.Prelude.{ℕ, List, [], ◌∷◌, slice_index, codes}
+use Rattle.std.specs.Prelude.{ℕ, List, [], ◌∷◌, ◌++◌, map, slice_index, codes}
 use Rattle.std.specs.Fmt.{decimal}
+use Rattle.pie_aqm.specs.CauseName.{cause_names, word_of_cause}
 use Rattle.pie_explain.specs.Words.{joined}
 use Rattle.pie_summary.specs.declared.series.Series.{Series}
 use Rattle.pie_summary.specs.declared.sums.Sums.{Sums}
 use Rattle.pie_summary.specs.Words.{mean}
 
--- the names of the fields
+-- the names of the fields, in the middle of them the words of the causes
 abbrev pub field_names : List (List ℕ)
 field_names =
-    codes "events" ∷ codes "first_moment" ∷ codes "last_moment" ∷ codes "arrivals" ∷ codes "arrived_bytes"
-    ∷ codes "enqueue" ∷ codes "mark" ∷ codes "early" ∷ codes "bytes" ∷ codes "packets"
-    ∷ codes "no_room_in_bytes" ∷ codes "no_room_in_packets" ∷ codes "inactive" ∷ codes "burst_allowed" ∷ codes "low_delay" ∷ codes "short_queue"
-    ∷ codes "no_probability" ∷ codes "little_accumulated"
-    ∷ codes "picked_by_sum" ∷ codes "picked_by_sum_not_capable" ∷ codes "picked_by_sum_not_below"
-    ∷ codes "picked_by_word" ∷ codes "picked_by_word_not_capable" ∷ codes "picked_by_word_not_below" ∷ codes "word_not_below"
-    ∷ codes "left" ∷ codes "greatest_wait" ∷ codes "mean_wait"
+    (codes "events" ∷ codes "first_moment" ∷ codes "last_moment" ∷ codes "arrivals" ∷ codes "arrived_bytes"
+    ∷ codes "enqueue" ∷ codes "mark" ∷ codes "early" ∷ codes "bytes" ∷ codes "packets" ∷ [])
+    ++ map word_of_cause cause_names
+    ++ (codes "left" ∷ codes "greatest_wait" ∷ codes "mean_wait"
     ∷ codes "updates" ∷ codes "greatest_delay" ∷ codes "last_delay" ∷ codes "greatest_probability" ∷ codes "last_probability"
     ∷ codes "turned_on" ∷ codes "first_turned_on" ∷ codes "last_turned_on" ∷ codes "turned_off" ∷ codes "first_turned_off" ∷ codes "last_turned_off"
-    ∷ []
+    ∷ codes "wait_99" ∷ codes "carried_bytes" ∷ codes "last_target" ∷ codes "last_burst_allowance" ∷ codes "time_above_target" ∷ [])
 
 -- when events were
 unfoldable pub moment_fields : Series → List ℕ
@@ -62,17 +60,24 @@ update_fields updates delays probs =
 unfoldable pub turned_fields : Series → Series → List ℕ
 turned_fields on off =
     joined (decimal on.count ∷ codes "," ∷ decimal on.first ∷ codes "," ∷ decimal on.last ∷ codes "," ∷ decimal off.count ∷ codes ","
-    ∷ decimal off.first ∷ codes "," ∷ decimal off.last ∷ codes "\n" ∷ [])
+    ∷ decimal off.first ∷ codes "," ∷ decimal off.last ∷ codes "," ∷ [])
+
+-- the waits of 99 of 100, bytes carried, the target and what was left of the burst allowance at the end, and the time above the target
+unfoldable pub carried_fields : ℕ → Sums → List ℕ
+carried_fields most sums =
+    joined (decimal most ∷ codes "," ∷ decimal sums.carried ∷ codes "," ∷ decimal sums.target ∷ codes "," ∷ decimal sums.burst ∷ codes ","
+    ∷ decimal sums.above ∷ codes "\n" ∷ [])
 
 -- a record of these numbers
 unfoldable pub cause_fields : List ℕ → List ℕ
 cause_fields causes = joined (first_fields causes ∷ middle_fields causes ∷ last_fields causes ∷ [])
 
-unfoldable pub later_fields : Sums → List ℕ
-later_fields sums =
+unfoldable pub later_fields : Sums → ℕ → List ℕ
+later_fields sums most =
     joined (left_fields sums.waits ∷ update_fields (slice_index sums.answers 7) sums.delays sums.probs ∷ turned_fields sums.turned_on sums.turned_off
-    ∷ [])
+    ∷ carried_fields most sums ∷ [])
 
-unfoldable pub record_of : Sums → List ℕ
-record_of sums =
-    joined (moment_fields sums.moments ∷ verdict_fields sums.arrived sums.answers ∷ cause_fields sums.causes ∷ later_fields sums ∷ [])
+-- with the wait of 99 of 100
+unfoldable pub record_of : Sums → ℕ → List ℕ
+record_of sums most =
+    joined (moment_fields sums.moments ∷ verdict_fields sums.arrived sums.answers ∷ cause_fields sums.causes ∷ later_fields sums most ∷ [])

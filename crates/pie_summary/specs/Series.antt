@@ -3,10 +3,7 @@ use Rattle.std.specs.Prelude.{ℕ, ◌-◌, ◌^◌, ◌==◌, min, List, length
 use Rattle.std.specs.List.{sum}
 use Rattle.pie_aqm.specs.Places.{greatest, last_or}
 use Rattle.pie_summary.specs.declared.series.Series.{Series}
-
--- a count, kept at the greatest number of 64 bits where it is above it
-abbrev pub kept : ℕ → ℕ
-kept n = min n (2 ^ 64 - 1)
+use Rattle.pie_summary.specs.Counts.{kept}
 
 -- how many numbers there are, the first, the last, the greatest, and their sum; all 0 where there is none
 abbrev pub series_of : List ℕ → Series

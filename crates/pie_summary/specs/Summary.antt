@@ -11,8 +11,8 @@ use Rattle.pie_summary.specs.declared.summary.Summary.{Summary}
 use Rattle.pie_summary.specs.declared.sums.Sums.{Sums}
 use Rattle.pie_summary.specs.Period.{begins, last_events, last_period, period_at}
 use Rattle.pie_summary.specs.Record.{field_names, record_of}
-use Rattle.pie_summary.specs.Sums.{sums_of}
-use Rattle.pie_summary.specs.Words.{words}
+use Rattle.pie_summary.specs.Sums.{sums_of, waits_of}
+use Rattle.pie_summary.specs.Words.{wait_99, words}
 
 -- what stands before the first summary: for CSV the header row
 unfoldable pub header : Form → List ℕ
@@ -20,20 +20,24 @@ header Text = []
 header Csv = line_of field_names
 
 -- these numbers in words, or as a CSV record
-abbrev pub said : Form → Sums → List ℕ
-said Text sums = words sums
-said Csv sums = record_of sums
+abbrev pub said : Form → Sums → List ℕ → List ℕ
+said Text sums ranges = words sums (wait_99 ranges sums.waits)
+said Csv sums ranges = record_of sums (wait_99 ranges sums.waits)
+
+-- .. of these events
+abbrev pub said_of : Form → List Explained → List ℕ
+said_of form all = said form (sums_of all) (waits_of all)
 
 -- .. where these events have come to their end
-abbrev pub ended : Form → Bool → Sums → List ℕ
-ended form true sums = said form sums
-ended form false sums = []
+abbrev pub ended : Form → Bool → Sums → List ℕ → List ℕ
+ended form true sums ranges = said form sums ranges
+ended form false sums ranges = []
 
 -- what is written at an event: a summary of the last events before it, where they are in another period
 abbrev pub ended_at : Summary → Place Explained → List ℕ
 ended_at summary place =
     ended summary.form (begins (last_period summary.every place.before) (period_at summary.every place.event))
-    (sums_of (last_events summary.every place.before))
+    (sums_of (last_events summary.every place.before)) (waits_of (last_events summary.every place.before))
 
 -- .. at each of these events
 abbrev pub summaries : Summary → List Explained → List ℕ
@@ -41,8 +45,10 @@ summaries summary all = header summary.form ++ flat_map (ended_at summary) (plac
 
 -- .. and behind them, a summary of the last ones
 abbrev pub summary_of : Summary → List Explained → List ℕ
-summary_of summary all = summaries summary all ++ said summary.form (sums_of (last_events summary.every all))
+summary_of summary all = summaries summary all ++ said_of summary.form (last_events summary.every all)
 
--- what is kept is the period of the last of these events, and the numbers of the last events in it
+-- what is kept is the period of the last of these events, and the numbers and the waits of the last events in it
 abbrev pub keeps : Summary → Period → List Explained → Type 0
-keeps summary period all = (period.number ≡ last_period summary.every all) × (period.sums ≡ sums_of (last_events summary.every all))
+keeps summary period all =
+    (period.number ≡ last_period summary.every all) × (period.sums ≡ sums_of (last_events summary.every all))
+    × (period.waits ≡ waits_of (last_events summary.every all))

@@ -1,10 +1,9 @@
 -- The numbers of a summary, each over the whole list of the events that were explained.
-use Rattle.std.specs.Prelude.{ℕ, ◌==◌, Bool, true, false, List, map, Option, Some, None, count_by}
-use Rattle.std.specs.List.{filter_map, range_with_len}
+use Rattle.std.specs.Prelude.{ℕ, ◌-◌, nat_lt, if◌then◌else◌, Bool, true, false, List, map, Option, Some, None}
+use Rattle.std.specs.List.{filter_map, sum}
 use Rattle.pie_aqm.specs.declared.cause.Cause.{Cause}
-use Rattle.pie_aqm.specs.declared.cause.Cause.TheVariants.{NoRoomInBytes, NoRoomInPackets, Inactive, BurstAllowed, LowDelay, ShortQueue}
-use Rattle.pie_aqm.specs.declared.cause.Cause.TheVariants.{NoProbability, LittleAccumulated, PickedBySum, PickedByWord, WordNotBelow}
-use Rattle.pie_aqm.specs.declared.cause.Fate.TheVariants as fate
+use Rattle.pie_aqm.specs.Places.{last_or}
+use Rattle.pie_aqm.specs.CauseName.{name_of, place_of_cause}
 use Rattle.pie_book.specs.declared.command.Command.{Command}
 use Rattle.pie_book.specs.declared.command.Command.TheVariants.{Arrive}
 use Rattle.pie_book.specs.declared.command.Answer.{Answer}
@@ -12,7 +11,9 @@ use Rattle.pie_book.specs.declared.command.Answer.TheVariants.{Enqueued, Marked,
 use Rattle.pie_book.specs.declared.command.Answer.TheVariants.{Done}
 use Rattle.pie_explain.specs.declared.explanation.Explained.{Explained}
 use Rattle.pie_summary.specs.declared.sums.Sums.{Sums}
-use Rattle.pie_summary.specs.Series.{kept, series_of}
+use Rattle.pie_summary.specs.Counts.{counts_of, kept}
+use Rattle.pie_summary.specs.Ranges.{ranges_of}
+use Rattle.pie_summary.specs.Series.{series_of}
 
 -- ---- of one event
 
@@ -30,23 +31,8 @@ answer_place (Updated delay prob burst) = 7
 answer_place Done = 8
 
 -- the place of the count of what decided an arrival, in the order of the decision; 15 of any other event
-
 abbrev pub cause_place : Option Cause → ℕ
-cause_place (Some (NoRoomInBytes bytes size limit)) = 0
-cause_place (Some (NoRoomInPackets packets)) = 1
-cause_place (Some Inactive) = 2
-cause_place (Some (BurstAllowed burst)) = 3
-cause_place (Some (LowDelay old_delay target prob)) = 4
-cause_place (Some (ShortQueue bytes two_packets)) = 5
-cause_place (Some NoProbability) = 6
-cause_place (Some (LittleAccumulated accu prob)) = 7
-cause_place (Some (PickedBySum accu prob (fate.Marked threshold))) = 8
-cause_place (Some (PickedBySum accu prob fate.NotCapable)) = 9
-cause_place (Some (PickedBySum accu prob (fate.NotBelow threshold))) = 10
-cause_place (Some (PickedByWord accu prob word (fate.Marked threshold))) = 11
-cause_place (Some (PickedByWord accu prob word fate.NotCapable)) = 12
-cause_place (Some (PickedByWord accu prob word (fate.NotBelow threshold))) = 13
-cause_place (Some (WordNotBelow accu prob word)) = 14
+cause_place (Some cause) = place_of_cause (name_of cause)
 cause_place None = 15
 
 -- the effective moment of an event
@@ -78,6 +64,31 @@ delay_by false answer = None
 abbrev pub delay_in : Explained → Option ℕ
 delay_in all = delay_by all.told.before.active all.told.event.answer
 
+-- how many bytes the packet had that left; 0 of any other event
+abbrev pub carried_by : Answer → ℕ
+carried_by (Left packet) = packet.size
+carried_by _ = 0
+
+abbrev pub carried_in : Explained → ℕ
+carried_in all = carried_by all.told.event.answer
+
+-- how long it was since the update before, where an update took a delay above the target; 0 of any other event, and while the controller is
+-- not active
+abbrev pub above_by : Bool → Answer → ℕ → ℕ → ℕ
+above_by true (Updated delay prob burst) target since = if nat_lt target delay then since else 0
+above_by true _ target since = 0
+above_by false answer target since = 0
+
+abbrev pub above_in : Explained → ℕ
+above_in all = above_by all.told.before.active all.told.event.answer all.told.before.params.target (all.told.moment - all.told.before.last)
+
+-- the target and the burst allowance after an event
+abbrev pub target_at : Explained → ℕ
+target_at all = all.after.params.target
+
+abbrev pub burst_at : Explained → ℕ
+burst_at all = all.after.burst
+
 -- the probability after an event
 abbrev pub prob_at : Explained → ℕ
 prob_at all = all.after.prob
@@ -95,14 +106,6 @@ abbrev pub turned_off : Explained → Option ℕ
 turned_off all = turned_at false all.told.before.active all.after.active all.told.moment
 
 -- ---- of a list of events
-
--- how many events have this place
-abbrev pub count_at : (Explained → ℕ) → ℕ → List Explained → ℕ
-count_at place wanted all = kept (count_by (λ one. place one == wanted) all)
-
--- .. for each of so many places
-abbrev pub counts_of : (Explained → ℕ) → ℕ → List Explained → List ℕ
-counts_of place places all = map (λ wanted. count_at place wanted all) (range_with_len 0 places)
 
 abbrev pub answer_of : Explained → ℕ
 answer_of all = answer_place all.told.event.answer
@@ -122,4 +125,12 @@ sums_of all = record {
   probs = series_of (map prob_at all);
   turned_on = series_of (filter_map turned_on all);
   turned_off = series_of (filter_map turned_off all);
+  carried = kept (sum (map carried_in all));
+  above = kept (sum (map above_in all));
+  target = last_or 0 (map target_at all);
+  burst = last_or 0 (map burst_at all);
 }
+
+-- how many of the waits of packets that left lie in each range
+unfoldable pub waits_of : List Explained → List ℕ
+waits_of all = ranges_of (filter_map wait_in all)

@@ -1,14 +1,16 @@
 -- A summary in words: what became of the arrivals and why, how long packets waited, what the updates made, and when the controller turned.
 use Rattle.std.specs.Prelude.{ℕ, ◌-◌, ◌/◌, ◌^◌, ◌==◌, min, max, List, [], ◌∷◌, slice_index, codes, if◌then◌else◌}
 use Rattle.std.specs.Fmt.{decimal}
+use Rattle.pie_aqm.specs.CauseName.{place_of_cause, word_of_cause}
 use Rattle.pie_explain.specs.Words.{joined, millis, per_cent, share}
-use Rattle.pie_summary.specs.declared.cause_name.CauseName.{CauseName}
-use Rattle.pie_summary.specs.declared.cause_name.CauseName.TheVariants.{NoRoomInBytes, NoRoomInPackets, Inactive, BurstAllowed, LowDelay, ShortQueue}
-use Rattle.pie_summary.specs.declared.cause_name.CauseName.TheVariants.{NoProbability, LittleAccumulated, PickedBySum, PickedBySumNotCapable}
-use Rattle.pie_summary.specs.declared.cause_name.CauseName.TheVariants.{PickedBySumNotBelow, PickedByWord, PickedByWordNotCapable}
-use Rattle.pie_summary.specs.declared.cause_name.CauseName.TheVariants.{PickedByWordNotBelow, WordNotBelow}
+use Rattle.pie_aqm.specs.declared.cause_name.CauseName.{CauseName}
+use Rattle.pie_aqm.specs.declared.cause_name.CauseName.TheVariants.{NoRoomInBytes, NoRoomInPackets, Inactive, BurstAllowed, LowDelay, ShortQueue}
+use Rattle.pie_aqm.specs.declared.cause_name.CauseName.TheVariants.{NoProbability, LittleAccumulated, PickedBySum, PickedBySumNotCapable}
+use Rattle.pie_aqm.specs.declared.cause_name.CauseName.TheVariants.{PickedBySumNotBelow, PickedByWord, PickedByWordNotCapable}
+use Rattle.pie_aqm.specs.declared.cause_name.CauseName.TheVariants.{PickedByWordNotBelow, WordNotBelow}
 use Rattle.pie_summary.specs.declared.series.Series.{Series}
 use Rattle.pie_summary.specs.declared.sums.Sums.{Sums}
+use Rattle.pie_summary.specs.Ranges.{end_within, first_up_to}
 
 -- ---- counts of arrivals
 
@@ -26,54 +28,38 @@ dropped_words answers all =
     joined (row_words (codes "dropped early") (slice_index answers 2) all ∷ row_words (codes "dropped, no room in bytes") (slice_index answers 3) all
     ∷ row_words (codes "dropped, no room in packets") (slice_index answers 4) all ∷ [])
 
--- the word of a cause
-unfoldable pub cause_name : CauseName → List ℕ
-cause_name NoRoomInBytes = codes "no_room_in_bytes"
-cause_name NoRoomInPackets = codes "no_room_in_packets"
-cause_name Inactive = codes "inactive"
-cause_name BurstAllowed = codes "burst_allowed"
-cause_name LowDelay = codes "low_delay"
-cause_name ShortQueue = codes "short_queue"
-cause_name NoProbability = codes "no_probability"
-cause_name LittleAccumulated = codes "little_accumulated"
-cause_name PickedBySum = codes "picked_by_sum"
-cause_name PickedBySumNotCapable = codes "picked_by_sum_not_capable"
-cause_name PickedBySumNotBelow = codes "picked_by_sum_not_below"
-cause_name PickedByWord = codes "picked_by_word"
-cause_name PickedByWordNotCapable = codes "picked_by_word_not_capable"
-cause_name PickedByWordNotBelow = codes "picked_by_word_not_below"
-cause_name WordNotBelow = codes "word_not_below"
-
 -- how many arrivals a cause decided; nothing where it decided none
-unfoldable pub cause_row : CauseName → ℕ → ℕ → List ℕ
-cause_row name count all = if count == 0 then [] else row_words (cause_name name) count all
+unfoldable pub cause_row : CauseName → List ℕ → ℕ → List ℕ
+cause_row name causes all =
+    if slice_index causes (place_of_cause name) == 0 then []
+    else row_words (word_of_cause name) (slice_index causes (place_of_cause name)) all
 
 unfoldable pub first_causes : List ℕ → ℕ → List ℕ
 first_causes causes all =
-    joined (cause_row NoRoomInBytes (slice_index causes 0) all
-    ∷ cause_row NoRoomInPackets (slice_index causes 1) all
-    ∷ cause_row Inactive (slice_index causes 2) all
-    ∷ cause_row BurstAllowed (slice_index causes 3) all ∷ [])
+    joined (cause_row NoRoomInBytes causes all
+    ∷ cause_row NoRoomInPackets causes all
+    ∷ cause_row Inactive causes all
+    ∷ cause_row BurstAllowed causes all ∷ [])
 
 unfoldable pub middle_causes : List ℕ → ℕ → List ℕ
 middle_causes causes all =
-    joined (cause_row LowDelay (slice_index causes 4) all
-    ∷ cause_row ShortQueue (slice_index causes 5) all
-    ∷ cause_row NoProbability (slice_index causes 6) all
-    ∷ cause_row LittleAccumulated (slice_index causes 7) all ∷ [])
+    joined (cause_row LowDelay causes all
+    ∷ cause_row ShortQueue causes all
+    ∷ cause_row NoProbability causes all
+    ∷ cause_row LittleAccumulated causes all ∷ [])
 
 unfoldable pub sum_causes : List ℕ → ℕ → List ℕ
 sum_causes causes all =
-    joined (cause_row PickedBySum (slice_index causes 8) all
-    ∷ cause_row PickedBySumNotCapable (slice_index causes 9) all
-    ∷ cause_row PickedBySumNotBelow (slice_index causes 10) all ∷ [])
+    joined (cause_row PickedBySum causes all
+    ∷ cause_row PickedBySumNotCapable causes all
+    ∷ cause_row PickedBySumNotBelow causes all ∷ [])
 
 unfoldable pub word_causes : List ℕ → ℕ → List ℕ
 word_causes causes all =
-    joined (cause_row PickedByWord (slice_index causes 11) all
-    ∷ cause_row PickedByWordNotCapable (slice_index causes 12) all
-    ∷ cause_row PickedByWordNotBelow (slice_index causes 13) all
-    ∷ cause_row WordNotBelow (slice_index causes 14) all ∷ [])
+    joined (cause_row PickedByWord causes all
+    ∷ cause_row PickedByWordNotCapable causes all
+    ∷ cause_row PickedByWordNotBelow causes all
+    ∷ cause_row WordNotBelow causes all ∷ [])
 
 unfoldable pub cause_words : List ℕ → ℕ → List ℕ
 cause_words causes all = joined (first_causes causes all ∷ middle_causes causes all ∷ sum_causes causes all ∷ word_causes causes all ∷ [])
@@ -96,6 +82,15 @@ left_words waits =
     joined (codes "  " ∷ decimal waits.count ∷ codes " packets left; they had waited at most " ∷ millis waits.greatest
     ∷ codes ",\n    and in the mean " ∷ millis (mean waits) ∷ codes "\n" ∷ [])
 
+-- the wait that at most a hundredth of the packets that left exceeded, by the ranges of the waits: that of the packet at the last place but
+-- a hundredth, or up to a tenth more
+abbrev pub wait_99 : List ℕ → Series → ℕ
+wait_99 ranges waits = end_within (first_up_to ranges (waits.count - waits.count / 100)) waits.greatest
+
+unfoldable pub carried_words : ℕ → ℕ → List ℕ
+carried_words most carried =
+    joined (codes "    99 of 100 had waited at most " ∷ millis most ∷ codes "\n    they carried " ∷ decimal carried ∷ codes " bytes\n" ∷ [])
+
 -- the delays that so many updates took
 unfoldable pub delay_words : ℕ → ℕ → ℕ → List ℕ
 delay_words updates greatest last =
@@ -109,6 +104,12 @@ prob_words greatest last = joined (codes "  the greatest probability was " ∷ p
 
 unfoldable pub update_words : ℕ → Series → Series → List ℕ
 update_words updates delays probs = joined (delay_words updates delays.greatest delays.last ∷ prob_words probs.greatest probs.last ∷ [])
+
+-- what the delays were beside the target, and what was left of the burst allowance
+unfoldable pub target_words : ℕ → ℕ → ℕ → List ℕ
+target_words above target burst =
+    joined (codes "  delays were above the target for " ∷ millis above ∷ codes ";\n    at the end it was " ∷ millis target
+    ∷ codes ",\n    and the burst allowance " ∷ millis burst ∷ codes "\n" ∷ [])
 
 -- when the controller turned on, or off; nothing where it never did
 unfoldable pub turned_words : List ℕ → Series → List ℕ
@@ -128,11 +129,11 @@ unfoldable pub arrival_words : Sums → List ℕ
 arrival_words sums =
     joined (verdict_words sums.arrived sums.answers ∷ title ∷ cause_words sums.causes sums.arrived.count ∷ [])
 
-unfoldable pub later_words : Sums → List ℕ
-later_words sums =
-    joined (left_words sums.waits ∷ update_words (slice_index sums.answers 7) sums.delays sums.probs ∷ turned_words (codes "on") sums.turned_on
-    ∷ turned_words (codes "off") sums.turned_off ∷ [])
+unfoldable pub later_words : Sums → ℕ → List ℕ
+later_words sums most =
+    joined (left_words sums.waits ∷ carried_words most sums.carried ∷ update_words (slice_index sums.answers 7) sums.delays sums.probs
+    ∷ target_words sums.above sums.target sums.burst ∷ turned_words (codes "on") sums.turned_on ∷ turned_words (codes "off") sums.turned_off ∷ [])
 
--- a summary of these numbers
-unfoldable pub words : Sums → List ℕ
-words sums = joined (head_words sums.moments ∷ arrival_words sums ∷ later_words sums ∷ [])
+-- a summary of these numbers, with the wait of 99 of 100
+unfoldable pub words : Sums → ℕ → List ℕ
+words sums most = joined (head_words sums.moments ∷ arrival_words sums ∷ later_words sums most ∷ [])

@@ -6,8 +6,8 @@
 //! the numbers.
 #![tactic(auto)]
 
-mod cause_name;
 pub mod period;
+pub mod ranges;
 mod record;
 pub mod series;
 pub mod summary;
@@ -15,6 +15,7 @@ pub mod sums;
 mod words;
 
 pub use period::Period;
+pub use ranges::Ranges;
 pub use series::Series;
 pub use summary::Summary;
 pub use sums::Sums;

@@ -1,11 +1,13 @@
 //! The period that is being summed up.
-ghost use Rattle.std.specs.Prelude.{◌≡◌, ◌++◌, ◌∷◌, [], List, None, Some};
+ghost use Rattle.std.specs.Prelude.{◌≡◌, ◌++◌, ◌∷◌, [], ℕ, List, IfOk, Option, None, Some};
 ghost use Rattle.pie_explain.specs.declared.explanation.Explained.{Explained};
-ghost use Rattle.pie_summary.specs.Period.{begins, last_events, last_period, period_at, period_of};
-ghost use Rattle.pie_summary.specs.Sums.{sums_of};
+ghost use Rattle.pie_summary.specs.Period.{begins, last_events, last_period, period_of, since};
+ghost use Rattle.pie_summary.specs.Sums.{sums_of, waits_of};
 
-use crate::sums::Sums;
+use crate::ranges::Ranges;
+use crate::sums::{Sums, wait_by};
 use pie_explain::Explained;
+use std::alloc::{AllocError, Global};
 
 /// The number of the period in which a moment lies, counted from moment 0, where each lasts `every` nanoseconds, 1 at least; 0 where
 /// no length is wanted.
@@ -19,24 +21,31 @@ pub(crate) fn period_of(every: Option<u64>, moment: u64) -> u64
 }
 
 /// The numbers of the last events, as far back as they are in the same period.
-#[derive(Clone, Copy, Debug)]
+#[derive(Drop)]
 pub struct Period {
     /// The number of that period; none before the first event.
     pub number: Option<u64>,
     /// The numbers of these events.
     pub sums: Sums,
+    /// How many of the waits of packets that left lie in each range.
+    pub waits: Ranges,
 }
 
 impl Period {
-    /// No event yet.
-    pub(crate) fn empty() -> Period
-        ensures number { result.number ≡ None }
-        ensures sums { result.sums ≡ sums_of [] }
+    /// No event yet. All memory is taken here.
+    ///
+    /// # Errors
+    ///
+    /// `AllocError` where there is none.
+    pub(crate) fn empty(alloc: Global) -> Result<Period, AllocError>
+        ensures { IfOk result (λ period. (period.number ≡ None) × (period.sums ≡ sums_of []) × (period.waits ≡ waits_of [])) }
     {
-        Period {
+        let waits = Ranges::empty(alloc)?;
+        Ok(Period {
             number: None,
             sums: Sums::empty(),
-        }
+            waits,
+        })
     }
 
     /// Whether an event in this period is not in that of the events before it.
@@ -49,21 +58,33 @@ impl Period {
         }
     }
 
-    /// With one more event.
-    pub(crate) fn with(&self, every: Option<u64>, told: &Explained) -> Period
-        ensures number { (shown : List Explained) → result.number ≡ last_period every (shown ++ told.now ∷ []) }
-        ensures sums { (shown : List Explained) → self.now.number ≡ last_period every shown → self.now.sums ≡ sums_of (last_events every shown)
-            → result.sums ≡ sums_of (last_events every (shown ++ told.now ∷ [])) }
+    /// Forgets the events before one that is in this period, where they are in another.
+    fn begin(&mut self, period: u64)
+        ensures number { self.new.number ≡ self.old.number }
+        ensures sums { (shown : List Explained) (every : Option ℕ) → self.old.number ≡ last_period every shown
+            → self.old.sums ≡ sums_of (last_events every shown) → self.new.sums ≡ sums_of (since every (Some period) shown) }
+        ensures waits { (shown : List Explained) (every : Option ℕ) → self.old.number ≡ last_period every shown
+            → self.old.waits ≡ waits_of (last_events every shown) → self.new.waits ≡ waits_of (since every (Some period) shown) }
+    {
+        if self.ends_before(period) {
+            self.sums = Sums::empty();
+            self.waits.clear();
+        }
+    }
+
+    /// Takes one more event.
+    pub(crate) fn take(&mut self, every: Option<u64>, told: &Explained)
+        ensures number { (shown : List Explained) → self.new.number ≡ last_period every (shown ++ told.now ∷ []) }
+        ensures sums { (shown : List Explained) → self.old.number ≡ last_period every shown → self.old.sums ≡ sums_of (last_events every shown)
+            → self.new.sums ≡ sums_of (last_events every (shown ++ told.now ∷ [])) }
+        ensures waits { (shown : List Explained) → self.old.number ≡ last_period every shown → self.old.waits ≡ waits_of (last_events every shown)
+            → self.new.waits ≡ waits_of (last_events every (shown ++ told.now ∷ [])) }
     {
         let number = period_of(every, told.told.moment);
-        let before = if self.ends_before(number) {
-            Sums::empty()
-        } else {
-            self.sums
-        };
-        Period {
-            number: Some(number),
-            sums: before.with(told),
-        }
+        self.begin(number);
+        self.number = Some(number);
+        self.sums = self.sums.with(told);
+        self.waits
+            .take_some(wait_by(told.told.event.answer, told.told.waited));
     }
 }

@@ -4,9 +4,10 @@ ghost use Rattle.pie_summary.specs.Period.{begins};
 ghost use Rattle.pie_summary.specs.Summary.{ended, header, said};
 
 use crate::period::{Period, period_of};
+use crate::ranges::Ranges;
 use crate::record::{HEADER, push_record};
 use crate::sums::Sums;
-use crate::words::push_words;
+use crate::words::{push_words, wait_99};
 use pie_explain::{Explained, Form, Report};
 use pie_page::Page;
 use std::alloc::AllocError;
@@ -23,7 +24,7 @@ pub struct Summary {
 }
 
 /// Writes what stands before the first summary: for CSV the header row.
-#[tactic(auto, unfolding(crate::specs::Summary::header))]
+#[tactic(auto, unfolding(crate::specs::Summary::header, pie_aqm::specs::CauseName::word_of_cause))]
 fn push_header(page: &mut Page, form: Form) -> Result<(), AllocError>
     ensures { OnOk result (page.new ≡ page.old ++ header form) }
 {
@@ -34,32 +35,33 @@ fn push_header(page: &mut Page, form: Form) -> Result<(), AllocError>
 }
 
 /// Writes these numbers in words, or as CSV, behind a text.
-fn push_sums(text: &mut String, form: Form, sums: &Sums) -> Result<(), AllocError>
-    ensures { OnOk result (string_bytes text.new ≡ string_bytes text.old ++ said form sums.now) }
+fn push_sums(text: &mut String, form: Form, sums: &Sums, waits: &Ranges) -> Result<(), AllocError>
+    ensures { OnOk result (string_bytes text.new ≡ string_bytes text.old ++ said form sums.now waits.now) }
 {
+    let most = wait_99(waits, &sums.waits);
     match form {
-        Form::Text => push_words(text, sums),
-        Form::Csv => push_record(text, sums),
+        Form::Text => push_words(text, sums, most),
+        Form::Csv => push_record(text, sums, most),
     }
 }
 
-/// Writes these numbers onto the page.
-fn push_said(page: &mut Page, form: Form, sums: &Sums) -> Result<(), AllocError>
-    ensures { OnOk result (page.new ≡ page.old ++ said form sums.now) }
+/// Writes the numbers of a period onto the page.
+fn push_said(page: &mut Page, form: Form, period: &Period) -> Result<(), AllocError>
+    ensures { OnOk result (page.new ≡ page.old ++ said form period.now.sums period.now.waits) }
 {
     let mut text = page.words();
-    push_sums(&mut text, form, sums)?;
+    push_sums(&mut text, form, &period.sums, &period.waits)?;
     page.put(text)
 }
 
 /// Writes a summary of the events of a period, where the next event is in another one.
 fn push_ended(page: &mut Page, form: Form, period: &Period, next: u64) -> Result<(), AllocError>
-    ensures { OnOk result (page.new ≡ page.old ++ ended form (begins period.now.number next) period.now.sums) }
+    ensures { OnOk result (page.new ≡ page.old ++ ended form (begins period.now.number next) period.now.sums period.now.waits) }
 {
     if !period.ends_before(next) {
         return Ok(());
     }
-    push_said(page, form, &period.sums)
+    push_said(page, form, period)
 }
 
 impl Report for Summary {
@@ -75,7 +77,8 @@ impl Report for Summary {
 
     fn begin(&self, page: &mut Page) -> Result<Period, AllocError> {
         push_header(page, self.form)?;
-        Ok(Period::empty())
+        let period = Period::empty(page.allocator())?;
+        Ok(period)
     }
 
     fn tell(
@@ -86,11 +89,11 @@ impl Report for Summary {
     ) -> Result<(), AllocError> {
         let next = period_of(self.every, told.told.moment);
         push_ended(page, self.form, state, next)?;
-        *state = state.with(self.every, told);
+        state.take(self.every, told);
         Ok(())
     }
 
     fn end(&self, state: &Period, page: &mut Page) -> Result<(), AllocError> {
-        push_said(page, self.form, &state.sums)
+        push_said(page, self.form, state)
     }
 }

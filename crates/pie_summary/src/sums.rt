@@ -1,10 +1,10 @@
 //! The numbers of a summary.
 ghost use Rattle.std.specs.Prelude.{◌≡◌, ◌+◌, ◌-◌, ◌^◌, ◌<◌, ◌++◌, ◌∷◌, [], List, length, min, slice_index, slice_set};
 ghost use Rattle.pie_explain.specs.declared.explanation.Explained.{Explained};
-ghost use Rattle.pie_summary.specs.Sums.{answer_place, cause_place, delay_by, size_by, turned_at, wait_by};
+ghost use Rattle.pie_summary.specs.Sums.{above_by, answer_place, carried_by, cause_place, delay_by, size_by, turned_at, wait_by};
 
 use crate::series::Series;
-use pie_book::{Answer, Cause, Command, Fate};
+use pie_book::{Answer, Cause, Command};
 use pie_explain::Explained;
 
 /// The numbers of a summary, each over all events that it was shown.
@@ -29,6 +29,15 @@ pub struct Sums {
     pub turned_on: Series,
     /// The moments of those that turned it off.
     pub turned_off: Series,
+    /// The bytes of the packets that left, and 2^64 - 1 where there were more.
+    pub carried: u64,
+    /// How long it was, in nanoseconds, from the update before to each that took a delay above the target, while the controller was
+    /// active; 2^64 - 1 where it was longer.
+    pub above: u64,
+    /// The target after the last event, in nanoseconds; 0 where there was none.
+    pub target: u64,
+    /// What was left of the burst allowance after the last event, in nanoseconds; 0 where there was none.
+    pub burst: u64,
 }
 
 /// The place of an answer's count.
@@ -54,29 +63,9 @@ fn cause_place(cause: Option<Cause>) -> usize
     ensures place { result ≡ cause_place cause }
     ensures within { result < 16 }
 {
-    let Some(cause) = cause else {
-        return 15;
-    };
     match cause {
-        Cause::NoRoomInBytes { .. } => 0,
-        Cause::NoRoomInPackets { .. } => 1,
-        Cause::Inactive => 2,
-        Cause::BurstAllowed { .. } => 3,
-        Cause::LowDelay { .. } => 4,
-        Cause::ShortQueue { .. } => 5,
-        Cause::NoProbability => 6,
-        Cause::LittleAccumulated { .. } => 7,
-        Cause::PickedBySum { fate, .. } => match fate {
-            Fate::Marked { .. } => 8,
-            Fate::NotCapable => 9,
-            Fate::NotBelow { .. } => 10,
-        },
-        Cause::PickedByWord { fate, .. } => match fate {
-            Fate::Marked { .. } => 11,
-            Fate::NotCapable => 12,
-            Fate::NotBelow { .. } => 13,
-        },
-        Cause::WordNotBelow { .. } => 14,
+        Some(cause) => cause.name().place(),
+        None => 15,
     }
 }
 
@@ -101,12 +90,36 @@ fn size_by(command: Command) -> Option<u64>
 }
 
 /// How long the packet had waited that left.
-fn wait_by(answer: Answer, waited: u64) -> Option<u64>
+pub(crate) fn wait_by(answer: Answer, waited: u64) -> Option<u64>
     ensures { result ≡ wait_by answer waited }
 {
     match answer {
         Answer::Left(_) => Some(waited),
         _ => None,
+    }
+}
+
+/// How many bytes the packet had that left; 0 of any other event.
+fn carried_by(answer: Answer) -> u64
+    ensures { result ≡ carried_by answer }
+{
+    match answer {
+        Answer::Left(packet) => u64::from(packet.size),
+        _ => 0,
+    }
+}
+
+/// How long it was since the update before, where an update took a delay above the target; 0 of any other event, and while the
+/// controller is not active.
+fn above_by(active: bool, answer: Answer, target: u64, since: u64) -> u64
+    ensures { result ≡ above_by active answer target since }
+{
+    if !active {
+        return 0;
+    }
+    match answer {
+        Answer::Updated { delay, .. } if target < delay => since,
+        _ => 0,
     }
 }
 
@@ -151,6 +164,10 @@ impl Sums {
             probs: none,
             turned_on: none,
             turned_off: none,
+            carried: 0,
+            above: 0,
+            target: 0,
+            burst: 0,
         }
     }
 
@@ -160,6 +177,10 @@ impl Sums {
     {
         let (told, was, is) = (&all.told, all.told.before.active, all.after.active);
         let (answer, moment) = (told.event.answer, told.moment);
+        let (target, since) = (
+            told.before.params.target().units(),
+            moment.saturating_sub(told.before.last),
+        );
         Sums {
             answers: counted(self.answers, answer_place(answer)),
             causes: counted(self.causes, cause_place(told.cause)),
@@ -170,6 +191,12 @@ impl Sums {
             probs: self.probs.with(all.after.prob),
             turned_on: self.turned_on.with_some(turned_at(true, was, is, moment)),
             turned_off: self.turned_off.with_some(turned_at(false, was, is, moment)),
+            carried: self.carried.saturating_add(carried_by(answer)),
+            above: self
+                .above
+                .saturating_add(above_by(was, answer, target, since)),
+            target: all.after.params.target().units(),
+            burst: all.after.burst,
         }
     }
 }

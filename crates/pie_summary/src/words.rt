@@ -1,12 +1,13 @@
 //! A summary in words.
 ghost use Rattle.std.specs.Prelude.{◌≡◌, ◌++◌, OnOk, string_bytes};
-ghost use Rattle.pie_summary.specs.Words.{arrival_words, arrived_words, cause_row, cause_words, delay_words, dropped_words, first_causes, head_words};
+ghost use Rattle.pie_summary.specs.Words.{arrival_words, arrived_words, carried_words, cause_row, cause_words, delay_words, dropped_words, first_causes, head_words};
 ghost use Rattle.pie_summary.specs.Words.{later_words, left_words, mean, middle_causes, prob_words, queued_words, row_words, sum_causes, title};
-ghost use Rattle.pie_summary.specs.Words.{turned_words, update_words, verdict_words, word_causes, words};
+ghost use Rattle.pie_summary.specs.Words.{target_words, turned_words, update_words, verdict_words, wait_99, word_causes, words};
 
-use crate::cause_name::{CauseName, cause_name};
+use crate::ranges::Ranges;
 use crate::series::Series;
 use crate::sums::Sums;
+use pie_aqm::CauseName;
 use pie_explain::{Millis, PerCent, Share};
 use std::alloc::AllocError;
 
@@ -21,13 +22,19 @@ fn push_row(page: &mut String, name: &str, count: u64, all: u64) -> Result<(), A
 
 /// How many arrivals a cause decided, where it decided some.
 #[tactic(auto, unfolding(crate::specs::Words::cause_row))]
-fn push_cause(page: &mut String, name: CauseName, count: u64, all: u64) -> Result<(), AllocError>
-    ensures { OnOk result (string_bytes page.new ≡ string_bytes page.old ++ cause_row name count all) }
+fn push_cause(
+    page: &mut String,
+    name: CauseName,
+    causes: &[u64; 16],
+    all: u64,
+) -> Result<(), AllocError>
+    ensures { OnOk result (string_bytes page.new ≡ string_bytes page.old ++ cause_row name causes.now all) }
 {
+    let count = causes[name.place()];
     if count == 0 {
         return Ok(());
     }
-    push_row(page, cause_name(name), count, all)
+    push_row(page, name.word(), count, all)
 }
 
 /// How many arrivals were queued.
@@ -54,10 +61,10 @@ fn push_dropped(page: &mut String, answers: &[u64; 9], all: u64) -> Result<(), A
 fn push_first(page: &mut String, causes: &[u64; 16], all: u64) -> Result<(), AllocError>
     ensures { OnOk result (string_bytes page.new ≡ string_bytes page.old ++ first_causes causes.now all) }
 {
-    push_cause(page, CauseName::NoRoomInBytes, causes[0], all)?;
-    push_cause(page, CauseName::NoRoomInPackets, causes[1], all)?;
-    push_cause(page, CauseName::Inactive, causes[2], all)?;
-    push_cause(page, CauseName::BurstAllowed, causes[3], all)
+    push_cause(page, CauseName::NoRoomInBytes, causes, all)?;
+    push_cause(page, CauseName::NoRoomInPackets, causes, all)?;
+    push_cause(page, CauseName::Inactive, causes, all)?;
+    push_cause(page, CauseName::BurstAllowed, causes, all)
 }
 
 /// .. little delay, little that waits, a small probability.
@@ -65,10 +72,10 @@ fn push_first(page: &mut String, causes: &[u64; 16], all: u64) -> Result<(), All
 fn push_middle(page: &mut String, causes: &[u64; 16], all: u64) -> Result<(), AllocError>
     ensures { OnOk result (string_bytes page.new ≡ string_bytes page.old ++ middle_causes causes.now all) }
 {
-    push_cause(page, CauseName::LowDelay, causes[4], all)?;
-    push_cause(page, CauseName::ShortQueue, causes[5], all)?;
-    push_cause(page, CauseName::NoProbability, causes[6], all)?;
-    push_cause(page, CauseName::LittleAccumulated, causes[7], all)
+    push_cause(page, CauseName::LowDelay, causes, all)?;
+    push_cause(page, CauseName::ShortQueue, causes, all)?;
+    push_cause(page, CauseName::NoProbability, causes, all)?;
+    push_cause(page, CauseName::LittleAccumulated, causes, all)
 }
 
 /// .. the accumulated probability.
@@ -76,9 +83,9 @@ fn push_middle(page: &mut String, causes: &[u64; 16], all: u64) -> Result<(), Al
 fn push_by_sum(page: &mut String, causes: &[u64; 16], all: u64) -> Result<(), AllocError>
     ensures { OnOk result (string_bytes page.new ≡ string_bytes page.old ++ sum_causes causes.now all) }
 {
-    push_cause(page, CauseName::PickedBySum, causes[8], all)?;
-    push_cause(page, CauseName::PickedBySumNotCapable, causes[9], all)?;
-    push_cause(page, CauseName::PickedBySumNotBelow, causes[10], all)
+    push_cause(page, CauseName::PickedBySum, causes, all)?;
+    push_cause(page, CauseName::PickedBySumNotCapable, causes, all)?;
+    push_cause(page, CauseName::PickedBySumNotBelow, causes, all)
 }
 
 /// .. the random word.
@@ -86,10 +93,10 @@ fn push_by_sum(page: &mut String, causes: &[u64; 16], all: u64) -> Result<(), Al
 fn push_by_word(page: &mut String, causes: &[u64; 16], all: u64) -> Result<(), AllocError>
     ensures { OnOk result (string_bytes page.new ≡ string_bytes page.old ++ word_causes causes.now all) }
 {
-    push_cause(page, CauseName::PickedByWord, causes[11], all)?;
-    push_cause(page, CauseName::PickedByWordNotCapable, causes[12], all)?;
-    push_cause(page, CauseName::PickedByWordNotBelow, causes[13], all)?;
-    push_cause(page, CauseName::WordNotBelow, causes[14], all)
+    push_cause(page, CauseName::PickedByWord, causes, all)?;
+    push_cause(page, CauseName::PickedByWordNotCapable, causes, all)?;
+    push_cause(page, CauseName::PickedByWordNotBelow, causes, all)?;
+    push_cause(page, CauseName::WordNotBelow, causes, all)
 }
 
 /// How many arrivals each cause decided.
@@ -141,6 +148,24 @@ fn push_left(page: &mut String, waits: &Series) -> Result<(), AllocError>
     )
 }
 
+/// The wait that at most a hundredth of the packets that left exceeded, or up to a tenth more; no more than the greatest.
+pub(crate) fn wait_99(ranges: &Ranges, waits: &Series) -> u64
+    ensures { result ≡ wait_99 ranges.now waits.now }
+{
+    ranges.end_of(waits.count - waits.count / 100, waits.greatest)
+}
+
+/// How long 99 of 100 packets had waited at most, and how many bytes left.
+#[tactic(auto, unfolding(crate::specs::Words::carried_words))]
+fn push_carried(page: &mut String, most: Millis, carried: u64) -> Result<(), AllocError>
+    ensures { OnOk result (string_bytes page.new ≡ string_bytes page.old ++ carried_words most.0 carried) }
+{
+    write!(
+        page,
+        "    99 of 100 had waited at most {most}\n    they carried {carried} bytes\n"
+    )
+}
+
 /// How many updates there were, and the delays that they took.
 #[tactic(auto, unfolding(crate::specs::Words::delay_words))]
 fn push_delays(
@@ -180,6 +205,22 @@ fn push_updates(
 {
     push_delays(page, updates, Millis(delays.greatest), Millis(delays.last))?;
     push_probs(page, PerCent(probs.greatest), PerCent(probs.last))
+}
+
+/// How long the delays were above the target, and the target and the burst allowance at the end.
+#[tactic(auto, unfolding(crate::specs::Words::target_words))]
+fn push_target(
+    page: &mut String,
+    above: Millis,
+    target: Millis,
+    burst: Millis,
+) -> Result<(), AllocError>
+    ensures { OnOk result (string_bytes page.new ≡ string_bytes page.old ++ target_words above.0 target.0 burst.0) }
+{
+    write!(
+        page,
+        "  delays were above the target for {above};\n    at the end it was {target},\n    and the burst allowance {burst}\n"
+    )
 }
 
 /// When the controller turned on, or off.
@@ -227,21 +268,28 @@ fn push_arrivals(page: &mut String, sums: &Sums) -> Result<(), AllocError>
 
 /// How long packets waited, what the updates made, and when the controller turned.
 #[tactic(auto, unfolding(crate::specs::Words::later_words))]
-fn push_later(page: &mut String, sums: &Sums) -> Result<(), AllocError>
-    ensures { OnOk result (string_bytes page.new ≡ string_bytes page.old ++ later_words sums.now) }
+fn push_later(page: &mut String, sums: &Sums, most: u64) -> Result<(), AllocError>
+    ensures { OnOk result (string_bytes page.new ≡ string_bytes page.old ++ later_words sums.now most) }
 {
     push_left(page, &sums.waits)?;
+    push_carried(page, Millis(most), sums.carried)?;
     push_updates(page, sums.answers[7], &sums.delays, &sums.probs)?;
+    push_target(
+        page,
+        Millis(sums.above),
+        Millis(sums.target),
+        Millis(sums.burst),
+    )?;
     push_turned(page, "on", &sums.turned_on)?;
     push_turned(page, "off", &sums.turned_off)
 }
 
-/// Writes a summary in words.
+/// Writes a summary in words, with the wait of 99 of 100.
 #[tactic(auto, unfolding(crate::specs::Words::words))]
-pub(crate) fn push_words(page: &mut String, sums: &Sums) -> Result<(), AllocError>
-    ensures { OnOk result (string_bytes page.new ≡ string_bytes page.old ++ words sums.now) }
+pub(crate) fn push_words(page: &mut String, sums: &Sums, most: u64) -> Result<(), AllocError>
+    ensures { OnOk result (string_bytes page.new ≡ string_bytes page.old ++ words sums.now most) }
 {
     push_head(page, &sums.moments)?;
     push_arrivals(page, sums)?;
-    push_later(page, sums)
+    push_later(page, sums, most)
 }

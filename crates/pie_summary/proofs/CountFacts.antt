@@ -1,0 +1,69 @@
+-- Counts with one more.
+use Rattle.std.proofs.Common.{◌≡◌, ◌+◌, ◌<◌, ◌==◌, arith, ℕ, zero, suc, Bool, cond, List, [], ◌∷◌, ◌++◌, map, refl, sym, ap, ◌∙◌}
+use Rattle.std.specs.Prelude.{min, count_by, replicate, slice_index, slice_set}
+use Rattle.std.specs.List.{range_with_len}
+use Rattle.std.proofs.lemmas.Bool.{eq-eqb, ne_eqb}
+use Rattle.std.proofs.lemmas.List.Sums.{sum_by_push}
+use Rattle.pie_summary.specs.Counts.{count_at, counts_of, kept}
+
+-- a number that is kept at a greatest one, with more
+pub kept-more : (n more most : ℕ) → min (min n most + more) most ≡ min (n + more) most
+kept-more n more most = omega arith
+
+-- of nothing all counts are 0
+pub none-counted : {X : Type 0} (place : X → ℕ) (first places : ℕ)
+    → replicate places 0 ≡ map (λ wanted. count_at place wanted []) (range_with_len first places)
+none-counted place first zero = refl
+none-counted place first (suc places) = ap (λ (counts : List ℕ). 0 ∷ counts) (none-counted place (first + 1) places)
+
+-- ---- a list over a range, with another value at one place
+
+same-above : (f g : ℕ → ℕ) (place first count : ℕ) → place < first → ((w : ℕ) → (place ≡ w → ⊥) → g w ≡ f w)
+    → map f (range_with_len first count) ≡ map g (range_with_len first count)
+same-above f g place first zero above same = refl
+same-above f g place first (suc count) above same =
+    rw (same first (λ e. omega (arith, e)), same-above f g place (first + 1) count (omega arith) same) refl
+
+set-range : (f g : ℕ → ℕ) (place first count i : ℕ) → i < count → place ≡ first + i → ((w : ℕ) → (place ≡ w → ⊥) → g w ≡ f w)
+    → slice_set (map f (range_with_len first count)) i (g place) ≡ map g (range_with_len first count)
+set-range f g place first zero i within is same = absurd (omega arith)
+set-range f g place first (suc count) zero within is same =
+    let here : place ≡ first = omega arith in
+    rw (here, same-above f g place (first + 1) count (omega arith) same) refl
+set-range f g place first (suc count) (suc i) within is same =
+    rw (same first (λ e. omega (arith, e)), set-range f g place (first + 1) count i (omega arith) (omega arith) same) refl
+
+index-range : (f : ℕ → ℕ) (first count i : ℕ) → i < count → slice_index (map f (range_with_len first count)) i ≡ f (first + i)
+index-range f first zero i within = absurd (omega arith)
+index-range f first (suc count) zero within = ap f (omega arith)
+index-range f first (suc count) (suc i) within = index-range f (first + 1) count i (omega arith) ∙ ap f (omega arith)
+
+-- ---- counts
+
+count-push : {X : Type 0} (place : X → ℕ) (wanted : ℕ) (shown : List X) (one : X)
+    → count_at place wanted (shown ++ one ∷ []) ≡ min (count_at place wanted shown + cond (place one == wanted) 1 0) 18446744073709551615
+count-push {X} place wanted shown one =
+    ap kept (sum_by_push (λ (e : X). cond (place e == wanted) 1 0) shown one)
+    ∙ sym (kept-more (count_by (λ e. place e == wanted) shown) (cond (place one == wanted) 1 0) 18446744073709551615)
+
+pub counted-push : {X : Type 0} (place : X → ℕ) (places at : ℕ) (shown : List X) (one : X) (old : List ℕ)
+    → old ≡ counts_of place places shown
+    → at ≡ place one → at < places
+    → slice_set old at (min (slice_index old at + 1) 18446744073709551615) ≡ counts_of place places (shown ++ one ∷ [])
+counted-push place places at shown one old is here within =
+    let before : ℕ → ℕ = λ w. count_at place w shown in
+    let after : ℕ → ℕ = λ w. count_at place w (shown ++ one ∷ []) in
+    let more : min (slice_index old at + 1) 18446744073709551615 ≡ after at =
+    ap (λ (xs : List ℕ). min (slice_index xs at + 1) 18446744073709551615) is
+    ∙ ap (λ (n : ℕ). min (n + 1) 18446744073709551615) (index-range before 0 places at within ∙ ap before (omega arith))
+    ∙ sym (count-push place at shown one ∙ ap (λ (b : Bool). min (count_at place at shown + cond b 1 0) 18446744073709551615)
+    (eq-eqb (place one) at (sym here))) in
+    let others : (w : ℕ) → (at ≡ w → ⊥) → after w ≡ before w =
+    λ w differs. count-push place w shown one
+    ∙ ap (λ (b : Bool). min (count_at place w shown + cond b 1 0) 18446744073709551615) (ne_eqb (place one) w (λ e. differs (here ∙ e)))
+    ∙ small (count_by (λ e. place e == w) shown) in
+    ap (λ (count : ℕ). slice_set old at count) more ∙ ap (λ (counts : List ℕ). slice_set counts at (after at)) is
+    ∙ set-range before after at 0 places at within (omega arith) others
+  where
+    small : (n : ℕ) → min (min n 18446744073709551615 + 0) 18446744073709551615 ≡ min n 18446744073709551615
+    small n = omega arith

@@ -1,0 +1,68 @@
+-- Ranges of numbers.
+use Rattle.std.proofs.Common.{◌≡◌, ◌+◌, ◌-◌, ◌*◌, ◌/◌, ◌^◌, ◌<◌, ◌≤◌, arith, ℕ, suc, Bool, true, false, List, [], ◌∷◌, ◌++◌, length, refl, sym}
+use Rattle.std.proofs.Common.{ap, ◌∙◌}
+use Rattle.std.specs.Prelude.{min, nat_le, slice_index, slice_set, take, Option, Some}
+use Rattle.std.specs.List.{find, range_with_len, sum}
+use Rattle.std.proofs.lemmas.Bool.Decides.{nat_tests}
+use Rattle.std.proofs.lemmas.List.Sums.{sum_by_more}
+use Rattle.std.proofs.Math.Nat.{pow-suc}
+use Rattle.pie_summary.specs.Ranges.{first_up_to, range_of, ranges_of}
+use Rattle.pie_summary.proofs.CountFacts.{counted-push}
+
+-- without its last digit a number has one less
+pub shorter : (digits number : ℕ) → (digits ≡ 0 → ⊥) → number < 100 * 10 ^ digits → number / 10 < 100 * 10 ^ (digits - 1)
+shorter digits number some few = less (10 ^ (digits - 1)) (10 ^ digits) (ap (λ d. 10 ^ d) (omega (arith, some)) ∙ pow-suc 10 (digits - 1)) few
+  where
+    less : (power longer : ℕ) → longer ≡ power * 10 → number < 100 * longer → number / 10 < 100 * power
+    less power longer is below = omega (arith, is, below)
+
+-- so many are counted up to one more place
+up-to-more : (counts : List ℕ) (place : ℕ) → place < length counts
+    → sum (take (place + 1) counts) ≡ sum (take place counts) + slice_index counts place
+up-to-more counts place within = sum_by_more (λ (n : ℕ). n) counts place 0 within
+
+-- a search over a range goes on behind its first place, or ends there
+goes-on : (test : ℕ → Bool) (place count : ℕ) → place < count → test place ≡ false
+    → find test (range_with_len place (count - place)) ≡ find test (range_with_len (place + 1) (count - (place + 1)))
+goes-on test place count within fails = longer (count - (place + 1)) (count - place) (omega arith)
+  where
+    longer : (rest all : ℕ) → all ≡ suc rest → find test (range_with_len place all) ≡ find test (range_with_len (place + 1) rest)
+    longer rest all is = rw (is, fails) refl
+
+ends-here : (test : ℕ → Bool) (place count : ℕ) → place < count → test place ≡ true
+    → find test (range_with_len place (count - place)) ≡ Some place
+ends-here test place count within holds = longer (count - (place + 1)) (count - place) (omega arith)
+  where
+    longer : (rest all : ℕ) → all ≡ suc rest → find test (range_with_len place all) ≡ Some place
+    longer rest all is = rw (is, holds) refl
+
+-- what a search for a rank has left from a place on
+abbrev pub from_place : List ℕ → ℕ → ℕ → Option ℕ
+from_place counts rank place = find (λ p. nat_le rank (sum (take (p + 1) counts))) (range_with_len place (length counts - place))
+
+pub search-ends : (counts : List ℕ) (rank place missing : ℕ) → place < length counts → missing ≡ rank - sum (take place counts)
+    → missing ≤ slice_index counts place → first_up_to counts rank ≡ from_place counts rank place → Some place ≡ first_up_to counts rank
+search-ends counts rank place missing within left enough so_far =
+    let more = up-to-more counts place within in
+    let reached : rank ≤ sum (take (place + 1) counts) = omega (arith, more, left, enough) in
+    let holds : nat_le rank (sum (take (place + 1) counts)) ≡ true = grind (arith, nat_tests, reached) in
+    sym (so_far ∙ ends-here (λ p. nat_le rank (sum (take (p + 1) counts))) place (length counts) within holds)
+
+pub search-goes-on : (counts : List ℕ) (rank place missing : ℕ) → place < length counts → missing ≡ rank - sum (take place counts)
+    → slice_index counts place < missing → first_up_to counts rank ≡ from_place counts rank place
+    → (missing - slice_index counts place ≡ rank - sum (take (place + 1) counts)) × (first_up_to counts rank ≡ from_place counts rank (place + 1))
+search-goes-on counts rank place missing within left short so_far =
+    let more = up-to-more counts place within in
+    let misses : sum (take (place + 1) counts) < rank = omega (arith, more, left, short) in
+    let fails : nat_le rank (sum (take (place + 1) counts)) ≡ false = grind (arith, nat_tests, misses) in
+    (omega (arith, more, left), so_far ∙ goes-on (λ p. nat_le rank (sum (take (p + 1) counts))) place (length counts) within fails)
+
+-- one more number in its range
+pub ranges-push : (at : ℕ) (numbers : List ℕ) (number : ℕ) (old held read : List ℕ) (count : ℕ) → old ≡ ranges_of numbers → held ≡ old → read ≡ old
+    → count ≡ min (slice_index read at + 1) 18446744073709551615 → at ≡ range_of number → at < 1720
+    → slice_set held at count ≡ ranges_of (numbers ++ number ∷ [])
+unfolding ranges_of
+ranges-push at numbers number old held read count is held-is read-is count-is here within =
+    ap (λ (xs : List ℕ). slice_set xs at count) held-is
+    ∙ ap (λ (n : ℕ). slice_set old at n) (count-is ∙ ap (λ (xs : List ℕ). min (slice_index xs at + 1) 18446744073709551615) read-is)
+    ∙ counted-push range_of 1720 at numbers number old is here within

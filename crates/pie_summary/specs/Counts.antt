@@ -1,0 +1,15 @@
+-- Counts by places.
+use Rattle.std.specs.Prelude.{ℕ, ◌-◌, ◌^◌, ◌==◌, min, List, map, count_by}
+use Rattle.std.specs.List.{range_with_len}
+
+-- a count, kept at the greatest number of 64 bits where it is above it
+abbrev pub kept : ℕ → ℕ
+kept n = min n (2 ^ 64 - 1)
+
+-- how many of these have this place
+abbrev pub count_at : {X : Type 0} → (X → ℕ) → ℕ → List X → ℕ
+count_at {X} place wanted all = kept (count_by (λ (one : X). place one == wanted) all)
+
+-- .. for each of so many places
+abbrev pub counts_of : {X : Type 0} → (X → ℕ) → ℕ → List X → List ℕ
+counts_of place places all = map (λ wanted. count_at place wanted all) (range_with_len 0 places)

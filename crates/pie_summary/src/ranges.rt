@@ -1,0 +1,116 @@
+//! How many numbers lie in each of some ranges, for percentiles.
+ghost use Rattle.std.specs.Prelude.{◌≡◌, ◌+◌, ◌*◌, ◌^◌, ◌<◌, ◌≤◌, ◌++◌, ◌∷◌, [], ℕ, List, Option, IfOk, IfSome, Some, length, min};
+ghost use Rattle.std.specs.List.{cons_option};
+ghost use Rattle.pie_summary.specs.Ranges.{end_within, first_up_to, range_end, range_of, range_within, ranges_of};
+
+use std::alloc::{AllocError, Global};
+use std::marker::Model;
+
+/// How many ranges there are: one of each number below 100, and 90 of each further digit of a number of 64 bits.
+const RANGES: usize = 1720;
+
+/// How many numbers lie in each range of numbers with the same two first decimal digits: `ranges_of` them.
+#[derive(Drop)]
+pub struct Ranges {
+    counts: Box<[u64; RANGES]>,
+}
+
+impl Model for Ranges {
+    ghost use Rattle.std.specs.Prelude.{ℕ, List};
+
+    ghost Value = { List ℕ };
+
+    ghost view = { λ ranges. ranges.counts.value };
+}
+
+/// The range of a number that has at most so many digits more than two.
+fn range_within(digits: u8, number: u64) -> u64
+    requires fits { number < 100 * 10 ^ digits }
+    ensures place { result ≡ range_within digits number }
+    ensures bound { result < 100 + 90 * digits }
+{
+    if digits == 0 || number < 100 {
+        return number;
+    }
+    range_within(digits - 1, number / 10) + 90
+}
+
+/// The first place up to which so many are counted.
+fn first_up_to(counts: &[u64; RANGES], rank: u64) -> Option<usize>
+    ensures first { result ≡ first_up_to counts.now rank }
+    ensures within { IfSome result (λ place. place < 1720) }
+{
+    let mut missing = rank;
+    for place in 0..RANGES {
+        let here = counts[place];
+        if missing <= here {
+            return Some(place);
+        }
+        missing -= here;
+    }
+    None
+}
+
+/// The greatest number of a range, or a greatest number of all where it is less.
+#[tactic(auto, unfolding(crate::specs::Ranges::range_end))]
+fn end_within(range: usize, greatest: u64) -> u64
+    requires { range < 1720 }
+    ensures { result ≡ min (range_end range) greatest }
+{
+    if range < 10 {
+        return greatest.min(range as u64);
+    }
+    let digits = (range - 10) / 90;
+    let first = ((range - 10) % 90 + 11) as u128;
+    let power = 10u128.saturating_pow(digits as u32);
+    let end = first.saturating_mul(power).saturating_sub(1);
+    end.min(u128::from(greatest)) as u64
+}
+
+impl Ranges {
+    /// No number yet. All memory is taken here.
+    ///
+    /// # Errors
+    ///
+    /// `AllocError` where there is none.
+    pub(crate) fn empty(alloc: Global) -> Result<Ranges, AllocError>
+        ensures { IfOk result (λ ranges. ranges ≡ ranges_of []) }
+    {
+        let counts = Box::new(alloc, [0; RANGES])?;
+        Ok(Ranges { counts })
+    }
+
+    /// Forgets all numbers.
+    pub(crate) fn clear(&mut self)
+        ensures { self.new ≡ ranges_of [] }
+    {
+        *self.counts = [0; RANGES];
+    }
+
+    /// Takes one more number.
+    pub(crate) fn take(&mut self, number: u64)
+        ensures { (numbers : List ℕ) → self.old ≡ ranges_of numbers → self.new ≡ ranges_of (numbers ++ number ∷ []) }
+    {
+        let place = range_within(18, number) as usize;
+        self.counts[place] = self.counts[place].saturating_add(1);
+    }
+
+    /// Takes one more number, or none.
+    pub(crate) fn take_some(&mut self, number: Option<u64>)
+        ensures { (numbers : List ℕ) → self.old ≡ ranges_of numbers → self.new ≡ ranges_of (numbers ++ cons_option number []) }
+    {
+        if let Some(number) = number {
+            self.take(number);
+        }
+    }
+
+    /// The end of the first range up to which so many numbers lie, or the greatest number of all where it is less.
+    pub(crate) fn end_of(&self, rank: u64, greatest: u64) -> u64
+        ensures { result ≡ end_within (first_up_to self.now rank) greatest }
+    {
+        match first_up_to(&self.counts, rank) {
+            Some(range) => end_within(range, greatest),
+            None => greatest,
+        }
+    }
+}

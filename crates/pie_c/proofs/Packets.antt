@@ -1,5 +1,5 @@
 -- What the calls for each packet leave of a sound state is what the controller then holds.
-use Rattle.std.proofs.Common.{◌≡◌, ℕ, ◌+◌, ◌≤◌, ◌<◌, ◌^◌, ◌==◌, ◌&&◌, ◌||◌, not, max, min, if◌then◌else◌, nat_lt, Bool, true, false, List, [], ◌∷◌}
+use Rattle.std.proofs.Common.{◌≡◌, ℕ, ◌+◌, ◌≤◌, ◌<◌, ◌^◌, ◌==◌, ◌&&◌, ◌||◌, not, max, min, if◌then◌else◌, nat_lt, Bool, true, false, List, [], ◌∷◌, Option, Some, None, is_none}
 use Rattle.std.proofs.Common.{◌++◌, arith, refl, sym, ap, ◌∙◌}
 use Rattle.std.proofs.lemmas.Bool.{eqb-true}
 use Rattle.std.proofs.lemmas.Bool.Decides.{nat_tests}
@@ -13,14 +13,15 @@ use Rattle.pie_aqm.specs.declared.profile.Profile.{Profile}
 use Rattle.pie_aqm.specs.declared.profile.Profile.TheVariants.{One, Two}
 use Rattle.pie_aqm.specs.Held.{Held}
 use Rattle.pie_aqm.specs.History.{Shows}
-use Rattle.pie_aqm.specs.Steps.{anew, accu_left, arrived, bytes_with, capped, changed, departed, judged, opened, passed, reset, turns_on}
-use Rattle.pie_aqm.specs.Steps.{verdict}
+use Rattle.pie_aqm.specs.Steps.{anew, accu_left, arrived, bytes_with, capped, changed, count_below, count_kept_open, departed, is_unmeasured}
+use Rattle.pie_aqm.specs.Steps.{judged, opened, passed, reset, turns_on, verdict, with_count}
+use Rattle.pie_rate.specs.Estimate.{Begun}
 use Rattle.pie_aqm.proofs.InRange.{threshold-holds}
 use Rattle.pie_aqm.proofs.Laws.{Shows_call, moved}
 use Rattle.pie_aqm.proofs.Sounds.{Sound_call}
 use Rattle.pie_c.specs.declared.params.PieParams.{PieParams}
 use Rattle.pie_c.specs.declared.state.PieState.{PieState}
-use Rattle.pie_c.specs.Calls.{arrival_refusal, departure_refusal, if_taken, is_bad_size, kept_if_refused, moment_refusal}
+use Rattle.pie_c.specs.Calls.{Arrives, Leaves, arrival_refusal, departure_refusal, if_taken, is_bad_size, kept_if_refused, moment_refusal}
 use Rattle.pie_c.specs.Params.{params_of, raw_of}
 use Rattle.pie_c.specs.State.{held_in, is_sound, last_moment, profile_number, profile_of, state_of, with_arrival, with_rate, with_registers}
 use Rattle.pie_c.proofs.Sound.{held-sound, held-state, kept-arrived, kept-departed, kept-moment, params-from, parts-of, profile-back, state-held}
@@ -96,6 +97,23 @@ module _ (s t : PieState) (call : Call) (refusal : ℕ) (sound : is_sound s ≡ 
   shows-call o events free shows =
       rw (left, free) (moved _ _ _ _ (held-state _ (usual-after s call).0 (usual-after s call).1) (Shows_call o events (held_in s) shows (threshold-held s sound) call))
 
+-- all three, of a call that handed in this moment
+pub leaves : (s t : PieState) (call : Call) (refusal : ℕ) → (is_sound s ≡ true → t ≡ kept_if_refused refusal s (after_call (held_in s) call))
+    → (refusal ≡ 0 → IsTaken call) → Leaves s call refusal t
+leaves s t call refusal left taken = record {
+  after = left;
+  sound = λ sound. stays-sound s t call refusal sound (left sound) taken;
+  shows = λ o events sound. shows-call s t call refusal sound (left sound) o events;
+}
+
+-- a refused arrival leaves all as it was
+pub untouched : (s : PieState) (a : Arrival) (refusal moment code : ℕ) → refusal ≡ code → (code == 0) ≡ false → Arrives s a refusal moment code s
+untouched s a refusal moment code is some = rw is record {
+  answer = rw some refl;
+  fields = rw some refl;
+  held = leaves s s (Arrive a moment) code (λ sound. rw some refl) (λ free. let none : (code == 0) ≡ true = rw free refl in cc);
+}
+
 -- ---- the state after it
 
 not-both : (b : Bool) → (b && not b) ≡ false
@@ -145,21 +163,53 @@ departed-after s t size left moment is sound =
     is ∙ ap (λ (u : PieState). if_taken (departure_refusal size left moment) s u) (departed-state s size left moment sound)
 
 -- a packet that leaves the open cycle open changes its count and the moment alone
-pub counted-state : (s : PieState) (size left moment : ℕ) → s.active ≡ 1 → s.measuring ≡ 1 → s.cycle_count + size < min s.params.dq_threshold 65536
-    → record s { moment = max s.moment moment; cycle_count = s.cycle_count + size } ≡ with_rate s (departed (capped (held_in s)) size left 0 moment)
+counted-at : (active begun : Bool) (threshold size start n count : ℕ)
+    → (if active then count_below threshold size (if begun then Some (record { start = start; count = n }) else None) else None) ≡ Some count
+    → (begun ≡ true) × (size < threshold)
+counted-at false begun threshold size start n count is = cc
+counted-at true false threshold size start n count is = cc
+counted-at true true threshold size start n count is = (refl, by (nat_lt (n + size) threshold) refl is)
+  where
+    by : (few : Bool) → nat_lt (n + size) threshold ≡ few → (if few then Some (n + size) else None) ≡ Some count → size < threshold
+    by true e is = grind (arith, nat_tests)
+    by false e is = cc
+
+abbrev pub cycle_limit : PieState → ℕ
+cycle_limit s = min s.params.dq_threshold 65536
+
+pub counted-facts : (s : PieState) (size count : ℕ) → count_kept_open (held_in s) size ≡ Some count
+    → ((s.measuring == 1) ≡ true) × (size < cycle_limit s)
+unfolding held_in count_kept_open
+counted-facts s size count kept = counted-at (s.active == 1) (s.measuring == 1) (cycle_limit s) size s.cycle_start s.cycle_count count kept
+
+pub counted-state : (s : PieState) (h : Held) (size moment count : ℕ) → (s.measuring == 1) ≡ true
+    → h ≡ with_count (capped (held_in s)) count moment
+    → record s { moment = max s.moment moment; cycle_count = count } ≡ with_rate s h
 unfolding held_in
-counted-state s size left moment active measuring few =
-    let below : nat_lt (s.cycle_count + size) (min s.params.dq_threshold 65536) ≡ true = grind (arith, nat_tests) in
-    rw (active, measuring, below) refl
+counted-state s h size moment count begun is = rw (is, begun, sym (eqb-true s.measuring 1 begun)) refl
 
 -- .. and one that meets no cycle and opens none the moment
-pub unmeasured-state : (s : PieState) (size left moment : ℕ) → s.active ≡ 1 → (s.measuring == 1) ≡ false → left < min s.params.dq_threshold 65536
-    → record s { moment = max s.moment moment; measuring = 0; cycle_start = 0; cycle_count = 0 }
-    ≡ with_rate s (departed (capped (held_in s)) size left 0 moment)
+open_at : (few : Bool) (o : Option Begun) → o ≡ None → (is_none o && few) ≡ true → few ≡ true
+open_at few o e is = rw e at is
+
+unmeasured-at : (active begun few : Bool) (start count : ℕ) (o : Option Begun)
+    → o ≡ (if begun then Some (record { start = start; count = count }) else None)
+    → (active && is_none o && few) ≡ true → (begun ≡ false) × (few ≡ true)
+unmeasured-at false begun few start count o e is = cc
+unmeasured-at true false few start count o e is = (refl, open_at few o e is)
+unmeasured-at true true few start count o e is = let not : is_none o ≡ false = ap is_none e in cc
+
+pub unmeasured-facts : (s : PieState) (left : ℕ) → is_unmeasured (held_in s) left ≡ true
+    → ((s.measuring == 1) ≡ false) × (nat_lt left (cycle_limit s) ≡ true)
+unfolding held_in is_unmeasured
+unmeasured-facts s left none =
+    unmeasured-at (s.active == 1) (s.measuring == 1) (nat_lt left (cycle_limit s)) s.cycle_start s.cycle_count
+    (if s.measuring == 1 then Some (record { start = s.cycle_start; count = s.cycle_count }) else None) refl none
+
+pub unmeasured-state : (s : PieState) (h : Held) (moment : ℕ) → (s.measuring == 1) ≡ false → h ≡ passed (capped (held_in s)) moment
+    → record s { moment = max s.moment moment; measuring = 0; cycle_start = 0; cycle_count = 0 } ≡ with_rate s h
 unfolding held_in
-unmeasured-state s size left moment active measuring few =
-    let below : nat_lt left (min s.params.dq_threshold 65536) ≡ true = grind (arith, nat_tests) in
-    rw (active, measuring, below) refl
+unmeasured-state s h moment closed is = rw (is, closed) refl
 
 pub passed-state : (s : PieState) (moment : ℕ) → is_sound s ≡ true → record s { moment = max s.moment moment } ≡ state_of (passed (held_in s) moment)
 unfolding held_in

@@ -8,7 +8,7 @@ ghost use Rattle.pie_aqm.specs.History.{Shows};
 ghost use Rattle.pie_aqm.specs.Steps.{arrived, capped, departed, verdict};
 ghost use Rattle.pie_c.specs.Params.{raw_of};
 ghost use Rattle.pie_c.specs.State.{held_in, is_sound, with_arrival, with_rate};
-ghost use Rattle.pie_c.specs.Calls.{arrival_of, arrival_refusal, departure_refusal, if_taken, kept_if_refused, moment_refusal, params_refusal};
+ghost use Rattle.pie_c.specs.Calls.{Arrives, Leaves, arrival_of, arrival_refusal, departure_refusal, if_taken, kept_if_refused, moment_refusal, params_refusal};
 ghost use Rattle.pie_c.specs.Calls.{reset_refusal, state_refusal, unless_refused, update_refusal, updated_by, verdict_number};
 
 use crate::checked::{ecn, is_bad_size, is_sound, raw};
@@ -18,7 +18,7 @@ use crate::code::{
 use crate::params::PieParams;
 use crate::state::PieState;
 use crate::updated::PieUpdated;
-use pie_aqm::{Arrival, counted, opens_cycle};
+use pie_aqm::Arrival;
 use pie_fixed::MAX_NANOS;
 use pie_params::Params;
 
@@ -42,18 +42,7 @@ pub extern "C" fn pie_arrive(
     word: u64,
     moment: u64,
 ) -> u32
-    ensures answer { result ≡ unless_refused (arrival_refusal queued size bits moment)
-        (verdict_number (verdict (held_in state.old) (arrival_of queued size room bits word))) }
-    ensures fields { state.new ≡ if_taken (arrival_refusal queued size bits moment) state.old
-        (with_arrival state.old (arrived (held_in state.old) (arrival_of queued size room bits word) moment)) }
-
-    // a sound state: it is then what the controller holds, in every field
-    ensures after { is_sound state.old ≡ true → state.new ≡ kept_if_refused (arrival_refusal queued size bits moment) state.old
-        (after_call (held_in state.old) (Arrive (arrival_of queued size room bits word) moment)) }
-    ensures sound { is_sound state.old ≡ true → is_sound state.new ≡ true }
-    ensures shows { (opened : Opened) (events : List ControllerEvent) → is_sound state.old ≡ true → arrival_refusal queued size bits moment ≡ 0
-        → Shows opened events (held_in state.old)
-        → Shows opened (events ++ shown_by (held_in state.old) (Arrive (arrival_of queued size room bits word) moment) ∷ []) (held_in state.new) }
+    ensures { Arrives state.old (arrival_of queued size room bits word) (arrival_refusal queued size bits moment) moment result state.new }
 {
     // One number: the other way is then compiled once, and is a jump.
     let is_usual = room != 0 && state.active == 1;
@@ -77,18 +66,7 @@ fn arrive(
     word: u64,
     moment: u64,
 ) -> u32
-    ensures answer { result ≡ unless_refused (arrival_refusal queued size bits moment)
-        (verdict_number (verdict (held_in state.old) (arrival_of queued size room bits word))) }
-    ensures fields { state.new ≡ if_taken (arrival_refusal queued size bits moment) state.old
-        (with_arrival state.old (arrived (held_in state.old) (arrival_of queued size room bits word) moment)) }
-
-    // a sound state: it is then what the controller holds, in every field
-    ensures after { is_sound state.old ≡ true → state.new ≡ kept_if_refused (arrival_refusal queued size bits moment) state.old
-        (after_call (held_in state.old) (Arrive (arrival_of queued size room bits word) moment)) }
-    ensures sound { is_sound state.old ≡ true → is_sound state.new ≡ true }
-    ensures shows { (opened : Opened) (events : List ControllerEvent) → is_sound state.old ≡ true → arrival_refusal queued size bits moment ≡ 0
-        → Shows opened events (held_in state.old)
-        → Shows opened (events ++ shown_by (held_in state.old) (Arrive (arrival_of queued size room bits word) moment) ∷ []) (held_in state.new) }
+    ensures { Arrives state.old (arrival_of queued size room bits word) (arrival_refusal queued size bits moment) moment result state.new }
 {
     if moment > MAX_NANOS {
         return BAD_MOMENT;
@@ -127,18 +105,7 @@ fn arrive_apart(
     word: u64,
     moment: u64,
 ) -> u32
-    ensures answer { result ≡ unless_refused (arrival_refusal queued size bits moment)
-        (verdict_number (verdict (held_in state.old) (arrival_of queued size room bits word))) }
-    ensures fields { state.new ≡ if_taken (arrival_refusal queued size bits moment) state.old
-        (with_arrival state.old (arrived (held_in state.old) (arrival_of queued size room bits word) moment)) }
-
-    // a sound state: it is then what the controller holds, in every field
-    ensures after { is_sound state.old ≡ true → state.new ≡ kept_if_refused (arrival_refusal queued size bits moment) state.old
-        (after_call (held_in state.old) (Arrive (arrival_of queued size room bits word) moment)) }
-    ensures sound { is_sound state.old ≡ true → is_sound state.new ≡ true }
-    ensures shows { (opened : Opened) (events : List ControllerEvent) → is_sound state.old ≡ true → arrival_refusal queued size bits moment ≡ 0
-        → Shows opened events (held_in state.old)
-        → Shows opened (events ++ shown_by (held_in state.old) (Arrive (arrival_of queued size room bits word) moment) ∷ []) (held_in state.new) }
+    ensures { Arrives state.old (arrival_of queued size room bits word) (arrival_refusal queued size bits moment) moment result state.new }
 {
     arrive(state, queued, size, room, bits, word, moment)
 }
@@ -150,14 +117,7 @@ pub extern "C" fn pie_depart(state: &mut PieState, size: u32, left: u64, moment:
     ensures answer { result ≡ departure_refusal size left moment }
     ensures fields { state.new ≡ if_taken (departure_refusal size left moment) state.old
         (with_rate state.old (departed (capped (held_in state.old)) size left 0 moment)) }
-
-    // a sound state: it is then what the controller holds, in every field
-    ensures after { is_sound state.old ≡ true → state.new ≡ kept_if_refused (departure_refusal size left moment) state.old
-        (after_call (held_in state.old) (Depart size left 0 moment)) }
-    ensures sound { is_sound state.old ≡ true → is_sound state.new ≡ true }
-    ensures shows { (opened : Opened) (events : List ControllerEvent) → is_sound state.old ≡ true → departure_refusal size left moment ≡ 0
-        → Shows opened events (held_in state.old)
-        → Shows opened (events ++ shown_by (held_in state.old) (Depart size left 0 moment) ∷ []) (held_in state.new) }
+    ensures held { Leaves state.old (Depart size left 0 moment) (departure_refusal size left moment) state.new }
 {
     if depart_counted(state, size, left, moment) {
         return DONE;
@@ -173,13 +133,8 @@ fn depart_counted(state: &mut PieState, size: u32, left: u64, moment: u64) -> bo
     ensures within { result ≡ true → moment < 2 ^ 60 }
     ensures after { state.new ≡ (if result then with_rate state.old (departed (capped (held_in state.old)) size left 0 moment) else state.old) }
 {
-    if left <= MAX_QUEUED
-        && state.active == 1
-        && state.measuring == 1
-        && moment <= MAX_NANOS
-        && size != 0
-    {
-        if let Some(count) = counted(state.cycle_count, size, state.params.dq_threshold) {
+    if left <= MAX_QUEUED && moment <= MAX_NANOS && size != 0 {
+        if let Some(count) = raw(state).counted(size) {
             state.keep_counted(count, moment);
             return true;
         }
@@ -207,12 +162,7 @@ fn depart_unmeasured(state: &mut PieState, size: u32, left: u64, moment: u64) ->
     ensures within { result ≡ true → moment < 2 ^ 60 }
     ensures after { state.new ≡ (if result then with_rate state.old (departed (capped (held_in state.old)) size left 0 moment) else state.old) }
 {
-    if moment > MAX_NANOS
-        || is_bad_size(size)
-        || state.active != 1
-        || state.measuring == 1
-        || opens_cycle(left, state.params.dq_threshold)
-    {
+    if moment > MAX_NANOS || is_bad_size(size) || !raw(state).is_unmeasured(left) {
         return false;
     }
     state.keep_unmeasured(moment);
@@ -248,14 +198,7 @@ fn depart(state: &mut PieState, size: u32, left: u64, moment: u64) -> u32
 pub extern "C" fn pie_empty(state: &mut PieState, moment: u64) -> u32
     ensures answer { result ≡ moment_refusal moment }
     ensures fields { state.new ≡ if_taken (moment_refusal moment) state.old (record state.old { moment = max state.old.moment moment }) }
-
-    // a sound state: it is then what the controller holds, in every field
-    ensures after { is_sound state.old ≡ true → state.new ≡ kept_if_refused (moment_refusal moment) state.old
-        (after_call (held_in state.old) (Pass moment)) }
-    ensures sound { is_sound state.old ≡ true → is_sound state.new ≡ true }
-    ensures shows { (opened : Opened) (events : List ControllerEvent) → is_sound state.old ≡ true → moment_refusal moment ≡ 0
-        → Shows opened events (held_in state.old)
-        → Shows opened (events ++ shown_by (held_in state.old) (Pass moment) ∷ []) (held_in state.new) }
+    ensures held { Leaves state.old (Pass moment) (moment_refusal moment) state.new }
 {
     if moment > MAX_NANOS {
         return BAD_MOMENT;

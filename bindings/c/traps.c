@@ -137,8 +137,8 @@ static int own_params(void) {
     CHECK(memcmp(&own.params, &copy, sizeof copy) == 0 && own.average == 0 && own.measuring == 0 && own.prob == 5);
     CHECK(pie_set_params(&own, &own.params, PIE_MAX_MOMENT + 1) == PIE_BAD_MOMENT && same(&own, &other));
     for (uint32_t profile = PIE_ALWAYS_ON; profile <= PIE_ON_AND_OFF; profile++) {
-        CHECK(pie_open_with(&own, &own.params, 22, profile) == PIE_DONE);
-        CHECK(pie_open_with(&other, &copy, 22, profile) == PIE_DONE && same(&own, &other));
+        CHECK(pie_open_with(&own, &own.params, 22, profile, PIE_USUAL) == PIE_DONE);
+        CHECK(pie_open_with(&other, &copy, 22, profile, PIE_USUAL) == PIE_DONE && same(&own, &other));
     }
     own.prob = other.prob = 5;
     CHECK(pie_open(&own, &own.params, 23) == PIE_DONE && pie_open(&other, &copy, 23) == PIE_DONE && same(&own, &other));

@@ -213,7 +213,7 @@ void
 RecordedPieQueueDisc::InitializeParams()
 {
     pie_params params = Params();
-    Expect(pie_open_with(&m_pie, &params, Moment(), m_profile), "pie_open_with");
+    Expect(pie_open_with(&m_pie, &params, Moment(), m_profile, PIE_USUAL), "pie_open_with");
     RecordOpening(params, Moment());
     m_updateEvent = Simulator::Schedule(m_tUpdate, &RecordedPieQueueDisc::Update, this);
 }

@@ -263,7 +263,7 @@ static void open_link(struct bottleneck *link, const struct options *options) {
     link->to = open_device(options->to);
     link->start = clock_now();
     link->next_update = options->params.t_update;
-    uint32_t code = pie_open_with(&link->pie, &options->params, 0, (uint32_t)options->profile);
+    uint32_t code = pie_open_with(&link->pie, &options->params, 0, (uint32_t)options->profile, PIE_USUAL);
     if (code != PIE_DONE)
         die_refused("pie_open_with", code);
     if (!open_history(&link->history, options, 0))

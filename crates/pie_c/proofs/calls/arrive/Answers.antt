@@ -28,15 +28,15 @@ module _ (c : After-of_verdict) where
       (omega arith)
 
   left : c.keep_arrived.new.self ≡ with_arrival state (arrived (held_in state) arrival c.args.moment)
-  left = c.keep_arrived.ensures ∙ kept-later state _ _ _ c.args.moment _ _ c.reach.ensures c.raw-held.ensures c.arrive-verdict.ensures.after
+  left = c.keep_arrived.ensures ∙ kept-later state _ _ _ c.args.moment _ _ c.reach.ensures c.raw_with-held.ensures c.arrive-verdict.ensures.after
       (ap with_ecn c.in-Some.ensures.value)
 
   decided : c.arrive-verdict.result ≡ verdict (held_in state) arrival
-  decided = verdict-later state _ _ _ c.args.moment _ _ c.reach.ensures c.raw-held.ensures c.arrive-verdict.ensures.verdict
+  decided = verdict-later state _ _ _ c.args.moment _ _ c.reach.ensures c.raw_with-held.ensures c.arrive-verdict.ensures.verdict
       (ap with_ecn c.in-Some.ensures.value)
 
 pub keep_arrived-requires : goal.keep_arrived-requires
-keep_arrived-requires c = moment-later c.reach.new.self _ _ _ c.raw-held.ensures c.arrive-verdict.ensures.after
+keep_arrived-requires c = moment-later c.reach.new.self _ _ _ c.raw_with-held.ensures c.arrive-verdict.ensures.after
 
 pub returns-then-queued-gt-MAX_QUEUED : goal.returns-then-queued-gt-MAX_QUEUED
 unfolding arrival_refusal

@@ -4,7 +4,7 @@ use Rattle.pie_aqm.specs.Held.{Held}
 use Rattle.pie_aqm.specs.Steps.{capped, count_kept_open, departed, with_count}
 use Rattle.pie_c.specs.Calls.{is_bad_size}
 use Rattle.pie_c.specs.State.{held_in}
-use Rattle.pie_c.proofs.Packets.{counted-facts, counted-state, departure-taken}
+use Rattle.pie_c.proofs.Packets.{counted-facts, counted-state, departure-taken, taken-by-rate}
 use Rattle.pie_c.proofs.calls.depart_counted.Goals as goal
 use Rattle.pie_c.proofs.calls.depart_counted.Goals.{After-keep_counted}
 
@@ -21,13 +21,14 @@ module _ (c : After-keep_counted) where
 pub returns-in-Some-clause-taken : goal.returns-in-Some-clause-taken
 returns-in-Some-clause-taken c did =
     let a = c.args in
-    let below = (counted-facts a.state.now a.size c.in-Some.count (kept c)).1 in
+    let below = (counted-facts a.state.now a.size c.in-Some.count (kept c)).2 in
     let good : is_bad_size a.size ≡ false = grind (below, arith, nat_tests) in
-    departure-taken a.size a.left a.moment (omega arith) good (omega arith)
+    taken-by-rate a.state.now a.size a.left a.moment (departure-taken a.size a.left a.moment (omega arith) good (omega arith))
+    (counted-facts a.state.now a.size c.in-Some.count (kept c)).0
 
 pub returns-in-Some-clause-after : goal.returns-in-Some-clause-after
 returns-in-Some-clause-after c =
     let a = c.args in
     c.keep_counted.ensures
-    ∙ counted-state a.state.now _ a.size a.moment c.in-Some.count (counted-facts a.state.now a.size c.in-Some.count (kept c)).0
+    ∙ counted-state a.state.now _ a.size a.moment c.in-Some.count (counted-facts a.state.now a.size c.in-Some.count (kept c)).1
     (alone c)

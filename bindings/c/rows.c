@@ -339,7 +339,7 @@ static int refusals(void) {
     CHECK(pie_update(&state, UINT64_MAX, 0).code == PIE_BAD_QUEUE && pie_update(&state, UINT64_MAX, 0).due == 0);
     CHECK(pie_reset(&state, LATEST + 1) == PIE_BAD_MOMENT && same(&state, &before));
     /* each field of the state, out of its range */
-    for (int field = 0; field < 22; field++) {
+    for (int field = 0; field < 24; field++) {
         state = opened();
         struct pie_params params = state.params;
         switch (field) {
@@ -360,11 +360,13 @@ static int refusals(void) {
         case 14: state.params.limit_bytes = 0; break;
         case 15: state.last = UINT64_MAX; break;
         case 16: state.params.max_burst = UINT64_MAX; break;
-        case 17: memset(&state, 255, sizeof state); break;
+        case 17: memset(&state, 255, sizeof state), state.choices = PIE_USUAL; break;
         case 18: state.profile = 0; break;
         case 19: state.profile = 3; break;
         case 20: state.active = 0; break; /* in profile one */
         case 21: state.profile = 2, state.active = 2; break;
+        case 22: state.choices = 16; break;
+        case 23: state.waited = ((uint64_t)1 << 40) + 1; break;
         }
         before = state;
         CHECK(pie_check_state(&state) == PIE_BAD_STATE);
@@ -385,6 +387,8 @@ static int refusals(void) {
 static int any_state(void) {
     struct pie_state state;
     memset(&state, 255, sizeof state);
+    CHECK(pie_depart(&state, 1500, 65536, 0) == PIE_NOT_WAITED && pie_depart_waited(&state, 1500, 65536, 0, 0) == PIE_DONE);
+    state.choices = PIE_USUAL;
     CHECK(pie_arrive(&state, 3000, 1500, 1, PIE_ECT0, 1, 0) == PIE_ENQUEUE); /* `active` isn't 1: inactive */
     CHECK(state.moment == UINT64_MAX && state.accu == UINT64_MAX && state.active == UINT64_MAX);
     state.active = 1, state.burst = 0, state.params.mean_pkt = 1;

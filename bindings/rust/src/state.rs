@@ -158,8 +158,9 @@ impl State {
     /// In this order: `Params`, `Moment`.
     pub fn open_with(params: &Params, moment: u64, profile: Profile, choices: Choices) -> Result<State, Refusal> {
         let mut state = State::UNSET;
+        let choices = choices.flags();
         // SAFETY: as `library` says.
-        done_with(unsafe { pie_open_with(&mut state, params, moment, profile as u32, choices.flags()) }, params)?;
+        done_with(unsafe { pie_open_with(&mut state, params, moment, profile as u32, choices) }, params)?;
         Ok(state)
     }
 

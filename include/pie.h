@@ -8,7 +8,7 @@
  *
  * Each call checks what it is handed beside the state. Where something is out of its range the call is refused by a code
  * above 100, and the state stays as it was. pie_update, pie_reset and pie_set_params check the whole state too. The calls for
- * each packet, pie_arrive, pie_depart and pie_empty, don't: they take its numbers as they are. A state that pie_open or
+ * each packet, pie_arrive, pie_depart, pie_depart_waited and pie_empty, don't: they take its numbers as they are. A state that pie_open or
  * pie_open_with made and that only these calls changed is sound, and never refused. One that comes from elsewhere is asked of
  * pie_check_state first. Without that nothing worse happens than decisions by the numbers that stand there: no bits make a
  * call stop, overflow or touch other memory; a dq_threshold above 65536 counts as 65536, a `measuring` or `active` other
@@ -16,7 +16,7 @@
  *
  * What a caller owes, since nothing can check it: each pointer points to a struct of its type that is aligned, and that no
  * other thread reads or writes during the call; the structs of one call do not overlap, but that `params` may be the
- * state's own, &state->params; queued bytes are those that wait; each packet that is queued leaves by one pie_depart. A call
+ * state's own, &state->params; queued bytes are those that wait; each packet that is queued leaves by one pie_depart or pie_depart_waited. A call
  * for a packet is some thirty to eighty instructions, an update some 260; none waits for anybody or takes memory, so a call may
  * stand under a spin lock.
  *
@@ -101,7 +101,11 @@ enum {
 
     PIE_NOT_A_NUMBER = 114, /* a text that is no number with a unit of its kind */
     PIE_TOO_PRECISE = 115,  /* a text that comes to no whole number, or has more than 18 decimals */
-    PIE_TOO_GREAT = 116     /* a text that comes to more than 2^60 - 1 */
+    PIE_TOO_GREAT = 116,    /* a text that comes to more than 2^60 - 1 */
+
+    PIE_BAD_CHOICES = 117, /* a choice that is none of the flags */
+    PIE_BAD_ARRIVED = 118, /* a packet that arrived later than the state's moment */
+    PIE_NOT_WAITED = 119   /* pie_depart where delays come from time stamps: pie_depart_waited says when the packet arrived */
 };
 
 /* The ECN field of an IP header (RFC 3168, section 5). */
@@ -110,6 +114,15 @@ enum { PIE_NOT_ECT = 0, PIE_ECT1 = 1, PIE_ECT0 = 2, PIE_CE = 3 };
 /* The profiles: in the first the controller is always active, in the second it turns itself on and off (section 5.3; when
  * it does is this project's own). */
 enum { PIE_ALWAYS_ON = 1, PIE_ON_AND_OFF = 2 };
+
+/* RFC 8033's optional elements that are chosen otherwise than usual: flags, OR-ed into the last argument of pie_open_with. */
+enum {
+    PIE_USUAL = 0,         /* delays by the departure rate, de-randomized picking, capped steps, all packets picked alike */
+    PIE_DELAY_STAMP = 1,   /* a delay is what the packet that departed last had waited (section 4.3), as Linux has it by default */
+    PIE_PICK_RANDOM = 2,   /* packets are picked by the random word alone, not de-randomized (section 5.4) */
+    PIE_STEP_UNCAPPED = 4, /* an update raises the probability as far as the control law says (section 5.5) */
+    PIE_SIZE_SCALED = 8    /* a packet below mean_pkt is picked less often, in proportion to its size (Linux's bytemode) */
+};
 
 /* The parameters, in the order in which they are checked; the defaults are in brackets. */
 struct pie_params {
@@ -139,6 +152,8 @@ struct pie_state {
     uint64_t cycle_count;     /* the bytes that it counted, below dq_threshold, 0 with none */
     uint64_t profile;         /* 1 or 2 */
     uint64_t active;          /* 1 while the controller is active, and else 0; in profile 1 always 1 (section 5.3) */
+    uint64_t choices;         /* the flags of the optional elements, at most 15 */
+    uint64_t waited;          /* what the packet that departed last had waited, at most 2^40 ns; 0 without PIE_DELAY_STAMP */
 };
 
 /* What an update answers. */
@@ -167,8 +182,10 @@ uint32_t pie_open(struct pie_state *state, const struct pie_params *params, uint
  * times the bytes in the queue then reach limit_bytes; it starts anew, as by pie_reset. A calm update (probability 0, this
  * delay and the one before below half the target) makes it inactive. While it is inactive, tail drops are as ever and every
  * other packet is enqueued; a departure and an update count by their moments alone, and an update's delay is 0.
- * Refused, in this order: PIE_BAD_PARAMS, PIE_BAD_MOMENT, PIE_BAD_PROFILE. */
-uint32_t pie_open_with(struct pie_state *state, const struct pie_params *params, uint64_t moment, uint32_t profile);
+ * `choices` are flags, PIE_USUAL or PIE_DELAY_STAMP | PIE_PICK_RANDOM | ..: the optional elements stay as they are opened.
+ * Refused, in this order: PIE_BAD_PARAMS, PIE_BAD_MOMENT, PIE_BAD_PROFILE, PIE_BAD_CHOICES. */
+uint32_t pie_open_with(struct pie_state *state, const struct pie_params *params, uint64_t moment, uint32_t profile,
+                       uint32_t choices);
 
 /* Decides on an arriving packet (sections 4.1, 5.1 and 5.4), and answers PIE_ENQUEUE, PIE_MARK, PIE_EARLY, PIE_BYTES or
  * PIE_PACKETS.
@@ -182,9 +199,15 @@ uint32_t pie_arrive(struct pie_state *state, uint64_t queued, uint32_t size, uin
                     uint64_t moment);
 
 /* Takes in that a packet of this size left the queue, with `left` bytes after it (section 5.2). Call it for packets that
- * left, and pie_empty for a poll that found none.
- * Refused, in this order: PIE_BAD_MOMENT, PIE_BAD_SIZE, PIE_BAD_QUEUE. */
+ * left, and pie_empty for a poll that found none. With PIE_DELAY_STAMP call pie_depart_waited.
+ * Refused, in this order: PIE_BAD_MOMENT, PIE_BAD_SIZE, PIE_BAD_QUEUE, PIE_NOT_WAITED. */
 uint32_t pie_depart(struct pie_state *state, uint32_t size, uint64_t left, uint64_t moment);
+
+/* The same with when the packet arrived: state->moment as it was right after its pie_arrive, which the caller keeps beside the packet.
+ * With PIE_DELAY_STAMP the next update takes what it waited as the delay, 0 where it leaves the queue empty (section 4.3); without
+ * it this is pie_depart, and `arrived` plays no part. `arrived` is never later than state->moment.
+ * Refused, in this order: PIE_BAD_MOMENT, PIE_BAD_SIZE, PIE_BAD_QUEUE, PIE_BAD_ARRIVED. */
+uint32_t pie_depart_waited(struct pie_state *state, uint32_t size, uint64_t left, uint64_t arrived, uint64_t moment);
 
 /* Takes in that a departure found the queue empty: its moment counts, and nothing else. A caller whose moments do not
  * fall can leave it out: no decision changes.
@@ -276,6 +299,12 @@ static inline const char *pie_text(uint64_t code) {
         return "refused: no whole number, or more than 18 decimals";
     case PIE_TOO_GREAT:
         return "refused: a number above 2^60 - 1";
+    case PIE_BAD_CHOICES:
+        return "refused: a choice that is none of the flags";
+    case PIE_BAD_ARRIVED:
+        return "refused: a packet that arrived later than the state's moment";
+    case PIE_NOT_WAITED:
+        return "refused: a departure by pie_depart where delays come from time stamps";
     default:
         return "a code that pie.h does not have";
     }

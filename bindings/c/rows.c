@@ -93,9 +93,11 @@ static int parameters(void) {
     CHECK(pie_open(&state, &params, LATEST + 1) == PIE_BAD_PARAMS && same(&state, &before));
     params.target = 2;
     CHECK(pie_open(&state, &params, LATEST + 1) == PIE_BAD_MOMENT && same(&state, &before));
-    CHECK(pie_open_with(&state, &params, LATEST + 1, 3) == PIE_BAD_MOMENT && same(&state, &before));
-    CHECK(pie_open_with(&state, &params, 0, 0) == PIE_BAD_PROFILE && same(&state, &before));
-    CHECK(pie_open_with(&state, &params, 0, 3) == PIE_BAD_PROFILE && same(&state, &before));
+    CHECK(pie_open_with(&state, &params, LATEST + 1, 3, 16) == PIE_BAD_MOMENT && same(&state, &before));
+    CHECK(pie_open_with(&state, &params, 0, 0, 16) == PIE_BAD_PROFILE && same(&state, &before));
+    CHECK(pie_open_with(&state, &params, 0, 3, 0) == PIE_BAD_PROFILE && same(&state, &before));
+    CHECK(pie_open_with(&state, &params, 0, 1, 16) == PIE_BAD_CHOICES && same(&state, &before));
+    CHECK(pie_open_with(&state, &params, 0, 2, UINT32_MAX) == PIE_BAD_CHOICES && same(&state, &before));
     CHECK(pie_open(&state, &params, LATEST) == PIE_DONE && state.moment == LATEST && state.last == LATEST);
     CHECK(state.burst == 150000000 && state.params.target == 2);
     return 0;
@@ -285,7 +287,7 @@ static int two_more(struct pie_state *state, uint64_t queued, uint64_t moment) {
 /* Profile two turns on at a third of the limit, and off at a calm update. */
 static int on_and_off(void) {
     struct pie_state state;
-    CHECK(pie_open_with(&state, &small, 0, PIE_ON_AND_OFF) == PIE_DONE && state.profile == 2 && state.active == 0);
+    CHECK(pie_open_with(&state, &small, 0, PIE_ON_AND_OFF, PIE_USUAL) == PIE_DONE && state.profile == 2 && state.active == 0);
     CHECK(two_more(&state, 0, 0) == 0 && state.active == 0);
     CHECK(pie_depart(&state, 1024, 1024, 1) == PIE_DONE && state.active == 0 && state.measuring == 0);
     CHECK(two_more(&state, 1024, 1) == 0 && state.active == 1 && state.burst == 5);
@@ -313,7 +315,7 @@ static int on_and_off(void) {
 /* A tail drop turns it on as well, and new parameters leave it as it is. */
 static int on_by_a_tail_drop(void) {
     struct pie_state state;
-    CHECK(pie_open_with(&state, &small, 0, PIE_ON_AND_OFF) == PIE_DONE && two_more(&state, 0, 0) == 0 && state.active == 0);
+    CHECK(pie_open_with(&state, &small, 0, PIE_ON_AND_OFF, PIE_USUAL) == PIE_DONE && two_more(&state, 0, 0) == 0 && state.active == 0);
     CHECK(pie_arrive(&state, 2048, 1024, 6, PIE_NOT_ECT, 0, 0) == PIE_ENQUEUE && state.active == 1);
     struct pie_updated made = pie_update(&state, 3072, 1);
     CHECK(made.code == PIE_DONE && made.delay == 0 && made.prob == 0 && made.burst == 5 && state.active == 0);
@@ -337,7 +339,7 @@ static int refusals(void) {
     CHECK(pie_update(&state, UINT64_MAX, 0).code == PIE_BAD_QUEUE && pie_update(&state, UINT64_MAX, 0).due == 0);
     CHECK(pie_reset(&state, LATEST + 1) == PIE_BAD_MOMENT && same(&state, &before));
     /* each field of the state, out of its range */
-    for (int field = 0; field < 22; field++) {
+    for (int field = 0; field < 24; field++) {
         state = opened();
         struct pie_params params = state.params;
         switch (field) {
@@ -358,11 +360,13 @@ static int refusals(void) {
         case 14: state.params.limit_bytes = 0; break;
         case 15: state.last = UINT64_MAX; break;
         case 16: state.params.max_burst = UINT64_MAX; break;
-        case 17: memset(&state, 255, sizeof state); break;
+        case 17: memset(&state, 255, sizeof state), state.choices = PIE_USUAL; break;
         case 18: state.profile = 0; break;
         case 19: state.profile = 3; break;
         case 20: state.active = 0; break; /* in profile one */
         case 21: state.profile = 2, state.active = 2; break;
+        case 22: state.choices = 16; break;
+        case 23: state.waited = ((uint64_t)1 << 40) + 1; break;
         }
         before = state;
         CHECK(pie_check_state(&state) == PIE_BAD_STATE);
@@ -383,6 +387,8 @@ static int refusals(void) {
 static int any_state(void) {
     struct pie_state state;
     memset(&state, 255, sizeof state);
+    CHECK(pie_depart(&state, 1500, 65536, 0) == PIE_NOT_WAITED && pie_depart_waited(&state, 1500, 65536, 0, 0) == PIE_DONE);
+    state.choices = PIE_USUAL;
     CHECK(pie_arrive(&state, 3000, 1500, 1, PIE_ECT0, 1, 0) == PIE_ENQUEUE); /* `active` isn't 1: inactive */
     CHECK(state.moment == UINT64_MAX && state.accu == UINT64_MAX && state.active == UINT64_MAX);
     state.active = 1, state.burst = 0, state.params.mean_pkt = 1;
@@ -399,7 +405,7 @@ static int any_state(void) {
 /* Each number as it is named, and whole: none is cut to 8, 16 or 32 bits on its way. */
 static int widths(void) {
     CHECK(PIE_NOT_ECT == 0 && PIE_ECT1 == 1 && PIE_ECT0 == 2 && PIE_CE == 3 && PIE_ALWAYS_ON == 1 && PIE_ON_AND_OFF == 2);
-    CHECK(sizeof(struct pie_params) == 72 && sizeof(struct pie_state) == 168 && sizeof(struct pie_updated) == 40);
+    CHECK(sizeof(struct pie_params) == 72 && sizeof(struct pie_state) == 184 && sizeof(struct pie_updated) == 40);
     struct pie_state state = at(PIE_ONE / 2, 15000000), before = state;
     const uint32_t narrow[] = {4, 255, 256, 65535, 65536, 65538, UINT32_MAX};
     for (int k = 0; k < 7; k++)
@@ -425,7 +431,7 @@ static int widths(void) {
     CHECK(pie_arrive(&state, 3000, 1500, 1, 0, ((uint64_t)1 << 63) - 1, 0) == PIE_EARLY);
     const uint32_t profiles[] = {0, 3, 256 + 1, 65536 + 1, UINT32_MAX};
     for (int k = 0; k < 5; k++)
-        CHECK(pie_open_with(&state, &before.params, 0, profiles[k]) == PIE_BAD_PROFILE);
+        CHECK(pie_open_with(&state, &before.params, 0, profiles[k], PIE_USUAL) == PIE_BAD_PROFILE);
     return 0;
 }
 
@@ -482,15 +488,70 @@ static int what_stays(void) {
     CHECK(same(&state, &expected));
     /* the same parameters at the opening */
     CHECK(pie_open(&state, &params, 7) == PIE_DONE);
-    struct pie_state opening = {params, 7, 0, 0, 150000002, 7, 0, 0, 0, 0, 0, 1, 1};
-    CHECK(same(&state, &opening) && pie_open_with(&state, &params, 7, PIE_ON_AND_OFF) == PIE_DONE);
+    struct pie_state opening = {params, 7, 0, 0, 150000002, 7, 0, 0, 0, 0, 0, 1, 1, 0, 0};
+    CHECK(same(&state, &opening) && pie_open_with(&state, &params, 7, PIE_ON_AND_OFF, PIE_USUAL) == PIE_DONE);
     opening.profile = 2, opening.active = 0;
     CHECK(same(&state, &opening));
     return 0;
 }
 
+/* The choices: delays by time stamps, what is refused then, and each flag by what it does. */
+static int choices(void) {
+    struct pie_params params;
+    struct pie_state state;
+    pie_default_params(&params);
+    CHECK(pie_open_with(&state, &params, 0, PIE_ALWAYS_ON, PIE_DELAY_STAMP) == PIE_DONE && state.choices == 1 && state.waited == 0);
+    struct pie_state before = state;
+    CHECK(pie_depart(&state, 1500, 3000, 9) == PIE_NOT_WAITED && same(&state, &before));
+    CHECK(pie_depart(&state, 0, 3000, LATEST + 1) == PIE_BAD_MOMENT && pie_depart(&state, 0, 3000, 9) == PIE_BAD_SIZE);
+    CHECK(pie_depart(&state, 1500, (1u << 30) + 1, 9) == PIE_BAD_QUEUE && same(&state, &before));
+    CHECK(pie_depart_waited(&state, 1500, 3000, 1, 9) == PIE_BAD_ARRIVED && same(&state, &before));
+    CHECK(pie_depart_waited(&state, 0, 3000, 1, LATEST + 1) == PIE_BAD_MOMENT && pie_depart_waited(&state, 0, 3000, 1, 9) == PIE_BAD_SIZE);
+    CHECK(pie_depart_waited(&state, 1500, (1u << 30) + 1, 1, 9) == PIE_BAD_QUEUE && same(&state, &before));
+    /* of two packets the second waits longer: what counts is the one that departed last, since its own arrival */
+    CHECK(pie_arrive(&state, 0, 1500, 9, PIE_NOT_ECT, 0, 5) == PIE_ENQUEUE && state.moment == 5);
+    CHECK(pie_arrive(&state, 1500, 1500, 8, PIE_NOT_ECT, 0, 3) == PIE_ENQUEUE && state.moment == 5);
+    CHECK(pie_arrive(&state, 3000, 1500, 7, PIE_NOT_ECT, 0, 1000000) == PIE_ENQUEUE && state.moment == 1000000);
+    CHECK(pie_depart_waited(&state, 1500, 3000, 5, 10000005) == PIE_DONE && state.waited == 10000000);
+    CHECK(pie_depart_waited(&state, 1500, 1500, 5, 20000005) == PIE_DONE && state.waited == 20000000 && state.measuring == 0);
+    struct pie_updated made = pie_update(&state, 1500, 20000005);
+    CHECK(made.code == PIE_DONE && made.delay == 20000000 && state.old_delay == 20000000);
+    /* what leaves the queue empty waited 0; the greatest wait is 2^40; at a moment that falls the effective one counts */
+    CHECK(pie_depart_waited(&state, 1500, 0, 1000000, 21000000) == PIE_DONE && state.waited == 0);
+    CHECK(pie_depart_waited(&state, 1500, 1, 20999999, 0) == PIE_DONE && state.waited == 1 && state.moment == 21000000);
+    CHECK(pie_depart_waited(&state, 1500, 1, 0, LATEST) == PIE_DONE && state.waited == (uint64_t)1 << 40);
+    CHECK(pie_check_state(&state) == PIE_DONE);
+    state.waited++;
+    CHECK(pie_check_state(&state) == PIE_BAD_STATE);
+    state.waited = 7, state.choices = 16;
+    CHECK(pie_check_state(&state) == PIE_BAD_STATE);
+    /* a reset forgets the wait, new parameters keep it */
+    state.choices = PIE_DELAY_STAMP;
+    CHECK(pie_set_params(&state, &params, LATEST) == PIE_DONE && state.waited == 7 && state.choices == 1);
+    CHECK(pie_reset(&state, LATEST) == PIE_DONE && state.waited == 0 && state.choices == 1);
+    /* by the rate it is pie_depart, whatever arrived when */
+    struct pie_state rate = opened(), same_calls = opened();
+    CHECK(pie_depart_waited(&rate, 1500, 20000, LATEST, 1000) == PIE_DONE && pie_depart(&same_calls, 1500, 20000, 1000) == PIE_DONE);
+    CHECK(same(&rate, &same_calls) && rate.measuring == 1);
+    /* picked at random: the first considered packet, by its word */
+    state = at(TENTH, 15000000);
+    CHECK(pie_arrive(&state, 3000, 1500, 1, PIE_NOT_ECT, 0, 0) == PIE_ENQUEUE && state.accu == TENTH);
+    state = at(TENTH, 15000000);
+    state.choices = PIE_PICK_RANDOM;
+    CHECK(pie_arrive(&state, 3000, 1500, 1, PIE_NOT_ECT, 0, 0) == PIE_EARLY);
+    /* uncapped: from a tenth on by more than two hundredths */
+    state = at(TENTH, 15000000);
+    state.average = 60000000, state.choices = PIE_STEP_UNCAPPED;
+    CHECK(pie_update(&state, 16384, 15000000).prob > 120000000000 && next(TENTH, 15000000, 60000000) == 120000000000);
+    /* scaled: a packet of half the mean size counts by half the probability */
+    state = at(TENTH, 15000000);
+    state.choices = PIE_SIZE_SCALED;
+    CHECK(pie_arrive(&state, 3000, 512, 1, PIE_NOT_ECT, UINT64_MAX, 0) == PIE_ENQUEUE && state.accu == TENTH / 2);
+    return 0;
+}
+
 int main(void) {
-    int (*const rows[])(void) = {widths,          large_numbers, what_stays,    parameters, departure_rate, delays,
+    int (*const rows[])(void) = {choices, widths,          large_numbers, what_stays,    parameters, departure_rate, delays,
                                  probabilities,   early_drop,    considered,    tail_drop,  burst_allowance, moments,
                                  marks_and_drops, on_and_off,    on_by_a_tail_drop, refusals,  any_state,    texts};
     for (size_t k = 0; k < sizeof rows / sizeof *rows; k++)

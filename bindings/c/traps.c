@@ -88,7 +88,7 @@ static int answers_and_sizes(void) {
     CHECK(pie_depart(&pie, PIE_MAX_SIZE, PIE_MAX_BYTES + 1, 0) == PIE_BAD_QUEUE && same(&pie, &before));
     CHECK(pie_depart(&pie, PIE_MAX_SIZE, PIE_MAX_BYTES, 0) == PIE_DONE);
     /* each code has words of its own, and no other number has */
-    const uint64_t codes[] = {0, 1, 2, 3, 4, 101, 102, 103, 107, 110, 111, 112, 113, 114, 115, 116};
+    const uint64_t codes[] = {0, 1, 2, 3, 4, 101, 102, 103, 107, 110, 111, 112, 113, 114, 115, 116, 117, 118, 119};
     for (uint64_t code = 0; code < 300; code++) {
         int is_code = 0;
         for (size_t k = 0; k < sizeof codes / sizeof *codes; k++) {
@@ -137,8 +137,8 @@ static int own_params(void) {
     CHECK(memcmp(&own.params, &copy, sizeof copy) == 0 && own.average == 0 && own.measuring == 0 && own.prob == 5);
     CHECK(pie_set_params(&own, &own.params, PIE_MAX_MOMENT + 1) == PIE_BAD_MOMENT && same(&own, &other));
     for (uint32_t profile = PIE_ALWAYS_ON; profile <= PIE_ON_AND_OFF; profile++) {
-        CHECK(pie_open_with(&own, &own.params, 22, profile) == PIE_DONE);
-        CHECK(pie_open_with(&other, &copy, 22, profile) == PIE_DONE && same(&own, &other));
+        CHECK(pie_open_with(&own, &own.params, 22, profile, PIE_USUAL) == PIE_DONE);
+        CHECK(pie_open_with(&other, &copy, 22, profile, PIE_USUAL) == PIE_DONE && same(&own, &other));
     }
     own.prob = other.prob = 5;
     CHECK(pie_open(&own, &own.params, 23) == PIE_DONE && pie_open(&other, &copy, 23) == PIE_DONE && same(&own, &other));

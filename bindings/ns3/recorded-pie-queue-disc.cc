@@ -121,6 +121,21 @@ RecordedPieQueueDisc::GetTypeId()
                           BooleanValue(false),
                           MakeBooleanAccessor(&RecordedPieQueueDisc::m_useEcn),
                           MakeBooleanChecker())
+            .AddAttribute("UseDequeueRateEstimator",
+                          "Whether delays come from the departure rate (section 5.2), and else from time stamps (section 4.3)",
+                          BooleanValue(true),
+                          MakeBooleanAccessor(&RecordedPieQueueDisc::m_useRate),
+                          MakeBooleanChecker())
+            .AddAttribute("UseDerandomization",
+                          "Whether picking is de-randomized (section 5.4)",
+                          BooleanValue(true),
+                          MakeBooleanAccessor(&RecordedPieQueueDisc::m_useDerandomization),
+                          MakeBooleanChecker())
+            .AddAttribute("UseCapDropAdjustment",
+                          "Whether an update's step is capped (section 5.5)",
+                          BooleanValue(true),
+                          MakeBooleanAccessor(&RecordedPieQueueDisc::m_useCap),
+                          MakeBooleanChecker())
             .AddAttribute("History",
                           "The file for the history; none where empty",
                           StringValue(""),
@@ -187,6 +202,13 @@ RecordedPieQueueDisc::Params() const
     return params;
 }
 
+uint32_t
+RecordedPieQueueDisc::Choices() const
+{
+    return (m_useRate ? PIE_USUAL : PIE_DELAY_STAMP) | (m_useDerandomization ? PIE_USUAL : PIE_PICK_RANDOM) |
+           (m_useCap ? PIE_USUAL : PIE_STEP_UNCAPPED);
+}
+
 bool
 RecordedPieQueueDisc::CheckConfig()
 {
@@ -213,7 +235,7 @@ void
 RecordedPieQueueDisc::InitializeParams()
 {
     pie_params params = Params();
-    Expect(pie_open_with(&m_pie, &params, Moment(), m_profile), "pie_open_with");
+    Expect(pie_open_with(&m_pie, &params, Moment(), m_profile, Choices()), "pie_open_with");
     RecordOpening(params, Moment());
     m_updateEvent = Simulator::Schedule(m_tUpdate, &RecordedPieQueueDisc::Update, this);
 }
@@ -227,7 +249,16 @@ RecordedPieQueueDisc::RecordOpening(const pie_params& p, uint64_t moment)
     }
     m_history.open(m_historyName);
     NS_ABORT_MSG_UNLESS(m_history, "cannot write " << m_historyName);
-    m_history << "open2," << m_profile << ",rolling," << moment << ',' << m_packets << ",1024," << (uint64_t(1) << 40) << ','
+    if (Choices() == PIE_USUAL)
+    {
+        m_history << "open2," << m_profile;
+    }
+    else
+    {
+        m_history << "open3," << m_profile << (m_useRate ? ",rate" : ",stamp") << (m_useDerandomization ? ",derandomized" : ",random")
+                  << (m_useCap ? ",capped" : ",uncapped") << ",unscaled";
+    }
+    m_history << ",rolling," << moment << ',' << m_packets << ",1024," << (uint64_t(1) << 40) << ','
               << p.target << ',' << p.t_update << ',' << p.max_burst << ',' << p.alpha << ',' << p.beta << ',' << p.mean_pkt
               << ',' << p.limit_bytes << ',' << p.mark_ecnth << ',' << p.dq_threshold << '\n';
 }
@@ -277,7 +308,7 @@ RecordedPieQueueDisc::DoEnqueue(Ptr<QueueDiscItem> item)
         break;
     }
     NS_ABORT_MSG_UNLESS(queue->Enqueue(item), "the queue refused a packet that the library let in");
-    m_tags.push_back(m_arrivals);
+    m_tags.emplace_back(m_arrivals, m_pie.moment);
     return true;
 }
 
@@ -291,9 +322,9 @@ RecordedPieQueueDisc::DoDequeue()
         return nullptr; /* the simulator's clock does not fall, so pie_empty would change no decision */
     }
     uint64_t moment = Moment();
-    uint64_t tag = m_tags.front();
+    auto [tag, arrived] = m_tags.front();
     m_tags.pop_front();
-    Expect(pie_depart(&m_pie, item->GetSize(), queue->GetNBytes(), moment), "pie_depart");
+    Expect(pie_depart_waited(&m_pie, item->GetSize(), queue->GetNBytes(), arrived, moment), "pie_depart_waited");
     if (m_history.is_open())
     {
         m_history << "depart," << LINK << ',' << moment << ",left," << tag << ',' << item->GetSize()

@@ -14,6 +14,7 @@
 #include <deque>
 #include <fstream>
 #include <string>
+#include <utility>
 
 namespace ns3
 {
@@ -49,6 +50,7 @@ class RecordedPieQueueDisc : public QueueDisc
     void InitializeParams() override;
 
     pie_params Params() const;
+    uint32_t Choices() const;
     void Update();
     uint64_t Word();
     bool Drop(Ptr<QueueDiscItem> item, const char* reason);
@@ -67,6 +69,9 @@ class RecordedPieQueueDisc : public QueueDisc
     uint32_t m_profile;
     uint32_t m_packets;
     bool m_useEcn;
+    bool m_useRate;
+    bool m_useDerandomization;
+    bool m_useCap;
     std::string m_historyName;
 
     pie_state m_pie;
@@ -74,7 +79,7 @@ class RecordedPieQueueDisc : public QueueDisc
     EventId m_updateEvent;
     std::ofstream m_history;
     uint64_t m_arrivals;         /* so far; a packet's tag in the history is its number among them */
-    std::deque<uint64_t> m_tags; /* of the packets that wait */
+    std::deque<std::pair<uint64_t, uint64_t>> m_tags; /* of the packets that wait, with the controller's moment at the arrival */
     TracedValue<double> m_probability;
     TracedValue<Time> m_delay;
 };

@@ -68,6 +68,7 @@ static void die_refused(const char *call, uint64_t code) {
         {PIE_BAD_MOMENT, "PIE_BAD_MOMENT"}, {PIE_BAD_SIZE, "PIE_BAD_SIZE"}, {PIE_TOO_SOON, "PIE_TOO_SOON"},
         {PIE_BAD_PARAMS, "PIE_BAD_PARAMS"}, {PIE_BAD_STATE, "PIE_BAD_STATE"}, {PIE_BAD_ECN, "PIE_BAD_ECN"},
         {PIE_BAD_QUEUE, "PIE_BAD_QUEUE"}, {PIE_BAD_PROFILE, "PIE_BAD_PROFILE"},
+        {PIE_BAD_CHOICES, "PIE_BAD_CHOICES"}, {PIE_BAD_ARRIVED, "PIE_BAD_ARRIVED"},
     };
     const char *name = "an unknown code";
     for (size_t i = 0; i < sizeof names / sizeof names[0]; i++)
@@ -138,6 +139,7 @@ static void arrive(struct bottleneck *link, struct packet *packet, uint64_t now)
     uint32_t verdict = pie_arrive(&link->pie, link->queue.bytes, packet->size, room, packet->ecn, word, now);
     if (verdict > PIE_PACKETS)
         die_refused("pie_arrive", verdict);
+    packet->arrived = link->pie.moment;
     link->counts.verdicts[verdict]++;
     record_arrival(&link->history, packet, word, verdict, now);
     if (verdict == PIE_MARK) {
@@ -188,9 +190,9 @@ static void serve(struct bottleneck *link, uint64_t now) {
     while (link->queue.first != NULL && link->free_at <= now) {
         struct packet *packet = pop(&link->queue);
         uint64_t start = packet->moment > link->free_at ? packet->moment : link->free_at;
-        uint32_t code = pie_depart(&link->pie, packet->size, link->queue.bytes, now);
+        uint32_t code = pie_depart_waited(&link->pie, packet->size, link->queue.bytes, packet->arrived, now);
         if (code != PIE_DONE)
-            die_refused("pie_depart", code);
+            die_refused("pie_depart_waited", code);
         link->counts.departures++;
         record_departure(&link->history, packet, now);
         link->free_at = start + time_on_link(link, packet->size);
@@ -263,7 +265,7 @@ static void open_link(struct bottleneck *link, const struct options *options) {
     link->to = open_device(options->to);
     link->start = clock_now();
     link->next_update = options->params.t_update;
-    uint32_t code = pie_open_with(&link->pie, &options->params, 0, (uint32_t)options->profile);
+    uint32_t code = pie_open_with(&link->pie, &options->params, 0, (uint32_t)options->profile, options->choices);
     if (code != PIE_DONE)
         die_refused("pie_open_with", code);
     if (!open_history(&link->history, options, 0))

@@ -28,6 +28,9 @@ static const char help[] =
     "  --queue pie          pie, or tail: only the limit drops (PIE with gains of 0, so that its history can be audited too)\n"
     "  --ecn                mark packets whose ECN field allows it\n"
     "  --profile 1          1: always active; 2: turns itself on and off\n"
+    "  --no_dq_rate_estimator, --no_derandomization, --no_cap_drop_adjustment, --bytemode\n"
+    "                       delays from time stamps, packets picked by the random word alone, steps without a cap, small packets\n"
+    "                       picked less often\n"
     "  --target 15ms, --update 15ms, --burst 150ms, --alpha 0.125, --beta 1.25, --mean-packet 1024b, --mark-below 10%,\n"
     "  --threshold 16kb     the parameters, with their defaults\n"
     "  --history FILE       write every decision, for pie audit and pie explain\n"
@@ -136,6 +139,23 @@ static void make_tail_drop(struct options *options) {
     options->params.beta = 0;
 }
 
+/* The flag of the choice that this word makes, 0 with none. */
+static uint32_t choice_of(const char *word) {
+    static const struct {
+        const char *word;
+        uint32_t flag;
+    } choices[] = {
+        {"--no_dq_rate_estimator", PIE_DELAY_STAMP},
+        {"--no_derandomization", PIE_PICK_RANDOM},
+        {"--no_cap_drop_adjustment", PIE_STEP_UNCAPPED},
+        {"--bytemode", PIE_SIZE_SCALED},
+    };
+    for (size_t i = 0; i < sizeof choices / sizeof choices[0]; i++)
+        if (strcmp(choices[i].word, word) == 0)
+            return choices[i].flag;
+    return 0;
+}
+
 int read_options(int count, char **words, struct options *options) {
     set_defaults(options);
     for (int i = 1; i < count; i++) {
@@ -146,6 +166,11 @@ int read_options(int count, char **words, struct options *options) {
         }
         if (strcmp(words[i], "--ecn") == 0) {
             options->use_ecn = true;
+            continue;
+        }
+        uint32_t choice = choice_of(words[i]);
+        if (choice != 0) {
+            options->choices |= choice;
             continue;
         }
         const char *text = i + 1 < count ? words[i + 1] : "";

@@ -15,6 +15,7 @@ struct options {
     uint64_t lasts;           /* ns until the program ends by itself */
     uint64_t packets;         /* how many the queue has room for */
     uint64_t profile;         /* PIE_ALWAYS_ON or PIE_ON_AND_OFF */
+    uint32_t choices;         /* the flags of the optional elements */
     bool use_ecn;             /* whether packets are marked */
     bool is_tail_drop;        /* whether only the limit drops */
     struct pie_params params; /* as pie_open_with takes them */

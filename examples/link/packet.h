@@ -9,6 +9,7 @@ struct packet {
     struct packet *next;
     uint64_t tag;    /* its number among the arrivals */
     uint64_t moment; /* when it arrived, and later when it may go on; ns */
+    uint64_t arrived; /* the controller's moment right after its arrival */
     uint32_t size;
     uint32_t ecn; /* as the controller was told */
     uint8_t bytes[];

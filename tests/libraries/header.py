@@ -20,7 +20,7 @@ PARAMETERS = {("pie_arrive", "bits"): "ecn"}
 CODES = {"DONE": ["PIE_DONE", "PIE_ENQUEUE"], "OVER_BYTES": ["PIE_BYTES"], "OVER_PACKETS": ["PIE_PACKETS"]}
 ECN = {"NotEct": "PIE_NOT_ECT", "Ect1": "PIE_ECT1", "Ect0": "PIE_ECT0", "Ce": "PIE_CE"}
 REFUSALS = {"Moment": "PIE_BAD_MOMENT", "Size": "PIE_BAD_SIZE", "TooSoon": "PIE_TOO_SOON", "Params": "PIE_BAD_PARAMS",
-            "State": "PIE_BAD_STATE", "Queue": "PIE_BAD_QUEUE"}
+            "State": "PIE_BAD_STATE", "Queue": "PIE_BAD_QUEUE", "Arrived": "PIE_BAD_ARRIVED", "NotWaited": "PIE_NOT_WAITED"}
 VERDICTS = {"Enqueue": "PIE_ENQUEUE", "Mark": "PIE_MARK", "Early": "PIE_EARLY", "Bytes": "PIE_BYTES", "Packets": "PIE_PACKETS"}
 PROFILES = {"One": "PIE_ALWAYS_ON", "Two": "PIE_ON_AND_OFF"}
 
@@ -164,7 +164,8 @@ def compare_constants(header, source):
     ecn = {ECN[name]: int(number) for number, name in re.findall(r"(\d) => Some\(Ecn::(\w+)\)", source.text)}
     if len(ecn) != 4:
         yield "crates/pie_c/src: no ECN fields were found"
-    own = {"PIE_ALWAYS_ON": 1, "PIE_ON_AND_OFF": 2}
+    own = {"PIE_ALWAYS_ON": 1, "PIE_ON_AND_OFF": 2, "PIE_USUAL": 0}
+    own |= {"PIE_DELAY_STAMP": 1, "PIE_PICK_RANDOM": 2, "PIE_STEP_UNCAPPED": 4, "PIE_SIZE_SCALED": 8}
     yield from same("include/pie.h: constants", header.constants, {**named, **ecn, **own})
 
 
@@ -229,10 +230,12 @@ def refusals_in(source):
     """Of each call the codes that it refuses by, in the order of its body: pie_arrive's stand in `arrive`, an opening's in `open`."""
     codes = {}
     for name, body in re.findall(r"^(?:pub extern \"C\" )?fn (\w+)\(.*?^\{\n(.*?)^\}", source.text, re.S | re.M):
-        codes[name] = ["PIE_" + code for code in dict.fromkeys(re.findall(r"\b(BAD_\w+|TOO_SOON)\b", body))]
+        codes[name] = ["PIE_" + code for code in dict.fromkeys(re.findall(r"\b(BAD_\w+|TOO_SOON|NOT_WAITED)\b", body))]
     orders = {name: codes[name] or codes.get(name[4:], []) for name in codes if name.startswith("pie_")}
     opening = codes.get("open", [])
-    return {**orders, "pie_open_with": opening, "pie_open": [code for code in opening if code != "PIE_BAD_PROFILE"]}
+    apart = {"pie_depart": codes.get("depart", []), "pie_depart_waited": codes.get("depart_stamped", [])}
+    return {**orders, **apart, "pie_open_with": opening,
+            "pie_open": [code for code in opening if code not in ("PIE_BAD_PROFILE", "PIE_BAD_CHOICES")]}
 
 
 def compare_refusals(header, rust, source):
@@ -248,7 +251,7 @@ def compare_refusals(header, rust, source):
     for listed, name in re.findall(r"/// # Errors\s*/// (?:In this order: )?([`\w, ]+)\.\s*pub fn (\w+)", rust):
         told["pie_" + name] = [REFUSALS.get(it) for it in re.findall(r"`(\w+)`", listed)]
     # an ECN field or a profile out of its range can't be said in Rust
-    wanted = {name: [it for it in codes if it not in ("PIE_BAD_ECN", "PIE_BAD_PROFILE")] for name, codes in orders.items()}
+    wanted = {name: [it for it in codes if it not in ("PIE_BAD_ECN", "PIE_BAD_PROFILE", "PIE_BAD_CHOICES")] for name, codes in orders.items()}
     yield from same("bindings/rust: the order of refusals", told, {**wanted, "pie_check": ["PIE_BAD_STATE"]})
 
 
@@ -374,7 +377,7 @@ def probes(header):
     lines += [f"arrive(1, 0, {queued}u) < 100", f"arrive(1, 0, {queued + 1}u) == PIE_BAD_QUEUE"]
     lines += [f"pie_depart(&pie, 1, {queued}u, 0) == PIE_DONE", f"pie_depart(&pie, 1, {queued + 1}u, 0) == PIE_BAD_QUEUE"]
     for profile in (0, 1, 2, 3):
-        lines.append(f"pie_open_with(&pie, &p, 0, {profile}) == {'PIE_DONE' if profile in told['PIE_BAD_PROFILE'] else 'PIE_BAD_PROFILE'}")
+        lines.append(f"pie_open_with(&pie, &p, 0, {profile}, 0) == {'PIE_DONE' if profile in told['PIE_BAD_PROFILE'] else 'PIE_BAD_PROFILE'}")
     decimals, most = told["PIE_TOO_PRECISE"][-1], told["PIE_TOO_GREAT"][-1]
     lines += [f"read(\"0.{'0' * more}s\") == {code}" for more, code in ((decimals, "PIE_DONE"), (decimals + 1, "PIE_TOO_PRECISE"))]
     lines += [f"read(\"{it}ns\") == {code}" for it, code in ((most, "PIE_DONE"), (most + 1, "PIE_TOO_GREAT"))]

@@ -35,7 +35,7 @@ mod state;
 
 pub use params::{Parameter, Params};
 pub use refusal::Refusal;
-pub use state::{Ecn, Profile, State, Updated, Verdict};
+pub use state::{Choices, Ecn, Profile, State, Updated, Verdict};
 
 /// The version of this crate and of the library.
 pub const VERSION: &str = env!("CARGO_PKG_VERSION");

@@ -19,7 +19,7 @@ unsafe extern "C" {
     pub(crate) fn pie_default_params(params: &mut Params);
     pub(crate) fn pie_check_params(params: &Params) -> u32;
     pub(crate) fn pie_open(state: &mut State, params: &Params, moment: u64) -> u32;
-    pub(crate) fn pie_open_with(state: &mut State, params: &Params, moment: u64, profile: u32) -> u32;
+    pub(crate) fn pie_open_with(state: &mut State, params: &Params, moment: u64, profile: u32, choices: u32) -> u32;
     pub(crate) fn pie_arrive(
         state: &mut State,
         queued: u64,
@@ -30,6 +30,7 @@ unsafe extern "C" {
         moment: u64,
     ) -> u32;
     pub(crate) fn pie_depart(state: &mut State, size: u32, left: u64, moment: u64) -> u32;
+    pub(crate) fn pie_depart_waited(state: &mut State, size: u32, left: u64, arrived: u64, moment: u64) -> u32;
     pub(crate) fn pie_empty(state: &mut State, moment: u64) -> u32;
     pub(crate) fn pie_update(state: &mut State, queued: u64, moment: u64) -> RawUpdated;
     pub(crate) fn pie_reset(state: &mut State, moment: u64) -> u32;
@@ -52,7 +53,7 @@ words!(
     dq_threshold = 8
 );
 words!(
-    State, 21, params = 0, moment = 9, prob = 10, old_delay = 11, burst = 12, last = 13, accu = 14, average = 15, measuring = 16,
-    cycle_start = 17, cycle_count = 18, profile = 19, active = 20
+    State, 23, params = 0, moment = 9, prob = 10, old_delay = 11, burst = 12, last = 13, accu = 14, average = 15, measuring = 16,
+    cycle_start = 17, cycle_count = 18, profile = 19, active = 20, choices = 21, waited = 22
 );
 words!(RawUpdated, 5, code = 0, due = 1, delay = 2, prob = 3, burst = 4);

@@ -24,6 +24,10 @@ pub enum Refusal {
     State,
     /// More than 2^30 bytes in the queue.
     Queue,
+    /// A packet that arrived later than the state's moment.
+    Arrived,
+    /// A departure by `depart` where delays come from time stamps: `depart_waited` says when the packet arrived.
+    NotWaited,
     /// A code that this crate doesn't know.
     Unknown(u64),
 }
@@ -37,6 +41,8 @@ impl fmt::Display for Refusal {
             Refusal::Params(parameter) => write!(f, "the parameter {parameter} is out of its range"),
             Refusal::State => f.write_str("a state that these calls did not leave"),
             Refusal::Queue => f.write_str("more than 2^30 bytes in the queue"),
+            Refusal::Arrived => f.write_str("a packet that arrived later than the state's moment"),
+            Refusal::NotWaited => f.write_str("a departure without its arrival where delays come from time stamps"),
             Refusal::Unknown(code) => write!(f, "refused by the code {code}"),
         }
     }
@@ -52,6 +58,8 @@ pub(crate) fn refusal(code: u64, due: u64) -> Refusal {
         103 => Refusal::TooSoon { due },
         110 => Refusal::State,
         112 => Refusal::Queue,
+        118 => Refusal::Arrived,
+        119 => Refusal::NotWaited,
         _ => Refusal::Unknown(code),
     }
 }

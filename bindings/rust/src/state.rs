@@ -1,7 +1,8 @@
 //! The controller's state, and the calls on it.
 
 use crate::library::{
-    RawUpdated, pie_arrive, pie_check_state, pie_depart, pie_empty, pie_open, pie_open_with, pie_reset, pie_set_params, pie_update,
+    RawUpdated, pie_arrive, pie_check_state, pie_depart, pie_depart_waited, pie_empty, pie_open, pie_open_with, pie_reset, pie_set_params,
+    pie_update,
 };
 use crate::refusal::{done, done_with, refusal};
 use crate::{Params, Refusal};
@@ -36,6 +37,30 @@ pub struct State {
     pub profile: u64,
     /// 1 while the controller is active, and else 0; in profile one always 1 (section 5.3).
     pub active: u64,
+    /// The flags of the [`Choices`], at most 15.
+    pub choices: u64,
+    /// What the packet that departed last had waited, at most 2^40 ns; 0 where delays don't come from time stamps.
+    pub waited: u64,
+}
+
+/// RFC 8033's optional elements that are chosen otherwise than usual; the default is none.
+#[derive(Clone, Copy, Debug, Default, PartialEq, Eq, Hash)]
+pub struct Choices {
+    /// A delay is what the packet that departed last had waited (section 4.3): departures then go through [`State::depart_waited`].
+    pub delay_stamp: bool,
+    /// Packets are picked by the random word alone, not de-randomized (section 5.4).
+    pub pick_random: bool,
+    /// An update raises the probability as far as the control law says (section 5.5).
+    pub step_uncapped: bool,
+    /// A packet below `mean_pkt` is picked less often, in proportion to its size.
+    pub size_scaled: bool,
+}
+
+impl Choices {
+    /// As the library has them.
+    fn flags(self) -> u32 {
+        u32::from(self.delay_stamp) | u32::from(self.pick_random) << 1 | u32::from(self.step_uncapped) << 2 | u32::from(self.size_scaled) << 3
+    }
 }
 
 /// The ECN field of an IP header (RFC 3168, section 5).
@@ -112,6 +137,8 @@ impl State {
         cycle_count: 0,
         profile: 0,
         active: 0,
+        choices: 0,
+        waited: 0,
     };
 
     /// Opens a controller of profile one at a moment.
@@ -125,14 +152,15 @@ impl State {
         Ok(state)
     }
 
-    /// Opens a controller of this profile at a moment.
+    /// Opens a controller of this profile, with these choices, at a moment.
     ///
     /// # Errors
     /// In this order: `Params`, `Moment`.
-    pub fn open_with(params: &Params, moment: u64, profile: Profile) -> Result<State, Refusal> {
+    pub fn open_with(params: &Params, moment: u64, profile: Profile, choices: Choices) -> Result<State, Refusal> {
         let mut state = State::UNSET;
+        let choices = choices.flags();
         // SAFETY: as `library` says.
-        done_with(unsafe { pie_open_with(&mut state, params, moment, profile as u32) }, params)?;
+        done_with(unsafe { pie_open_with(&mut state, params, moment, profile as u32, choices) }, params)?;
         Ok(state)
     }
 
@@ -166,10 +194,20 @@ impl State {
     /// Takes in that a packet of this size left the queue, with `left` bytes after it (section 5.2).
     ///
     /// # Errors
-    /// In this order: `Moment`, `Size`, `Queue`.
+    /// In this order: `Moment`, `Size`, `Queue`, `NotWaited`.
     pub fn depart(&mut self, size: u32, left: u64, moment: u64) -> Result<(), Refusal> {
         // SAFETY: as `library` says.
         done(unsafe { pie_depart(self, size, left, moment) })
+    }
+
+    /// The same with when the packet arrived: `moment` of this state as it was right after its `arrive`. Where delays come from time
+    /// stamps, the next update takes what it waited (section 4.3); elsewhere this is [`State::depart`].
+    ///
+    /// # Errors
+    /// In this order: `Moment`, `Size`, `Queue`, `Arrived`.
+    pub fn depart_waited(&mut self, size: u32, left: u64, arrived: u64, moment: u64) -> Result<(), Refusal> {
+        // SAFETY: as `library` says.
+        done(unsafe { pie_depart_waited(self, size, left, arrived, moment) })
     }
 
     /// Takes in that a departure found the queue empty: its moment counts, and nothing else.

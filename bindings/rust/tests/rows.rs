@@ -2,7 +2,7 @@
 
 use std::error::Error;
 
-use juniperbowls::{Ecn, MAX_BYTES, MAX_MOMENT, MAX_SIZE, Parameter, Params, Profile, Refusal, State, Verdict};
+use juniperbowls::{Choices, Ecn, MAX_BYTES, MAX_MOMENT, MAX_SIZE, Parameter, Params, Profile, Refusal, State, Verdict};
 
 const TENTH: u64 = 100_000_000_000;
 const ONE: u64 = 1_000_000_000_000;
@@ -31,7 +31,7 @@ fn parameters() {
     let both = Params { target: 1, ..odd };
     assert_eq!(both.first_bad(), Some(Parameter::Target));
     assert_eq!(State::open(&both, LATEST + 1), Err(Refusal::Params(Parameter::Target)));
-    assert_eq!(State::open_with(&odd, LATEST + 1, Profile::Two), Err(Refusal::Params(Parameter::DqThreshold)));
+    assert_eq!(State::open_with(&odd, LATEST + 1, Profile::Two, Choices::default()), Err(Refusal::Params(Parameter::DqThreshold)));
     assert_eq!(State::open(&defaults, LATEST + 1), Err(Refusal::Moment));
     assert_eq!(State::open(&defaults, LATEST).map(|state| state.burst), Ok(150_000_000));
 }
@@ -205,7 +205,7 @@ fn two_more(state: &mut State, queued: u64, moment: u64) {
 #[test]
 fn profile_two_turns_on_and_off() {
     for (profile, first, update) in [(Profile::Two, 0, (1000, 414_208, 4)), (Profile::One, 1, (16, 5810, 4))] {
-        let mut state = State::open_with(&SMALL, 0, profile).unwrap();
+        let mut state = State::open_with(&SMALL, 0, profile, Choices::default()).unwrap();
         assert_eq!((state.profile, state.active), (profile as u64, first));
         two_more(&mut state, 0, 0);
         state.depart(1024, 1024, 1).unwrap();
@@ -228,7 +228,7 @@ fn profile_two_turns_on_and_off() {
 
 #[test]
 fn a_tail_drop_turns_on() {
-    let mut state = State::open_with(&SMALL, 0, Profile::Two).unwrap();
+    let mut state = State::open_with(&SMALL, 0, Profile::Two, Choices::default()).unwrap();
     two_more(&mut state, 0, 0);
     assert_eq!((state.arrive(2048, 1024, 6, Ecn::NotEct, 0, 0), state.active), (Ok(Verdict::Enqueue), 1));
     let made = state.update(3072, 1).unwrap();
@@ -355,9 +355,9 @@ fn what_stays() {
     for (profile, number, active) in [(Profile::One, 1, 1), (Profile::Two, 2, 0)] {
         let cleared = State { moment: 7, last: 7, prob: 0, old_delay: 0, accu: 0, burst: 150_000_002, ..expected };
         let opening = State { profile: number, active, ..cleared };
-        assert_eq!(State::open_with(&params, 7, profile), Ok(opening));
+        assert_eq!(State::open_with(&params, 7, profile, Choices::default()), Ok(opening));
     }
-    assert_eq!(State::open(&params, 7), State::open_with(&params, 7, Profile::One));
+    assert_eq!(State::open(&params, 7), State::open_with(&params, 7, Profile::One, Choices::default()));
 }
 
 /// A limit of 200 ms at a rate, within the range of `limit_bytes`.
@@ -375,4 +375,27 @@ fn limits_by_rate() {
         assert_eq!(Params::for_rate(rate), Params { limit_bytes: limit, ..Params::default() });
         assert_eq!(Params::for_rate(rate).first_bad(), None);
     }
+}
+
+/// Where delays come from time stamps, a departure says when its packet arrived, and an update takes what it waited.
+#[test]
+fn delays_by_time_stamps() {
+    let choices = Choices { delay_stamp: true, ..Choices::default() };
+    let mut state = State::open_with(&Params::default(), 0, Profile::One, choices).unwrap();
+    assert_eq!(state.choices, 1);
+    let before = state;
+    assert_eq!(state.depart(1500, 3000, 9), Err(Refusal::NotWaited));
+    assert_eq!(state.depart_waited(1500, 3000, 1, 9), Err(Refusal::Arrived));
+    assert_eq!(state, before);
+    state.arrive(0, 1500, 9, Ecn::NotEct, 0, 5).unwrap();
+    state.depart_waited(1500, 3000, 5, 20_000_005).unwrap();
+    assert_eq!((state.waited, state.measuring), (20_000_000, 0));
+    assert_eq!(state.update(0, 20_000_005).unwrap().delay, 20_000_000);
+    state.depart_waited(1500, 0, 5, 30_000_000).unwrap();
+    assert_eq!(state.waited, 0);
+    let mut rate = State::open(&Params::default(), 0).unwrap();
+    rate.depart_waited(1500, 40_000, MAX_MOMENT, 1).unwrap();
+    assert_eq!((rate.measuring, rate.waited), (1, 0));
+    let choices = Choices { pick_random: true, step_uncapped: true, size_scaled: true, delay_stamp: false };
+    assert_eq!(State::open_with(&Params::default(), 0, Profile::Two, choices).unwrap().choices, 14);
 }

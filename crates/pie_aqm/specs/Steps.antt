@@ -1,9 +1,11 @@
 -- The rules: what each call makes of what a controller holds, told by the steps of its parts (RFC 8033, sections 4.1, 4.2, 4.4, 5.1
 -- to 5.5, and Appendix A for tail drop; when profile two turns on and off is this project's own).
-use Rattle.std.specs.Prelude.{ℕ, ◌+◌, ◌-◌, ◌*◌, ◌^◌, ◌==◌, max, ◌&&◌, not, nat_lt, nat_le, Bool, true, false, None, min, if◌then◌else◌}
+use Rattle.std.specs.Prelude.{ℕ, ◌+◌, ◌-◌, ◌*◌, ◌^◌, ◌==◌, max, ◌&&◌, not, nat_lt, nat_le, Bool, true, false, Option, Some, None, is_none}
+use Rattle.std.specs.Prelude.{min, option_map, if◌then◌else◌}
 use Rattle.pie_aqm.specs.Types.{RawParams, Elements, Delay, Rate, Stamp, Step, departure, Estimate, Parts, Offered, Choice, Enqueue, Mark, Drop}
 use Rattle.pie_aqm.specs.Types.{Profile, One, Two, Arrival, Verdict}
 use Rattle.pie_aqm.specs.Held.{Held}
+use Rattle.pie_rate.specs.Estimate.{Begun}
 use Rattle.pie_rate.specs.Step.{after_departure}
 use Rattle.pie_control.specs.Delay.{delay_of}
 use Rattle.pie_control.specs.History.{burst_after, ends_calm}
@@ -151,6 +153,32 @@ departed h size left since moment = record h {
 -- a threshold above 65536 bytes counted as 65536, for numbers that nobody checked
 abbrev pub capped : Held → Held
 capped h = record h { params = record h.params { dq_threshold = min h.params.dq_threshold 65536 } }
+
+-- ---- departures that change least
+
+-- what the open cycle of the departure rate counts with a departed packet of this size that leaves it open; nothing where none is open
+abbrev pub count_below : ℕ → ℕ → Option Begun → Option ℕ
+count_below threshold size None = None
+count_below threshold size (Some cycle) = if nat_lt (cycle.count + size) threshold then Some (cycle.count + size) else None
+
+unfoldable pub count_kept_open : Held → ℕ → Option ℕ
+count_kept_open h size =
+    if measures h.active h.elements.delay then count_below (min h.params.dq_threshold 65536) size h.rate.begun else None
+
+-- the cycle with this count, and the moment
+abbrev pub counting : ℕ → Begun → Begun
+counting count cycle = record cycle { count = count }
+
+abbrev pub with_count : Held → ℕ → ℕ → Held
+with_count h count moment = record h {
+  moment = now_at h moment;
+  rate = record h.rate { begun = option_map (counting count) h.rate.begun };
+}
+
+-- a departure meets no cycle, and opens none
+unfoldable pub is_unmeasured : Held → ℕ → Bool
+is_unmeasured h left =
+    measures h.active h.elements.delay && is_none h.rate.begun && nat_lt left (min h.params.dq_threshold 65536)
 
 -- after a departure that found no packet
 abbrev pub passed : Held → ℕ → Held

@@ -22,5 +22,5 @@ pub use cause_name::CauseName;
 pub use controller::Controller;
 pub use law::{calls_keep_it_sound, calls_look_back};
 pub use profile::Profile;
-pub use raw::{RawController, counted, opens_cycle};
+pub use raw::RawController;
 pub use verdict::{Arrival, Verdict};

@@ -1,9 +1,9 @@
 //! The controller's rules over plain numbers; and beside the rule of an arrival what names its cause, whose verdict is the same.
-ghost use Rattle.std.specs.Prelude.{◌≡◌, ◌+◌, ◌^◌, ◌<◌, ◌≤◌, SomeIff, max, min, true, false};
+ghost use Rattle.std.specs.Prelude.{◌≡◌, ◌+◌, ◌^◌, ◌<◌, ◌≤◌, ℕ, IfSome, max, min, true, false};
 ghost use Rattle.pie_aqm.specs.Cause.{cause, considered_cause, early_cause, fate_of, verdict_of};
 ghost use Rattle.pie_aqm.specs.Held.{IsSound, held_by};
-ghost use Rattle.pie_aqm.specs.Steps.{accu_left, anew, arrived, capped, changed, delay_answered, delay_in, departed, due, is_queued, opened};
-ghost use Rattle.pie_aqm.specs.Steps.{reset, updated, verdict, wait_of};
+ghost use Rattle.pie_aqm.specs.Steps.{accu_left, anew, arrived, capped, changed, count_kept_open, delay_answered, delay_in, departed, due};
+ghost use Rattle.pie_aqm.specs.Steps.{is_queued, is_unmeasured, measures, opened, passed, reset, updated, verdict, wait_of, with_count};
 
 use crate::verdict::wakes;
 use crate::{Arrival, Cause, Controller, Fate, Profile, Verdict};
@@ -12,7 +12,7 @@ use pie_early::{LOW_PROB, NEVER_PICKED, Offered, counted_as, decide};
 use pie_fixed::{ALWAYS_PICKED, Accu, Prob, chosen};
 use pie_params::{Delay, Elements, Params, Picking, RawParams};
 use pie_queue::Ecn;
-use pie_rate::{MAX_THRESHOLD, RawCycle, RawRate};
+use pie_rate::{MAX_THRESHOLD, RawRate};
 
 /// What a [`Controller`](crate::Controller) holds, as plain numbers, each in its range or not: the controller's rules, each of which
 /// stands here alone.
@@ -143,12 +143,56 @@ impl RawController {
         if self.active {
             match self.elements.delay {
                 Delay::Rate => {
-                    let threshold = self.params.dq_threshold.min(MAX_THRESHOLD);
+                    let threshold = self.threshold();
                     self.rate.departed(size, left, self.moment, threshold);
                 }
                 Delay::Stamp => self.waited = wait(left, since, self.moment),
             }
         }
+    }
+
+    /// What the open cycle of the departure rate counts with a departed packet of this size, `None` where none is open, or the packet
+    /// closes it. Where there is a count, [`depart`](RawController::depart) changes it and the moment alone.
+    #[inline(always)]
+    #[tactic(auto, using(std::proofs::lemmas::Bool::Decides::nat_tests), unfolding(crate::specs::Steps::count_kept_open))]
+    pub fn counted(&self, size: u32) -> Option<u64>
+        ensures count { result ≡ count_kept_open (held_by self.now) size }
+        ensures alone { (left since moment : ℕ) → IfSome result (λ count. departed (capped (held_by self.now)) size left since moment
+            ≡ with_count (capped (held_by self.now)) count moment) }
+    {
+        if !self.measures() {
+            return None;
+        }
+        let cycle = self.rate.begun?;
+        cycle.counted(size, self.threshold())
+    }
+
+    /// Whether a departure with so many bytes behind it meets no cycle of the departure rate and opens none: then
+    /// [`depart`](RawController::depart) changes the moment alone.
+    #[inline(always)]
+    #[tactic(auto, using(std::proofs::lemmas::Bool::Decides::nat_tests), unfolding(crate::specs::Steps::is_unmeasured))]
+    pub fn is_unmeasured(&self, left: u64) -> bool
+        ensures value { result ≡ is_unmeasured (held_by self.now) left }
+        ensures alone { (size since moment : ℕ) → result ≡ true
+            → departed (capped (held_by self.now)) size left since moment ≡ passed (capped (held_by self.now)) moment }
+    {
+        self.measures() && self.rate.begun.is_none() && left < self.threshold()
+    }
+
+    /// Whether departures are measured: while the controller is active, where the delay comes from the departure rate.
+    #[inline(always)]
+    fn measures(&self) -> bool
+        ensures { result ≡ measures self.now.active self.now.elements.delay }
+    {
+        self.active && matches!(self.elements.delay, Delay::Rate)
+    }
+
+    /// The bytes that a cycle counts.
+    #[inline(always)]
+    fn threshold(&self) -> u64
+        ensures { result ≡ min self.now.params.dq_threshold 65536 }
+    {
+        self.params.dq_threshold.min(MAX_THRESHOLD)
     }
 
     /// Makes an update, as [`Controller::update`](crate::Controller::update) does.
@@ -231,25 +275,6 @@ fn wait(left: u64, since: u64, now: u64) -> u64
     } else {
         now.saturating_sub(since).min(MAX_DELAY)
     }
-}
-
-/// What an open cycle of the departure rate that has counted so many bytes counts with a departed packet, `None` where the packet
-/// closes it: where it stays open, [`RawController::depart`] changes this count and the moment alone.
-#[inline(always)]
-pub fn counted(count: u64, size: u32, dq_threshold: u64) -> Option<u64>
-    ensures { SomeIff result (count + size < min dq_threshold 65536) (count + size) }
-{
-    RawCycle { start: 0, count }.counted(size, dq_threshold.min(MAX_THRESHOLD))
-}
-
-/// Whether a departure with so many bytes behind it opens a cycle of the departure rate where none is open: where it doesn't,
-/// [`RawController::depart`] changes the moment alone.
-#[inline(always)]
-pub fn opens_cycle(left: u64, dq_threshold: u64) -> bool
-    ensures opens { result ≡ true → min dq_threshold 65536 ≤ left }
-    ensures passes { result ≡ false → left < min dq_threshold 65536 }
-{
-    left >= dq_threshold.min(MAX_THRESHOLD)
 }
 
 /// Why a picked packet is marked or dropped.

@@ -6,13 +6,17 @@ use Rattle.pie_early.specs.Decision.{is_considered, is_picked}
 use Rattle.pie_c.specs.declared.params.PieParams.{PieParams}
 use Rattle.pie_c.specs.declared.state.PieState.{PieState}
 use Rattle.pie_params.specs.Elements.{usual}
+use Rattle.pie_params.specs.declared.elements.Delay.TheVariants.{Stamp}
+use Rattle.pie_params.specs.declared.elements.Picking.TheVariants.{Random}
+use Rattle.pie_params.specs.declared.elements.Step.TheVariants.{Uncapped}
+use Rattle.pie_params.specs.declared.elements.Size.TheVariants.{Scaled}
 use Rattle.pie_aqm.specs.declared.profile.Profile.TheVariants.{One}
 use Rattle.pie_aqm.specs.Held.{Held}
 use Rattle.pie_aqm.specs.Steps.{accu_left, arrived, capped, departed, opened, updated, verdict}
-use Rattle.pie_c.specs.Calls.{arrival_of, arrival_refusal, departure_refusal, moment_refusal, opening_refusal, reset_refusal, state_refusal}
+use Rattle.pie_c.specs.Calls.{arrival_of, arrival_refusal, packet_refusal, waited_refusal, departure_refusal, moment_refusal, opening_refusal, reset_refusal, state_refusal}
 use Rattle.pie_c.specs.Calls.{update_refusal, verdict_number}
 use Rattle.pie_c.specs.Params.{raw_of}
-use Rattle.pie_c.specs.State.{are_in_range, held_in, is_activity_sound, is_control_sound, is_rate_sound, is_sound, state_of, with_arrival, with_rate}
+use Rattle.pie_c.specs.State.{are_in_range, choices_of, elements_of, is_choice_sound, held_in, is_activity_sound, is_control_sound, is_rate_sound, is_sound, state_of, with_arrival, with_rate}
 
 -- the default parameters, and a controller that is opened with them at 0
 abbrev defaults : PieParams
@@ -41,15 +45,23 @@ sound-states : (is_sound start ≡ true) × (is_sound (record start { last = 1 }
     × (is_sound (record start { params = record defaults { dq_threshold = 3000 } }) ≡ false)
     × (is_sound (record start { active = 0 }) ≡ false) × (is_sound (record start { profile = 2; active = 0 }) ≡ true)
     × (is_sound (record start { profile = 2; active = 2 }) ≡ false) × (is_sound (record start { profile = 3 }) ≡ false)
-unfolding state_of is_sound are_in_range is_control_sound is_rate_sound is_activity_sound
+unfolding state_of is_sound are_in_range is_control_sound is_rate_sound is_activity_sound is_choice_sound choices_of
 sound-states = (refl, refl, refl, refl, refl, refl, refl, refl, refl, refl)
 
 -- a state is refused by any field, and by the calls for each packet by none
 state_refusals : (state_refusal start ≡ 0) × (state_refusal (record start { accu = 8_500_000_000_000 }) ≡ 110)
     × (reset_refusal (record start { accu = 8_500_000_000_000 }) 0 ≡ 110)
-    × (reset_refusal start (2 ^ 60) ≡ 101) × (moment_refusal (2 ^ 60) ≡ 101) × (departure_refusal 65536 0 0 ≡ 102)
-unfolding state_of reset_refusal moment_refusal departure_refusal is_sound are_in_range is_control_sound is_rate_sound is_activity_sound
+    × (reset_refusal start (2 ^ 60) ≡ 101) × (moment_refusal (2 ^ 60) ≡ 101) × (packet_refusal 65536 0 0 ≡ 102)
+unfolding state_of reset_refusal moment_refusal packet_refusal is_sound are_in_range is_control_sound is_rate_sound is_activity_sound is_choice_sound choices_of
 state_refusals = (refl, refl, refl, refl, refl, refl)
+
+-- where delays come from time stamps a departure says when the packet arrived; numbers of its own are looked at first
+stamped : (departure_refusal (record start { choices = 1 }) 1 0 0 ≡ 119) × (departure_refusal (record start { choices = 14 }) 1 0 0 ≡ 0)
+    × (waited_refusal (record start { choices = 1 }) 1 0 1 5 ≡ 118) × (waited_refusal (record start { choices = 1; moment = 1 }) 1 0 1 0 ≡ 0)
+    × (waited_refusal start 1 0 1 0 ≡ 0) × (waited_refusal (record start { choices = 1 }) 0 0 1 5 ≡ 102)
+    × (elements_of 5 ≡ record usual { delay = Stamp; step = Uncapped }) × (elements_of 10 ≡ record usual { picking = Random; size = Scaled })
+unfolding state_of packet_refusal elements_of choices_of
+stamped = (refl, refl, refl, refl, refl, refl, refl, refl)
 
 -- of a state that isn't sound, every field that a call doesn't change stays; a threshold above 65536 counts as 65536
 abbrev odd : PieState
@@ -58,7 +70,7 @@ odd = record start { params = record defaults { dq_threshold = 2 ^ 17 }; measuri
 odd_states : (with_rate odd (departed (capped (held_in odd)) 1 0 0 8)
     ≡ record odd { moment = 8; average = 1; measuring = 0; cycle_start = 0; cycle_count = 0 })
     × (with_arrival odd (arrived (held_in odd) (arrival_of 0 1500 1 0 0) 8) ≡ record odd { moment = 8 })
-unfolding held_in state_of verdict accu_left is_considered is_picked
+unfolding held_in state_of verdict accu_left is_considered is_picked elements_of choices_of
 odd_states = (refl, refl)
 
 -- the first thing that is out of its range is named
@@ -69,14 +81,14 @@ unfolding arrival_refusal
 refusals = (refl, refl, refl, refl, refl)
 
 -- a profile is looked at last
-openings : (opening_refusal (record defaults { target = 1 }) (2 ^ 60) 3 ≡ 107) × (opening_refusal defaults (2 ^ 60) 3 ≡ 101)
-    × (opening_refusal defaults 0 3 ≡ 113) × (opening_refusal defaults 0 0 ≡ 113) × (opening_refusal defaults 0 2 ≡ 0)
+openings : (opening_refusal (record defaults { target = 1 }) (2 ^ 60) 3 16 ≡ 107) × (opening_refusal defaults (2 ^ 60) 3 16 ≡ 101)
+    × (opening_refusal defaults 0 3 16 ≡ 113) × (opening_refusal defaults 0 0 16 ≡ 113) × (opening_refusal defaults 0 2 16 ≡ 117) × (opening_refusal defaults 0 2 15 ≡ 0)
 unfolding opening_refusal are_in_range
-openings = (refl, refl, refl, refl, refl)
+openings = (refl, refl, refl, refl, refl, refl)
 
 too_soon : (update_refusal start 0 14_999_999 ≡ 103) × (update_refusal start 0 15_000_000 ≡ 0)
     × (update_refusal (record start { moment = 15_000_000 }) 0 3 ≡ 0)
-unfolding state_of held_in update_refusal is_sound are_in_range is_control_sound is_rate_sound is_activity_sound
+unfolding state_of held_in update_refusal is_sound are_in_range is_control_sound is_rate_sound is_activity_sound is_choice_sound choices_of elements_of
 too_soon = (refl, refl, refl)
 
 abbrev said : ℕ → ℕ → ℕ → ℕ → ℕ → ℕ
@@ -104,12 +116,12 @@ after_two = departed (departed (opened One usual (raw_of defaults) 0) 1500 20000
 
 rates : ((state_of after_two).average ≡ 12_000_000) × ((state_of after_two).measuring ≡ 1)
     × ((state_of (departed after_two 16384 0 0 32_001_000)).average ≡ 14_000_000) × ((state_of (departed after_two 16384 0 0 32_001_000)).cycle_start ≡ 0)
-unfolding state_of
+unfolding state_of elements_of choices_of
 rates = (refl, refl, refl, refl)
 
 abbrev made : PieState
 made = state_of (updated (held_in (record start { average = 30_000_000 })) 16384 15_000_000)
 
 updates : (made.old_delay ≡ 30_000_000) × (made.prob ≡ 19_226_074) × (made.burst ≡ 135_000_000) × (made.last ≡ 15_000_000)
-unfolding held_in state_of delay_of next raw_step tuning_divisor tuned_step decayed
+unfolding held_in state_of delay_of next raw_step tuning_divisor tuned_step decayed elements_of choices_of
 updates = (refl, refl, refl, refl)

@@ -1,3 +1,4 @@
-pub mod Sound
+pub mod Choices
+mod Sound
 mod Examples
 pub mod Packets

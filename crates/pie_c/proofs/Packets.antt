@@ -1,29 +1,35 @@
 -- What the calls for each packet leave of a sound state is what the controller then holds.
-use Rattle.std.proofs.Common.{◌≡◌, ℕ, ◌+◌, ◌≤◌, ◌<◌, ◌^◌, ◌==◌, ◌&&◌, ◌||◌, not, max, min, if◌then◌else◌, nat_lt, Bool, true, false, List, [], ◌∷◌}
+use Rattle.std.proofs.Common.{◌≡◌, ℕ, ◌+◌, ◌≤◌, ◌<◌, ◌^◌, ◌==◌, ◌&&◌, ◌||◌, not, max, min, if◌then◌else◌, nat_lt, Bool, true, false, List, [], ◌∷◌, Option, Some, None, is_none}
 use Rattle.std.proofs.Common.{◌++◌, arith, refl, sym, ap, ◌∙◌}
 use Rattle.std.proofs.lemmas.Bool.{eqb-true}
 use Rattle.std.proofs.lemmas.Bool.Decides.{nat_tests}
 use Rattle.pie_aqm.specs.declared.verdict.Arrival.{Arrival}
 use Rattle.pie_aqm.specs.declared.verdict.Verdict.{Verdict}
-use Rattle.pie_params.specs.Elements.{usual}
-use Rattle.pie_aqm.specs.Calls.{Arrive, Call, Change, Depart, IsTaken, Pass, Restart, Update, after_call, shown_by}
+use Rattle.pie_params.specs.declared.elements.Elements.{Elements}
+use Rattle.pie_c.proofs.Choices.{choices-back}
+use Rattle.pie_aqm.specs.Calls.{Arrive, Call, Depart, IsTaken, after_call, shown_by}
 use Rattle.pie_aqm.specs.Events.{ControllerEvent, Opened}
 use Rattle.pie_params.specs.declared.raw.RawParams.{RawParams}
 use Rattle.pie_aqm.specs.declared.profile.Profile.{Profile}
 use Rattle.pie_aqm.specs.declared.profile.Profile.TheVariants.{One, Two}
 use Rattle.pie_aqm.specs.Held.{Held}
 use Rattle.pie_aqm.specs.History.{Shows}
-use Rattle.pie_aqm.specs.Steps.{anew, accu_left, arrived, bytes_with, capped, changed, departed, judged, opened, passed, reset, turns_on}
-use Rattle.pie_aqm.specs.Steps.{verdict}
+use Rattle.pie_aqm.specs.Steps.{anew, accu_left, arrived, bytes_with, capped, changed, count_below, count_kept_open, departed, is_unmeasured}
+use Rattle.pie_aqm.specs.Steps.{judged, opened, passed, reset, turns_on, verdict, with_count}
+use Rattle.pie_aqm.specs.Steps.{measures}
+use Rattle.pie_rate.specs.Estimate.{Begun}
+use Rattle.pie_params.specs.declared.elements.Delay.TheVariants.{Rate, Stamp}
 use Rattle.pie_aqm.proofs.InRange.{threshold-holds}
 use Rattle.pie_aqm.proofs.Laws.{Shows_call, moved}
 use Rattle.pie_aqm.proofs.Sounds.{Sound_call}
 use Rattle.pie_c.specs.declared.params.PieParams.{PieParams}
 use Rattle.pie_c.specs.declared.state.PieState.{PieState}
-use Rattle.pie_c.specs.Calls.{arrival_refusal, departure_refusal, if_taken, is_bad_size, kept_if_refused, moment_refusal}
+use Rattle.pie_c.specs.Calls.{Arrives, Leaves, arrival_refusal, departure_refusal, if_taken, is_bad_size, kept_if_refused, moment_refusal}
+use Rattle.pie_c.specs.Calls.{packet_refusal, unless_refused}
 use Rattle.pie_c.specs.Params.{params_of, raw_of}
-use Rattle.pie_c.specs.State.{held_in, is_sound, last_moment, profile_number, profile_of, state_of, with_arrival, with_rate, with_registers}
-use Rattle.pie_c.proofs.Sound.{held-sound, held-state, kept-arrived, kept-departed, kept-moment, params-from, parts-of, profile-back, state-held}
+use Rattle.pie_c.specs.State.{choices_of, elements_of, held_in, is_sound, last_moment, profile_number, profile_of, state_of, takes_stamps}
+use Rattle.pie_c.specs.State.{with_arrival, with_departure, with_rate, with_registers}
+use Rattle.pie_c.proofs.Sound.{choice-from, held-sound, held-state, kept-arrived, kept-departed, kept-moment, kept-waited, params-from, parts-of, profile-back, state-held}
 use Rattle.pie_c.proofs.Sound.{state-sound}
 
 -- ---- a call that nothing refuses
@@ -38,12 +44,16 @@ arrival-taken queued size bits moment m s b q =
     rw (early, s, known, few) refl
 
 pub departure-taken : (size left moment : ℕ) → moment ≤ last_moment → is_bad_size size ≡ false → left ≤ 2 ^ 30
-    → departure_refusal size left moment ≡ 0
-unfolding departure_refusal
+    → packet_refusal size left moment ≡ 0
+unfolding packet_refusal
 departure-taken size left moment m s q =
     let early : nat_lt last_moment moment ≡ false = grind (arith, nat_tests) in
     let few : nat_lt (2 ^ 30) left ≡ false = grind (arith, nat_tests) in
     rw (early, s, few) refl
+
+pub taken-by-rate : (s : PieState) (size left moment : ℕ) → packet_refusal size left moment ≡ 0 → takes_stamps s ≡ false
+    → departure_refusal s size left moment ≡ 0
+taken-by-rate s size left moment own rate = rw (own, rate) refl
 
 pub moment-taken : (moment : ℕ) → moment ≤ last_moment → moment_refusal moment ≡ 0
 unfolding moment_refusal
@@ -66,21 +76,13 @@ handed moment rest = by (nat_lt last_moment moment) refl
     by true is free = cc
     by false is free = grind (arith, nat_tests)
 
--- a call leaves the usual choices, and no wait
-usual-after : (s : PieState) (call : Call) → ((after_call (held_in s) call).elements ≡ usual) × ((after_call (held_in s) call).waited ≡ 0)
-unfolding held_in
-usual-after s (Arrive a moment) = by (turns_on (held_in s) (bytes_with (verdict (held_in s) a) a.queued a.size))
+pub departed-moment : (size left moment rest : ℕ) → unless_refused (packet_refusal size left moment) rest ≡ 0 → moment < 2 ^ 60
+unfolding packet_refusal
+departed-moment size left moment rest = by (nat_lt last_moment moment) refl
   where
-    by : (on : Bool)
-        → ((if on then record (anew (judged (held_in s) a moment)) { active = true } else judged (held_in s) a moment).elements ≡ usual)
-        × ((if on then record (anew (judged (held_in s) a moment)) { active = true } else judged (held_in s) a moment).waited ≡ 0)
-    by true = (refl, refl)
-    by false = (refl, refl)
-usual-after s (Depart size left since moment) = (refl, refl)
-usual-after s (Pass moment) = (refl, refl)
-usual-after s (Update queued moment) = (refl, refl)
-usual-after s (Restart moment) = (refl, refl)
-usual-after s (Change params moment) = (refl, refl)
+    by : (late : Bool) → nat_lt last_moment moment ≡ late → unless_refused (packet_refusal size left moment) rest ≡ 0 → moment < 2 ^ 60
+    by true is free = let none : 101 ≡ 0 = rw is at free in cc
+    by false is free = grind (arith, nat_tests)
 
 module _ (s t : PieState) (call : Call) (refusal : ℕ) (sound : is_sound s ≡ true)
     (left : t ≡ kept_if_refused refusal s (after_call (held_in s) call)) where
@@ -94,7 +96,24 @@ module _ (s t : PieState) (call : Call) (refusal : ℕ) (sound : is_sound s ≡ 
   pub shows-call : (o : Opened) (events : List ControllerEvent) → refusal ≡ 0 → Shows o events (held_in s)
       → Shows o (events ++ shown_by (held_in s) call ∷ []) (held_in t)
   shows-call o events free shows =
-      rw (left, free) (moved _ _ _ _ (held-state _ (usual-after s call).0 (usual-after s call).1) (Shows_call o events (held_in s) shows (threshold-held s sound) call))
+      rw (left, free) (moved _ _ _ _ (held-state (after_call (held_in s) call)) (Shows_call o events (held_in s) shows (threshold-held s sound) call))
+
+-- all three, of a call that handed in this moment
+pub leaves : (s t : PieState) (call : Call) (refusal : ℕ) → (is_sound s ≡ true → t ≡ kept_if_refused refusal s (after_call (held_in s) call))
+    → (refusal ≡ 0 → IsTaken call) → Leaves s call refusal t
+leaves s t call refusal left taken = record {
+  after = left;
+  sound = λ sound. stays-sound s t call refusal sound (left sound) taken;
+  shows = λ o events sound. shows-call s t call refusal sound (left sound) o events;
+}
+
+-- a refused arrival leaves all as it was
+pub untouched : (s : PieState) (a : Arrival) (refusal moment code : ℕ) → refusal ≡ code → (code == 0) ≡ false → Arrives s a refusal moment code s
+untouched s a refusal moment code is some = rw is record {
+  answer = rw some refl;
+  fields = rw some refl;
+  held = leaves s s (Arrive a moment) code (λ sound. rw some refl) (λ free. let none : (code == 0) ≡ true = rw free refl in cc);
+}
 
 -- ---- the state after it
 
@@ -106,14 +125,19 @@ on-alone : (b c : Bool) → (not b && c) ≡ true → (true && not b) ≡ true
 on-alone true c e = cc
 on-alone false c e = refl
 
-pub registers-state : (s : PieState) (h : Held) → h.params ≡ raw_of s.params → profile_number h.profile ≡ s.profile → with_registers s h ≡ state_of h
+pub registers-state : (s : PieState) (h : Held) → h.params ≡ raw_of s.params → profile_number h.profile ≡ s.profile → choices_of h.elements ≡ s.choices
+    → with_registers s h ≡ state_of h
 unfolding state_of
-registers-state s h same kind =
+registers-state s h same kind chosen =
     ap (λ (p : PieParams). record (with_registers s h) { params = p }) (sym (ap params_of same))
     ∙ ap (λ (n : ℕ). record (with_registers s h) { params = params_of h.params; profile = n }) (sym kind)
+    ∙ ap (λ (n : ℕ). record (with_registers s h) { params = params_of h.params; profile = profile_number h.profile; choices = n }) (sym chosen)
 
 kind-back : (s : PieState) → is_sound s ≡ true → profile_number (profile_of s.profile) ≡ s.profile
 kind-back s sound = let parts = parts-of s sound in profile-back (s.profile == 2) s refl parts.activity
+
+chosen-back : (s : PieState) → is_sound s ≡ true → choices_of (elements_of s.choices) ≡ s.choices
+chosen-back s sound = let parts = parts-of s sound in choices-back s.choices (choice-from s parts.choice).known
 
 pub arrived-state : (s : PieState) (a : Arrival) (moment : ℕ) → is_sound s ≡ true
     → with_arrival s (arrived (held_in s) a moment) ≡ state_of (arrived (held_in s) a moment)
@@ -124,42 +148,112 @@ arrived-state s a moment sound = by (turns_on (held_in s) (bytes_with (verdict (
         → with_arrival s (if on then record (anew (judged (held_in s) a moment)) { active = true } else judged (held_in s) a moment)
         ≡ state_of (if on then record (anew (judged (held_in s) a moment)) { active = true } else judged (held_in s) a moment)
     by true e =
-        rw (on-alone (s.active == 1) _ e) (registers-state s (record (anew (judged (held_in s) a moment)) { active = true }) refl (kind-back s sound))
+        rw (on-alone (s.active == 1) _ e) (registers-state s (record (anew (judged (held_in s) a moment)) { active = true }) refl (kind-back s sound) (chosen-back s sound))
     by false e = rw (not-both (s.active == 1)) (kept-arrived s (judged (held_in s) a moment) sound refl)
 
 capped-is : (h : Held) → h.params.dq_threshold ≤ 65536 → capped h ≡ h
 capped-is h t = ap (λ (n : ℕ). record h { params = record h.params { dq_threshold = n } }) (grind arith)
 
-pub departed-state : (s : PieState) (size left moment : ℕ) → is_sound s ≡ true
-    → with_rate s (departed (capped (held_in s)) size left 0 moment) ≡ state_of (departed (held_in s) size left 0 moment)
-unfolding held_in
-departed-state s size left moment sound =
-    ap (λ (h : Held). with_rate s (departed h size left 0 moment)) (capped-is (held_in s) (threshold-of s sound))
-    ∙ kept-departed s (departed (held_in s) size left 0 moment) sound refl
+-- a departure of a state that takes delays by the rate, and of one that takes them from time stamps
+pub departed-state : (s : PieState) (size left since moment : ℕ) → is_sound s ≡ true
+    → with_departure s (departed (capped (held_in s)) size left since moment) ≡ state_of (departed (held_in s) size left since moment)
+unfolding held_in elements_of
+departed-state s size left since moment sound =
+    ap (λ (h : Held). with_departure s (departed h size left since moment)) (capped-is (held_in s) (threshold-of s sound)) ∙ by (takes_stamps s) refl
+  where
+    two : Bool → Held → PieState
+    two b h = if b then record s { moment = h.moment; waited = h.waited } else with_rate s h
+
+    by : (stamps : Bool) → takes_stamps s ≡ stamps
+        → with_departure s (departed (held_in s) size left since moment) ≡ state_of (departed (held_in s) size left since moment)
+    by true is =
+        ap (λ (b : Bool). two b (departed (held_in s) size left since moment)) is
+        ∙ kept-waited s (departed (held_in s) size left since moment) sound (rw is refl)
+    by false is =
+        ap (λ (b : Bool). two b (departed (held_in s) size left since moment)) is
+        ∙ kept-departed s (departed (held_in s) size left since moment) sound (rw is refl)
+
+-- where delays come from the rate it doesn't matter since when a packet waited
+pub by-rate : (s : PieState) (size left since moment : ℕ) → takes_stamps s ≡ false
+    → with_rate s (departed (capped (held_in s)) size left 0 moment) ≡ with_departure s (departed (capped (held_in s)) size left since moment)
+unfolding held_in elements_of
+by-rate s size left since moment is = rw is refl
 
 -- what a departure leaves of each field
-pub departed-after : (s t : PieState) (size left moment : ℕ)
-    → t ≡ if_taken (departure_refusal size left moment) s (with_rate s (departed (capped (held_in s)) size left 0 moment)) → is_sound s ≡ true
-    → t ≡ kept_if_refused (departure_refusal size left moment) s (after_call (held_in s) (Depart size left 0 moment))
-departed-after s t size left moment is sound =
-    is ∙ ap (λ (u : PieState). if_taken (departure_refusal size left moment) s u) (departed-state s size left moment sound)
+pub departed-after : (s t : PieState) (size left since moment refusal : ℕ)
+    → t ≡ if_taken refusal s (with_departure s (departed (capped (held_in s)) size left since moment)) → is_sound s ≡ true
+    → t ≡ kept_if_refused refusal s (after_call (held_in s) (Depart size left since moment))
+departed-after s t size left since moment refusal is sound =
+    is ∙ ap (λ (u : PieState). if_taken refusal s u) (departed-state s size left since moment sound)
+
+-- .. and of one that is refused where delays come from time stamps
+pub rate-after : (s t : PieState) (size left moment : ℕ)
+    → t ≡ if_taken (departure_refusal s size left moment) s (with_rate s (departed (capped (held_in s)) size left 0 moment))
+    → t ≡ if_taken (departure_refusal s size left moment) s (with_departure s (departed (capped (held_in s)) size left 0 moment))
+rate-after s t size left moment is = is ∙ by (takes_stamps s) refl (packet_refusal size left moment)
+  where
+    by : (stamps : Bool) → takes_stamps s ≡ stamps → (n : ℕ)
+        → if_taken (unless_refused n (if takes_stamps s then 119 else 0)) s (with_rate s (departed (capped (held_in s)) size left 0 moment))
+        ≡ if_taken (unless_refused n (if takes_stamps s then 119 else 0)) s (with_departure s (departed (capped (held_in s)) size left 0 moment))
+    by true e n = rw e (split (n == 0) refl)
+      where
+        split : (free : Bool) → (n == 0) ≡ free
+            → if_taken (unless_refused n 119) s (with_rate s (departed (capped (held_in s)) size left 0 moment))
+            ≡ if_taken (unless_refused n 119) s (record s { moment = (departed (capped (held_in s)) size left 0 moment).moment; waited = (departed (capped (held_in s)) size left 0 moment).waited })
+        split true f = rw f refl
+        split false f = rw (f, f) refl
+    by false e n = ap (λ (u : PieState). if_taken (unless_refused n (if takes_stamps s then 119 else 0)) s u) (by-rate s size left 0 moment e)
 
 -- a packet that leaves the open cycle open changes its count and the moment alone
-pub counted-state : (s : PieState) (size left moment : ℕ) → s.active ≡ 1 → s.measuring ≡ 1 → s.cycle_count + size < min s.params.dq_threshold 65536
-    → record s { moment = max s.moment moment; cycle_count = s.cycle_count + size } ≡ with_rate s (departed (capped (held_in s)) size left 0 moment)
+counted-at : (stamps active begun : Bool) (threshold size start n count : ℕ)
+    → (if measures active (if stamps then Stamp else Rate) then count_below threshold size (if begun then Some (record { start = start; count = n }) else None) else None) ≡ Some count
+    → (stamps ≡ false) × (begun ≡ true) × (size < threshold)
+counted-at true active begun threshold size start n count is = cc
+counted-at false false begun threshold size start n count is = cc
+counted-at false true false threshold size start n count is = cc
+counted-at false true true threshold size start n count is = (refl, refl, by (nat_lt (n + size) threshold) refl is)
+  where
+    by : (few : Bool) → nat_lt (n + size) threshold ≡ few → (if few then Some (n + size) else None) ≡ Some count → size < threshold
+    by true e is = grind (arith, nat_tests)
+    by false e is = cc
+
+abbrev pub cycle_limit : PieState → ℕ
+cycle_limit s = min s.params.dq_threshold 65536
+
+pub counted-facts : (s : PieState) (size count : ℕ) → count_kept_open (held_in s) size ≡ Some count
+    → (takes_stamps s ≡ false) × ((s.measuring == 1) ≡ true) × (size < cycle_limit s)
+unfolding held_in count_kept_open elements_of
+counted-facts s size count kept = counted-at (takes_stamps s) (s.active == 1) (s.measuring == 1) (cycle_limit s) size s.cycle_start s.cycle_count count kept
+
+pub counted-state : (s : PieState) (h : Held) (size moment count : ℕ) → (s.measuring == 1) ≡ true
+    → h ≡ with_count (capped (held_in s)) count moment
+    → record s { moment = max s.moment moment; cycle_count = count } ≡ with_rate s h
 unfolding held_in
-counted-state s size left moment active measuring few =
-    let below : nat_lt (s.cycle_count + size) (min s.params.dq_threshold 65536) ≡ true = grind (arith, nat_tests) in
-    rw (active, measuring, below) refl
+counted-state s h size moment count begun is = rw (is, begun, sym (eqb-true s.measuring 1 begun)) refl
 
 -- .. and one that meets no cycle and opens none the moment
-pub unmeasured-state : (s : PieState) (size left moment : ℕ) → s.active ≡ 1 → (s.measuring == 1) ≡ false → left < min s.params.dq_threshold 65536
-    → record s { moment = max s.moment moment; measuring = 0; cycle_start = 0; cycle_count = 0 }
-    ≡ with_rate s (departed (capped (held_in s)) size left 0 moment)
+open_at : (few : Bool) (o : Option Begun) → o ≡ None → (is_none o && few) ≡ true → few ≡ true
+open_at few o e is = rw e at is
+
+unmeasured-at : (stamps active begun few : Bool) (start count : ℕ) (o : Option Begun)
+    → o ≡ (if begun then Some (record { start = start; count = count }) else None)
+    → (measures active (if stamps then Stamp else Rate) && is_none o && few) ≡ true → (stamps ≡ false) × (begun ≡ false) × (few ≡ true)
+unmeasured-at true active begun few start count o e is = cc
+unmeasured-at false false begun few start count o e is = cc
+unmeasured-at false true false few start count o e is = (refl, refl, open_at few o e is)
+unmeasured-at false true true few start count o e is = let not : is_none o ≡ false = ap is_none e in cc
+
+pub unmeasured-facts : (s : PieState) (left : ℕ) → is_unmeasured (held_in s) left ≡ true
+    → (takes_stamps s ≡ false) × ((s.measuring == 1) ≡ false) × (nat_lt left (cycle_limit s) ≡ true)
+unfolding held_in is_unmeasured elements_of
+unmeasured-facts s left none =
+    unmeasured-at (takes_stamps s) (s.active == 1) (s.measuring == 1) (nat_lt left (cycle_limit s)) s.cycle_start s.cycle_count
+    (if s.measuring == 1 then Some (record { start = s.cycle_start; count = s.cycle_count }) else None) refl none
+
+pub unmeasured-state : (s : PieState) (h : Held) (moment : ℕ) → (s.measuring == 1) ≡ false → h ≡ passed (capped (held_in s)) moment
+    → record s { moment = max s.moment moment; measuring = 0; cycle_start = 0; cycle_count = 0 } ≡ with_rate s h
 unfolding held_in
-unmeasured-state s size left moment active measuring few =
-    let below : nat_lt left (min s.params.dq_threshold 65536) ≡ true = grind (arith, nat_tests) in
-    rw (active, measuring, below) refl
+unmeasured-state s h moment closed is = rw (is, closed) refl
 
 pub passed-state : (s : PieState) (moment : ℕ) → is_sound s ≡ true → record s { moment = max s.moment moment } ≡ state_of (passed (held_in s) moment)
 unfolding held_in
@@ -206,7 +300,7 @@ verdict-later s t a b moment h v at held is same = rw (is, held, same, at) refl
 pub reset-state : (s : PieState) (h g : Held) (moment : ℕ) → is_sound s ≡ true → h ≡ held_in s → g ≡ reset h moment
     → with_registers s g ≡ state_of (reset (held_in s) moment)
 unfolding held_in
-reset-state s h g moment sound held after = rw (after, held) (registers-state s (reset (held_in s) moment) refl (kind-back s sound))
+reset-state s h g moment sound held after = rw (after, held) (registers-state s (reset (held_in s) moment) refl (kind-back s sound) (chosen-back s sound))
 
 pub changed-state : (s : PieState) (params : PieParams) (raw : RawParams) (h g : Held) (moment : ℕ) → is_sound s ≡ true → h ≡ held_in s
     → g ≡ changed h raw moment
@@ -216,14 +310,17 @@ changed-state s params raw h g moment sound held after =
     rw (after, held)
     (ap (λ (t : PieState). with_rate (record t { params = params }) (changed (held_in s) (raw_of params) moment)) (sym (state-held s sound)))
 
-pub opened-state : (s : PieState) (params : PieParams) (raw : RawParams) (g : Held) (moment number profile : ℕ) (kind : Profile)
-    → ((profile == 1) || (profile == 2)) ≡ true
-    → number ≡ profile → kind ≡ profile_of number → raw ≡ raw_of params → g ≡ opened kind usual raw moment
-    → with_registers (record s { params = params; profile = number }) g ≡ state_of (opened (profile_of profile) usual (raw_of params) moment)
-opened-state s params raw g moment number profile kind known same of is after =
-    rw (after, of, is, same)
-    (registers-state (record s { params = params; profile = profile }) (opened (profile_of profile) usual (raw_of params) moment) refl
-    (by (profile == 2) refl))
+pub opened-state : (s : PieState) (params : PieParams) (raw : RawParams) (g : Held) (moment number profile flags choices : ℕ) (kind : Profile)
+    (elements : Elements) → ((profile == 1) || (profile == 2)) ≡ true → choices ≤ 15
+    → number ≡ profile → kind ≡ profile_of number → raw ≡ raw_of params → flags ≡ choices
+    → g ≡ opened kind elements raw moment
+    → with_registers (record s { params = params; profile = number; choices = flags }) g
+    ≡ state_of (opened (profile_of profile) (elements_of choices) (raw_of params) moment)
+opened-state s params raw g moment number profile flags choices kind elements known few same of is flagged after =
+    rw (after, of, is, same, flagged)
+    (registers-state (record s { params = params; profile = profile; choices = choices })
+    (opened (profile_of profile) (elements_of choices) (raw_of params) moment) refl
+    (by (profile == 2) refl) (choices-back choices few))
   where
     by : (two : Bool) → (profile == 2) ≡ two → profile_number (if two then Two else One) ≡ profile
     by true is = grind (arith, nat_tests)

@@ -2,7 +2,7 @@
 use Rattle.std.proofs.Common.{◌≡◌, ℕ, ◌<◌, ◌≤◌, ◌^◌, ◌==◌, if◌then◌else◌, Bool, true, false, Option, Some, None, is_none, arith, refl, sym, ap, ◌∙◌}
 use Rattle.std.proofs.lemmas.Bool.Decides.{nat_tests}
 use Rattle.pie_params.specs.declared.raw.RawParams.{RawParams}
-use Rattle.pie_params.specs.Elements.{usual}
+use Rattle.pie_params.specs.declared.elements.Elements.{Elements}
 use Rattle.pie_params.specs.Range.{first_bad}
 use Rattle.pie_rate.specs.Estimate.{Begun}
 use Rattle.pie_aqm.specs.declared.profile.Profile.{Profile}
@@ -12,7 +12,8 @@ use Rattle.pie_c.specs.declared.params.PieParams.{PieParams}
 use Rattle.pie_c.specs.declared.state.PieState.{PieState}
 use Rattle.pie_c.specs.Params.{params_of, raw_of}
 use Rattle.pie_c.specs.State.{are_in_range, begun_in, count_of, flag, flag_of, held_in, is_activity_sound, is_control_sound, is_rate_sound, is_sound}
-use Rattle.pie_c.specs.State.{last_moment, profile_number, profile_of, start_of, state_of}
+use Rattle.pie_c.specs.State.{choices_of, elements_of, is_choice_sound, last_moment, profile_number, profile_of, start_of, state_of}
+use Rattle.pie_c.proofs.Choices.{choices-back, elements-back, few-choices}
 
 -- ---- what a state says of what is held is what is held
 
@@ -28,32 +29,33 @@ begun-is : (o : Option Begun) → begun_in (flag_of o) (start_of o) (count_of o)
 begun-is None = refl
 begun-is (Some cycle) = refl
 
-pub held-state : (h : Held) → h.elements ≡ usual → h.waited ≡ 0 → held_in (state_of h) ≡ h
+pub held-state : (h : Held) → held_in (state_of h) ≡ h
 unfolding held_in state_of
-held-state h chosen never =
+held-state h =
     ap (λ (p : Profile). record {
       profile = p;
-      elements = usual;
+      elements = elements_of (choices_of h.elements);
       params = h.params;
       moment = h.moment;
       active = flag h.active == 1;
       rate = record { average = h.rate.average; begun = begun_in (flag_of h.rate.begun) (start_of h.rate.begun) (count_of h.rate.begun) };
-      waited = 0;
+      waited = h.waited;
       control = h.control;
       accu = h.accu;
     }) (profile-is h.profile)
     ∙ ap (λ (a : Bool). record h {
-      elements = usual;
-      waited = 0;
+      elements = elements_of (choices_of h.elements);
       active = a;
       rate = record {
         average = h.rate.average;
         begun = begun_in (flag_of h.rate.begun) (start_of h.rate.begun) (count_of h.rate.begun);
       };
     }) (active-is h.active)
-    ∙ ap (λ (o : Option Begun). record h { elements = usual; waited = 0; rate = record { average = h.rate.average; begun = o } })
-    (begun-is h.rate.begun)
-    ∙ (λ i. record h { elements = sym chosen i; waited = sym never i })
+    ∙ ap (λ (o : Option Begun). record h {
+      elements = elements_of (choices_of h.elements);
+      rate = record { average = h.rate.average; begun = o };
+    }) (begun-is h.rate.begun)
+    ∙ ap (λ (e : Elements). record h { elements = e }) (elements-back h.elements)
 
 -- ---- sound
 
@@ -65,6 +67,7 @@ pub record Sound (s : PieState) : Type 0 where
   pub accu : s.accu < 8_500_000_000_000
   pub rate : is_rate_sound s ≡ true
   pub activity : is_activity_sound s ≡ true
+  pub choice : is_choice_sound s ≡ true
 
 pub parts-of : (s : PieState) → is_sound s ≡ true → Sound s
 unfolding is_sound
@@ -75,12 +78,25 @@ parts-of s h = record {
   accu = grind (arith, nat_tests);
   rate = grind (arith, nat_tests);
   activity = grind (arith, nat_tests);
+  choice = grind (arith, nat_tests);
 }
 
+pub record Choice (s : PieState) : Type 0 where
+  pub known : s.choices ≤ 15
+  pub waited : s.waited ≤ 2 ^ 40
+
+pub choice-from : (s : PieState) → is_choice_sound s ≡ true → Choice s
+unfolding is_choice_sound
+choice-from s h = record { known = grind (arith, nat_tests); waited = grind (arith, nat_tests) }
+
+choice-to : (s : PieState) → s.choices ≤ 15 → s.waited ≤ 2 ^ 40 → is_choice_sound s ≡ true
+unfolding is_choice_sound
+choice-to s k w = grind (arith, nat_tests)
+
 sound-by : (s : PieState) → are_in_range s.params ≡ true → s.moment ≤ last_moment → is_control_sound s ≡ true → s.accu < 8_500_000_000_000
-    → is_rate_sound s ≡ true → is_activity_sound s ≡ true → is_sound s ≡ true
+    → is_rate_sound s ≡ true → is_activity_sound s ≡ true → is_choice_sound s ≡ true → is_sound s ≡ true
 unfolding is_sound
-sound-by s p m c a r b = grind (arith, nat_tests)
+sound-by s p m c a r b w = grind (arith, nat_tests)
 
 none-of : {X : Type 0} (o : Option X) → is_none o ≡ true → o ≡ None
 none-of None e = refl
@@ -156,7 +172,7 @@ held-sound s h =
       accu = parts.accu;
       average = average-from s parts.rate;
       cycle = within-at (s.measuring == 1) s refl parts.rate;
-      waited = omega arith;
+      waited = (choice-from s parts.choice).waited;
       active = one-at (s.profile == 2) s refl parts.activity;
     }
 
@@ -167,6 +183,7 @@ state-sound h sound =
     (control-to (state_of h) sound.prob sound.old_delay sound.burst sound.last) sound.accu
     (rate-to (state_of h) h.rate.begun sound.average refl refl refl sound.cycle)
     (activity-to (state_of h) h.profile h.active refl refl sound.active)
+    (choice-to (state_of h) (few-choices h.elements) sound.waited)
 
 -- ---- what a sound state says is the state, so a call writes the fields that it changes alone
 
@@ -203,16 +220,25 @@ state-held s sound =
       cycle_count = count_of o;
       profile = profile_number (profile_of s.profile);
       active = flag (s.active == 1);
+      choices = choices_of (elements_of s.choices);
     }) cycle.flag
     ∙ ap (λ (n : ℕ). record s {
       cycle_start = n;
       cycle_count = count_of o;
       profile = profile_number (profile_of s.profile);
       active = flag (s.active == 1);
+      choices = choices_of (elements_of s.choices);
     }) cycle.start
-    ∙ ap (λ (n : ℕ). record s { cycle_count = n; profile = profile_number (profile_of s.profile); active = flag (s.active == 1) }) cycle.count
-    ∙ ap (λ (n : ℕ). record s { profile = n; active = flag (s.active == 1) }) (profile-back (s.profile == 2) s refl parts.activity)
-    ∙ ap (λ (n : ℕ). record s { active = n }) (active-back (s.active == 1) s refl parts.activity)
+    ∙ ap (λ (n : ℕ). record s {
+      cycle_count = n;
+      profile = profile_number (profile_of s.profile);
+      active = flag (s.active == 1);
+      choices = choices_of (elements_of s.choices);
+    }) cycle.count
+    ∙ ap (λ (n : ℕ). record s { profile = n; active = flag (s.active == 1); choices = choices_of (elements_of s.choices) })
+    (profile-back (s.profile == 2) s refl parts.activity)
+    ∙ ap (λ (n : ℕ). record s { active = n; choices = choices_of (elements_of s.choices) }) (active-back (s.active == 1) s refl parts.activity)
+    ∙ ap (λ (n : ℕ). record s { choices = n }) (choices-back s.choices (choice-from s parts.choice).known)
 
 pub kept-moment : (s : PieState) (h : Held) → is_sound s ≡ true → h ≡ record (held_in s) { moment = h.moment }
     → record s { moment = h.moment } ≡ state_of h
@@ -242,6 +268,11 @@ kept-departed s h sound is =
       cycle_count = count_of h.rate.begun;
     }) (sym (state-held s sound))
     ∙ sym (ap state_of is)
+
+pub kept-waited : (s : PieState) (h : Held) → is_sound s ≡ true → h ≡ record (held_in s) { moment = h.moment; waited = h.waited }
+    → record s { moment = h.moment; waited = h.waited } ≡ state_of h
+unfolding state_of
+kept-waited s h sound is = ap (λ (t : PieState). record t { moment = h.moment; waited = h.waited }) (sym (state-held s sound)) ∙ sym (ap state_of is)
 
 pub kept-updated : (s : PieState) (h : Held) → is_sound s ≡ true
     → h ≡ record (held_in s) { moment = h.moment; active = h.active; control = h.control }

@@ -1,16 +1,19 @@
 -- Why each call is refused, and what it answers. What a call leaves is what the controller makes of what was held.
-use Rattle.std.specs.Prelude.{ℕ, ◌^◌, ◌==◌, ◌||◌, Bool, nat_lt, not, if◌then◌else◌}
+use Rattle.std.specs.Prelude.{ℕ, ◌≡◌, ◌^◌, ◌==◌, ◌||◌, ◌&&◌, Bool, true, nat_lt, not, List, [], ◌∷◌, ◌++◌, if◌then◌else◌}
 use Rattle.pie_queue.specs.declared.ecn.Ecn.{Ecn}
 use Rattle.pie_queue.specs.declared.ecn.Ecn.TheVariants.{NotEct, Ect1, Ect0, Ce}
 use Rattle.pie_aqm.specs.declared.verdict.Arrival.{Arrival}
 use Rattle.pie_aqm.specs.declared.verdict.Verdict.{Verdict}
 use Rattle.pie_aqm.specs.declared.verdict.Verdict.TheVariants.{Enqueued, Marked, DroppedEarly, DroppedBytes, DroppedPackets}
+use Rattle.pie_aqm.specs.Calls.{Arrive, Call, after_call, shown_by}
+use Rattle.pie_aqm.specs.Events.{ControllerEvent, Opened}
 use Rattle.pie_aqm.specs.Held.{Held}
-use Rattle.pie_aqm.specs.Steps.{delay_answered, due, now_at, updated}
+use Rattle.pie_aqm.specs.History.{Shows}
+use Rattle.pie_aqm.specs.Steps.{arrived, delay_answered, due, now_at, updated, verdict}
 use Rattle.pie_c.specs.declared.params.PieParams.{PieParams}
 use Rattle.pie_c.specs.declared.state.PieState.{PieState}
 use Rattle.pie_c.specs.declared.updated.PieUpdated.{PieUpdated}
-use Rattle.pie_c.specs.State.{are_in_range, held_in, is_sound, last_moment, state_of}
+use Rattle.pie_c.specs.State.{are_in_range, held_in, is_sound, last_moment, state_of, takes_stamps, with_arrival}
 
 -- the answer of a call that is refused by a number, where that isn't 0, and else this one
 abbrev pub unless_refused : ℕ → ℕ → ℕ
@@ -29,11 +32,12 @@ abbrev pub is_bad_size : ℕ → Bool
 is_bad_size size = (size == 0) || nat_lt 65535 size
 
 -- why an opening is refused, and 0 where it isn't
-unfoldable pub opening_refusal : PieParams → ℕ → ℕ → ℕ
-opening_refusal params moment profile =
+unfoldable pub opening_refusal : PieParams → ℕ → ℕ → ℕ → ℕ
+opening_refusal params moment profile choices =
     if not (are_in_range params) then 107
     else if nat_lt last_moment moment then 101
     else if not ((profile == 1) || (profile == 2)) then 113
+    else if nat_lt 15 choices then 117
     else 0
 
 -- the ECN field of these two bits (RFC 3168, section 5)
@@ -61,13 +65,39 @@ verdict_number DroppedEarly = 2
 verdict_number DroppedBytes = 3
 verdict_number DroppedPackets = 4
 
--- why a departure is refused, and 0 where it isn't
-unfoldable pub departure_refusal : ℕ → ℕ → ℕ → ℕ
-departure_refusal size left moment =
+-- ---- what a call for one packet leaves
+
+-- what it leaves of a sound state, where it is refused by this number: what the controller then holds, in every field, which is sound
+-- and, where it showed what came before, shows the call too
+pub record Leaves (before : PieState) (call : Call) (refusal : ℕ) (left : PieState) : Type 0 where
+  pub after : is_sound before ≡ true → left ≡ kept_if_refused refusal before (after_call (held_in before) call)
+  pub sound : is_sound before ≡ true → is_sound left ≡ true
+  pub shows : (opened : Opened) (events : List ControllerEvent) → is_sound before ≡ true → refusal ≡ 0
+      → Shows opened events (held_in before)
+      → Shows opened (events ++ shown_by (held_in before) call ∷ []) (held_in left)
+
+-- what an arrival answers and leaves, where it is refused by this number: of any state each field, and of a sound one what the
+-- controller then holds
+pub record Arrives (before : PieState) (arrival : Arrival) (refusal moment code : ℕ) (left : PieState) : Type 0 where
+  pub answer : code ≡ unless_refused refusal (verdict_number (verdict (held_in before) arrival))
+  pub fields : left ≡ if_taken refusal before (with_arrival before (arrived (held_in before) arrival moment))
+  pub held : Leaves before (Arrive arrival moment) refusal left
+
+-- why a packet that departed is refused by its own numbers, and 0 where it isn't
+unfoldable pub packet_refusal : ℕ → ℕ → ℕ → ℕ
+packet_refusal size left moment =
     if nat_lt last_moment moment then 101
     else if is_bad_size size then 102
     else if nat_lt (2 ^ 30) left then 112
     else 0
+
+-- .. and by the state: where delays come from time stamps it has to say when it arrived, which was not later than the state's moment
+abbrev pub departure_refusal : PieState → ℕ → ℕ → ℕ → ℕ
+departure_refusal state size left moment = unless_refused (packet_refusal size left moment) (if takes_stamps state then 119 else 0)
+
+abbrev pub waited_refusal : PieState → ℕ → ℕ → ℕ → ℕ → ℕ
+waited_refusal state size left arrived moment =
+    unless_refused (packet_refusal size left moment) (if takes_stamps state && nat_lt state.moment arrived then 118 else 0)
 
 -- why a departure that found no packet is refused, and 0 where it isn't
 unfoldable pub moment_refusal : ℕ → ℕ

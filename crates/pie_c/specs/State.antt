@@ -1,6 +1,14 @@
 -- What a state says that a controller holds, and which states are sound.
-use Rattle.std.specs.Prelude.{ℕ, ◌^◌, ◌-◌, Bool, not, ◌&&◌, ◌==◌, nat_lt, nat_le, is_none, Option, Some, None, if◌then◌else◌}
-use Rattle.pie_params.specs.Elements.{usual}
+use Rattle.std.specs.Prelude.{ℕ, ◌^◌, ◌-◌, ◌+◌, ◌/◌, ◌%◌, Bool, not, ◌&&◌, ◌==◌, nat_lt, nat_le, is_none, Option, Some, None, if◌then◌else◌}
+use Rattle.pie_params.specs.declared.elements.Elements.{Elements}
+use Rattle.pie_params.specs.declared.elements.Delay.{Delay}
+use Rattle.pie_params.specs.declared.elements.Delay.TheVariants.{Rate, Stamp}
+use Rattle.pie_params.specs.declared.elements.Picking.{Picking}
+use Rattle.pie_params.specs.declared.elements.Picking.TheVariants.{Derandomized, Random}
+use Rattle.pie_params.specs.declared.elements.Step.{Step}
+use Rattle.pie_params.specs.declared.elements.Step.TheVariants.{Capped, Uncapped}
+use Rattle.pie_params.specs.declared.elements.Size.{Size}
+use Rattle.pie_params.specs.declared.elements.Size.TheVariants.{Unscaled, Scaled}
 use Rattle.pie_params.specs.Range.{first_bad}
 use Rattle.pie_rate.specs.Estimate.{Begun, Estimate}
 use Rattle.pie_control.specs.Parts.{Parts}
@@ -26,6 +34,37 @@ profile_of number = if number == 2 then Two else One
 abbrev pub profile_number : Profile → ℕ
 profile_number One = 1
 profile_number Two = 2
+
+-- the optional elements by their flags, 1, 2, 4 and 8, and their flags
+abbrev pub delay_of : ℕ → Delay
+delay_of choices = if choices % 2 == 1 then Stamp else Rate
+
+unfoldable pub elements_of : ℕ → Elements
+elements_of choices = record {
+  delay = delay_of choices;
+  picking = if (choices / 2) % 2 == 1 then Random else Derandomized;
+  step = if (choices / 4) % 2 == 1 then Uncapped else Capped;
+  size = if (choices / 8) % 2 == 1 then Scaled else Unscaled;
+}
+
+abbrev pub delay_flag : Delay → ℕ
+delay_flag Rate = 0
+delay_flag Stamp = 1
+
+abbrev pub picking_flag : Picking → ℕ
+picking_flag Derandomized = 0
+picking_flag Random = 2
+
+abbrev pub step_flag : Step → ℕ
+step_flag Capped = 0
+step_flag Uncapped = 4
+
+abbrev pub size_flag : Size → ℕ
+size_flag Unscaled = 0
+size_flag Scaled = 8
+
+unfoldable pub choices_of : Elements → ℕ
+choices_of e = delay_flag e.delay + picking_flag e.picking + step_flag e.step + size_flag e.size
 
 -- the cycle of the departure rate that is begun, where the flag says so
 abbrev pub begun_in : ℕ → ℕ → ℕ → Option Begun
@@ -55,16 +94,16 @@ control_in s = record { prob = s.prob; old_delay = s.old_delay; burst = s.burst;
 abbrev pub rate_in : PieState → Estimate
 rate_in s = record { average = s.average; begun = begun_in s.measuring s.cycle_start s.cycle_count }
 
--- what a controller holds, by this state: the usual choices of the optional elements, so what a packet had waited plays no part
+-- what a controller holds, by this state
 unfoldable pub held_in : PieState → Held
 held_in s = record {
   profile = profile_of s.profile;
-  elements = usual;
+  elements = elements_of s.choices;
   params = raw_of s.params;
   moment = s.moment;
   active = s.active == 1;
   rate = rate_in s;
-  waited = 0;
+  waited = s.waited;
   control = control_in s;
   accu = s.accu;
 }
@@ -85,6 +124,8 @@ state_of h = record {
   cycle_count = count_of h.rate.begun;
   profile = profile_number h.profile;
   active = flag h.active;
+  choices = choices_of h.elements;
+  waited = h.waited;
 }
 
 -- the state with this moment and this estimate of the departure rate; every other field stays, whatever it is
@@ -97,7 +138,14 @@ with_rate s h = record s {
   cycle_count = count_of h.rate.begun;
 }
 
--- .. with every register, and whether the controller is active: all but the parameters and the profile
+-- .. as a departure leaves it: where delays come from time stamps with this moment and this wait
+abbrev pub takes_stamps : PieState → Bool
+takes_stamps s = s.choices % 2 == 1
+
+abbrev pub with_departure : PieState → Held → PieState
+with_departure s h = if takes_stamps s then record s { moment = h.moment; waited = h.waited } else with_rate s h
+
+-- .. with every register, and whether the controller is active: all but the parameters, the profile and the choices
 abbrev pub with_registers : PieState → Held → PieState
 with_registers s h = record (with_rate s h) {
   prob = h.control.prob;
@@ -106,6 +154,7 @@ with_registers s h = record (with_rate s h) {
   last = h.control.last;
   accu = h.accu;
   active = flag h.active;
+  waited = h.waited;
 }
 
 -- .. as an arrival leaves it: every register where it turned the controller on, and else the moment and the accumulated probability
@@ -134,6 +183,10 @@ is_rate_sound s = nat_lt s.average (2 ^ 60) && is_cycle_sound s
 unfoldable pub is_activity_sound : PieState → Bool
 is_activity_sound s = if s.profile == 1 then s.active == 1 else (s.profile == 2) && nat_le s.active 1
 
+-- the choices are known, and the wait is in its range
+unfoldable pub is_choice_sound : PieState → Bool
+is_choice_sound s = nat_le s.choices 15 && nat_le s.waited (2 ^ 40)
+
 -- each field is in its range, and the fields fit one another
 unfoldable pub is_sound : PieState → Bool
 is_sound s =
@@ -143,3 +196,4 @@ is_sound s =
     && nat_lt s.accu 8_500_000_000_000
     && is_rate_sound s
     && is_activity_sound s
+    && is_choice_sound s

@@ -7,20 +7,23 @@ ghost use Rattle.pie_aqm.specs.Events.{ControllerEvent, Opened};
 ghost use Rattle.pie_aqm.specs.History.{Shows};
 ghost use Rattle.pie_aqm.specs.Steps.{arrived, capped, departed, verdict};
 ghost use Rattle.pie_c.specs.Params.{raw_of};
-ghost use Rattle.pie_c.specs.State.{held_in, is_sound, with_arrival, with_rate};
-ghost use Rattle.pie_c.specs.Calls.{arrival_of, arrival_refusal, departure_refusal, if_taken, kept_if_refused, moment_refusal, params_refusal};
-ghost use Rattle.pie_c.specs.Calls.{reset_refusal, state_refusal, unless_refused, update_refusal, updated_by, verdict_number};
+ghost use Rattle.pie_c.specs.State.{elements_of, held_in, is_sound, takes_stamps, with_departure, with_rate};
+ghost use Rattle.pie_c.specs.Calls.{Arrives, Leaves, arrival_of, arrival_refusal, departure_refusal, if_taken, kept_if_refused, moment_refusal, params_refusal};
+ghost use Rattle.pie_c.specs.Calls.{reset_refusal, state_refusal, unless_refused, update_refusal, updated_by, waited_refusal};
 
-use crate::checked::{ecn, is_bad_size, is_sound, raw};
+use crate::checked::{
+    ecn, elements, is_bad_size, is_sound, raw, raw_with, takes_stamps, usual_but_delay,
+};
 use crate::code::{
-    BAD_ECN, BAD_MOMENT, BAD_PARAMS, BAD_QUEUE, BAD_SIZE, BAD_STATE, DONE, TOO_SOON, of_verdict,
+    BAD_ARRIVED, BAD_ECN, BAD_MOMENT, BAD_PARAMS, BAD_QUEUE, BAD_SIZE, BAD_STATE, DONE, NOT_WAITED,
+    TOO_SOON, of_verdict,
 };
 use crate::params::PieParams;
 use crate::state::PieState;
 use crate::updated::PieUpdated;
-use pie_aqm::{Arrival, counted, opens_cycle};
+use pie_aqm::Arrival;
 use pie_fixed::MAX_NANOS;
-use pie_params::Params;
+use pie_params::{Elements, Params};
 
 /// The most bytes that a queue holds: the greatest byte limit.
 const MAX_QUEUED: u64 = 1 << 30;
@@ -42,23 +45,13 @@ pub extern "C" fn pie_arrive(
     word: u64,
     moment: u64,
 ) -> u32
-    ensures answer { result ≡ unless_refused (arrival_refusal queued size bits moment)
-        (verdict_number (verdict (held_in state.old) (arrival_of queued size room bits word))) }
-    ensures fields { state.new ≡ if_taken (arrival_refusal queued size bits moment) state.old
-        (with_arrival state.old (arrived (held_in state.old) (arrival_of queued size room bits word) moment)) }
-
-    // a sound state: it is then what the controller holds, in every field
-    ensures after { is_sound state.old ≡ true → state.new ≡ kept_if_refused (arrival_refusal queued size bits moment) state.old
-        (after_call (held_in state.old) (Arrive (arrival_of queued size room bits word) moment)) }
-    ensures sound { is_sound state.old ≡ true → is_sound state.new ≡ true }
-    ensures shows { (opened : Opened) (events : List ControllerEvent) → is_sound state.old ≡ true → arrival_refusal queued size bits moment ≡ 0
-        → Shows opened events (held_in state.old)
-        → Shows opened (events ++ shown_by (held_in state.old) (Arrive (arrival_of queued size room bits word) moment) ∷ []) (held_in state.new) }
+    ensures { Arrives state.old (arrival_of queued size room bits word) (arrival_refusal queued size bits moment) moment result state.new }
 {
     // One number: the other way is then compiled once, and is a jump.
-    let is_usual = room != 0 && state.active == 1;
+    let is_usual = room != 0 && state.active == 1 && state.choices <= 1;
     if is_usual {
-        arrive(state, queued, size, room, bits, word, moment)
+        let elements = usual_but_delay(state.choices);
+        arrive(state, elements, queued, size, room, bits, word, moment)
     } else {
         arrive_apart(state, queued, size, room, bits, word, moment)
     }
@@ -70,6 +63,7 @@ pub extern "C" fn pie_arrive(
 #[tactic(auto, unfolding(crate::specs::Calls::arrival_refusal))]
 fn arrive(
     state: &mut PieState,
+    elements: Elements,
     queued: u64,
     size: u32,
     room: u32,
@@ -77,18 +71,8 @@ fn arrive(
     word: u64,
     moment: u64,
 ) -> u32
-    ensures answer { result ≡ unless_refused (arrival_refusal queued size bits moment)
-        (verdict_number (verdict (held_in state.old) (arrival_of queued size room bits word))) }
-    ensures fields { state.new ≡ if_taken (arrival_refusal queued size bits moment) state.old
-        (with_arrival state.old (arrived (held_in state.old) (arrival_of queued size room bits word) moment)) }
-
-    // a sound state: it is then what the controller holds, in every field
-    ensures after { is_sound state.old ≡ true → state.new ≡ kept_if_refused (arrival_refusal queued size bits moment) state.old
-        (after_call (held_in state.old) (Arrive (arrival_of queued size room bits word) moment)) }
-    ensures sound { is_sound state.old ≡ true → is_sound state.new ≡ true }
-    ensures shows { (opened : Opened) (events : List ControllerEvent) → is_sound state.old ≡ true → arrival_refusal queued size bits moment ≡ 0
-        → Shows opened events (held_in state.old)
-        → Shows opened (events ++ shown_by (held_in state.old) (Arrive (arrival_of queued size room bits word) moment) ∷ []) (held_in state.new) }
+    requires { elements ≡ elements_of state.old.choices }
+    ensures { Arrives state.old (arrival_of queued size room bits word) (arrival_refusal queued size bits moment) moment result state.new }
 {
     if moment > MAX_NANOS {
         return BAD_MOMENT;
@@ -110,7 +94,7 @@ fn arrive(
         word,
     };
     state.reach(moment);
-    let mut held = raw(state);
+    let mut held = raw_with(state, elements);
     let verdict = held.arrive(arrival, state.moment);
     state.keep_arrived(&held);
     of_verdict(verdict)
@@ -127,37 +111,20 @@ fn arrive_apart(
     word: u64,
     moment: u64,
 ) -> u32
-    ensures answer { result ≡ unless_refused (arrival_refusal queued size bits moment)
-        (verdict_number (verdict (held_in state.old) (arrival_of queued size room bits word))) }
-    ensures fields { state.new ≡ if_taken (arrival_refusal queued size bits moment) state.old
-        (with_arrival state.old (arrived (held_in state.old) (arrival_of queued size room bits word) moment)) }
-
-    // a sound state: it is then what the controller holds, in every field
-    ensures after { is_sound state.old ≡ true → state.new ≡ kept_if_refused (arrival_refusal queued size bits moment) state.old
-        (after_call (held_in state.old) (Arrive (arrival_of queued size room bits word) moment)) }
-    ensures sound { is_sound state.old ≡ true → is_sound state.new ≡ true }
-    ensures shows { (opened : Opened) (events : List ControllerEvent) → is_sound state.old ≡ true → arrival_refusal queued size bits moment ≡ 0
-        → Shows opened events (held_in state.old)
-        → Shows opened (events ++ shown_by (held_in state.old) (Arrive (arrival_of queued size room bits word) moment) ∷ []) (held_in state.new) }
+    ensures { Arrives state.old (arrival_of queued size room bits word) (arrival_refusal queued size bits moment) moment result state.new }
 {
-    arrive(state, queued, size, room, bits, word, moment)
+    let elements = elements(state.choices);
+    arrive(state, elements, queued, size, room, bits, word, moment)
 }
 
 /// Takes in a packet that left the queue, with `left` bytes after it (RFC 8033, section 5.2). An inactive controller takes in the
-/// moment alone. The delay comes from the departure rate, so since when the packet waited plays no part.
+/// moment alone. Where delays come from time stamps it is refused: `pie_depart_waited` says when the packet arrived.
 #[unsafe(no_mangle)]
 pub extern "C" fn pie_depart(state: &mut PieState, size: u32, left: u64, moment: u64) -> u32
-    ensures answer { result ≡ departure_refusal size left moment }
-    ensures fields { state.new ≡ if_taken (departure_refusal size left moment) state.old
+    ensures answer { result ≡ departure_refusal state.old size left moment }
+    ensures fields { state.new ≡ if_taken (departure_refusal state.old size left moment) state.old
         (with_rate state.old (departed (capped (held_in state.old)) size left 0 moment)) }
-
-    // a sound state: it is then what the controller holds, in every field
-    ensures after { is_sound state.old ≡ true → state.new ≡ kept_if_refused (departure_refusal size left moment) state.old
-        (after_call (held_in state.old) (Depart size left 0 moment)) }
-    ensures sound { is_sound state.old ≡ true → is_sound state.new ≡ true }
-    ensures shows { (opened : Opened) (events : List ControllerEvent) → is_sound state.old ≡ true → departure_refusal size left moment ≡ 0
-        → Shows opened events (held_in state.old)
-        → Shows opened (events ++ shown_by (held_in state.old) (Depart size left 0 moment) ∷ []) (held_in state.new) }
+    ensures held { Leaves state.old (Depart size left 0 moment) (departure_refusal state.old size left moment) state.new }
 {
     if depart_counted(state, size, left, moment) {
         return DONE;
@@ -169,17 +136,12 @@ pub extern "C" fn pie_depart(state: &mut PieState, size: u32, left: u64, moment:
 /// in the order that was measured to cost least.
 #[inline(always)]
 fn depart_counted(state: &mut PieState, size: u32, left: u64, moment: u64) -> bool
-    ensures taken { result ≡ true → departure_refusal size left moment ≡ 0 }
+    ensures taken { result ≡ true → departure_refusal state.old size left moment ≡ 0 }
     ensures within { result ≡ true → moment < 2 ^ 60 }
     ensures after { state.new ≡ (if result then with_rate state.old (departed (capped (held_in state.old)) size left 0 moment) else state.old) }
 {
-    if left <= MAX_QUEUED
-        && state.active == 1
-        && state.measuring == 1
-        && moment <= MAX_NANOS
-        && size != 0
-    {
-        if let Some(count) = counted(state.cycle_count, size, state.params.dq_threshold) {
+    if left <= MAX_QUEUED && moment <= MAX_NANOS && size != 0 {
+        if let Some(count) = raw(state).counted(size) {
             state.keep_counted(count, moment);
             return true;
         }
@@ -190,8 +152,8 @@ fn depart_counted(state: &mut PieState, size: u32, left: u64, moment: u64) -> bo
 /// Takes in any other packet. A function of its own, and so is what it calls: what they take costs the others nothing then.
 #[inline(never)]
 fn depart_otherwise(state: &mut PieState, moment: u64, size: u32, left: u64) -> u32
-    ensures answer { result ≡ departure_refusal size left moment }
-    ensures fields { state.new ≡ if_taken (departure_refusal size left moment) state.old
+    ensures answer { result ≡ departure_refusal state.old size left moment }
+    ensures fields { state.new ≡ if_taken (departure_refusal state.old size left moment) state.old
         (with_rate state.old (departed (capped (held_in state.old)) size left 0 moment)) }
 {
     if depart_unmeasured(state, size, left, moment) {
@@ -203,16 +165,11 @@ fn depart_otherwise(state: &mut PieState, moment: u64, size: u32, left: u64) -> 
 /// Takes in a packet that meets no cycle and opens none, and tells whether it was such a one.
 #[inline(always)]
 fn depart_unmeasured(state: &mut PieState, size: u32, left: u64, moment: u64) -> bool
-    ensures taken { result ≡ true → departure_refusal size left moment ≡ 0 }
+    ensures taken { result ≡ true → departure_refusal state.old size left moment ≡ 0 }
     ensures within { result ≡ true → moment < 2 ^ 60 }
     ensures after { state.new ≡ (if result then with_rate state.old (departed (capped (held_in state.old)) size left 0 moment) else state.old) }
 {
-    if moment > MAX_NANOS
-        || is_bad_size(size)
-        || state.active != 1
-        || state.measuring == 1
-        || opens_cycle(left, state.params.dq_threshold)
-    {
+    if moment > MAX_NANOS || is_bad_size(size) || !raw(state).is_unmeasured(left) {
         return false;
     }
     state.keep_unmeasured(moment);
@@ -221,10 +178,10 @@ fn depart_unmeasured(state: &mut PieState, size: u32, left: u64, moment: u64) ->
 
 /// Takes in any packet.
 #[inline(never)]
-#[tactic(auto, unfolding(crate::specs::Calls::departure_refusal))]
+#[tactic(auto, unfolding(crate::specs::Calls::packet_refusal))]
 fn depart(state: &mut PieState, size: u32, left: u64, moment: u64) -> u32
-    ensures answer { result ≡ departure_refusal size left moment }
-    ensures fields { state.new ≡ if_taken (departure_refusal size left moment) state.old
+    ensures answer { result ≡ departure_refusal state.old size left moment }
+    ensures fields { state.new ≡ if_taken (departure_refusal state.old size left moment) state.old
         (with_rate state.old (departed (capped (held_in state.old)) size left 0 moment)) }
 {
     if moment > MAX_NANOS {
@@ -236,9 +193,71 @@ fn depart(state: &mut PieState, size: u32, left: u64, moment: u64) -> u32
     if left > MAX_QUEUED {
         return BAD_QUEUE;
     }
+    if takes_stamps(state) {
+        return NOT_WAITED;
+    }
     let mut held = raw(state);
     held.depart(size, left, 0, moment);
     state.keep_departed(&held);
+    DONE
+}
+
+/// Takes in a packet that left the queue, with `left` bytes after it, and that arrived then: the state's own moment, as it was right after
+/// its `pie_arrive` (RFC 8033, section 4.3). Where delays come from the departure rate it is `pie_depart`.
+#[unsafe(no_mangle)]
+pub extern "C" fn pie_depart_waited(
+    state: &mut PieState,
+    size: u32,
+    left: u64,
+    arrived: u64,
+    moment: u64,
+) -> u32
+    ensures answer { result ≡ waited_refusal state.old size left arrived moment }
+    ensures fields { state.new ≡ if_taken (waited_refusal state.old size left arrived moment) state.old
+        (with_departure state.old (departed (capped (held_in state.old)) size left arrived moment)) }
+    ensures held { Leaves state.old (Depart size left arrived moment) (waited_refusal state.old size left arrived moment) state.new }
+{
+    depart_by(state, size, left, arrived, moment)
+}
+
+/// The same.
+#[inline(always)]
+fn depart_by(state: &mut PieState, size: u32, left: u64, arrived: u64, moment: u64) -> u32
+    ensures answer { result ≡ waited_refusal state.old size left arrived moment }
+    ensures fields { state.new ≡ if_taken (waited_refusal state.old size left arrived moment) state.old
+        (with_departure state.old (departed (capped (held_in state.old)) size left arrived moment)) }
+{
+    if takes_stamps(state) {
+        depart_stamped(state, size, left, arrived, moment)
+    } else {
+        pie_depart(state, size, left, moment)
+    }
+}
+
+/// The same where delays come from time stamps.
+#[inline(always)]
+#[tactic(auto, unfolding(crate::specs::Calls::packet_refusal))]
+fn depart_stamped(state: &mut PieState, size: u32, left: u64, arrived: u64, moment: u64) -> u32
+    requires { takes_stamps state.old ≡ true }
+    ensures answer { result ≡ waited_refusal state.old size left arrived moment }
+    ensures fields { state.new ≡ if_taken (waited_refusal state.old size left arrived moment) state.old
+        (with_departure state.old (departed (capped (held_in state.old)) size left arrived moment)) }
+{
+    if moment > MAX_NANOS {
+        return BAD_MOMENT;
+    }
+    if is_bad_size(size) {
+        return BAD_SIZE;
+    }
+    if left > MAX_QUEUED {
+        return BAD_QUEUE;
+    }
+    if arrived > state.moment {
+        return BAD_ARRIVED;
+    }
+    let mut held = raw(state);
+    held.depart(size, left, arrived, moment);
+    state.keep_waited(&held);
     DONE
 }
 
@@ -248,14 +267,7 @@ fn depart(state: &mut PieState, size: u32, left: u64, moment: u64) -> u32
 pub extern "C" fn pie_empty(state: &mut PieState, moment: u64) -> u32
     ensures answer { result ≡ moment_refusal moment }
     ensures fields { state.new ≡ if_taken (moment_refusal moment) state.old (record state.old { moment = max state.old.moment moment }) }
-
-    // a sound state: it is then what the controller holds, in every field
-    ensures after { is_sound state.old ≡ true → state.new ≡ kept_if_refused (moment_refusal moment) state.old
-        (after_call (held_in state.old) (Pass moment)) }
-    ensures sound { is_sound state.old ≡ true → is_sound state.new ≡ true }
-    ensures shows { (opened : Opened) (events : List ControllerEvent) → is_sound state.old ≡ true → moment_refusal moment ≡ 0
-        → Shows opened events (held_in state.old)
-        → Shows opened (events ++ shown_by (held_in state.old) (Pass moment) ∷ []) (held_in state.new) }
+    ensures held { Leaves state.old (Pass moment) (moment_refusal moment) state.new }
 {
     if moment > MAX_NANOS {
         return BAD_MOMENT;

@@ -52,6 +52,15 @@ pub(crate) const TOO_PRECISE: u32 = 115;
 /// Refused: a text of a number above `2^60 - 1`.
 pub(crate) const TOO_GREAT: u32 = 116;
 
+/// Refused: a choice that is none of the four flags.
+pub(crate) const BAD_CHOICES: u32 = 117;
+
+/// Refused: a packet that arrived later than the state's moment.
+pub(crate) const BAD_ARRIVED: u32 = 118;
+
+/// Refused: a departure that doesn't say when the packet arrived, at a state that takes delays from time stamps.
+pub(crate) const NOT_WAITED: u32 = 119;
+
 /// The number of a verdict.
 pub(crate) fn of_verdict(verdict: Verdict) -> u32
     ensures { result ≡ verdict_number verdict }

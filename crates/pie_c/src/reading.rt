@@ -1,4 +1,7 @@
 //! Reading texts with units: what pie_units reads, as a code and a number.
+//!
+//! Letters may be of any case; the number may have a point and at most 18 decimals, and comes to at most `2^60 - 1`. Refused are a text
+//! that tells none, one that comes to no whole number, and one that is too great; the number then stays as it was.
 ghost use Rattle.std.specs.Prelude.{◌≡◌};
 ghost use Rattle.pie_c.specs.Reading.{fault_number, read_code, read_or_kept};
 ghost use Rattle.pie_units.specs.declared.unit.Kind.TheVariants.{Packets, Rate, Size, Time};
@@ -32,9 +35,7 @@ fn kept(given: Result<u64, UnitFault>, number: &mut u64) -> u32
     }
 }
 
-/// Reads a time in nanoseconds: a number with `ns`, `us`, `ms` or `s`, such as `1.5ms`, or their longer forms. Letters may be of any case; the number
-/// may have a point and at most 18 decimals, and is at most `2^60 - 1`. Refused, it leaves the number as it was: a text that tells
-/// none, one that is no whole number, and one that is too great.
+/// Reads a time in nanoseconds: a number with `ns`, `us`, `ms` or `s`, such as `1.5ms`, or their longer forms.
 #[unsafe(no_mangle)]
 pub extern "C" fn pie_read_time(text: &[u8], nanoseconds: &mut u64) -> u32
     ensures code { result ≡ read_code (value_of Time text.now) }
@@ -43,9 +44,8 @@ pub extern "C" fn pie_read_time(text: &[u8], nanoseconds: &mut u64) -> u32
     kept(read(Kind::Time, text), nanoseconds)
 }
 
-/// Reads a rate in bits a second: a number with `bit`, `kbit`, `mbit`, `gbit` or `tbit`, such as `100mbit`, or in bytes `bps`, `kbps` and so on. Letters may be of any case; the number
-/// may have a point and at most 18 decimals, and is at most `2^60 - 1`. Refused, it leaves the number as it was: a text that tells
-/// none, one that is no whole number, and one that is too great.
+/// Reads a rate in bits a second: a number with `bit`, `kbit`, `mbit`, `gbit` or `tbit`, such as `100mbit`, or in bytes `bps`, `kbps`
+/// and so on.
 #[unsafe(no_mangle)]
 pub extern "C" fn pie_read_rate(text: &[u8], bits: &mut u64) -> u32
     ensures code { result ≡ read_code (value_of Rate text.now) }
@@ -54,9 +54,7 @@ pub extern "C" fn pie_read_rate(text: &[u8], bits: &mut u64) -> u32
     kept(read(Kind::Rate, text), bits)
 }
 
-/// Reads a size in bytes: a number with `b`, `kb`, `mb` or `gb`, such as `256kb`, which count by 1024, or without a unit. Letters may be of any case; the number
-/// may have a point and at most 18 decimals, and is at most `2^60 - 1`. Refused, it leaves the number as it was: a text that tells
-/// none, one that is no whole number, and one that is too great.
+/// Reads a size in bytes: a number with `b`, `kb`, `mb` or `gb`, such as `256kb`, which count by 1024, or without a unit.
 #[unsafe(no_mangle)]
 pub extern "C" fn pie_read_size(text: &[u8], bytes: &mut u64) -> u32
     ensures code { result ≡ read_code (value_of Size text.now) }
@@ -65,9 +63,7 @@ pub extern "C" fn pie_read_size(text: &[u8], bytes: &mut u64) -> u32
     kept(read(Kind::Size, text), bytes)
 }
 
-/// Reads a number of packets, with or without `p`, such as `1000p`. Letters may be of any case; the number
-/// may have a point and at most 18 decimals, and is at most `2^60 - 1`. Refused, it leaves the number as it was: a text that tells
-/// none, one that is no whole number, and one that is too great.
+/// Reads a number of packets, with or without `p`, such as `1000p`.
 #[unsafe(no_mangle)]
 pub extern "C" fn pie_read_packets(text: &[u8], packets: &mut u64) -> u32
     ensures code { result ≡ read_code (value_of Packets text.now) }

@@ -38,6 +38,11 @@ pub struct PieState {
     pub profile: u64,
     /// 1 while the controller is active, and else 0; always 1 in profile one.
     pub active: u64,
+    /// The optional elements of RFC 8033 that are chosen otherwise than usual, as flags: 1 the delay from time stamps, 2 random
+    /// picking, 4 steps without a cap, 8 packets scaled by their size; at most 15.
+    pub choices: u64,
+    /// What the packet that departed last had waited, at most `2^40`; 0 where delays don't come from time stamps.
+    pub waited: u64,
 }
 
 impl PieState {
@@ -74,6 +79,16 @@ impl PieState {
         self.keep_control(held);
         self.accu = held.accu;
         self.active = u64::from(held.active);
+        self.waited = held.waited;
+    }
+
+    /// What a departure changes where delays come from time stamps: the moment, and what the packet had waited.
+    #[inline(always)]
+    pub(crate) fn keep_waited(&mut self, held: &RawController)
+        ensures { self.new ≡ record self.old { moment = held.now.moment; waited = held.now.waited } }
+    {
+        self.moment = held.moment;
+        self.waited = held.waited;
     }
 
     /// What a departure changes, and new parameters beside themselves: the moment and the estimate of the departure rate.

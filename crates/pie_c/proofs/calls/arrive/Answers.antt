@@ -1,4 +1,4 @@
-use Rattle.std.proofs.Common.{◌≡◌, ◌≤◌, ◌==◌, ◌∙◌, sym, ap, arith}
+use Rattle.std.proofs.Common.{◌≡◌, ◌≤◌, ◌==◌, ◌∙◌, sym, ap, arith, refl, rules}
 use Rattle.std.proofs.lemmas.Bool.Decides.{nat_tests}
 use Rattle.pie_queue.specs.declared.ecn.Ecn.{Ecn}
 use Rattle.pie_aqm.specs.declared.verdict.Arrival.{Arrival}
@@ -7,7 +7,7 @@ use Rattle.pie_aqm.specs.Steps.{arrived, verdict}
 use Rattle.pie_c.specs.declared.state.PieState.{PieState}
 use Rattle.pie_c.specs.Calls.{arrival_of, arrival_refusal, verdict_number}
 use Rattle.pie_c.specs.State.{held_in, with_arrival}
-use Rattle.pie_c.proofs.Packets.{arrival-taken, arrived-state, handed, kept-later, moment-later, shows-call, stays-sound, verdict-later}
+use Rattle.pie_c.proofs.Packets.{arrival-taken, arrived-state, handed, kept-later, leaves, moment-later, untouched, verdict-later}
 use Rattle.pie_c.proofs.calls.arrive.Goals as goal
 use Rattle.pie_c.proofs.calls.arrive.Goals.{After-of_verdict}
 
@@ -28,30 +28,28 @@ module _ (c : After-of_verdict) where
       (omega arith)
 
   left : c.keep_arrived.new.self ≡ with_arrival state (arrived (held_in state) arrival c.args.moment)
-  left = c.keep_arrived.ensures ∙ kept-later state _ _ _ c.args.moment _ _ c.reach.ensures c.raw-held.ensures c.arrive-verdict.ensures.after
+  left = c.keep_arrived.ensures ∙ kept-later state _ _ _ c.args.moment _ _ c.reach.ensures c.raw_with-held.ensures c.arrive-verdict.ensures.after
       (ap with_ecn c.in-Some.ensures.value)
 
   decided : c.arrive-verdict.result ≡ verdict (held_in state) arrival
-  decided = verdict-later state _ _ _ c.args.moment _ _ c.reach.ensures c.raw-held.ensures c.arrive-verdict.ensures.verdict
+  decided = verdict-later state _ _ _ c.args.moment _ _ c.reach.ensures c.raw_with-held.ensures c.arrive-verdict.ensures.verdict
       (ap with_ecn c.in-Some.ensures.value)
 
 pub keep_arrived-requires : goal.keep_arrived-requires
-keep_arrived-requires c = moment-later c.reach.new.self _ _ _ c.raw-held.ensures c.arrive-verdict.ensures.after
+keep_arrived-requires c = moment-later c.reach.new.self _ _ _ c.raw_with-held.ensures c.arrive-verdict.ensures.after
 
-pub returns-clause-answer : goal.returns-clause-answer
-returns-clause-answer c = rw (taken c) (c.of_verdict.ensures ∙ ap verdict_number (decided c))
-
-pub returns-clause-fields : goal.returns-clause-fields
-returns-clause-fields c = rw (taken c) (left c)
-
-pub returns-clause-after : goal.returns-clause-after
-returns-clause-after c sound = rw (taken c) (left c ∙ arrived-state (state c) (arrival c) c.args.moment sound)
-
-pub returns-clause-sound : goal.returns-clause-sound
+pub returns-then-queued-gt-MAX_QUEUED : goal.returns-then-queued-gt-MAX_QUEUED
 unfolding arrival_refusal
-returns-clause-sound c sound = let a = c.args in stays-sound a.state.now _ (Arrive (arrival_of a.queued a.size a.room a.bits a.word) a.moment) _
-    sound (returns-clause-after c sound) (handed a.moment _)
+returns-then-queued-gt-MAX_QUEUED c =
+    let a = c.args in
+    let is : arrival_refusal a.queued a.size a.bits a.moment ≡ 112 = search rules in
+    untouched a.state.now _ _ a.moment 112 is refl
 
-pub returns-clause-shows : goal.returns-clause-shows
-returns-clause-shows c opened events sound = let a = c.args in shows-call a.state.now _
-    (Arrive (arrival_of a.queued a.size a.room a.bits a.word) a.moment) _ sound (returns-clause-after c sound) opened events
+pub returns : goal.returns
+unfolding arrival_refusal
+returns c = let a = c.args in record {
+  answer = rw (taken c) (c.of_verdict.ensures ∙ ap verdict_number (decided c));
+  fields = rw (taken c) (left c);
+  held = leaves a.state.now _ (Arrive (arrival c) a.moment) _ (λ sound. rw (taken c) (left c ∙ arrived-state (state c) (arrival c) a.moment sound))
+      (handed a.moment _);
+}

@@ -1,0 +1,89 @@
+-- The optional elements by their flags.
+use Rattle.std.proofs.Common.{◌≡◌, ℕ, zero, suc, ◌≤◌, ◌==◌, if◌then◌else◌, Bool, true, false, refl, arith}
+use Rattle.std.proofs.lemmas.Bool.{eqb-true}
+use Rattle.std.proofs.lemmas.Bool.Decides.{nat_tests}
+use Rattle.pie_params.specs.declared.elements.Elements.{Elements}
+use Rattle.pie_params.specs.declared.elements.Delay.{Delay}
+use Rattle.pie_params.specs.declared.elements.Delay.TheVariants.{Rate, Stamp}
+use Rattle.pie_params.specs.declared.elements.Picking.{Picking}
+use Rattle.pie_params.specs.declared.elements.Picking.TheVariants.{Derandomized, Random}
+use Rattle.pie_params.specs.declared.elements.Step.{Step}
+use Rattle.pie_params.specs.declared.elements.Step.TheVariants.{Capped, Uncapped}
+use Rattle.pie_params.specs.declared.elements.Size.{Size}
+use Rattle.pie_params.specs.declared.elements.Size.TheVariants.{Unscaled, Scaled}
+use Rattle.pie_params.specs.Elements.{usual}
+use Rattle.pie_c.specs.State.{choices_of, elements_of}
+
+of-parts : (d : Delay) (p : Picking) (t : Step) (z : Size)
+    → elements_of (choices_of (record { delay = d; picking = p; step = t; size = z })) ≡ record { delay = d; picking = p; step = t; size = z }
+unfolding elements_of choices_of
+of-parts Rate Derandomized Capped Unscaled = refl
+of-parts Rate Derandomized Capped Scaled = refl
+of-parts Rate Derandomized Uncapped Unscaled = refl
+of-parts Rate Derandomized Uncapped Scaled = refl
+of-parts Rate Random Capped Unscaled = refl
+of-parts Rate Random Capped Scaled = refl
+of-parts Rate Random Uncapped Unscaled = refl
+of-parts Rate Random Uncapped Scaled = refl
+of-parts Stamp Derandomized Capped Unscaled = refl
+of-parts Stamp Derandomized Capped Scaled = refl
+of-parts Stamp Derandomized Uncapped Unscaled = refl
+of-parts Stamp Derandomized Uncapped Scaled = refl
+of-parts Stamp Random Capped Unscaled = refl
+of-parts Stamp Random Capped Scaled = refl
+of-parts Stamp Random Uncapped Unscaled = refl
+of-parts Stamp Random Uncapped Scaled = refl
+
+pub elements-back : (e : Elements) → elements_of (choices_of e) ≡ e
+elements-back e = of-parts e.delay e.picking e.step e.size
+
+pub few-choices : (e : Elements) → choices_of e ≤ 15
+unfolding choices_of
+few-choices e = by e.delay e.picking e.step e.size
+  where
+    by : (d : Delay) (p : Picking) (t : Step) (z : Size) → choices_of (record { delay = d; picking = p; step = t; size = z }) ≤ 15
+    by Rate Derandomized Capped Unscaled = omega arith
+    by Rate Derandomized Capped Scaled = omega arith
+    by Rate Derandomized Uncapped Unscaled = omega arith
+    by Rate Derandomized Uncapped Scaled = omega arith
+    by Rate Random Capped Unscaled = omega arith
+    by Rate Random Capped Scaled = omega arith
+    by Rate Random Uncapped Unscaled = omega arith
+    by Rate Random Uncapped Scaled = omega arith
+    by Stamp Derandomized Capped Unscaled = omega arith
+    by Stamp Derandomized Capped Scaled = omega arith
+    by Stamp Derandomized Uncapped Unscaled = omega arith
+    by Stamp Derandomized Uncapped Scaled = omega arith
+    by Stamp Random Capped Unscaled = omega arith
+    by Stamp Random Capped Scaled = omega arith
+    by Stamp Random Uncapped Unscaled = omega arith
+    by Stamp Random Uncapped Scaled = omega arith
+
+pub choices-back : (n : ℕ) → n ≤ 15 → choices_of (elements_of n) ≡ n
+unfolding elements_of choices_of
+choices-back zero h = refl
+choices-back (suc zero) h = refl
+choices-back (suc (suc zero)) h = refl
+choices-back (suc (suc (suc zero))) h = refl
+choices-back (suc (suc (suc (suc zero)))) h = refl
+choices-back (suc (suc (suc (suc (suc zero))))) h = refl
+choices-back (suc (suc (suc (suc (suc (suc zero)))))) h = refl
+choices-back (suc (suc (suc (suc (suc (suc (suc zero))))))) h = refl
+choices-back (suc (suc (suc (suc (suc (suc (suc (suc zero)))))))) h = refl
+choices-back (suc (suc (suc (suc (suc (suc (suc (suc (suc zero))))))))) h = refl
+choices-back (suc (suc (suc (suc (suc (suc (suc (suc (suc (suc zero)))))))))) h = refl
+choices-back (suc (suc (suc (suc (suc (suc (suc (suc (suc (suc (suc zero))))))))))) h = refl
+choices-back (suc (suc (suc (suc (suc (suc (suc (suc (suc (suc (suc (suc zero)))))))))))) h = refl
+choices-back (suc (suc (suc (suc (suc (suc (suc (suc (suc (suc (suc (suc (suc zero))))))))))))) h = refl
+choices-back (suc (suc (suc (suc (suc (suc (suc (suc (suc (suc (suc (suc (suc (suc zero)))))))))))))) h = refl
+choices-back (suc (suc (suc (suc (suc (suc (suc (suc (suc (suc (suc (suc (suc (suc (suc zero))))))))))))))) h = refl
+choices-back (suc (suc (suc (suc (suc (suc (suc (suc (suc (suc (suc (suc (suc (suc (suc (suc n)))))))))))))))) h = omega arith
+
+-- at most the first is chosen
+pub nearly_usual : (n : ℕ) → n ≤ 1 → elements_of n ≡ (if n == 1 then record usual { delay = Stamp } else usual)
+unfolding elements_of
+nearly_usual n h = by (n == 1) refl
+  where
+    by : (one : Bool) → (n == 1) ≡ one → elements_of n ≡ (if one then record usual { delay = Stamp } else usual)
+    by true e = rw (eqb-true n 1 e) refl
+    by false e = let none : n ≡ 0 = grind (arith, nat_tests) in rw none refl

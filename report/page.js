@@ -20,7 +20,7 @@ const moment = (time) => FIRST + BigInt(Math.round(time));
 const grouped = (count) => BigInt(count).toLocaleString("en-US");
 const millis = (ns) => (Number(ns) / 1e6).toLocaleString("en-US", { minimumFractionDigits: 3, maximumFractionDigits: 3 });
 const plainMillis = (exact) => `${exact / 1000000n}.${String(exact % 1000000n).padStart(6, "0")}`;
-const momentMillis = (exact) => plainMillis(exact).slice(0, -3);
+const momentMillis = (exact) => plainMillis(((exact + 500n) / 1000n) * 1000n).slice(0, -3);
 
 function percent(part, all) {
     const share = all > 0 ? (100 * part) / all : 0;
@@ -120,8 +120,8 @@ function headline() {
     ]);
     card("Dropped", "dropped", percent(dropped, arrivals), [
         ["packets", grouped(dropped), "lost"],
-        ["early, no ECN", grouped(early("not_capable")), "not_capable"],
-        ["early, from mark_ecnth on", grouped(early("not_below")), "not_below"],
+        ["early, not ECN-capable", grouped(early("not_capable")), "not_capable"],
+        ["early, not below mark_ecnth", grouped(early("not_below")), "not_below"],
         ["no room in bytes", count("bytes"), "bytes"],
         ["no room in packets", count("packets"), "packets"],
     ]);
@@ -513,7 +513,7 @@ function fillRows() {
         row.classList.toggle("chosen", packet === chosen);
         add(add(row, "td"), "button", packet.number);
         for (const text of [momentMillis(packet.at), packet.tag, packet.size]) add(row, "td", text);
-        add(row, "td", `${packet.fate.toLowerCase()}, ${packet.ecn}`);
+        add(row, "td", `${packet.marked ? "marked" : packet.fate.toLowerCase()}, ${packet.ecn}`);
         row.addEventListener("click", () => choose(packet));
     }
     const shown = Math.min(rows, matching.length);

@@ -116,12 +116,12 @@ function headline() {
         ["bytes", count("arrived_bytes"), "arrived_bytes"],
         ["offered", rate(whole("arrived_bytes"), LENGTH), "offered"],
         ["packets that left", count("left"), "left"],
-        has("left_bytes") && ["carried", rate(whole("left_bytes"), LENGTH), "left_bytes"],
+        has("carried_bytes") && ["carried", rate(whole("carried_bytes"), LENGTH), "carried"],
     ]);
     card("Dropped", "dropped", percent(dropped, arrivals), [
         ["packets", grouped(dropped), "lost"],
-        ["early, not ECN-capable", grouped(early("not_capable")), "not_capable"],
-        ["early, not below mark_ecnth", grouped(early("not_below")), "not_below"],
+        ["early, no ECN", grouped(early("not_capable")), "not_capable"],
+        ["early, with ECN", grouped(early("not_below")), "not_below"],
         ["no room in bytes", count("bytes"), "bytes"],
         ["no room in packets", count("packets"), "packets"],
     ]);
@@ -132,12 +132,12 @@ function headline() {
     ]);
     card("Greatest queueing delay", "greatest_delay", ms(total("greatest_delay")), [
         ["last", ms(total("last_delay")), "last_delay"],
-        ["target", ms(has("target") ? total("target") : DATA.target), "target"],
+        ["target", ms(has("last_target") ? total("last_target") : DATA.target), "target"],
         more("time_above_target", "time above it", (ns) => `${duration(Number(ns))}, ${percent(Number(ns), LENGTH)}`),
     ]);
     card("Greatest drop probability", "greatest_probability", probability(total("greatest_probability")), [
         ["last", probability(total("last_probability")), "last_probability"],
-        more("burst_allowance", "burst allowance, last", ms),
+        more("last_burst_allowance", "burst allowance, last", ms),
     ]);
     if (total("turned_on") + total("turned_off") > 0) {
         card("Turned on", "turned_on", count("turned_on"), [
@@ -200,8 +200,8 @@ const CHARTS = [
             { name: "queueing delay at updates", color: "delay", value: when("updates", "greatest_delay", 1e6) },
             { name: "mean wait of packets that left", color: "wait", value: when("left", "mean_wait", 1e6) },
             { name: "greatest wait", color: "longest", value: when("left", "greatest_wait", 1e6) },
-            has("burst_allowance") && { name: "burst allowance", color: "burst", value: (row) => of(row, "burst_allowance") / 1e6, steps: true },
-            { name: "target", color: "target", value: (row) => (has("target") ? of(row, "target") : DATA.target) / 1e6, steps: true, dashed: true },
+            has("last_burst_allowance") && { name: "burst allowance", color: "burst", value: (row) => of(row, "last_burst_allowance") / 1e6, steps: true },
+            { name: "target", color: "target", value: (row) => (has("last_target") ? of(row, "last_target") : DATA.target) / 1e6, steps: true, dashed: true },
         ],
     },
     {
@@ -213,7 +213,7 @@ const CHARTS = [
     {
         title: "Rate, Mbit/s", height: 120, rates: [
             { name: "offered", color: "offered", field: "arrived_bytes", area: true },
-            has("left_bytes") && { name: "carried", color: "carried", field: "left_bytes" },
+            has("carried_bytes") && { name: "carried", color: "carried", field: "carried_bytes" },
         ],
     },
     { title: "Lost and marked packets", height: 150, bars: FATES.map(([field, color, name]) => ({ name, color, field })) },
@@ -430,7 +430,7 @@ function read(time) {
         const update = before.findLast((it) => of(it.row, "updates") > 0);
         if (update) parts.push(" queueing delay ", [`${millis(of(update.row, "greatest_delay"))} ms`], ",");
         parts.push(" probability ", [probability(of(last.row, "last_probability"))]);
-        if (has("burst_allowance")) parts.push(", burst allowance ", [`${millis(of(last.row, "burst_allowance"))} ms`]);
+        if (has("last_burst_allowance")) parts.push(", burst allowance ", [`${millis(of(last.row, "last_burst_allowance"))} ms`]);
     }
     const one = columns(PIXELS).find((it) => it.from <= reading && reading < it.to);
     if (one) {
@@ -513,7 +513,7 @@ function fillRows() {
         row.classList.toggle("chosen", packet === chosen);
         add(add(row, "td"), "button", packet.number);
         for (const text of [momentMillis(packet.at), packet.tag, packet.size]) add(row, "td", text);
-        add(row, "td", `${packet.marked ? "marked" : packet.fate.toLowerCase()}, ${packet.ecn}`);
+        add(row, "td", `${packet.marked ? "marked" : packet.fate.toLowerCase().replace("dropped, ", "")}, ${packet.ecn}`);
         row.addEventListener("click", () => choose(packet));
     }
     const shown = Math.min(rows, matching.length);

@@ -248,13 +248,17 @@ class Page:
         lost = count["early"] + count["bytes"] + count["packets"]
         for field, wanted in (("lost", str(lost)), ("dropped", share(lost, count["arrivals"])), ("marked", share(count["mark"], count["arrivals"]))):
             self.says(number(seen[field]) == wanted, f"{field}: {seen[field]}, and not {wanted}")
-        for field in ("mean_wait", "greatest_wait", "greatest_delay", "last_delay", "wait_99"):
+        for field in ("mean_wait", "greatest_wait", "greatest_delay", "last_delay", "wait_99", "last_target", "last_burst_allowance"):
+            seen.setdefault("last_target", seen["target"])
             self.says(field not in row or close(seen[field], row[field]), f"{field}: {seen.get(field)}, and not {row.get(field)}")
         for field in ("greatest_probability", "last_probability"):
             self.says(abs(float(seen[field].strip("<% ")) - count[field] / 1e10) < 0.0051 or seen[field] == "< 0.01 %", f"{field}: {seen[field]}")
         length = count["last_moment"] - count["first_moment"]
-        offered = 8000 * count["arrived_bytes"] / length if length else 0
-        self.says(abs(float(seen["offered"].split()[0]) - offered) <= max(0.0001, 0.01 * offered), f"offered: {seen['offered']}, and not {offered}")
+        for name, field in (("offered", "arrived_bytes"), ("carried", "carried_bytes")):
+            rate = 8000 * count.get(field, 0) / length if length else 0
+            self.says(field not in row or abs(float(seen[name].split()[0]) - rate) <= max(0.0001, 0.01 * rate), f"{name}: {seen.get(name)}, and not {rate}")
+        above = seen.get("time_above_target", "")
+        self.says("time_above_target" not in row or above.endswith(f", {share(count['time_above_target'], length)}"), f"time above the target: {above}")
         causes = self.run("return Object.fromEntries([...document.querySelectorAll('[data-cause]')].map((it) => [it.dataset.cause, it.textContent]))")
         for field, value in row.items():
             if field in causes or (re.match("picked|no_|word|low|short|burst_allowed|inactive|little", field) and value != "0"):

@@ -115,7 +115,7 @@ function headline() {
     card("Arrivals", "arrivals", count("arrivals"), [
         ["bytes", count("arrived_bytes"), "arrived_bytes"],
         ["offered", rate(whole("arrived_bytes"), LENGTH), "offered"],
-        ["packets that left", count("left"), "left"],
+        ["departed", count("left"), "left"],
         has("carried_bytes") && ["carried", rate(whole("carried_bytes"), LENGTH), "carried"],
     ]);
     card("Dropped", "dropped", percent(dropped, arrivals), [
@@ -160,7 +160,8 @@ function heading() {
         say(element("fault"), [what], DATA.told, `. What follows is of the ${events} events before it.`);
         element("fault").hidden = false;
     }
-    element("foot").textContent = `A point of the charts is ${duration(PERIOD)}. Shares of arrivals and rates are of columns of several points, as wide as the reading line says.`;
+    const point = `A point of the charts is ${duration(PERIOD)}. `;
+    element("foot").textContent = `${point}Shares of arrivals and rates are of columns of several points; the line above the charts says of how long a time.`;
 }
 
 function causes() {
@@ -194,20 +195,22 @@ let chosen = null; // the packet whose words are shown
 
 // The value of a field in a period in which it says something, for charts of lines.
 const when = (counts, field, scale) => (row) => (of(row, counts) > 0 ? of(row, field) / scale : null);
+const always = (field, scale) => (row) => of(row, field) / scale;
+const SHARES = CAUSES.map(([field, color]) => ({ name: words(field), color, field }));
 const CHARTS = [
     {
         title: "Queueing delay and waits, ms", height: 210, least: 1, lines: [
             { name: "queueing delay at updates", color: "delay", value: when("updates", "greatest_delay", 1e6) },
             { name: "mean wait of packets that left", color: "wait", value: when("left", "mean_wait", 1e6) },
             { name: "greatest wait", color: "longest", value: when("left", "greatest_wait", 1e6) },
-            has("last_burst_allowance") && { name: "burst allowance", color: "burst", value: (row) => of(row, "last_burst_allowance") / 1e6, steps: true },
-            { name: "target", color: "target", value: (row) => (has("last_target") ? of(row, "last_target") : DATA.target) / 1e6, steps: true, dashed: true },
+            has("last_burst_allowance") && { name: "burst allowance", color: "burst", value: always("last_burst_allowance", 1e6), steps: true },
+            { name: "target", color: "target", value: has("last_target") ? always("last_target", 1e6) : () => DATA.target / 1e6, steps: true, dashed: true },
         ],
     },
     {
         title: "Drop probability, per cent", height: 140, least: 0.1, lines: [
-            { name: "greatest", color: "probability-soft", value: (row) => of(row, "greatest_probability") / 1e10, steps: true, area: true },
-            { name: "last", color: "probability", value: (row) => of(row, "last_probability") / 1e10, steps: true },
+            { name: "greatest", color: "probability-soft", value: always("greatest_probability", 1e10), steps: true, area: true },
+            { name: "last", color: "probability", value: always("last_probability", 1e10), steps: true },
         ],
     },
     {
@@ -217,7 +220,7 @@ const CHARTS = [
         ],
     },
     { title: "Lost and marked packets", height: 150, bars: FATES.map(([field, color, name]) => ({ name, color, field })) },
-    { title: "What decided the arrivals, per cent of them", height: 190, shares: CAUSES.map(([field, color]) => ({ name: words(field), color, field })) },
+    { title: "What decided the arrivals, per cent of them", height: 190, shares: SHARES },
 ];
 const PIXELS = 6; // a column's width
 const MARGIN = { left: 52, right: 10, top: 8, bottom: 20 };
@@ -439,7 +442,8 @@ function read(time) {
         parts.push(`. In the ${duration(one.to - one.from)} around it: ${arrivals} arrivals (${rate(sum(one, "arrived_bytes"), one.to - one.from)})`);
         for (const [count, name] of counts) parts.push(", ", [`${count} ${name}`]);
         const decided = CAUSES.map(([field]) => [sum(one, field), field]).filter(([count]) => count > 0).sort((a, b) => b[0] - a[0]);
-        if (arrivals > 0) parts.push("; decided by ", decided.slice(0, 3).map(([count, field]) => `${words(field)} ${percent(count, arrivals)}`).join(", "));
+        const most = decided.slice(0, 3).map(([count, field]) => `${words(field)} ${percent(count, arrivals)}`);
+        if (arrivals > 0) parts.push("; decided by ", most.join(", "));
     }
     say(element("read"), ...parts, ".");
     overlay();
@@ -581,7 +585,8 @@ function listen() {
         else return;
         event.preventDefault();
     });
-    const keys = { "+": () => zoom(0.5), "=": () => zoom(0.5), "-": () => zoom(2), 0: all, n: () => next(1), p: () => next(-1), "/": () => element("tag").focus() };
+    const keys = { "+": () => zoom(0.5), "=": () => zoom(0.5), "-": () => zoom(2), 0: all };
+    Object.assign(keys, { n: () => next(1), p: () => next(-1), "/": () => element("tag").focus() });
     document.addEventListener("keydown", (event) => {
         if (event.target.matches("input") || event.ctrlKey || event.metaKey || event.altKey || !keys[event.key]) return;
         event.preventDefault();

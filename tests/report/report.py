@@ -68,7 +68,8 @@ def hold_data(name, page, path, *words):
     periods = table(explain(path, f"--every={data['period']}", "--csv", *words)[1])
     check([dict(zip(data["fields"], map(str, row))) for row in data["periods"]] == periods, f"{name}: the periods")
     lost, marked = (table(explain(path, which, "--csv", *words)[1]) for which in ("--lost", "--marked"))
-    wanted = [[row[field] for field in ("number", "effective_moment", "tag", "size")] for row in sorted(lost + marked, key=lambda it: int(it["number"]))]
+    both = sorted(lost + marked, key=lambda it: int(it["number"]))
+    wanted = [[row[field] for field in ("number", "effective_moment", "tag", "size")] for row in both]
     check([list(map(str, row[:4])) for row in data["packets"]] == wanted, f"{name}: the lost and marked packets")
     check(data["lost"] == [len(lost)] * 2 and data["marked"] == [len(marked)] * 2, f"{name}: how many are listed")
     texts = {which: explain(path, which, *words)[1] for which in ("--lost", "--marked")}
@@ -114,7 +115,8 @@ def pages(folder):
 def cut_out(folder):
     """A part of a history that stands on its own, where the program has a command for it."""
     path = Path(folder, "cut.history")
-    done = subprocess.run([PROGRAM, "cut", ROOT / "examples/overload.history", "--from", "300ms", "--to", "600ms", "-o", path], capture_output=True, check=False)
+    words = ["cut", ROOT / "examples/overload.history", "--from", "300ms", "--to", "600ms", "-o", path]
+    done = subprocess.run([PROGRAM, *words], capture_output=True, check=False)
     return [("cut", path, 0, "", ())] if done.returncode == 0 else []
 
 
@@ -150,8 +152,8 @@ def files(folder):
     Path(folder, "new.html.partial").write_text("older")
     check(report(history, "-o", f"{folder}/new.html")[0] == 0 and Path(folder, "new.html.partial").read_text() == "older", "an older partial file")
     Path(folder, "new.html.partial").unlink()
-    for words, told in ((("-o", history, "--force"), "what is read"), (("-o", folder), "folder"), (("-o", f"{folder}/no/page"), "No such"), (("--list", "-1"), "--list"),
-                        (("--from", "soon"), "--from"), (("--from", "2s", "--to", "1s"), "--from"), (("--pie", f"{folder}/none"), "cannot run")):
+    for words, told in ((("-o", history, "--force"), "what is read"), (("-o", folder), "folder"), (("-o", f"{folder}/no/page"), "No such"),
+                        (("--list", "-1"), "--list"), (("--from", "soon"), "--from"), (("--from", "2s", "--to", "1s"), "--from"), (("--pie", f"{folder}/none"), "cannot run")):
         status, page, errors = report(history, *words)
         check(status == 1 and told in errors and not page, f"{words}: {status}, {errors}")
     for path in ("-", folder, f"{folder}/none"):
@@ -179,7 +181,7 @@ def browser():
         return None
     options = webdriver.ChromeOptions()
     options.binary_location = chromium
-    for word in ("--headless=new", "--no-sandbox", "--disable-gpu", "--disable-dev-shm-usage", "--window-size=1400,1000", "--disable-component-update"):
+    for word in "--headless=new --no-sandbox --disable-gpu --disable-dev-shm-usage --window-size=1400,1000 --disable-component-update".split():
         options.add_argument(word)
     options.set_capability("goog:loggingPrefs", {"browser": "ALL"})
     return webdriver.Chrome(service=Service(driver), options=options)
@@ -256,9 +258,11 @@ class Page:
         length = count["last_moment"] - count["first_moment"]
         for name, field in (("offered", "arrived_bytes"), ("carried", "carried_bytes")):
             rate = 8000 * count.get(field, 0) / length if length else 0
-            self.says(field not in row or abs(float(seen[name].split()[0]) - rate) <= max(0.0001, 0.01 * rate), f"{name}: {seen.get(name)}, and not {rate}")
+            near = field not in row or abs(float(seen[name].split()[0]) - rate) <= max(0.0001, 0.01 * rate)
+            self.says(near, f"{name}: {seen.get(name)}, and not {rate}")
         above = seen.get("time_above_target", "")
-        self.says("time_above_target" not in row or above.endswith(f", {share(count['time_above_target'], length)}"), f"time above the target: {above}")
+        wanted = f", {share(count.get('time_above_target', 0), length)}"
+        self.says("time_above_target" not in row or above.endswith(wanted), f"time above the target: {above}, and not {wanted}")
         causes = self.run("return Object.fromEntries([...document.querySelectorAll('[data-cause]')].map((it) => [it.dataset.cause, it.textContent]))")
         for field, value in row.items():
             if field in causes or (re.match("picked|no_|word|low|short|burst_allowed|inactive|little", field) and value != "0"):

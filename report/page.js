@@ -133,7 +133,7 @@ function headline() {
     card("Greatest queueing delay", "greatest_delay", ms(total("greatest_delay")), [
         ["last", ms(total("last_delay")), "last_delay"],
         ["target", ms(has("last_target") ? total("last_target") : DATA.target), "target"],
-        more("time_above_target", "time above it", (ns) => `${duration(Number(ns))}, ${percent(Number(ns), LENGTH)}`),
+        more("time_above_target", "time above it", (ns) => `${duration(Number(ns))}, ${percent(Math.min(Number(ns), LENGTH), LENGTH)}`),
     ]);
     card("Greatest drop probability", "greatest_probability", probability(total("greatest_probability")), [
         ["last", probability(total("last_probability")), "last_probability"],
@@ -161,7 +161,8 @@ function heading() {
         element("fault").hidden = false;
     }
     const point = `A point of the charts is ${duration(PERIOD)}. `;
-    element("foot").textContent = `${point}Shares of arrivals and rates are of columns of several points; the line above the charts says of how long a time.`;
+    const rest = "Shares of arrivals and rates are of columns of several points; the line above the charts says of how long a time.";
+    element("foot").textContent = point + rest;
 }
 
 function causes() {
@@ -196,6 +197,7 @@ let chosen = null; // the packet whose words are shown
 // The value of a field in a period in which it says something, for charts of lines.
 const when = (counts, field, scale) => (row) => (of(row, counts) > 0 ? of(row, field) / scale : null);
 const always = (field, scale) => (row) => of(row, field) / scale;
+const TARGET = has("last_target") ? always("last_target", 1e6) : () => DATA.target / 1e6;
 const SHARES = CAUSES.map(([field, color]) => ({ name: words(field), color, field }));
 const CHARTS = [
     {
@@ -204,7 +206,7 @@ const CHARTS = [
             { name: "mean wait of packets that left", color: "wait", value: when("left", "mean_wait", 1e6) },
             { name: "greatest wait", color: "longest", value: when("left", "greatest_wait", 1e6) },
             has("last_burst_allowance") && { name: "burst allowance", color: "burst", value: always("last_burst_allowance", 1e6), steps: true },
-            { name: "target", color: "target", value: has("last_target") ? always("last_target", 1e6) : () => DATA.target / 1e6, steps: true, dashed: true },
+            { name: "target", color: "target", value: TARGET, steps: true, dashed: true },
         ],
     },
     {

@@ -153,7 +153,8 @@ def files(folder):
     check(report(history, "-o", f"{folder}/new.html")[0] == 0 and Path(folder, "new.html.partial").read_text() == "older", "an older partial file")
     Path(folder, "new.html.partial").unlink()
     for words, told in ((("-o", history, "--force"), "what is read"), (("-o", folder), "folder"), (("-o", f"{folder}/no/page"), "No such"),
-                        (("--list", "-1"), "--list"), (("--from", "soon"), "--from"), (("--from", "2s", "--to", "1s"), "--from"), (("--pie", f"{folder}/none"), "cannot run")):
+                        (("--list", "-1"), "--list"), (("--from", "soon"), "--from"), (("--from", "2s", "--to", "1s"), "--from"),
+                        (("--pie", f"{folder}/none"), "cannot run")):
         status, page, errors = report(history, *words)
         check(status == 1 and told in errors and not page, f"{words}: {status}, {errors}")
     for path in ("-", folder, f"{folder}/none"):
@@ -261,7 +262,7 @@ class Page:
             near = field not in row or abs(float(seen[name].split()[0]) - rate) <= max(0.0001, 0.01 * rate)
             self.says(near, f"{name}: {seen.get(name)}, and not {rate}")
         above = seen.get("time_above_target", "")
-        wanted = f", {share(count.get('time_above_target', 0), length)}"
+        wanted = f", {share(min(count.get('time_above_target', 0), length), length)}"
         self.says("time_above_target" not in row or above.endswith(wanted), f"time above the target: {above}, and not {wanted}")
         causes = self.run("return Object.fromEntries([...document.querySelectorAll('[data-cause]')].map((it) => [it.dataset.cause, it.textContent]))")
         for field, value in row.items():
@@ -311,11 +312,24 @@ def hold_use(driver, place, path):
     row = page.run("return [...document.querySelectorAll('#list tbody tr')].map((it) => it.cells[2].textContent)")
     page.says(row and row[0] == wanted and all(it.startswith(wanted) for it in row), f"a search for {wanted}: {row}")
     page.says(f"packet {wanted}," in page.text("#words"), "a search: not its words")
+    # a list that was cut says so, with the command that shows the rest
+    status, text, _ = report(path, "--list", "5")
+    short = place.with_name("short.html")
+    short.write_text(text)
     tag.send_keys("x")
     page.says(page.run("return document.querySelector('#list').hidden"), "a search for no tag: there are rows")
     tag.clear()
     driver.find_element("css selector", "#charts").send_keys("n")
     page.says("event " in page.text("#words"), "key n: no words")
+    page.quiet()
+    page = Page(driver, "cut list", short)
+    told = page.text("#listed")
+    command = re.search(r"pie explain --lost --from (\d+)ns", told)
+    page.says(status == 0 and "the first 5 are listed" in told and command, f"what it says of the list: {told}")
+    page.says(page.run("return document.querySelectorAll('#list tbody tr').length") == 5, "another number of rows")
+    rest = explain(path, "--lost", "--csv", "--from", f"{command[1]}ns")[1]
+    lost = table(explain(path, "--lost", "--csv")[1])
+    page.says(table(rest) == lost[4:], "the command shows other packets than the last listed and the rest")
     page.quiet()
 
 

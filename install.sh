@@ -1,5 +1,5 @@
 #!/usr/bin/env bash
-# Installs below a prefix what was built: the program pie with its manual page and completions, and the library for C with its header
+# Installs below a prefix what was built: the program pie with its manual page and completions, pie-report, and the library for C with its header
 # and its pkg-config file.
 #
 # usage: ./install.sh PREFIX [program|library]..   both, where neither is named; DESTDIR, where it is set, is put before PREFIX
@@ -27,8 +27,13 @@ built() {
 }
 
 program() {
+    local part
     built crates/pie/out/pie crates/pie "rt run"
     put 755 crates/pie/out/pie bin/pie
+    put 755 report/pie-report bin/pie-report
+    for part in page.html page.css page.js; do
+        put 644 report/$part share/pie/$part
+    done
     # the manual page and completions, where the repository has them
     [ ! -e man/pie.1 ] || put 644 man/pie.1 share/man/man1/pie.1
     [ ! -e completions/pie.bash ] || put 644 completions/pie.bash share/bash-completion/completions/pie

@@ -48,7 +48,7 @@ def write(path, rows, reports):
         if os.path.exists(report):
             way = f'<a href="{html.escape(os.path.relpath(report, os.path.dirname(os.path.abspath(path))), quote=True)}">report</a>'
         else:
-            way = f"<code>{html.escape(where)}pie report {html.escape(quoted(row['path']))} -o {html.escape(quoted(report))}</code>"
+            way = f"<code>{html.escape(where)}pie-report {html.escape(quoted(row['path']))} -o {html.escape(quoted(report))}</code>"
         lines.append("<tr>" if str(row["status"]) == "0" else '<tr class="bad">')
         lines.append(f'<td class="text">{html.escape(row["link"])}</td>')
         lines += [f'<td{" class=text" if column in ("finding", "note") else ""}>{_shown(row, column)}</td>' for column in columns]

@@ -305,7 +305,7 @@ def run_hosts(cluster, work, names, where):
     same("files of two hosts", f"{work}/hosts.csv", names[:20], [f"{host}: {name}" for host, name in zip(["one", "two"] * 10, names)])
     with open(f"{work}/page.html") as text:
         page = text.read()
-    check("the page", page.count("<tr") == 24 and "pie report " in page)
+    check("the page", page.count("<tr") == 24 and "pie-report " in page)
 
 
 def run_ssh(work, names):

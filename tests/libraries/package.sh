@@ -96,6 +96,8 @@ fi
 if [ -e "$repository/crates/pie/out/pie" ]; then
     ./install.sh "$prefix" program > "$work/installed"
     expect "the installed program" "pie $version" "$prefix/bin/pie" --version
+    "$prefix/bin/pie-report" --pie "$prefix/bin/pie" -o "$work/page.html" "$repository/examples/burst.history" ||
+        fail "the installed pie-report makes no page"
 else
     not_run "crates/pie/out/pie was not built, so the program was not installed"
 fi

@@ -1,0 +1,377 @@
+#!/usr/bin/env python3
+"""Reports of histories (report/pie-report). Of each page what stands in it is what `pie explain` says, and the policy in its head fits its script and
+style; of a history that differs or has a fault the page says so; hostile texts stay text; and FILE is written as `pie -o` writes it.
+
+Then Debian's Chromium opens pages of examples/, of a part of one, and of damaged ones: nothing on its console, the numbers that are seen are those of
+`pie explain --summary`, a zoom, a click, a search and keys do what they say, no picture is blank, and narrow windows hold it.
+
+usage: tests/report/report.py [PROGRAM [PICTURES]]      PROGRAM: crates/pie/out/pie where none is named; PICTURES: a folder for the pictures
+needs: program
+"""
+import base64
+import csv
+import hashlib
+import io
+import json
+import os
+import re
+import shutil
+import subprocess
+import sys
+import tempfile
+import zlib
+from pathlib import Path
+
+sys.path.insert(0, f"{os.path.dirname(os.path.abspath(__file__))}/../shared")
+from checks import NAME, ROOT, check, finish, program  # noqa: E402
+
+PROGRAM = program()
+PICTURES = sys.argv[2] if len(sys.argv) > 2 else None
+REPORT = ROOT / "report/pie-report"
+HOSTILE = "</script><script>document.title='hurt'</script><img src=x onerror=\"document.title='hurt'\">&quot;'\\u003c"
+
+
+def explain(path, *words):
+    done = subprocess.run([PROGRAM, "explain", *words, "--", path], capture_output=True, encoding="utf-8", check=False)
+    return done.returncode, done.stdout, done.stderr
+
+
+def report(path, *words, using=PROGRAM):
+    done = subprocess.run([REPORT, "--pie", using, *words, path], capture_output=True, encoding="utf-8", errors="replace", check=False)
+    return done.returncode, done.stdout, done.stderr
+
+
+def table(text):
+    return list(csv.DictReader(io.StringIO(text)))
+
+
+def inside(page):
+    """What a page holds: its data, its script and style, and its policy."""
+    data = json.loads(re.search(r'<script type="application/json" id="data">(.*?)</script>', page, re.S)[1])
+    script = re.search(r"<script>(.*?)</script>", page, re.S)[1]
+    style = re.search(r"<style>(.*?)</style>", page, re.S)[1]
+    return data, script, style, re.search(r'Content-Security-Policy" content="([^"]*)"', page)[1]
+
+
+def hash_of(text):
+    return "'sha256-" + base64.b64encode(hashlib.sha256(text.encode()).digest()).decode() + "'"
+
+
+def hold_data(name, page, path, *words):
+    """Holds what stands in a page to what `pie explain` says."""
+    data, script, style, policy = inside(page)
+    check(f"default-src 'none'; script-src {hash_of(script)}; style-src {hash_of(style)};" in policy, f"{name}: the policy is {policy}")
+    check(page.count("<script") == 2 and page.isascii(), f"{name}: more scripts than two, or letters that are not ASCII")
+    check("://" not in re.sub(r"http://www\.w3\.org/2000/svg", "", page), f"{name}: an address of the network")
+    rows = table(explain(path, "--summary", "--csv", *words)[1])
+    check([dict(zip(data["fields"], map(str, data["summary"])))] == rows, f"{name}: the summary")
+    periods = table(explain(path, f"--every={data['period']}", "--csv", *words)[1])
+    check([dict(zip(data["fields"], map(str, row))) for row in data["periods"]] == periods, f"{name}: the periods")
+    lost, marked = (table(explain(path, which, "--csv", *words)[1]) for which in ("--lost", "--marked"))
+    both = sorted(lost + marked, key=lambda it: int(it["number"]))
+    wanted = [[row[field] for field in ("number", "effective_moment", "tag", "size")] for row in both]
+    check([list(map(str, row[:4])) for row in data["packets"]] == wanted, f"{name}: the lost and marked packets")
+    check(data["lost"] == [len(lost)] * 2 and data["marked"] == [len(marked)] * 2, f"{name}: how many are listed")
+    texts = {which: explain(path, which, *words)[1] for which in ("--lost", "--marked")}
+    both = sorted(re.findall(r"^event .*\n(?:  .*\n)*", texts["--lost"] + texts["--marked"], re.M), key=lambda it: int(it.split()[1][:-1]))
+    check([row[6] for row in data["packets"]] == both, f"{name}: the words of the packets")
+
+
+def broken(folder):
+    """Histories that are not sound: name, path, status, and what is said of it."""
+    lines = (ROOT / "examples/overload.history").read_text().splitlines(keepends=True)
+    at = next(place for place in range(600, len(lines)) if lines[place].endswith(",enqueue\n"))
+    texts = {
+        "differs": (2, "".join([*lines[:at], lines[at].replace(",enqueue\n", ",early\n"), *lines[at + 1 :]]), str(at)),
+        "fault": (1, "".join([*lines[:700], "nonsense\n"]), "record 701"),
+        "hostile": (1, "".join([*lines[:700], f"arrive,1,{HOSTILE},1,1250,not,7,enqueue\n"]), "record 701"),
+        "hostile words": (1, "".join([*lines[:700], f"arrive,1,999999999,1,1250,{HOSTILE},7,{HOSTILE}\n"]), "record 701"),
+        "no events": (0, lines[0], ""),
+    }
+    for name, (status, text, told) in texts.items():
+        path = Path(folder, f"{name}.history")
+        path.write_text(text)
+        yield name, path, status, told
+
+
+def pages(folder):
+    """Makes the pages, and holds what stands in them: name, history, page, status, words."""
+    examples = [(path.stem, path, 0, "", ()) for path in sorted((ROOT / "examples").glob("*.history"))]
+    part = ("part", ROOT / "examples/overload.history", 0, "", ("--from", "300ms", "--to", "0.5s"))
+    cut = cut_out(folder)
+    damaged = [(*it, ()) for it in broken(folder)]
+    hostile = Path(folder, f"a 'quoted' {HOSTILE.replace('/', '-')}.history")
+    shutil.copy(ROOT / "examples/marks.history", hostile)
+    for name, path, status, told, words in [*examples, part, *cut, *damaged, ("a hostile name", hostile, 0, "", ())]:
+        got, page, errors = report(path, *words)
+        check(got == status and told in errors, f"{name}: status {got}, {errors}")
+        if page:
+            hold_data(name, page, path, *words)
+            place = Path(folder, f"{name}.html")
+            place.write_text(page)
+            yield name, path, place, status, words
+
+
+def cut_out(folder):
+    """A part of a history that stands on its own, where the program has a command for it."""
+    path = Path(folder, "cut.history")
+    words = ["cut", ROOT / "examples/overload.history", "--from", "300ms", "--to", "600ms", "-o", path]
+    done = subprocess.run([PROGRAM, *words], capture_output=True, check=False)
+    return [("cut", path, 0, "", ())] if done.returncode == 0 else []
+
+
+def lying_program(folder):
+    """A page from a program that says hostile things: they stay text, and are refused where numbers belong."""
+    path = Path(folder, "pie-that-lies")
+    text = subprocess.run([PROGRAM, "explain", "--lost", ROOT / "examples/overload.history"], capture_output=True, text=True, check=True).stdout
+    Path(folder, "words").write_text(text.replace("Not-ECT", HOSTILE.replace(":", "")).replace("picked", HOSTILE))
+    path.write_text(f"""#!/bin/sh
+case "$*" in *--lost*) cat {folder}/words ;; *) {PROGRAM} "$@"; cat {folder}/said >&2; exit 2 ;; esac\n""")
+    path.chmod(0o755)
+    Path(folder, "said").write_text(HOSTILE)
+    status, page, _ = report(ROOT / "examples/overload.history", using=path)
+    check(status == 2 and page.count("<script") == 2 and page.count("</script") == 2 and "<img" not in page, "hostile words: they are markup")
+    place = Path(folder, "lies.html")
+    place.write_text(page)
+    path.write_text(f"#!/bin/sh\necho 'events,{HOSTILE}'; echo '1,2'\n".replace("'hurt'", "hurt"))
+    check(report(ROOT / "examples/overload.history", using=path)[0] == 1, "hostile names of fields: a page was made")
+    return place
+
+
+def files(folder):
+    """FILE is there once all of it was written, and an existing one is kept."""
+    history, place = Path(folder, "burst.history"), Path(folder, "page.html")
+    shutil.copy(ROOT / "examples/burst.history", history)
+    check(report(history, "-o", place)[0] == 0 and place.read_text().endswith("</html>\n"), "-o: no page")
+    place.write_text("kept")
+    place.chmod(0o600)
+    status, _, errors = report(history, "-o", place)
+    check(status == 1 and "--force" in errors and place.read_text() == "kept", "-o: a file that was there is not kept")
+    check(report(history, "-o", place, "--force")[0] == 0 and place.stat().st_mode & 0o777 == 0o600, "--force: not replaced, or another mode")
+    check(not list(Path(folder).glob("*.partial*")), "a partial file is left")
+    Path(folder, "new.html.partial").write_text("older")
+    check(report(history, "-o", f"{folder}/new.html")[0] == 0 and Path(folder, "new.html.partial").read_text() == "older", "an older partial file")
+    Path(folder, "new.html.partial").unlink()
+    for words, told in ((("-o", history, "--force"), "what is read"), (("-o", folder), "folder"), (("-o", f"{folder}/no/page"), "No such"),
+                        (("--list", "-1"), "--list"), (("--from", "soon"), "--from"), (("--from", "2s", "--to", "1s"), "--from"),
+                        (("--pie", f"{folder}/none"), "cannot run")):
+        status, page, errors = report(history, *words)
+        check(status == 1 and told in errors and not page, f"{words}: {status}, {errors}")
+    for path in ("-", folder, f"{folder}/none"):
+        check(report(path)[0] == 1, f"{path}: read as a history")
+    check(history.read_text() == (ROOT / "examples/burst.history").read_text(), "the history was changed")
+    data = inside(report(ROOT / "examples/overload.history", "--list", "5")[1])[0]
+    check(data["lost"][0] == 5 == len(data["packets"]) and data["lost"][1] > 5, "--list: more or fewer")
+    odd = os.fsencode(folder) + b"/\xff\xfe.history"
+    shutil.copy(history, odd)
+    check(report(odd)[0] == 0, "a name that is no text")
+
+
+# ----- In the browser
+
+def browser():
+    """Chromium without a window, or nothing, and then it is told what is missing."""
+    try:
+        from selenium import webdriver
+        from selenium.webdriver.chrome.service import Service
+    except ImportError:
+        webdriver = None
+    chromium, driver = shutil.which("chromium"), shutil.which("chromedriver")
+    if not (webdriver and chromium and driver):
+        print(f"NOT RUN: {NAME}: no page was opened, for want of chromium, chromium-driver or python3-selenium (report/install.sh)")
+        return None
+    options = webdriver.ChromeOptions()
+    options.binary_location = chromium
+    for word in "--headless=new --no-sandbox --disable-gpu --disable-dev-shm-usage --window-size=1400,1000 --disable-component-update".split():
+        options.add_argument(word)
+    options.set_capability("goog:loggingPrefs", {"browser": "ALL"})
+    return webdriver.Chrome(service=Service(driver), options=options)
+
+
+def number(text):
+    return text.replace(",", "")
+
+
+def millis(time):
+    return f"{int(time) / 1e6:,.3f}"
+
+
+def share(part, whole):
+    value = 100 * part / whole if whole else 0
+    return "< 0.01 %" if 0 < value < 0.01 else f"{value:.2f} %"
+
+
+def close(text, value):
+    """Whether a text with three digits behind the point is this number of nanoseconds in ms, however its last digit was rounded."""
+    return abs(float(number(text.removesuffix(" ms"))) - int(value) / 1e6) < 0.000501
+
+
+class Page:
+    def __init__(self, driver, name, place, width=1400):
+        self.driver, self.name = driver, name
+        driver.execute_cdp_cmd("Emulation.setDeviceMetricsOverride", {"width": width, "height": 1000, "deviceScaleFactor": 1, "mobile": False})
+        driver.get(place.as_uri())
+
+    def text(self, selector):
+        return self.run("const it = document.querySelector(arguments[0]); return it ? it.textContent : null", selector)
+
+    def run(self, script, *words):
+        return self.driver.execute_script(script, *words)
+
+    def says(self, holds, what):
+        check(holds, f"{self.name}: {what}")
+
+    def quiet(self):
+        self.says(self.run("return document.documentElement.dataset.ready") == "yes", "its script did not end")
+        self.says(self.run("return document.title").startswith("PIE: "), "its title, after hostile words")
+        self.says(self.run("return document.images.length + document.querySelectorAll('script').length") == 2, "elements that it did not have")
+        told = self.driver.get_log("browser")
+        self.says(not told, f"on its console: {told}")
+
+    def picture(self, kind):
+        """Takes a picture, and holds it not to be blank: many rows differ from the one above."""
+        shot = self.driver.get_screenshot_as_png()
+        if PICTURES:
+            Path(PICTURES, f"{self.name}-{kind}.png").write_bytes(shot)
+        packed, at = b"", 8
+        while at < len(shot):
+            size = int.from_bytes(shot[at : at + 4], "big")
+            packed += shot[at + 8 : at + 8 + size] if shot[at + 4 : at + 8] == b"IDAT" else b""
+            at += size + 12
+        rows = zlib.decompress(packed)
+        drawn = 1 - rows.count(0) / len(rows)
+        self.says(drawn > 0.01, f"{kind}: the picture is nearly blank, {drawn:.4f}")
+
+    def numbers(self, row):
+        """Holds the numbers that are seen to those of `pie explain --summary`."""
+        count = {field: int(value) for field, value in row.items()}
+        seen = self.run("return Object.fromEntries([...document.querySelectorAll('[data-field]')].map((it) => [it.dataset.field, it.textContent]))")
+        for field in ("arrivals", "arrived_bytes", "left", "bytes", "packets", "mark"):
+            self.says(number(seen[field]) == row[field], f"{field}: {seen[field]}, and not {row[field]}")
+        lost = count["early"] + count["bytes"] + count["packets"]
+        for field, wanted in (("lost", str(lost)), ("dropped", share(lost, count["arrivals"])), ("marked", share(count["mark"], count["arrivals"]))):
+            self.says(number(seen[field]) == wanted, f"{field}: {seen[field]}, and not {wanted}")
+        for field in ("mean_wait", "greatest_wait", "greatest_delay", "last_delay", "wait_99", "last_target", "last_burst_allowance"):
+            seen.setdefault("last_target", seen["target"])
+            self.says(field not in row or close(seen[field], row[field]), f"{field}: {seen.get(field)}, and not {row.get(field)}")
+        for field in ("greatest_probability", "last_probability"):
+            self.says(abs(float(seen[field].strip("<% ")) - count[field] / 1e10) < 0.0051 or seen[field] == "< 0.01 %", f"{field}: {seen[field]}")
+        length = count["last_moment"] - count["first_moment"]
+        for name, field in (("offered", "arrived_bytes"), ("carried", "carried_bytes")):
+            rate = 8000 * count.get(field, 0) / length if length else 0
+            near = field not in row or abs(float(seen[name].split()[0]) - rate) <= max(0.0001, 0.01 * rate)
+            self.says(near, f"{name}: {seen.get(name)}, and not {rate}")
+        above = seen.get("time_above_target", "")
+        wanted = f", {share(min(count.get('time_above_target', 0), length), length)}"
+        self.says("time_above_target" not in row or above.endswith(wanted), f"time above the target: {above}, and not {wanted}")
+        causes = self.run("return Object.fromEntries([...document.querySelectorAll('[data-cause]')].map((it) => [it.dataset.cause, it.textContent]))")
+        for field, value in row.items():
+            if field in causes or (re.match("picked|no_|word|low|short|burst_allowed|inactive|little", field) and value != "0"):
+                self.says(number(causes.get(field, "none")) == value, f"{field}: {causes.get(field)}, and not {value}")
+
+
+def hold_pages(driver, made):
+    for name, path, place, status, words in made:
+        page = Page(driver, name, place)
+        page.quiet()
+        told = page.text("#fault")
+        first = page.run("const it = document.querySelector('#fault'); return !it.hidden && it.getBoundingClientRect().top < 200")
+        page.says(bool(told) == bool(status) == first, f"what is said of its fault: {told!r}")
+        page.numbers(table(explain(path, "--summary", "--csv", *words)[1])[0])
+        page.picture("wide")
+
+
+def hold_use(driver, place, path):
+    """A zoom, a reading, a click, a search and keys."""
+    from selenium.webdriver import ActionChains, Keys
+
+    page = Page(driver, "use", place)
+    chart = driver.find_elements("css selector", "svg")
+    labels = "return [...document.querySelectorAll('svg')].map((it) => [...it.querySelectorAll('text')].map((text) => text.textContent).join(' '))"
+    before = page.run(labels)
+    ActionChains(driver).move_to_element_with_offset(chart[0], -200, 0).click_and_hold().move_by_offset(150, 0).release().perform()
+    after = page.run(labels)
+    page.says(all(one != other for one, other in zip(before, after)), "a zoom: a chart is as it was")
+    page.says("--from" in page.text("#command"), "a zoom: no command for the time")
+    driver.find_element("css selector", "#charts").send_keys("0")
+    page.says(page.run(labels) == before and page.text("#command") == "", "key 0: not the whole time")
+    driver.find_element("css selector", "#in").click()
+    page.says(page.run(labels) != before, "button +: no zoom")
+    driver.find_element("css selector", "#whole").click()
+    ActionChains(driver).move_to_element_with_offset(chart[0], 50, 20).perform()
+    page.says(re.search(r"queueing delay [\d.,]+ ms, probability [\d.]+ %", page.text("#read")), f"a reading: {page.text('#read')}")
+    # a click on the line of a lost packet in the chart of lost packets
+    lost = page.run("const it = PACKETS[7]; return [it.number, it.said, across(it.time) - width / 2]")
+    ActionChains(driver).move_to_element_with_offset(chart[3], round(lost[2]), 0).click().perform()
+    chosen = page.run("return chosen && [chosen.number, chosen.said]")
+    page.says(page.text("#words") == chosen[1] == explain(path, "--event", str(chosen[0]))[1], f"a click: {page.text('#words')}")
+    page.says(chosen == lost[:2], f"a click: event {chosen[0]}, and not {lost[0]}")
+    tag = driver.find_element("css selector", "#tag")
+    wanted = page.run("return PACKETS[20].tag")
+    tag.send_keys(wanted + Keys.ENTER)
+    row = page.run("return [...document.querySelectorAll('#list tbody tr')].map((it) => it.cells[2].textContent)")
+    page.says(row and row[0] == wanted and all(it.startswith(wanted) for it in row), f"a search for {wanted}: {row}")
+    page.says(f"packet {wanted}," in page.text("#words"), "a search: not its words")
+    # a list that was cut says so, with the command that shows the rest
+    status, text, _ = report(path, "--list", "5")
+    short = place.with_name("short.html")
+    short.write_text(text)
+    tag.send_keys("x")
+    page.says(page.run("return document.querySelector('#list').hidden"), "a search for no tag: there are rows")
+    tag.clear()
+    driver.find_element("css selector", "#charts").send_keys("n")
+    page.says("event " in page.text("#words"), "key n: no words")
+    page.quiet()
+    page = Page(driver, "cut list", short)
+    told = page.text("#listed")
+    command = re.search(r"pie explain --lost --from (\d+)ns", told)
+    page.says(status == 0 and "the first 5 are listed" in told and command, f"what it says of the list: {told}")
+    page.says(page.run("return document.querySelectorAll('#list tbody tr').length") == 5, "another number of rows")
+    rest = explain(path, "--lost", "--csv", "--from", f"{command[1]}ns")[1]
+    lost = table(explain(path, "--lost", "--csv")[1])
+    page.says(table(rest) == lost[4:], "the command shows other packets than the last listed and the rest")
+    page.quiet()
+
+
+def hold_looks(driver, place):
+    """Light and dark, wide and narrow, and on paper."""
+    grounds = set()
+    for scheme in ("light", "dark"):
+        driver.execute_cdp_cmd("Emulation.setEmulatedMedia", {"features": [{"name": "prefers-color-scheme", "value": scheme}]})
+        for width in (1500, 390):
+            page = Page(driver, f"{scheme} {width}", place, width)
+            grounds.add(page.run("return getComputedStyle(document.body).backgroundColor"))
+            page.says(page.run("return document.documentElement.scrollWidth <= innerWidth"), "it is wider than the window")
+            page.picture("looks")
+    check(len(grounds) == 2, f"light and dark: {grounds}")
+    driver.execute_cdp_cmd("Emulation.setEmulatedMedia", {"media": "print", "features": [{"name": "prefers-color-scheme", "value": "dark"}]})
+    page = Page(driver, "print", place)
+    page.says(page.run("return getComputedStyle(document.body).backgroundColor") == "rgb(255, 255, 255)", "paper is not white")
+    driver.execute_cdp_cmd("Emulation.setEmulatedMedia", {"media": "", "features": []})
+
+
+def main():
+    with tempfile.TemporaryDirectory() as folder:
+        made = list(pages(folder))
+        files(folder)
+        lies = lying_program(folder)
+        driver = browser()
+        if driver:
+            try:
+                hold_pages(driver, made)
+                overload = next(it for it in made if it[0] == "overload")
+                hold_use(driver, overload[2], overload[1])
+                hold_looks(driver, overload[2])
+                Page(driver, "hostile words of a program", lies).quiet()
+            finally:
+                driver.quit()
+    finish()
+
+
+if __name__ == "__main__":
+    # Debian's python3-selenium is for Debian's own Python.
+    own = "/usr/bin/python3"
+    missing = subprocess.run([sys.executable, "-c", "import selenium"], capture_output=True, check=False).returncode
+    if missing and os.path.realpath(sys.executable) != os.path.realpath(own) and os.path.exists(own) and "REPORT_PYTHON" not in os.environ:
+        os.execve(own, [own, *sys.argv], {**os.environ, "REPORT_PYTHON": own})
+    main()

@@ -108,46 +108,65 @@ picked_words (fate.Marked threshold) = joined (codes "  marked: its endpoints un
 picked_words fate.NotCapable = codes "  dropped: its endpoints do not understand a mark\n"
 picked_words (fate.NotBelow threshold) = joined (codes "  dropped, not marked: the probability is not below " ∷ per_cent threshold ∷ codes "\n" ∷ [])
 
--- what was accumulated, with the probability of this arrival
-unfoldable pub sum_words : ℕ → ℕ → List ℕ
-sum_words accu prob = joined (codes "  the accumulated probability, with this one, is " ∷ per_cent (min (accu + prob) (2 ^ 64 - 1)) ∷ [])
+-- what the probability comes to for a packet whose size scales it; nothing where that is the probability itself
+unfoldable pub scaled_words : ℕ → ℕ → List ℕ
+scaled_words prob counted =
+    if counted == prob then []
+    else joined (codes "  the probability, " ∷ per_cent prob ∷ codes ", comes to " ∷ per_cent counted ∷ codes " for a packet of this size\n" ∷ [])
 
--- how the random word compares with the probability
-unfoldable pub compared_words : ℕ → ℕ → List ℕ → List ℕ → List ℕ
-compared_words word prob outcome compares =
-    joined (codes "\n  " ∷ outcome ∷ codes ": its random word, " ∷ word_text word ∷ codes ", " ∷ compares ∷ codes " the probability, "
-    ∷ per_cent prob ∷ codes "\n" ∷ [])
+-- what was accumulated, with what the probability counts as for this arrival
+unfoldable pub total_words : ℕ → ℕ → List ℕ
+total_words accu counted = joined (codes "  the accumulated probability, with this one, is " ∷ per_cent (min (accu + counted) (2 ^ 64 - 1)) ∷ [])
 
--- at a probability above 0
-unfoldable pub considered_words : Cause → List ℕ
-considered_words (LittleAccumulated accu prob) = joined (sum_words accu prob ∷ codes ", below 85 %\n" ∷ [])
-considered_words (PickedBySum accu prob picked) = joined (sum_words accu prob ∷ codes ", at least 850 %\n" ∷ picked_words picked ∷ [])
-considered_words (PickedByWord accu prob word picked) = joined
-    (sum_words accu prob ∷ compared_words word prob (codes "picked") (codes "is below") ∷ picked_words picked ∷ [])
-considered_words (WordNotBelow accu prob word) = joined (sum_words accu prob ∷ compared_words word prob (codes "not picked") (codes "is not below")
+unfoldable pub sum_words : ℕ → ℕ → ℕ → List ℕ
+sum_words prob accu counted = joined (scaled_words prob counted ∷ total_words accu counted ∷ [])
+
+-- what the random word is compared with
+unfoldable pub counted_name : ℕ → ℕ → List ℕ
+counted_name prob counted = if counted == prob then codes "the probability" else codes "what that comes to"
+
+-- how the random word compares with what the probability, by this name, counts as
+unfoldable pub compared_words : List ℕ → ℕ → ℕ → List ℕ → List ℕ → List ℕ
+compared_words name word counted outcome compares =
+    joined (codes "\n  " ∷ outcome ∷ codes ": its random word, " ∷ word_text word ∷ codes ", " ∷ compares ∷ codes " " ∷ name ∷ codes ", "
+    ∷ per_cent counted ∷ codes "\n" ∷ [])
+
+-- where the probability counts as one above 0
+unfoldable pub considered_words : ℕ → Cause → List ℕ
+considered_words prob (LittleAccumulated accu counted) = joined (sum_words prob accu counted ∷ codes ", below 85 %\n" ∷ [])
+considered_words prob (PickedBySum accu counted picked) = joined (sum_words prob accu counted ∷ codes ", at least 850 %\n" ∷ picked_words picked ∷ [])
+considered_words prob (PickedByWord accu counted word picked) = joined
+    (sum_words prob accu counted ∷ compared_words (counted_name prob counted) word counted (codes "picked") (codes "is below") ∷ picked_words picked
     ∷ [])
-considered_words _ = codes ""
+considered_words prob (WordNotBelow accu counted word) = joined
+    (sum_words prob accu counted ∷ compared_words (counted_name prob counted) word counted (codes "not picked") (codes "is not below") ∷ [])
+considered_words prob _ = codes ""
 
-unfoldable pub cause_words : Cause → List ℕ
-cause_words (NoRoomInBytes bytes size limit) =
+-- where it counts as 0
+unfoldable pub never_words : ℕ → List ℕ
+never_words prob = if prob == 0 then codes "  the probability is 0\n" else scaled_words prob 0
+
+-- what decided it, at this probability
+unfoldable pub cause_words : ℕ → Cause → List ℕ
+cause_words shown (NoRoomInBytes bytes size limit) =
     joined (codes "  the queue holds " ∷ decimal bytes ∷ codes " bytes: with " ∷ decimal size ∷ codes " more it would be above its limit of "
     ∷ decimal limit ∷ codes "\n" ∷ [])
-cause_words (NoRoomInPackets packets) = joined (codes "  the ring is full: it holds " ∷ decimal packets ∷ codes " packets\n" ∷ [])
-cause_words Inactive = codes "  the controller is turned off\n"
-cause_words (BurstAllowed burst) = joined (codes "  a burst is allowed: " ∷ millis burst ∷ codes " are left of it\n" ∷ [])
-cause_words (LowDelay old_delay target prob) =
+cause_words shown (NoRoomInPackets packets) = joined (codes "  the ring is full: it holds " ∷ decimal packets ∷ codes " packets\n" ∷ [])
+cause_words shown Inactive = codes "  the controller is turned off\n"
+cause_words shown (BurstAllowed burst) = joined (codes "  a burst is allowed: " ∷ millis burst ∷ codes " are left of it\n" ∷ [])
+cause_words shown (LowDelay old_delay target prob) =
     joined (codes "  the old delay, " ∷ millis old_delay ∷ codes ", is below half the target of " ∷ millis target
     ∷ codes ",\n  and the probability, " ∷ per_cent prob ∷ codes ", below 20 %\n" ∷ [])
-cause_words (ShortQueue bytes two_packets) =
+cause_words shown (ShortQueue bytes two_packets) =
     joined (codes "  the queue is short: " ∷ decimal bytes ∷ codes " bytes, at most two mean packets (" ∷ decimal two_packets ∷ codes " bytes)\n"
     ∷ [])
-cause_words NoProbability = codes "  the probability is 0\n"
-cause_words cause = considered_words cause
+cause_words shown NoProbability = never_words shown
+cause_words shown cause = considered_words shown cause
 
 -- nothing of an event that is no arrival
-unfoldable pub reason_words : Option Cause → List ℕ
-reason_words None = codes ""
-reason_words (Some cause) = cause_words cause
+unfoldable pub reason_words : ℕ → Option Cause → List ℕ
+reason_words prob None = codes ""
+reason_words prob (Some cause) = cause_words prob cause
 
 -- ---- whether the event turned the controller on or off
 
@@ -187,5 +206,5 @@ before_words told =
 unfoldable pub words : Explained → List ℕ
 words all =
     joined (deed_words all.told.number all.told.before.active all.told.event.command all.told.event.answer all.told.waited
-    ∷ when_words all.told.moment all.told.event.caller ∷ reason_words all.told.cause ∷ turned_words all.told.before.active all.after.active
+    ∷ when_words all.told.moment all.told.event.caller ∷ reason_words all.told.before.prob all.told.cause ∷ turned_words all.told.before.active all.after.active
     ∷ before_words all.told ∷ [])

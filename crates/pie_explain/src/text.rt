@@ -1,6 +1,7 @@
-//! An explanation in words, of four to eight lines.
+//! An explanation in words, of four to nine lines.
 ghost use Rattle.std.specs.Prelude.{◌≡◌, ◌++◌, OnOk, string_bytes};
-ghost use Rattle.pie_explain.specs.Words.{before_words, burst_words, cause_words, compared_words, considered_words, deed_words, departure_words};
+ghost use Rattle.pie_explain.specs.Words.{before_words, burst_words, cause_words, compared_words, considered_words, counted_name, deed_words};
+ghost use Rattle.pie_explain.specs.Words.{departure_words, never_words, scaled_words, total_words};
 ghost use Rattle.pie_explain.specs.Words.{ecn_name, last_words, verdict_text, packet_words, picked_words, queue_words, reason_words, setter_words};
 ghost use Rattle.pie_explain.specs.Words.{sum_words, turned_words, update_words, when_words, words};
 
@@ -152,40 +153,88 @@ fn push_fate(page: &mut String, fate: Fate) -> Result<(), AllocError>
     }
 }
 
-/// What was accumulated, with the probability of this arrival.
-#[tactic(auto, unfolding(crate::specs::Words::sum_words))]
-fn push_sum(page: &mut String, accu: u64, prob: u64) -> Result<(), AllocError>
-    ensures { OnOk result (string_bytes page.new ≡ string_bytes page.old ++ sum_words accu prob) }
+/// What the probability comes to for a packet whose size scales it; nothing where that is the probability itself.
+#[tactic(auto, unfolding(crate::specs::Words::scaled_words))]
+fn push_scaled(page: &mut String, prob: u64, counted: u64) -> Result<(), AllocError>
+    ensures { OnOk result (string_bytes page.new ≡ string_bytes page.old ++ scaled_words prob counted) }
 {
-    let sum = PerCent(accu.saturating_add(prob));
+    if counted == prob {
+        return Ok(());
+    }
+    let (prob, counted) = (PerCent(prob), PerCent(counted));
+    write!(
+        page,
+        "  the probability, {prob}, comes to {counted} for a packet of this size\n"
+    )
+}
+
+/// What was accumulated, with what the probability counts as for this arrival.
+#[tactic(auto, unfolding(crate::specs::Words::total_words))]
+fn push_total(page: &mut String, accu: u64, counted: u64) -> Result<(), AllocError>
+    ensures { OnOk result (string_bytes page.new ≡ string_bytes page.old ++ total_words accu counted) }
+{
+    let sum = PerCent(accu.saturating_add(counted));
     write!(
         page,
         "  the accumulated probability, with this one, is {sum}"
     )
 }
 
-/// How the random word compares with the probability.
+/// The same, below what the probability comes to, where that is not the probability itself.
+#[tactic(auto, unfolding(crate::specs::Words::sum_words))]
+fn push_sum(page: &mut String, prob: u64, accu: u64, counted: u64) -> Result<(), AllocError>
+    ensures { OnOk result (string_bytes page.new ≡ string_bytes page.old ++ sum_words prob accu counted) }
+{
+    push_scaled(page, prob, counted)?;
+    push_total(page, accu, counted)
+}
+
+/// What the random word is compared with.
+#[tactic(auto, unfolding(crate::specs::Words::counted_name))]
+fn counted_name(prob: u64, counted: u64) -> &'static str
+    ensures { result.now ≡ counted_name prob counted }
+{
+    if counted == prob {
+        "the probability"
+    } else {
+        "what that comes to"
+    }
+}
+
+/// How the random word compares with what the probability, by this name, counts as.
 #[tactic(auto, unfolding(crate::specs::Words::compared_words))]
 fn push_word(
     page: &mut String,
+    name: &str,
     word: u64,
-    prob: u64,
+    counted: u64,
     outcome: &str,
     compares: &str,
 ) -> Result<(), AllocError>
-    ensures { OnOk result (string_bytes page.new ≡ string_bytes page.old ++ compared_words word prob outcome.now compares.now) }
+    ensures { OnOk result (string_bytes page.new ≡ string_bytes page.old ++ compared_words name.now word counted outcome.now compares.now) }
 {
-    let (word, prob) = (Word(word), PerCent(prob));
+    let (word, counted) = (Word(word), PerCent(counted));
     write!(
         page,
-        "\n  {outcome}: its random word, {word}, {compares} the probability, {prob}\n"
+        "\n  {outcome}: its random word, {word}, {compares} {name}, {counted}\n"
     )
 }
 
-/// Why an arrival was decided so.
+/// Why nothing could pick an arrival: the probability is 0, or comes to it.
+#[tactic(auto, unfolding(crate::specs::Words::never_words))]
+fn push_never(page: &mut String, prob: u64) -> Result<(), AllocError>
+    ensures { OnOk result (string_bytes page.new ≡ string_bytes page.old ++ never_words prob) }
+{
+    if prob == 0 {
+        return write!(page, "  the probability is 0\n");
+    }
+    push_scaled(page, prob, 0)
+}
+
+/// Why an arrival was decided so, at this probability.
 #[tactic(auto, unfolding(crate::specs::Words::cause_words))]
-fn push_cause(page: &mut String, cause: Cause) -> Result<(), AllocError>
-    ensures { OnOk result (string_bytes page.new ≡ string_bytes page.old ++ cause_words cause) }
+fn push_cause(page: &mut String, shown: u64, cause: Cause) -> Result<(), AllocError>
+    ensures { OnOk result (string_bytes page.new ≡ string_bytes page.old ++ cause_words shown cause) }
 {
     match cause {
         Cause::NoRoomInBytes { bytes, size, limit } => write!(
@@ -215,23 +264,23 @@ fn push_cause(page: &mut String, cause: Cause) -> Result<(), AllocError>
             page,
             "  the queue is short: {bytes} bytes, at most two mean packets ({two_packets} bytes)\n"
         ),
-        Cause::NoProbability => write!(page, "  the probability is 0\n"),
-        _ => push_considered(page, cause),
+        Cause::NoProbability => push_never(page, shown),
+        _ => push_considered(page, shown, cause),
     }
 }
 
-/// Why an arrival was decided so that was considered at a probability above 0.
+/// Why an arrival was decided so that was considered, where the probability counted as one above 0.
 #[tactic(auto, unfolding(crate::specs::Words::considered_words))]
-fn push_considered(page: &mut String, cause: Cause) -> Result<(), AllocError>
-    ensures { OnOk result (string_bytes page.new ≡ string_bytes page.old ++ considered_words cause) }
+fn push_considered(page: &mut String, shown: u64, cause: Cause) -> Result<(), AllocError>
+    ensures { OnOk result (string_bytes page.new ≡ string_bytes page.old ++ considered_words shown cause) }
 {
     match cause {
         Cause::LittleAccumulated { accu, prob } => {
-            push_sum(page, accu, prob)?;
+            push_sum(page, shown, accu, prob)?;
             write!(page, ", below 85 %\n")
         }
         Cause::PickedBySum { accu, prob, fate } => {
-            push_sum(page, accu, prob)?;
+            push_sum(page, shown, accu, prob)?;
             write!(page, ", at least 850 %\n")?;
             push_fate(page, fate)
         }
@@ -241,25 +290,27 @@ fn push_considered(page: &mut String, cause: Cause) -> Result<(), AllocError>
             word,
             fate,
         } => {
-            push_sum(page, accu, prob)?;
-            push_word(page, word, prob, "picked", "is below")?;
+            push_sum(page, shown, accu, prob)?;
+            let name = counted_name(shown, prob);
+            push_word(page, name, word, prob, "picked", "is below")?;
             push_fate(page, fate)
         }
         Cause::WordNotBelow { accu, prob, word } => {
-            push_sum(page, accu, prob)?;
-            push_word(page, word, prob, "not picked", "is not below")
+            push_sum(page, shown, accu, prob)?;
+            let name = counted_name(shown, prob);
+            push_word(page, name, word, prob, "not picked", "is not below")
         }
         _ => Ok(()),
     }
 }
 
-/// Why an event was decided so; nothing of one that is no arrival.
+/// Why an event was decided so, at this probability; nothing of one that is no arrival.
 #[tactic(auto, unfolding(crate::specs::Words::reason_words))]
-fn push_reason(page: &mut String, cause: Option<Cause>) -> Result<(), AllocError>
-    ensures { OnOk result (string_bytes page.new ≡ string_bytes page.old ++ reason_words cause) }
+fn push_reason(page: &mut String, prob: u64, cause: Option<Cause>) -> Result<(), AllocError>
+    ensures { OnOk result (string_bytes page.new ≡ string_bytes page.old ++ reason_words prob cause) }
 {
     match cause {
-        Some(cause) => push_cause(page, cause),
+        Some(cause) => push_cause(page, prob, cause),
         None => Ok(()),
     }
 }
@@ -349,7 +400,7 @@ pub(crate) fn push_text(page: &mut String, all: &Explained) -> Result<(), AllocE
         told.waited,
     )?;
     push_when(page, told.moment, event.caller)?;
-    push_reason(page, told.cause)?;
+    push_reason(page, told.before.prob, told.cause)?;
     push_turned(page, was_active, all.after.active)?;
     push_before(page, told)
 }

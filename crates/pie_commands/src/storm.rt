@@ -111,6 +111,7 @@ fn size_of(options: &ArgMatches<'_>) -> Option<Size>
 }
 
 /// RFC 8033's optional elements that these options choose; none where a word names no choice.
+#[tactic(auto, unfolding(crate::specs::StormEnds::elements_in))]
 fn elements_of(options: &ArgMatches<'_>) -> Option<Elements>
     ensures { result ≡ elements_in (rows_of (found_of options.now)) }
 {

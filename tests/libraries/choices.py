@@ -3,7 +3,7 @@
 each answer and each look with the stored history: all sixteen choices of the optional elements, in both profiles. Those whose opening is
 refused are passed over: the library's caller owns the queue, so it has no such limits.
 
-usage: tests/libraries/choices.py [FOLDER..]      FOLDER: has NAME.trace with NAME.history, or NAME.in with NAME.out; else tests/rows
+usage: tests/libraries/choices.py [FOLDER..]      FOLDER: has NAME.trace with NAME.history, or NAME.in with NAME.out; else tests/rows/choices
 needs: library"""
 import ctypes
 import os
@@ -132,7 +132,7 @@ def rows(folder):
 
 
 def main():
-    folders = [Path(it) for it in sys.argv[1:]] or [ROOT / "tests/rows"]
+    folders = [Path(it) for it in sys.argv[1:]] or [ROOT / "tests/rows/choices"]
     with tempfile.TemporaryDirectory() as work:
         pie = library(work)
         count = answers = 0

@@ -40,7 +40,7 @@ def told():
     options = {}
     for name in ["", *names]:
         text = top if name == "" else output([PROGRAM, name, "--help"])
-        options[name] = {option: bool(value) for option, value in re.findall(r"--([\w-]+)( <\w+>)?", section(text, "Options"))}
+        options[name] = {option: bool(value) for option, value in re.findall(r"--([\w-]+)( <[\w|]+>)?", section(text, "Options"))}
     return names, options
 
 

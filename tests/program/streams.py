@@ -84,7 +84,8 @@ def interrupted():
         made = f"{work}/made"
         with open(made, "wb") as file:
             file.write(b"older\n")
-        process = subprocess.Popen([PROGRAM, "run", "-o", made, "--force"], stdin=subprocess.PIPE, stderr=subprocess.PIPE)
+        process = subprocess.Popen([PROGRAM, "run", "-o", made, "--force"], stdin=subprocess.PIPE, stderr=subprocess.PIPE,
+                                   preexec_fn=lambda: signal.signal(signal.SIGINT, signal.SIG_DFL))
         process.stdin.write(opening + b"".join(b"depart,1,%d\n" % moment for moment in moments))
         process.stdin.flush()
         for _ in range(3000):

@@ -2,7 +2,7 @@
 
 use crate::report::{checksum, nanos};
 use crate::words::Words;
-use pie_book::{Answer, Book, Choices, Command, Core, Event, Limits, Mode, Profile};
+use pie_book::{Answer, Book, Choices, Command, Core, Limits, Mode, Profile, Recorded};
 use pie_params::{Elements, Params};
 use pie_queue::{Ecn, Packet};
 use std::alloc::Global;
@@ -174,6 +174,6 @@ pub fn measure<R: Clock + Print>(rt: &R, alloc: Global) -> io::Result<()> {
     measure_core(rt, alloc)?;
     measure_book(rt, alloc, "book_recorded_bounded", Mode::Bounded)?;
     measure_book(rt, alloc, "book_recorded_rolling", Mode::Rolling)?;
-    let event = size_of::<Event>();
+    let event = size_of::<Recorded>();
     println!(rt; "book_event {event} bytes")
 }

@@ -4,7 +4,7 @@ ghost use Rattle.std.specs.Prelude.{◌≡◌, All, IfOk, Some};
 ghost use Rattle.pie_lock.specs.Tally.{Tells};
 
 use crate::report::{checksum, nanos, sum, throughput};
-use pie_lock::{Counter, CounterEntry, Held, Pass, RuledLock};
+use pie_lock::{Counter, CounterEntry, Held, Pass, RuledLock, no_entries, one_entry};
 use std::alloc::{AllocError, Global};
 use std::rt::Clock;
 use std::sync::{Mutex, Wait};
@@ -33,12 +33,12 @@ fn add(
     requires kept { (held.lock.origin ≡ Some tt) × Tells held.state held.front }
     ensures { result.lock ≡ lock.now }
 {
-    let entry = if held.state().add(amount) {
-        Some(CounterEntry { caller, amount })
+    if held.state().add(amount) {
+        let entry = CounterEntry { caller, amount };
+        lock.put(held, one_entry(&entry))
     } else {
-        None
-    };
-    lock.put(held, entry)
+        lock.put(held, no_entries())
+    }
 }
 
 // So many calls by one thread.

@@ -2,6 +2,7 @@
 #![tactic(auto)]
 
 mod book;
+mod bursts;
 mod control;
 mod early;
 mod link;
@@ -38,6 +39,11 @@ fn measure<R: Threads + Wait + Clock + Print + Sync>(
         "lock" => lock::measure(rt, alloc),
         "book" => book::measure(rt, alloc),
         "link" => link::measure(rt, alloc),
+        "bursts1" => bursts::measure(rt, alloc, 1),
+        "bursts2" => bursts::measure(rt, alloc, 2),
+        "bursts3" => bursts::measure(rt, alloc, 3),
+        "bursts4" => bursts::measure(rt, alloc, 4),
+        "bursts8" => bursts::measure(rt, alloc, 8),
         "all" => {
             rate::measure(rt, alloc)?;
             control::measure(rt, alloc)?;
@@ -51,5 +57,7 @@ fn measure<R: Threads + Wait + Clock + Print + Sync>(
 }
 
 fn usage(rt: &impl Print) -> io::Result<()> {
-    println!(rt; "pie_bench: name a measurement: rate, control, early, lock, book, link or all")
+    println!(rt;
+        "pie_bench: name a measurement: rate, control, early, lock, book, link or all; of bursts bursts1, 2, 3, 4 or 8"
+    )
 }

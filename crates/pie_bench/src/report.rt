@@ -32,6 +32,19 @@ pub fn throughput(
     println!(rt; "{name}_threads_{threads} {rate} calls/s")
 }
 
+/// Prints a number of a measurement of bursts.
+pub fn line(
+    rt: &impl Print,
+    name: &str,
+    burst: u64,
+    threads: u16,
+    what: &str,
+    number: u128,
+    unit: &str,
+) -> io::Result<()> {
+    println!(rt; "{name}_{burst}_threads_{threads}{what} {number} {unit}")
+}
+
 /// What the numbers add up to.
 pub fn sum(numbers: &[u64]) -> u64 {
     let mut sum: u64 = 0;

@@ -5,6 +5,7 @@ pub mod Kept
 pub mod Views
 pub mod Opening
 pub mod Commands
+pub mod Bursts
 pub mod Folds
 pub mod Readings
 pub mod Headline

@@ -1,5 +1,5 @@
 -- What contracts see of a link and of its callers.
-use Rattle.std.specs.Prelude.{◌≡◌, ℕ, List}
+use Rattle.std.specs.Prelude.{◌≡◌, List}
 use Rattle.pie_lock.specs.Views.{LockView, PassView, HoldsAll}
 use Rattle.pie_lock.specs.Steps.{GoesOn}
 use Rattle.pie_book.specs.declared.opening.Opening.{Opening}

@@ -16,7 +16,7 @@ use crate::link::Link;
 use crate::told::{Told, Tried};
 use crate::turn;
 use core::mem::replace_with;
-use pie_book::{Answer, Command, Event, FoldRefusal, Refusal, Registers, Stats};
+use pie_book::{Answer, Command, FoldRefusal, Recorded, Refusal, Registers, Stats};
 use pie_params::Params;
 use pie_queue::Packet;
 use std::sync::Wait;
@@ -232,7 +232,7 @@ impl Link {
         &self,
         caller: &mut Caller,
         n: u64,
-    ) -> Result<Told<Vec<Event>>, Tried<FoldRefusal>>
+    ) -> Result<Told<Vec<Recorded>>, Tried<FoldRefusal>>
         requires own { caller.old.lock ≡ self.now }
         ensures folded { TriesToFold self.now caller.old n result caller.new }
         ensures stays { StaysOne caller.old caller.new }
@@ -251,7 +251,7 @@ impl Link {
         rt: &R,
         caller: &mut Caller,
         n: u64,
-    ) -> Result<Told<Vec<Event>>, FoldRefusal>
+    ) -> Result<Told<Vec<Recorded>>, FoldRefusal>
         requires own { caller.old.lock ≡ self.now }
         ensures folded { Folds self.now caller.old n result caller.new }
         ensures stays { StaysOne caller.old caller.new }

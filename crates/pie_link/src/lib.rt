@@ -9,6 +9,7 @@
 //! further entry of this caller. An event call at Ok has the decision there, and a refusal is that of the book there: `HistoryFull`
 //! comes exactly where the tail of a bounded link is full. A fold of n events is Ok only where the tail holds n, and hands out the
 //! oldest; `TooMany` names how many there are. The caller has then been shown that history, with its event or fold.
+//! `arrive_all`, `try_arrive_all` and `depart_all` make a burst of such calls after one history, with nothing of another caller between.
 //! `registers` and `stats` are the look-back over such a history. `Busy` is not answered to a caller with all numbers. `Link::open` and
 //! `open_with` promise the headline (clause `headline`, `specs/Headline.antt`): whenever the lock is free there is one
 //! history of one thread that begins with everything any caller has been shown, contains each caller's calls once and in its
@@ -19,20 +20,25 @@
 //! caller that was dropped had been shown.
 #![tactic(auto)]
 
+pub mod arrival;
+mod burst_calls;
+mod burst_turn;
 pub mod caller;
 mod calls;
 pub mod entry;
 mod fold_count;
 mod kept_book;
+mod kept_bursts;
 mod law;
 pub mod link;
 pub mod refusal;
 pub mod told;
 mod turn;
 
+pub use arrival::Arrival;
 pub use caller::Caller;
 pub use entry::Entry;
 pub use law::entries_look_back;
 pub use link::Link;
 pub use refusal::LinkRefusal;
-pub use told::{Told, Tried};
+pub use told::{NoRoom, Told, Tried};

@@ -1,5 +1,7 @@
 //! What a caller is told, and why nothing was done.
 
+use thiserror::Error;
+
 /// What a call was answered, and at which place of the history.
 #[derive(Debug, Drop)]
 pub struct Told<T> {
@@ -18,3 +20,8 @@ pub enum Tried<R> {
     /// The book refused the call.
     Refused(R),
 }
+
+/// The vector for the answers of a burst has less room than the burst may need. Nothing was done.
+#[derive(Clone, Copy, Debug, PartialEq, Eq, Error)]
+#[error("no room for the answers")]
+pub struct NoRoom;

@@ -1,11 +1,10 @@
 -- What a pass follows, as its numbers are cut, as the history grows, and as two passes become one.
-use Rattle.std.proofs.Common.{◌≡◌, ℕ, ◌<◌, ◌≤◌, ◌⊎◌, Bool, true, false, cond, min, max, List, [], ◌∷◌, ◌++◌, Option, Some, None, IfSome, length, refl}
+use Rattle.std.proofs.Common.{◌≡◌, ℕ, ◌<◌, ◌≤◌, ◌⊎◌, Bool, true, false, cond, min, max, List, [], ◌∷◌, ◌++◌, length, refl, sym, subst}
 use Rattle.std.proofs.Common.{◌∙◌, inl, inr, ⊎_elim, arith}
 use Rattle.std.proofs.Math.Dec.{ltb}
 use Rattle.std.proofs.lemmas.Bool.Decides.{nat_tests}
 use Rattle.std.specs.List.{All}
-use Rattle.std.specs.Option.{option_to_list}
-use Rattle.std.proofs.lemmas.List.Elements.{All-append, All-cons, All-nil}
+use Rattle.std.proofs.lemmas.List.Elements.{All-append, All-head, All-tail, All-weaker}
 use mathlib.Core.List.{IsPrefix}
 use mathlib.Core.Logic.{dite}
 use native.Mathlib.Decide.{dec_le}
@@ -16,7 +15,7 @@ use Rattle.pie_lock.specs.Own.{is_within, own}
 use Rattle.pie_lock.specs.Rule.{IsNumberOf, IsNumberAt, EachPass, Follows}
 use Rattle.pie_lock.specs.Steps.{with_front, with_numbers, made_one, longer, AreAdjacent, GoesOn}
 use Rattle.pie_lock.proofs.Prefixes.{prefix_self, prefix_trans, prefix_shorter}
-use Rattle.pie_lock.proofs.Owns.{same_over_quiet, quiet_one, same_between, same_either, within, within_low, within_high, not_within}
+use Rattle.pie_lock.proofs.Owns.{same_over_quiet, same_between, same_either, within, within_low, within_high, not_within}
 
 -- a number between two adjacent ranges' ends is in one of them
 pub in_either : (a b c d n : ℕ) → (b ≡ c) ⊎ (d ≡ a) → a < b → c < d → min a c ≤ n → n < max b d → ((a ≤ n) × (n < b)) ⊎ ((c ≤ n) × (n < d))
@@ -60,41 +59,43 @@ module _ {E O : Type 0} (number : E → ℕ) (origin : O) (numbers : ℕ) where
     of_origin = f.of_origin;
   }
 
-  nothing_owned : (k : ℕ) (p : Shown E O) (added : Option E) → IfSome added (λ e. number e ≡ k) → (IsNumberOf p k → ⊥)
-      → own number p.first p.limit (option_to_list added) ≡ []
-  nothing_owned k p None is not = refl
-  nothing_owned k p (Some e) is not =
-      quiet_one (λ x. is_within p.first p.limit (number x)) e (not_within p.first p.limit (number e)
-      (λ t. not (let low = t.0 in let high = t.1 in (omega arith, omega arith))))
+  nothing_owned : (k : ℕ) (p : Shown E O) (added : List E) → All (λ e. number e ≡ k) added → (IsNumberOf p k → ⊥)
+      → own number p.first p.limit added ≡ []
+  nothing_owned k p [] is not = refl
+  nothing_owned k p (e ∷ rest) is not =
+      let mine : number e ≡ k = All-head (λ x. number x ≡ k) e rest is in
+      let left : List E = own number p.first p.limit rest in
+      let apart : is_within p.first p.limit (number e) ≡ false = not_within p.first p.limit (number e)
+      (λ t. not (let low = t.0 in let high = t.1 in (omega arith, omega arith))) in
+      subst (λ v. cond v (e ∷ left) left ≡ []) (sym apart) (nothing_owned k p rest (All-tail (λ x. number x ≡ k) e rest is) not)
 
-  -- the history grows by an entry that is not of the pass
-  pub follows_longer : (history : List E) (k : ℕ) (p : Shown E O) (added : Option E) → IfSome added (λ e. number e ≡ k) → Fits history p
-      → (IsNumberOf p k → ⊥) → Fits (history ++ option_to_list added) p
+  -- the history grows by entries that are not of the pass
+  pub follows_longer : (history : List E) (k : ℕ) (p : Shown E O) (added : List E) → All (λ e. number e ≡ k) added → Fits history p
+      → (IsNumberOf p k → ⊥) → Fits (history ++ added) p
   follows_longer history k p added is f not = record {
-    shown = prefix_trans p.front history (history ++ option_to_list added) f.shown (option_to_list added, refl);
-    owned = same_over_quiet (λ x. is_within p.first p.limit (number x)) history (option_to_list added) (nothing_owned k p added is not) ∙ f.owned;
+    shown = prefix_trans p.front history (history ++ added) f.shown (added, refl);
+    owned = same_over_quiet (λ x. is_within p.first p.limit (number x)) history (added) (nothing_owned k p added is not) ∙ f.owned;
     nonempty = f.nonempty;
     below = f.below;
     of_all = f.of_all;
     of_origin = f.of_origin;
   }
 
-  pub each_longer : (history : List E) (k : ℕ) (u : Place E O) (added : Option E) → IfSome added (λ e. number e ≡ k)
+  pub each_longer : (history : List E) (k : ℕ) (u : Place E O) (added : List E) → All (λ e. number e ≡ k) added
       → EachPass (Follows number origin numbers history) u → (IsNumberAt u k → ⊥)
-      → EachPass (Follows number origin numbers (history ++ option_to_list added)) u
+      → EachPass (Follows number origin numbers (history ++ added)) u
   each_longer history k Spent added is f not = tt
   each_longer history k (Waits p) added is f not = follows_longer history k p added is f not
   each_longer history k (Holds p) added is f not = follows_longer history k p added is f not
   each_longer history k (Meets p q) added is f not =
       (follows_longer history k p added is f.0 (λ h. not (inl h)), follows_longer history k q added is f.1 (λ h. not (inr h)))
 
-  pub below_longer : (history : List E) (k : ℕ) (added : Option E) → IfSome added (λ e. number e ≡ k) → k < numbers
+  pub below_longer : (history : List E) (k : ℕ) (added : List E) → All (λ e. number e ≡ k) added → k < numbers
       → All (λ e. number e < numbers) history
-      → All (λ e. number e < numbers) (history ++ option_to_list added)
-  below_longer history k None is low all = All-append (λ e. number e < numbers) history [] all (All-nil (λ e. number e < numbers))
-  below_longer history k (Some e) is low all =
-      All-append (λ x. number x < numbers) history (e ∷ []) all
-      (All-cons (λ x. number x < numbers) e [] (omega arith) (All-nil (λ x. number x < numbers)))
+      → All (λ e. number e < numbers) (history ++ added)
+  below_longer history k added is low all =
+      All-append (λ e. number e < numbers) history added all
+      (All-weaker (λ e. number e ≡ k) (λ e. number e < numbers) (λ e mine. omega arith) added is)
 
   -- the longer of two fronts is a beginning of the history too, and begins with both
   longer_facts : (history : List E) (p q : Shown E O) → Fits history p → Fits history q → (b : Bool) → ltb (length p.front) (length q.front) ≡ b

@@ -1,8 +1,7 @@
 -- The store of FREE, by the seat that has the state, keeps the rule.
-use Rattle.std.proofs.Common.{◌≡◌, ℕ, ◌<◌, List, [], ◌∷◌, ◌++◌, Option, Some, IfSome, refl, ap, sym, ◌∙◌, subst, inl, ⊎_elim, arith, length-set}
+use Rattle.std.proofs.Common.{◌≡◌, ℕ, ◌<◌, List, [], ◌∷◌, ◌++◌, Option, Some, refl, ap, sym, ◌∙◌, subst, inl, ⊎_elim, arith, length-set}
 use Rattle.std.proofs.Common.{get_or-set_same}
 use Rattle.std.specs.List.{All}
-use Rattle.std.specs.Option.{option_to_list}
 use mathlib.Core.Option.{none, some, some-injective}
 use lib.ListN.{get_elem?}
 use Rattle.atomic_table.specs.Table.{State, gives, step, Allows}
@@ -27,8 +26,8 @@ module _ {S E O : Type 0} (number : E → ℕ) (origin_of : S → O) (tells : S 
       let e : Holds p ≡ Holds held.1.1 = some-injective (Holds p) (Holds held.1.1) (sym at ∙ (ap (get_elem? s.views) same ∙ held.1.2)) in
       ap (λ v. (pass_at v).front) e ∙ held.1.3
 
-  pub frees_keep : (slots id : ℕ) (p : Shown E O) (stored : S) (added : Option E) → p.origin ≡ Some (origin_of stored)
-      → tells stored (p.front ++ option_to_list added) → IfSome added (λ e. number e ≡ p.first)
+  pub frees_keep : (slots id : ℕ) (p : Shown E O) (stored : S) (added : List E) → p.origin ≡ Some (origin_of stored)
+      → tells stored (p.front ++ added) → All (λ e. number e ≡ p.first) added
       → Allows Rule slots id (Holds p, (0, Some stored) ∷ []) 0 (λ _. 0) (λ _. freed added (step slots 0 0 0 none) (Holds p, (0, Some stored) ∷ []) 0)
   frees_keep slots id p stored added from told mine s rule sized at wide =
       let history : List E = rule.1.0 in
@@ -36,8 +35,8 @@ module _ {S E O : Type 0} (number : E → ℕ) (origin_of : S → O) (tells : S 
       let held : WhileHeld number origin_of tells origin numbers history s = ⊎_elim (λ free. absurd (free.1 id p at)) (λ h. h) rule.1.2 in
       let same : p.front ≡ history = front_is id p s history at held in
       let f : Follows number origin numbers history p = agreed.each_follows id (Holds p) at in
-      let next : List E = p.front ++ option_to_list added in
-      let next_is : history ++ option_to_list added ≡ next = ap (λ l. l ++ option_to_list added) (sym same) in
+      let next : List E = p.front ++ added in
+      let next_is : history ++ added ≡ next = ap (λ l. l ++ added) (sym same) in
       let w : Place E O = Waits (with_front p next) in
       let owner : Some (origin_of stored) ≡ Some origin = sym from ∙ f.of_origin in
       let low = f.nonempty in let high = f.below in (

@@ -1,3 +1,4 @@
+pub mod Entries
 pub mod Own
 pub mod Rule
 pub mod Steps

@@ -1,6 +1,5 @@
 -- What the lock's calls promise, over what contracts see of passes and helds.
-use Rattle.std.specs.Prelude.{◌≡◌, ℕ, ◌-◌, ◌⊎◌, min, max, [], ◌++◌, Option}
-use Rattle.std.specs.Option.{option_to_list}
+use Rattle.std.specs.Prelude.{◌≡◌, ℕ, ◌-◌, ◌⊎◌, min, max, List, [], ◌++◌}
 use Rattle.pie_lock.specs.Views.{LockView, PassView, HeldView}
 use Rattle.pie_lock.specs.Steps.{GoesOn}
 
@@ -9,9 +8,9 @@ module _ {S E O : Type 0} where
   abbrev pub IsOfPass : PassView E O → HeldView S E O → Type 0
   IsOfPass p h = (h.lock ≡ p.lock) × (h.first ≡ p.first) × (h.limit ≡ p.limit)
 
-  -- the pass after a put: the lock and the numbers of the held, and its front with the entry added, if there is one
-  abbrev pub pass_after : HeldView S E O → Option E → PassView E O
-  pass_after h entry = record { lock = h.lock; front = h.front ++ option_to_list entry; first = h.first; limit = h.limit }
+  -- the pass after a put: the lock and the numbers of the held, and its front with the entries added
+  abbrev pub pass_after : HeldView S E O → List E → PassView E O
+  pass_after h added = record { lock = h.lock; front = h.front ++ added; first = h.first; limit = h.limit }
 
 module _ {E O : Type 0} where
   -- the pass of a new lock: it has all numbers, and was shown nothing

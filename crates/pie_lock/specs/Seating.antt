@@ -1,6 +1,5 @@
 -- The view of a lock, a pass and a held, from their fields.
-use Rattle.std.specs.Prelude.{◌≡◌, ℕ, ◌<◌, List, [], ◌∷◌, ◌++◌, Option, Some, None, IfSome}
-use Rattle.std.specs.Option.{option_to_list}
+use Rattle.std.specs.Prelude.{◌≡◌, ℕ, ◌<◌, List, [], ◌∷◌, ◌++◌, Option, Some, None, All}
 use Rattle.atomic_table.specs.Table.{Me}
 use Rattle.atomic_table.specs.Seated.{TableId}
 use Rattle.atomic_table.specs.declared.shared.Seat.{Seat}
@@ -39,14 +38,14 @@ pub record IsHolding {S E O : Type 0} (first limit : ℕ) (me : Me (Option S) (P
   pub holds : ◌≡◌ {A = Me (Option S) (Place E O)} me (Holds (pass_at me.0), (0, None) ∷ [])
   pub has : HasNumbers first limit (pass_at me.0)
 
--- the seat has a pass and the slot with this state in it, which has the lock's origin and tells the front with this entry, if there is one;
--- the entry stands under the pass's first number
-pub record IsLeaving {S E O : Type 0} (number : E → ℕ) (origin_of : S → O) (tells : S → List E → Type 0) (added : Option E) (state : S)
+-- the seat has a pass and the slot with this state in it, which has the lock's origin and tells the front with these entries;
+-- each of them stands under the pass's first number
+pub record IsLeaving {S E O : Type 0} (number : E → ℕ) (origin_of : S → O) (tells : S → List E → Type 0) (added : List E) (state : S)
     (me : Me (Option S) (Place E O)) : Type 0 where
   pub holds : ◌≡◌ {A = Me (Option S) (Place E O)} me (Holds (pass_at me.0), (0, Some state) ∷ [])
   pub origin : (pass_at me.0).origin ≡ Some (origin_of state)
-  pub told : tells state ((pass_at me.0).front ++ option_to_list added)
-  pub own : IfSome added (λ e. number e ≡ (pass_at me.0).first)
+  pub told : tells state ((pass_at me.0).front ++ added)
+  pub own : All (λ e. number e ≡ (pass_at me.0).first) added
 
 -- the seat has a pass, and no slot
 abbrev pub IsIdle : {S E O : Type 0} → Me (Option S) (Place E O) → Type 0

@@ -1,6 +1,5 @@
 -- What each atomic step on the lock's word tells the seat that makes it, and how seats are split and joined.
 use Rattle.std.specs.Prelude.{◌≡◌, ◌≢◌, ℕ, ◌-◌, ◌<◌, ◌⊎◌, List, [], ◌∷◌, ◌++◌, Option, Some, None, length, cond, min, max, All}
-use Rattle.std.specs.Option.{option_to_list}
 use Rattle.std.proofs.Math.Dec.{ltb}
 use mathlib.Core.List.{IsPrefix}
 use Rattle.atomic_table.specs.Table.{Me, Step}
@@ -88,10 +87,10 @@ module _ {S E O : Type 0} (number : E → ℕ) (origin_of : S → O) (tells : S 
       (found ≡ 0 → Won (pass_at before.0) after) × (found ≢ 0 → (after ≡ before) × (HasAll (pass_at before.0) → ⊥))
 
 module _ {S E O : Type 0} where
-  -- the store of FREE by a put that adds this entry, if it adds one: the slot is given back, and the entry joins the seat's front
-  abbrev pub freed : Option E → Step (Option S) → Me (Option S) (Place E O) → ℕ → Me (Option S) (Place E O) → Type 0
+  -- the store of FREE by a put that adds these entries: the slot is given back, and the entries join the seat's front
+  abbrev pub freed : List E → Step (Option S) → Me (Option S) (Place E O) → ℕ → Me (Option S) (Place E O) → Type 0
   freed added step before found after =
-      after ≡ (Waits (with_front (pass_at before.0) ((pass_at before.0).front ++ option_to_list added)), [])
+      after ≡ (Waits (with_front (pass_at before.0) ((pass_at before.0).front ++ added)), [])
 
   -- the load after two seats were joined: of the two fronts the one goes on where the other ends, and the seat has one pass
   abbrev pub merged : (E → ℕ) → Step (Option S) → Me (Option S) (Place E O) → ℕ → Me (Option S) (Place E O) → Type 0

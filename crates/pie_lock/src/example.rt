@@ -2,6 +2,7 @@
 ghost use Rattle.std.specs.Prelude.{◌≡◌, ℕ, ◌-◌, ◌^◌, ◌⊎◌, List, [], ◌∷◌, ◌++◌, length, IfOk, IfErr};
 ghost use Rattle.pie_lock.specs.Steps.{GoesOn};
 
+use crate::entries::{no_entries, one_entry};
 use crate::kept::Kept;
 use crate::lock::RuledLock;
 use crate::pass::Pass;
@@ -50,10 +51,10 @@ pub fn try_sell(lock: &RuledLock<Till>, pass: Pass<Till>) -> Result<Pass<Till>, 
     let mut held = lock.try_take(pass)?;
     let till = held.state();
     if till.sales == u64::MAX {
-        return Ok(lock.put(held, None));
+        return Ok(lock.put(held, no_entries()));
     }
     let opened_with = till.opened_with;
     let sales = till.sales + 1;
     *till = Till { opened_with, sales };
-    Ok(lock.put(held, Some(seller)))
+    Ok(lock.put(held, one_entry(&seller)))
 }

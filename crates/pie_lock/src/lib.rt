@@ -12,8 +12,8 @@
 //! - After a take, the front of the `Held` begins with the front that the pass had and has no further entry under the pass's
 //!   numbers (`front`); the state in hand tells it (`told`) and has the lock's origin (`origin`). A pass with all numbers finds
 //!   exactly its own front (`same`).
-//! - `put` requires that the entry stands under the pass's first number (`number`), and that the state has the lock's origin and
-//!   tells the front with the entry (`origin`, `told`). The pass then has this front. A `Held` is not `Drop`: a function that
+//! - `put` requires that each entry that it adds stands under the pass's first number (`number`), and that the state has the lock's origin
+//!   and tells the front with these entries (`origin`, `told`). The pass then has this front. A `Held` is not `Drop`: a function that
 //!   lets one go does not compile.
 //! - `share` and `gather` refuse in exactly one case each, with nothing changed: a pass of one number (`one_number`), and ranges
 //!   that are not adjacent (`beside`). Gathered passes have both ranges and the longer front, which begins with the shorter.
@@ -31,6 +31,7 @@
 #![tactic(auto)]
 
 mod counter;
+mod entries;
 pub mod example;
 mod kept;
 mod lock;
@@ -40,6 +41,7 @@ mod rule;
 mod view;
 
 pub use counter::{Counter, CounterEntry};
+pub use entries::{Entries, no_entries, one_entry, with_entry};
 pub use kept::Kept;
 pub use lock::RuledLock;
 pub use pass::{Held, Pass};

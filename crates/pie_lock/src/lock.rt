@@ -1,6 +1,7 @@
 //! The lock, and what its callers do with it.
-ghost use Rattle.std.specs.Prelude.{◌≡◌, ◌≢◌, ◌+◌, ◌<◌, ◌↔◌, [], ◌∷◌, ◌++◌, List, All, Some, None, IsOk, IsErr, IfOk, IfErr, OnOk, OnErr, IfSome};
+ghost use Rattle.std.specs.Prelude.{◌≡◌, ◌≢◌, ◌+◌, ◌<◌, ◌↔◌, [], ◌∷◌, ◌++◌, List, All, Some, None, IsOk, IsErr, IfOk, IfErr, OnOk, OnErr};
 
+use crate::entries::Entries;
 use crate::kept::Kept;
 use crate::pass::{Held, Pass};
 use crate::refusal::{LockRefusal, OneNumber, StillHeld};
@@ -57,7 +58,6 @@ impl<S: Kept> Model for RuledLock<S> {
 }
 
 impl<S: Kept> RuledLock<S> {
-    ghost use Rattle.std.specs.Option.{option_to_list};
     ghost use Rattle.pie_lock.specs.Views.{HoldsAll};
     ghost use Rattle.pie_lock.specs.Steps.{GoesOn, pass_at, with_front, AreAdjacent};
     ghost use Rattle.pie_lock.specs.declared.view.Place.TheVariants.{Waits};
@@ -133,20 +133,20 @@ impl<S: Kept> RuledLock<S> {
         };
     }
 
-    // Frees the lock whose state lies in the slot that the seat has, and adds the entry to the seat's front. The entry is not
-    // stored: it names the step.
+    // Frees the lock whose state lies in the slot that the seat has, and adds the entries to the seat's front. They are not
+    // stored: they name the step.
     fn free<J: Adding<S::Entry>>(
         &self,
         seat: &mut Seat<Option<S>, Place<S::Entry, S::Origin>>,
-        entry: &Option<S::Entry>,
+        added: &Snapshot<Entries<S::Entry>>,
     )
         requires table { seat.old.table_id ≡ self.now.id }
-        requires entry { J.added ≡ entry.now }
-        requires slot { (state : S) × IsLeaving S.number_of S.origin_of S.tells entry.now state seat.old.me }
+        requires added { J.added ≡ added.now.value }
+        requires slot { (state : S) × IsLeaving S.number_of S.origin_of S.tells added.now.value state seat.old.me }
         ensures seat { (seat.new.table_id ≡ seat.old.table_id) × (seat.new.id ≡ seat.old.id) }
-        ensures front { seat.new.me ≡ (Waits (with_front (pass_at seat.old.me.0) ((pass_at seat.old.me.0).front ++ option_to_list entry.now)), []) }
+        ensures front { seat.new.me ≡ (Waits (with_front (pass_at seat.old.me.0) ((pass_at seat.old.me.0).front ++ added.now.value)), []) }
     {
-        let _ = entry;
+        let _ = added;
         self.table.shared.store::<FreeStep<J>>(seat, WORD, FREE);
     }
 
@@ -235,13 +235,13 @@ impl<S: Kept> RuledLock<S> {
         unreachable!()
     }
 
-    /// Gives the state back, with the entry that this call adds to the history, if it adds one. It never blocks.
-    pub fn put(&self, held: Held<S>, entry: Option<S::Entry>) -> Pass<S>
+    /// Gives the state back, with the entries that this turn adds to the history, in their order. It never blocks.
+    pub fn put(&self, held: Held<S>, added: Snapshot<Entries<S::Entry>>) -> Pass<S>
         requires own { held.lock ≡ self.now }
-        requires number { IfSome entry (λ e. S.number_of e ≡ held.first) }
+        requires number { All (λ e. S.number_of e ≡ held.first) added.value }
         requires origin { held.lock.origin ≡ Some (S.origin_of held.state) }
-        requires told { S.tells held.state (held.front ++ option_to_list entry) }
-        ensures { result ≡ pass_after held entry }
+        requires told { S.tells held.state (held.front ++ added.value) }
+        ensures { result ≡ pass_after held added.value }
     {
         let Held {
             state,
@@ -250,7 +250,7 @@ impl<S: Kept> RuledLock<S> {
             mut seat,
         } = held;
         self.put_into_slot(&mut seat, state);
-        self.free::<Brand>(&mut seat, &entry);
+        self.free::<Brand>(&mut seat, &added);
         if self.awaited.load(Ordering::SeqCst) == AWAITED {
             self.awaited.store(NOT_AWAITED, Ordering::SeqCst);
             self.awaited.wake_one();

@@ -1,5 +1,5 @@
 //! The rule of the lock's table, and what its steps tell.
-ghost use Rattle.std.specs.Prelude.{Option, None};
+ghost use Rattle.std.specs.Prelude.{List, []};
 ghost use Rattle.pie_lock.specs.Steps.{taken, freed, merged, all_but_highest, highest, meeting};
 ghost use Rattle.pie_lock.specs.declared.view.Place.TheVariants.{Spent};
 
@@ -26,16 +26,16 @@ impl<S: Kept> Play<Option<S>, Place<S::Entry, S::Origin>> for TakeStep {
     ghost then = { taken S.number_of S.origin_of S.tells };
 }
 
-/// The entry that a put adds to the history, if it adds one. It is known to the prover alone: each put names its own.
+/// The entries that a put adds to the history. They are known to the prover alone: each put names its own.
 pub(crate) trait Adding<E> {
-    ghost added: { Option E };
+    ghost added: { List E };
 }
 
 impl<E> Adding<E> for Brand {
-    ghost added = { None };
+    ghost added = { [] };
 }
 
-/// The step that frees the lock: the store of FREE, by a put that adds this entry.
+/// The step that frees the lock: the store of FREE, by a put that adds these entries.
 pub(crate) struct FreeStep<J>(PhantomData<J>);
 
 impl<S: Kept, J: Adding<S::Entry>> Play<Option<S>, Place<S::Entry, S::Origin>> for FreeStep<J> {

@@ -3,7 +3,7 @@ ghost use Rattle.std.specs.Prelude.{◌≡◌};
 
 use crate::report::begin;
 use pie_book::{
-    Book, Choices, Command, Core, Event, FoldRefusal, Limits, Mode, OpenRefusal, Profile,
+    Book, Choices, Command, Core, FoldRefusal, Limits, Mode, OpenRefusal, Profile, Recorded,
     Registers, Stats,
 };
 use pie_fixed::Nanos;
@@ -177,13 +177,13 @@ fn is_as_before(book: &mut Book, before: &Shown) -> bool {
 }
 
 /// The moments of the first two events, 0 where there is none.
-pub(crate) fn moments(events: &[Event]) -> (u64, u64) {
+pub(crate) fn moments(events: &[Recorded]) -> (u64, u64) {
     let first = match events.first() {
-        Some(event) => event.command.moment(),
+        Some(recorded) => recorded.event().command.moment(),
         None => 0,
     };
     let second = match events.get(1) {
-        Some(event) => event.command.moment(),
+        Some(recorded) => recorded.event().command.moment(),
         None => 0,
     };
     (first, second)

@@ -4,8 +4,8 @@ ghost use Rattle.pie_link.specs.Views.{StaysOne};
 
 use crate::books::{limits, moments, packet};
 use crate::report::begin;
-use pie_book::{Choices, Event, FoldRefusal, Mode, Profile, Registers};
-use pie_link::{Caller, Link, LinkRefusal, Told, Tried};
+use pie_book::{Answer, Choices, FoldRefusal, Mode, Profile, Recorded, Refusal, Registers};
+use pie_link::{Arrival, Caller, Link, LinkRefusal, Told, Tried};
 use pie_params::{Elements, Params};
 use std::alloc::Global;
 use std::io;
@@ -16,6 +16,7 @@ pub(crate) fn all<R: Wait + Print>(rt: &R, alloc: Global) -> io::Result<()> {
     open(rt, alloc)?;
     open_with(rt, alloc)?;
     events(rt, alloc)?;
+    bursts(rt, alloc)?;
     try_fold(rt, alloc)?;
     fold(rt, alloc)
 }
@@ -124,8 +125,47 @@ fn events(rt: &impl Print, alloc: Global) -> io::Result<()> {
     println!(rt; "Link::try_arrive: {arrived} {left}, {count} events, {closed}")
 }
 
+/// What a burst of two packets and one of departures were answered: how many answers there are after each.
+fn two_bursts<R: Wait>(
+    rt: &R,
+    link: &Link,
+    caller: &mut Caller,
+    answers: &mut Vec<Result<Told<Answer>, Refusal>>,
+) -> (usize, usize, usize)
+    requires own { caller.old.lock ≡ link.now }
+    ensures { caller.new.lock ≡ link.now }
+{
+    let one = Arrival {
+        moment: 1,
+        packet: packet(1),
+        word: 0,
+    };
+    let _ = link.arrive_all(rt, caller, &[one, one], answers);
+    let arrived = answers.len();
+    let _ = link.try_arrive_all(caller, &[one], answers);
+    let tried = answers.len();
+    let _ = link.depart_all(rt, caller, 2, 4, answers);
+    (arrived, tried, answers.len())
+}
+
+/// Bursts make no request for memory.
+fn bursts<R: Wait + Print>(rt: &R, alloc: Global) -> io::Result<()> {
+    let Ok((link, mut one)) = opened(alloc) else {
+        return println!(rt; "Link::arrive_all: there is no link");
+    };
+    let Ok(mut answers) = Vec::with_capacity(alloc, 7) else {
+        return println!(rt; "Link::arrive_all: there is no vector");
+    };
+    // (without `?`, beside which the link would be let go)
+    let begun = begin(rt, "Link::arrive_all");
+    let (arrived, tried, left) = two_bursts(rt, &link, &mut one, &mut answers);
+    let closed = link.close(one).is_ok();
+    begun?;
+    println!(rt; "Link::arrive_all: {arrived}, {tried} and {left} answers, {closed}")
+}
+
 /// The moments of a fold's first two events, and the fold's number.
-fn folded(told: Told<Vec<Event>>) -> (u64, u64, u64) {
+fn folded(told: Told<Vec<Recorded>>) -> (u64, u64, u64) {
     let (first, second) = moments(told.answer.as_slice());
     (first, second, told.number)
 }

@@ -2,7 +2,7 @@
 ghost use Rattle.std.specs.Prelude.{◌≡◌, Some, IfSome};
 
 use crate::report::begin;
-use pie_lock::{Counter, CounterEntry, Pass, RuledLock};
+use pie_lock::{Counter, CounterEntry, Pass, RuledLock, no_entries, one_entry};
 use std::alloc::Global;
 use std::io;
 
@@ -49,12 +49,12 @@ fn add_five(lock: &RuledLock<Counter>, pass: Pass<Counter>) -> Option<Pass<Count
     let caller = pass.first();
     match lock.try_take(pass) {
         Ok(mut held) => {
-            let entry = if held.state().add(5) {
-                Some(CounterEntry { caller, amount: 5 })
+            let added = if held.state().add(5) {
+                one_entry(&CounterEntry { caller, amount: 5 })
             } else {
-                None
+                no_entries()
             };
-            Some(lock.put(held, entry))
+            Some(lock.put(held, added))
         }
         Err(_) => None,
     }

@@ -2,6 +2,7 @@
 //! lets the link go on each of its ways out costs the prover as much as a call on each.
 ghost use Rattle.std.specs.Prelude.{◌≡◌, IfOk};
 
+mod bursts;
 mod one_thread;
 mod storms;
 mod threads;

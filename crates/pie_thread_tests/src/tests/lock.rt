@@ -6,7 +6,9 @@ ghost use Rattle.pie_lock.specs.Tally.{Tells};
 mod sleepers;
 
 use pie_lock::example::{Till, try_sell};
-use pie_lock::{Counter, CounterEntry, Held, LockRefusal, OneNumber, Pass, RuledLock};
+use pie_lock::{
+    Counter, CounterEntry, Held, LockRefusal, OneNumber, Pass, RuledLock, no_entries, one_entry,
+};
 use std::alloc::Global;
 use std::fmt::Display;
 
@@ -22,12 +24,12 @@ fn add_and_put(
     requires kept { (held.lock.origin ≡ Some tt) × Tells held.state held.front }
     ensures { result.lock ≡ lock.now }
 {
-    let entry = if held.state().add(amount) {
-        Some(CounterEntry { caller, amount })
+    if held.state().add(amount) {
+        let entry = CounterEntry { caller, amount };
+        lock.put(held, one_entry(&entry))
     } else {
-        None
-    };
-    lock.put(held, entry)
+        lock.put(held, no_entries())
+    }
 }
 
 // One whole call; nothing where the lock is held.
@@ -50,7 +52,7 @@ fn busy(lock: &RuledLock<Counter>, pass: Pass<Counter>) -> Option<Pass<Counter>>
     match lock.try_take(pass) {
         Err(back) => Some(back),
         Ok(held) => {
-            drop(lock.put(held, None));
+            drop(lock.put(held, no_entries()));
             None
         }
     }

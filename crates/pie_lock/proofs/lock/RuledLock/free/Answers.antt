@@ -24,6 +24,6 @@ store-requires g c =
     let at_seat : P (Holds p, (0, Some state) ∷ []) =
     subst (λ a. Allows (Ruled k.number_of k.origin_of k.tells origin key.numbers) slots seat.id (Holds p, (0, Some state) ∷ []) 0 (λ _. 0)
     (λ _. freed a (step slots 0 0 0 none) (Holds p, (0, Some state) ∷ []) 0))
-    (sym c.requires.entry)
-    (frees_keep k.number_of k.origin_of k.tells origin key.numbers slots seat.id p state c.args.entry.now leaving.origin leaving.told leaving.own) in
+    (sym c.requires.added)
+    (frees_keep k.number_of k.origin_of k.tells origin key.numbers slots seat.id p state c.args.added.now.value leaving.origin leaving.told leaving.own) in
     (search rules, search rules, subst P (sym leaving.holds) at_seat)

@@ -1,5 +1,5 @@
-use Rattle.std.proofs.Common.{◌≡◌, ◌++◌, [], ◌∷◌, Option, Some, IfSome, ap, sym, ◌∙◌, subst}
-use Rattle.std.specs.Option.{option_to_list}
+use Rattle.std.proofs.Common.{◌≡◌, ◌++◌, [], ◌∷◌, Option, Some, ap, sym, ◌∙◌, subst}
+use Rattle.std.specs.List.{All}
 use Rattle.atomic_table.specs.Table.{Me}
 use Rattle.pie_lock.specs.declared.view.Place.{Place}
 use Rattle.pie_lock.specs.Seating.{IsLeaving}
@@ -12,14 +12,14 @@ free-requires-clause-slot g c =
     let seat = c.held.inside.seat in
     let state = c.held.inside.state in
     let p = pass_at seat.me.0 in
-    let entry = c.args.entry in
+    let added = c.args.added.value in
     let P : Me (Option g.row.S.Denot) (Place g.row.S-Entry.Denot g.row.S-Origin.Denot)
-    → Type 0 = λ m. IsLeaving k.number_of k.origin_of k.tells entry state m in
+    → Type 0 = λ m. IsLeaving k.number_of k.origin_of k.tells added state m in
     let first_is : p.first ≡ c.args.held.first = c.held.invariant.has.first_is ∙ ap (λ h. h.first) c.held.view_is in
     let leaving : P (seat.me.0, (0, Some state) ∷ []) = record {
       holds = ap (λ v. (v, (0, Some state) ∷ [])) (ap (λ m. m.0) c.held.invariant.holds);
       origin = subst (λ h. h.lock.origin ≡ Some (k.origin_of h.state)) (sym c.held.view_is) c.requires.origin;
-      told = subst (λ h. k.tells h.state (h.front ++ option_to_list entry)) (sym c.held.view_is) c.requires.told;
-      own = subst (λ n. IfSome entry (λ e. k.number_of e ≡ n)) (sym first_is) c.requires.number;
+      told = subst (λ h. k.tells h.state (h.front ++ added)) (sym c.held.view_is) c.requires.told;
+      own = subst (λ n. All (λ e. k.number_of e ≡ n) added) (sym first_is) c.requires.number;
     } in
     (state, subst P (sym c.put_into_slot.ensures.slot) leaving)

@@ -1,0 +1,120 @@
+//! Bursts: several commands of one caller in one turn at the lock, with nothing of another caller between.
+//!
+//! The answers are pushed to a vector of the caller's, which has room for them: no burst takes memory.
+ghost use Rattle.std.specs.Prelude.{◌≡◌, ◌≢◌, ◌+◌, ◌≤◌, ◌<◌, ◌↔◌, IsTrue, Err, IsOk, OnOk, OnErr, length, map, vec_len, vec_capacity};
+ghost use Rattle.pie_link.specs.Bursts.{always, arrive, departures, has_left, AnswersAll, TriesToAnswerAll, WasNotDone, WasRefused};
+ghost use Rattle.pie_link.specs.Views.{StaysOne};
+ghost use Rattle.pie_link.specs.declared.told.Tried.TheVariants.{Busy};
+
+use crate::arrival::Arrival;
+use crate::burst_turn;
+use crate::caller::Caller;
+use crate::link::Link;
+use crate::told::{NoRoom, Told, Tried};
+use core::mem::{replace, replace_with};
+use pie_book::{Answer, Refusal};
+use std::sync::Wait;
+
+// Whether a vector has room for so many more.
+fn has_room(answers: &Vec<Result<Told<Answer>, Refusal>>, more: usize) -> bool
+    ensures { IsTrue result ↔ (vec_len answers.now + more ≤ vec_capacity answers.now) }
+{
+    more <= answers.capacity() - answers.len()
+}
+
+impl Link {
+    /// The packets arrive one after another, in the order of the slice, as so many calls of `arrive` with nothing of another caller
+    /// between; what each would be answered is pushed to `answers`. A refused packet changes nothing, and the next ones are handed in all
+    /// the same. A burst of no packets takes no lock. The call waits while another caller has the book, and takes no memory.
+    ///
+    /// # Errors
+    ///
+    /// `NoRoom` exactly where `answers` has room for fewer answers than there are packets. Nothing is done then.
+    pub fn arrive_all<R: Wait>(
+        &self,
+        rt: &R,
+        caller: &mut Caller,
+        arrivals: &[Arrival],
+        answers: &mut Vec<Result<Told<Answer>, Refusal>>,
+    ) -> Result<(), NoRoom>
+        requires own { caller.old.lock ≡ self.now }
+        ensures room { IsOk result ↔ (vec_len answers.old + length arrivals.now ≤ vec_capacity answers.old) }
+        ensures answered { OnOk result
+            (AnswersAll always self.now caller.old (map arrive arrivals.now) answers.old.items answers.new.items caller.new) }
+        ensures refused { OnErr result (WasNotDone caller.old answers.old.items answers.new.items caller.new) }
+        ensures capacity { vec_capacity answers.new ≡ vec_capacity answers.old }
+        ensures stays { StaysOne caller.old caller.new }
+    {
+        if !has_room(answers, arrivals.len()) {
+            return Err(NoRoom);
+        }
+        let mine = replace(answers, Vec::new(self.alloc));
+        let asked = (self, rt, arrivals, mine);
+        *answers = replace_with(&mut caller.pass, asked, burst_turn::wait_and_arrive_all);
+        Ok(())
+    }
+
+    /// The same as `arrive_all`, where no other caller has the book. It never blocks.
+    ///
+    /// # Errors
+    ///
+    /// `Refused` with `NoRoom` exactly where `answers` has room for fewer answers than there are packets; `Busy` where another caller has
+    /// the book, which doesn't come for a burst of no packets. Nothing is done then.
+    #[tactic(auto, unfolding(crate::specs::Bursts::TriesToAnswerAll))]
+    pub fn try_arrive_all(
+        &self,
+        caller: &mut Caller,
+        arrivals: &[Arrival],
+        answers: &mut Vec<Result<Told<Answer>, Refusal>>,
+    ) -> Result<(), Tried<NoRoom>>
+        requires own { caller.old.lock ≡ self.now }
+        ensures room { WasRefused result ↔ (vec_capacity answers.old < vec_len answers.old + length arrivals.now) }
+        ensures answered { TriesToAnswerAll always self.now caller.old (map arrive arrivals.now) result answers.old.items answers.new.items
+            caller.new }
+        ensures none { length arrivals.now ≡ 0 → result ≢ Err Busy }
+        ensures capacity { vec_capacity answers.new ≡ vec_capacity answers.old }
+        ensures stays { StaysOne caller.old caller.new }
+    {
+        if !has_room(answers, arrivals.len()) {
+            return Err(Tried::Refused(NoRoom));
+        }
+        let mine = replace(answers, Vec::new(self.alloc));
+        let asked = (self, arrivals, mine);
+        let (mine, result) = replace_with(&mut caller.pass, asked, burst_turn::try_arrive_all);
+        *answers = mine;
+        result
+    }
+
+    /// Packets leave one after another, as by so many calls of `depart` with this moment and nothing of another caller between; what each
+    /// call would be answered is pushed to `answers`. The burst ends after `most` departures, or after the first that hands out no packet:
+    /// `Empty`, which is recorded as `depart` records it, or a refusal, which isn't. A burst of none takes no lock. The call waits while
+    /// another caller has the book, and takes no memory.
+    ///
+    /// # Errors
+    ///
+    /// `NoRoom` exactly where `answers` has room for fewer than `most` answers. Nothing is done then.
+    pub fn depart_all<R: Wait>(
+        &self,
+        rt: &R,
+        caller: &mut Caller,
+        moment: u64,
+        most: usize,
+        answers: &mut Vec<Result<Told<Answer>, Refusal>>,
+    ) -> Result<(), NoRoom>
+        requires own { caller.old.lock ≡ self.now }
+        ensures room { IsOk result ↔ (vec_len answers.old + most ≤ vec_capacity answers.old) }
+        ensures answered { OnOk result
+            (AnswersAll has_left self.now caller.old (departures most moment) answers.old.items answers.new.items caller.new) }
+        ensures refused { OnErr result (WasNotDone caller.old answers.old.items answers.new.items caller.new) }
+        ensures capacity { vec_capacity answers.new ≡ vec_capacity answers.old }
+        ensures stays { StaysOne caller.old caller.new }
+    {
+        if !has_room(answers, most) {
+            return Err(NoRoom);
+        }
+        let mine = replace(answers, Vec::new(self.alloc));
+        let asked = (self, rt, moment, most, mine);
+        *answers = replace_with(&mut caller.pass, asked, burst_turn::wait_and_depart_all);
+        Ok(())
+    }
+}

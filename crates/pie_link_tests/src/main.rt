@@ -1,0 +1,120 @@
+//! `pie_link_tests`: makes the commands of a history's events again, one after another, at a link with one caller, and says of how many the link's
+//! answer is another one. It reads the history on standard input; `tests/libraries/link_rows.py` hands it the worked ones.
+#![tactic(auto)]
+
+ghost use Rattle.std.specs.Prelude.{◌≡◌};
+
+use pie_book::{Answer, Choices, Command, Event, Mode, Opening, Refusal};
+use pie_link::{Caller, Link, Told};
+use pie_trace::{HistoryLines, Line, TraceFault};
+use std::alloc::Global;
+use std::io;
+use std::io::Read;
+use std::sync::Wait;
+
+fn main(rt: HostRuntime) -> io::Result<()> {
+    let (alloc, input) = (rt.alloc(), rt.stdin());
+    match HistoryLines::open(alloc, input) {
+        Ok((mut lines, opening)) => replay(&rt, alloc, &mut lines, &opening),
+        Err(why) => println!(rt; "pie_link_tests: {why:?}"),
+    }
+}
+
+/// The next line of a history.
+fn next<R: Read + Drop>(lines: &mut HistoryLines<R>) -> Result<Option<Line>, TraceFault> {
+    lines.next_line()
+}
+
+/// Asks the link for a command, and waits for the answer.
+fn ask<R: Wait>(
+    rt: &R,
+    link: &Link,
+    caller: &mut Caller,
+    command: &Command,
+) -> Result<Told<Answer>, Refusal>
+    requires own { caller.old.lock ≡ link.now }
+    ensures own { caller.new.lock ≡ link.now }
+{
+    match *command {
+        Command::Arrive {
+            moment,
+            packet,
+            word,
+        } => link.arrive(rt, caller, moment, packet, word),
+        Command::Depart { moment } => link.depart(rt, caller, moment),
+        Command::Update { moment } => link.update(rt, caller, moment),
+        Command::Reset { moment } => link.reset(rt, caller, moment),
+        Command::SetParams { moment, params } => link.set_params(rt, caller, moment, params),
+    }
+}
+
+/// Whether the link answers this event's command as the event has it, and says that it is event `number`.
+fn is_answered<R: Wait>(
+    rt: &R,
+    link: &Link,
+    caller: &mut Caller,
+    event: &Event,
+    number: u64,
+) -> bool
+    requires own { caller.old.lock ≡ link.now }
+    ensures own { caller.new.lock ≡ link.now }
+{
+    match ask(rt, link, caller, &event.command) {
+        Ok(told) => told.answer == event.answer && told.number == number,
+        Err(_) => false,
+    }
+}
+
+/// How many events a history has, and of how many the link's answer is another one; nothing where a line can't be read.
+fn compare<I: Read + Drop, R: Wait>(
+    rt: &R,
+    lines: &mut HistoryLines<I>,
+    link: &Link,
+    caller: &mut Caller,
+) -> Option<(u64, u64)>
+    requires own { caller.old.lock ≡ link.now }
+{
+    let (mut events, mut others) = (0u64, 0u64);
+    for _ in 0..u64::MAX {
+        match next(lines) {
+            Ok(Some(Line::Made(event))) => {
+                events = events.saturating_add(1);
+                let is_same = is_answered(rt, link, caller, &event, events);
+                others = others.saturating_add(u64::from(!is_same));
+            }
+            Ok(Some(_)) => {}
+            Ok(None) => return Some((events, others)),
+            Err(_) => return None,
+        }
+    }
+    None
+}
+
+/// Makes the events at a link that is opened as the history says, and prints what came of it. The link is a rolling one, so that a full tail
+/// refuses nothing: a `folded` record of the history has made room where it has to.
+fn replay<I: Read + Drop, R: Wait + Print>(
+    rt: &R,
+    alloc: Global,
+    lines: &mut HistoryLines<I>,
+    opening: &Opening,
+) -> io::Result<()> {
+    let Opening {
+        moment,
+        limits,
+        params,
+        choices,
+    } = *opening;
+    let rolling = Choices {
+        mode: Mode::Rolling,
+        ..choices
+    };
+    match Link::open_with(alloc, limits, params, moment, 1, rolling) {
+        Ok((link, mut caller)) => match compare(rt, lines, &link, &mut caller) {
+            Some((events, others)) => {
+                println!(rt; "{events} events, {others} with another answer")
+            }
+            None => println!(rt; "pie_link_tests: a line that can't be read"),
+        },
+        Err(why) => println!(rt; "pie_link_tests: {why:?}"),
+    }
+}

@@ -11,6 +11,8 @@
 
 static struct pie_params params;
 static struct pie_state state;
+static struct pie_event event;
+static unsigned char text[PIE_RECORD_ROOM];
 
 /* One call of a kind, with a number that differs from call to call; what it answered. */
 static uint64_t call(const char *kind, uint64_t i) {
@@ -21,6 +23,22 @@ static uint64_t call(const char *kind, uint64_t i) {
         return pie_arrive(&state, 2048, 1000, 1, PIE_ECT0, word, i);
     if (strcmp(kind, "arrive_dropped") == 0) /* the queue is full */
         return pie_arrive(&state, 262144, 1000, 1, PIE_ECT0, word, i) == PIE_BYTES ? PIE_DONE : PIE_BYTES;
+    if (strcmp(kind, "arrive_event") == 0) { /* the first kind, recorded */
+        event.moment = i;
+        event.tag = i;
+        event.word = word;
+        event.size = 1000;
+        event.ecn = PIE_ECT0;
+        return pie_arrive_event(&state, 100000, 1, &event) <= PIE_EARLY ? PIE_DONE : PIE_BYTES;
+    }
+    if (strcmp(kind, "write_event") == 0) { /* an arrival's record of some 70 bytes */
+        event.kind = PIE_EVENT_ARRIVE;
+        event.moment = UINT64_C(123456789012345) + i;
+        event.tag = 123456 + i;
+        event.word = word | UINT64_C(1) << 63;
+        event.size = 1000;
+        return pie_write_event(&event, text, sizeof text) > 0 ? PIE_DONE : PIE_BYTES;
+    }
     if (strcmp(kind, "depart_measured") == 0) /* cycles of the departure rate are open all the time */
         return pie_depart(&state, 1000, 100000, i);
     if (strcmp(kind, "depart_unmeasured") == 0) /* too few bytes wait for one */

@@ -89,6 +89,7 @@ enum {
     PIE_EARLY = 2,   /* drop the packet: early drop picked it (sections 4.1 and 5.4) */
     PIE_BYTES = 3,   /* drop the packet: the queue would exceed limit_bytes (appendix A) */
     PIE_PACKETS = 4, /* drop the packet: the caller's ring is full */
+    PIE_NONE = 5,    /* of a departure: there was no packet */
 
     PIE_BAD_MOMENT = 101, /* a moment above 2^60 - 1 */
     PIE_BAD_SIZE = 102,   /* a size outside 1 to 65535 */
@@ -167,6 +168,36 @@ struct pie_updated {
 /* Where an update is too soon, due, prob and burst are those that stay, and delay is the old delay. Where it is refused for
  * anything else they are 0. */
 
+/* What an event is. */
+enum {
+    PIE_EVENT_ARRIVE = 1, /* a packet arrived */
+    PIE_EVENT_DEPART = 2, /* a packet departed, or with PIE_NONE none */
+    PIE_EVENT_UPDATE = 3, /* an update */
+    PIE_EVENT_RESET = 4,  /* a reset */
+    PIE_EVENT_PARAMS = 5, /* new parameters, which stay a struct of their own */
+    PIE_EVENT_LOST = 6    /* events that were not kept: `tag` is how many, one at least */
+};
+
+/* An event: what a call was asked and what it answered, in 64 bytes without padding. The calls that end in _event read what is handed
+ * in from it (moment and caller, and of a packet tag, size, ecn and word) and fill in the rest, so that what is recorded is what was
+ * decided on. What plays no part in an event is 0 then. */
+struct pie_event {
+    uint64_t moment;   /* as it was handed in */
+    uint64_t tag;      /* of a packet that arrives or departs: the caller's name for it; of PIE_EVENT_LOST: how many events */
+    uint64_t word;     /* of an arrival: its random word */
+    uint64_t delay;    /* of an update: the delay that it took, in ns */
+    uint64_t prob;     /* of an update: the probability after it */
+    uint64_t burst;    /* of an update: the burst allowance after it, in ns */
+    uint32_t size;     /* of a packet that arrives or departs, in bytes */
+    uint32_t answer;   /* what the call answered; above 100 it was refused */
+    uint16_t caller;   /* who asked: a number of the caller's choosing */
+    uint8_t kind;      /* PIE_EVENT_ARRIVE or the like */
+    uint8_t ecn;       /* of an arrival: as it came; of a departure: as it left, so PIE_CE where it was marked */
+    uint32_t reserved; /* 0 */
+};
+
+#define PIE_RECORD_ROOM 256 /* bytes: more than the longest record of a history has */
+
 /* Fills in the default parameters: those of RFC 8033 where it has them. */
 void pie_default_params(struct pie_params *params);
 
@@ -228,6 +259,43 @@ uint32_t pie_reset(struct pie_state *state, uint64_t moment);
  * Refused, in this order: PIE_BAD_STATE, PIE_BAD_PARAMS, PIE_BAD_MOMENT. */
 uint32_t pie_set_params(struct pie_state *state, const struct pie_params *params, uint64_t moment);
 
+/* The calls for a history: each decides as its plain call does, refuses what that refuses, and leaves the state as that does. The event
+ * overlaps neither the state nor the parameters.
+ *
+ *   pie_arrive_event      pie_arrive of the event's packet; the caller fills in moment, tag, size, ecn, word and caller
+ *   pie_depart_event      pie_depart_waited of it (without PIE_DELAY_STAMP `arrived` plays no part); moment, tag, size, ecn and caller. The
+ *                         ECN field is not looked at: one above 3 is no event that can be written
+ *   pie_empty_event       pie_empty; moment and caller. It answers PIE_NONE where it isn't refused
+ *   pie_update_event      pie_update; moment and caller. Delay, probability and burst allowance are those that pie_update answers
+ *   pie_reset_event       pie_reset; moment and caller
+ *   pie_set_params_event  pie_set_params; moment and caller */
+uint32_t pie_arrive_event(struct pie_state *state, uint64_t queued, uint32_t room, struct pie_event *event);
+uint32_t pie_depart_event(struct pie_state *state, uint64_t left, uint64_t arrived, struct pie_event *event);
+uint32_t pie_empty_event(struct pie_state *state, struct pie_event *event);
+uint32_t pie_update_event(struct pie_state *state, uint64_t queued, struct pie_event *event);
+uint32_t pie_reset_event(struct pie_state *state, struct pie_event *event);
+uint32_t pie_set_params_event(struct pie_state *state, const struct pie_params *params, struct pie_event *event);
+
+/* Write a record of a history (docs/FORMATS.md) with its line feed into the first `room` bytes of `out`, and answer how many bytes it
+ * has. Where it has more than `room`, or cannot be, they answer 0 and leave `out` as it was: a kind, an answer or a number out of its
+ * range, a number that plays no part and is not 0, a refusal. PIE_RECORD_ROOM bytes are enough for each record. `out` is never NULL, and no
+ * 0 byte is put behind the record.
+ *
+ *   pie_write_event    an event but new parameters; of PIE_EVENT_LOST what pie_write_lost writes
+ *   pie_write_params   an event of kind PIE_EVENT_PARAMS, with its parameters
+ *   pie_write_opening  the first record, of a controller that pie_open_with opens with these parameters, moment, profile and choices; the
+ *                      book that decides again takes at most `packets` packets (1 to 2^20) and `events` events (1 to 2^47), and keeps
+ *                      `tail` of them (1 to 2^20)
+ *   pie_write_refused  that the record with this number was refused, counted from 1 for the opening; `code` is PIE_BAD_MOMENT, PIE_BAD_SIZE,
+ *                      PIE_TOO_SOON or PIE_BAD_PARAMS, the refusals that histories know
+ *   pie_write_lost     that so many events were not kept, one at least. That is no record of a history: an audit ends there with a fault */
+size_t pie_write_event(const struct pie_event *event, unsigned char *out, size_t room);
+size_t pie_write_params(const struct pie_event *event, const struct pie_params *params, unsigned char *out, size_t room);
+size_t pie_write_opening(const struct pie_params *params, uint64_t moment, uint32_t profile, uint32_t choices, uint64_t packets,
+                         uint64_t tail, uint64_t events, unsigned char *out, size_t room);
+size_t pie_write_refused(uint64_t record, uint32_t code, unsigned char *out, size_t room);
+size_t pie_write_lost(uint64_t count, unsigned char *out, size_t room);
+
 /* Whether a state is sound, for one that comes from elsewhere: PIE_DONE where each field is in its range and the fields fit one
  * another, and else PIE_BAD_STATE. */
 uint32_t pie_check_state(const struct pie_state *state);
@@ -277,6 +345,8 @@ static inline const char *pie_text(uint64_t code) {
         return "drop the packet: the queue would exceed limit_bytes";
     case PIE_PACKETS:
         return "drop the packet: the ring is full";
+    case PIE_NONE:
+        return "there was no packet";
     case PIE_BAD_MOMENT:
         return "refused: a moment above 2^60 - 1 ns";
     case PIE_BAD_SIZE:

@@ -1,8 +1,8 @@
 #!/usr/bin/env bash
 # Audits the history that the example in C prints (check.sh compares it with the stored one): it is clean, and with one answer
-# changed it differs there.
+# changed it differs there. Where a C compiler and the static library are there, the same of random events that the library writes (events.c).
 # usage: bindings/c/audit.sh [PROGRAM]      PROGRAM: crates/pie/out/pie where none is given
-# needs: program
+# needs: library, program
 set -u
 here=$(cd "$(dirname "$0")" && pwd)
 program=${1:-$here/../../crates/pie/out/pie}
@@ -26,3 +26,39 @@ if [ "$found" != "differs,$event" ] || [ "$status" != 2 ]; then
     exit 1
 fi
 echo "bindings/c: the audit finds the example's history clean ($events events), and a changed answer in it"
+cc=${CC:-cc}
+lib=$here/../../crates/pie_c/out/libpie_c.a
+if ! command -v "$cc" > /dev/null || [ ! -e "$lib" ]; then
+    echo "NOT RUN: bindings/c/audit.sh: no C compiler ($cc) or no static library here, so no random events were audited"
+    exit 0
+fi
+"$cc" -O2 -std=c11 -I"$here/../../include" -o "$work/events" "$here/events.c" "$lib" || exit 1
+changed=0
+for seed in 1 2 3 4 5 6 7 8 9 10 11 12 13 14 15 16; do
+    "$work/events" $seed 3000 > "$work/history" || exit 1
+    events=$(grep -c -v -E '^(open|refused)' "$work/history")
+    found=$("$program" audit < "$work/history")
+    if [ "$found" != "clean,$events" ]; then
+        echo "bindings/c/audit.sh: the random events of seed $seed are not clean: $found"
+        exit 1
+    fi
+    for event in 1 20 300 $((events / 2)) "$events"; do
+        "$work/events" $seed 3000 "$event" > "$work/changed" 2> /dev/null
+        case $? in
+        0) ;;
+        3) continue ;; # it is no event any more, and was not written
+        *) exit 1 ;;
+        esac
+        changed=$((changed + 1))
+        found=$("$program" audit < "$work/changed")
+        if [ "$found" != "differs,$event" ]; then
+            echo "bindings/c/audit.sh: of seed $seed event $event was changed, and the audit answered '$found'"
+            exit 1
+        fi
+    done
+done
+if [ "$changed" -lt 20 ]; then
+    echo "bindings/c/audit.sh: too few random events could be changed: $changed"
+    exit 1
+fi
+echo "bindings/c: the audit finds the random events of 16 seeds clean, and each of $changed changed ones"

@@ -1,5 +1,5 @@
 #!/usr/bin/env bash
-# Builds the static library, and with it the worked rows, the traps that include/pie.h names and the example in C, plainly and with
+# Builds the static library, and with it the worked rows, the traps that include/pie.h names, random events and the example in C, plainly and with
 # the address and undefined behaviour sanitizers; runs them; and compares the example's history with the stored one. Where python3 is
 # there, the library is asked for each number of the header's comments, and tests/shared/reference_texts.py computes the history again.
 # What cannot be run here, for want of a compiler say, is told on a line that begins with NOT RUN.
@@ -23,14 +23,17 @@ flags="-Wall -Wextra -Werror -std=c11 -Iinclude"
 check() {
     local name=$1
     shift
-    for program in rows traps example; do
+    for program in rows traps example events; do
         "$cc" $flags "$@" -o "$work/$program" "bindings/c/$program.c" "$lib"
     done
     "$work/rows"
     "$work/traps"
+    for seed in 1 2 3 4; do
+        "$work/events" $seed 500 > "$work/events.$seed"
+    done
     "$work/example" > "$work/history"
     cmp "$work/history" bindings/c/example.history
-    echo "bindings/c: rows, traps and example pass ($name)"
+    echo "bindings/c: rows, traps, events and example pass ($name)"
 }
 
 check "plain" -O2
@@ -42,10 +45,13 @@ else
     echo "NOT RUN: bindings/c: this compiler has no sanitizers, so the rows and the example in C ran without"
 fi
 if command -v c++ > /dev/null; then
-    c++ -x c++ -Wall -Wextra -Werror -std=c++11 -Iinclude -c -o "$work/rows.o" bindings/c/rows.c
-    c++ -o "$work/rows" "$work/rows.o" "$lib"
+    for program in rows events; do
+        c++ -x c++ -Wall -Wextra -Werror -std=c++11 -Iinclude -c -o "$work/$program.o" "bindings/c/$program.c"
+        c++ -o "$work/$program" "$work/$program.o" "$lib"
+    done
     "$work/rows"
-    echo "bindings/c: rows pass (C++)"
+    "$work/events" 1 500 | cmp - "$work/events.1"
+    echo "bindings/c: rows and events pass (C++)"
 else
     echo "NOT RUN: bindings/c: no C++ compiler (c++) here, so the rows were not built as C++"
 fi

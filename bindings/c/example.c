@@ -1,6 +1,6 @@
 /* A drop-tail ring of a small link, with PIE in front of it, under overload: 24 Mbit/s of packets into 16 Mbit/s for a
- * tenth of a second, after a burst that overruns the ring. Prints the history in the format of docs/FORMATS.md: caller 1 is
- * the sender, 2 the link, 3 the timer.
+ * tenth of a second, after a burst that overruns the ring. Prints the history in the format of docs/FORMATS.md, which the library
+ * writes: caller 1 is the sender, 2 the link, 3 the timer.
  *
  * There is no clock and no entropy in it, so each run prints the same. A scheduler hands in its own clock, and random
  * words of a good generator. */
@@ -9,6 +9,8 @@
 #include <inttypes.h>
 #include <stdio.h>
 #include <string.h>
+
+enum { SENDER = 1, LINK = 2, TIMER = 3 };
 
 #define RING 64         /* packets */
 #define BYTE_TIME 500   /* nanoseconds a byte on the link: 16 Mbit/s */
@@ -28,9 +30,6 @@ struct link {
     struct pie_state pie;
 };
 
-static const char *const ecn_words[] = {"not", "ect1", "ect0", "ce"};
-static const char *const verdicts[] = {"enqueue", "mark", "early", "bytes", "packets"};
-
 /* How many records there are, and how many of them are events: the `open` record is the first. */
 static uint64_t records = 1, events;
 
@@ -44,29 +43,38 @@ static uint64_t random_word(void) {
     return last ^ last >> 29;
 }
 
-/* The end of a refused record's line: in a history nothing else is printed of it. */
-static void refused(uint64_t code) {
-    if (is_trace)
-        printf("\n");
-    else
-        printf("refused,%" PRIu64 ",%" PRIu64 "\n", records, code - 100);
+/* Prints a record; asked is how many fields the trace has of it. */
+static void print_record(unsigned char *text, size_t count, int asked) {
+    size_t length = 0;
+    if (is_trace && count != 0) {
+        while (length < count - 1 && (text[length] != ',' || --asked != 0))
+            length++;
+        text[length] = '\n';
+        count = length + 1;
+    }
+    fwrite(text, 1, count, stdout);
+}
+
+/* Prints what was asked and answered. */
+static void print_event(const struct pie_event *event, int asked) {
+    unsigned char text[PIE_RECORD_ROOM];
+    struct pie_event it = *event;
+    records++;
+    if (it.answer > 100 && !is_trace) {
+        print_record(text, pie_write_refused(records, it.answer, text, sizeof text), asked);
+        return;
+    }
+    events += it.answer <= 100;
+    if (it.answer > 100)
+        it.answer = PIE_DONE; /* a trace has no answers */
+    print_record(text, pie_write_event(&it, text, sizeof text), asked);
 }
 
 static void arrive(struct link *link, struct packet packet, uint64_t now) {
-    uint64_t word = random_word();
-    uint32_t verdict = pie_arrive(&link->pie, link->bytes, packet.size, RING - link->packets, packet.ecn, word, now);
-    records++;
-    if (is_trace || verdict <= 100)
-        printf("arrive,1,%" PRIu64 ",%" PRIu64 ",%" PRIu32 ",%s,%" PRIu64, now, packet.tag, packet.size,
-               ecn_words[packet.ecn], word);
-    if (verdict > 100) {
-        refused(verdict);
-        return;
-    }
-    events++;
-    if (!is_trace)
-        printf(",%s", verdicts[verdict]);
-    printf("\n");
+    struct pie_event event = {.caller = SENDER, .moment = now, .tag = packet.tag, .size = packet.size, .ecn = (uint8_t)packet.ecn};
+    event.word = random_word();
+    uint32_t verdict = pie_arrive_event(&link->pie, link->bytes, RING - link->packets, &event);
+    print_event(&event, 7);
     if (verdict == PIE_MARK)
         packet.ecn = PIE_CE;
     if (verdict == PIE_ENQUEUE || verdict == PIE_MARK) {
@@ -77,39 +85,28 @@ static void arrive(struct link *link, struct packet packet, uint64_t now) {
 
 /* Sends the oldest packet, and answers its size, 0 with none. */
 static uint32_t depart(struct link *link, uint64_t now) {
-    records++;
-    events++;
-    printf("depart,2,%" PRIu64, now);
+    struct pie_event event = {.caller = LINK, .moment = now};
     if (link->packets == 0) {
-        uint32_t code = pie_empty(&link->pie, now);
-        printf(is_trace ? "\n" : code == PIE_DONE ? ",empty\n" : ",fault\n");
+        pie_empty_event(&link->pie, &event);
+        print_event(&event, 3);
         return 0;
     }
     struct packet packet = link->ring[link->first];
     link->first = (link->first + 1) % RING;
     link->packets--;
     link->bytes -= packet.size;
-    uint32_t code = pie_depart(&link->pie, packet.size, link->bytes, now);
-    if (!is_trace)
-        printf(",%s,%" PRIu64 ",%" PRIu32 ",%s", code == PIE_DONE ? "left" : "fault", packet.tag, packet.size,
-               ecn_words[packet.ecn]);
-    printf("\n");
+    event.tag = packet.tag;
+    event.size = packet.size;
+    event.ecn = (uint8_t)packet.ecn;
+    pie_depart_event(&link->pie, link->bytes, 0, &event);
+    print_event(&event, 3);
     return packet.size;
 }
 
 static void update(struct link *link, uint64_t now) {
-    struct pie_updated updated = pie_update(&link->pie, link->bytes, now);
-    records++;
-    if (is_trace || updated.code == PIE_DONE)
-        printf("update,3,%" PRIu64, now);
-    if (updated.code != PIE_DONE) {
-        refused(updated.code);
-        return;
-    }
-    events++;
-    if (!is_trace)
-        printf(",%" PRIu64 ",%" PRIu64 ",%" PRIu64, updated.delay, updated.prob, updated.burst);
-    printf("\n");
+    struct pie_event event = {.caller = TIMER, .moment = now};
+    pie_update_event(&link->pie, link->bytes, &event);
+    print_event(&event, 3);
 }
 
 static void show(const struct link *link) {
@@ -123,12 +120,6 @@ static void show(const struct link *link) {
            ",%" PRIu64 ",%" PRIu64 "\n",
            events, pie->moment, link->packets, link->bytes, pie->prob, pie->old_delay, pie->accu, pie->burst, pie->last,
            pie->average, pie->measuring);
-}
-
-static void print_params(const struct pie_params *p) {
-    printf("%" PRIu64 ",%" PRIu64 ",%" PRIu64 ",%" PRIu64 ",%" PRIu64 ",%" PRIu64 ",%" PRIu64 ",%" PRIu64 ",%" PRIu64,
-           p->target, p->t_update, p->max_burst, p->alpha, p->beta, p->mean_pkt, p->limit_bytes, p->mark_ecnth,
-           p->dq_threshold);
 }
 
 int main(int count, char **words) {
@@ -147,9 +138,8 @@ int main(int count, char **words) {
     params.dq_threshold = 4096;
     if (pie_check_params(&params) != 0 || pie_open(&link.pie, &params, 0) != PIE_DONE)
         return 1;
-    printf("open,0,%d,1048576,1048576,", RING);
-    print_params(&params);
-    printf("\n");
+    unsigned char text[PIE_RECORD_ROOM];
+    fwrite(text, 1, pie_write_opening(&params, 0, PIE_ALWAYS_ON, PIE_USUAL, RING, 1048576, 1048576, text, sizeof text), stdout);
 
     uint64_t sent = 0, next_packet = 1000, next_free = 2000, next_update = params.t_update;
     while (next_update < END) {
@@ -174,13 +164,13 @@ int main(int count, char **words) {
     }
     show(&link);
     params.mark_ecnth = 0;
-    if (pie_set_params(&link.pie, &params, END) != PIE_DONE || pie_reset(&link.pie, END) != PIE_DONE)
+    struct pie_event changed = {.caller = TIMER, .moment = END}, reset = changed;
+    if (pie_set_params_event(&link.pie, &params, &changed) != PIE_DONE || pie_reset_event(&link.pie, &reset) != PIE_DONE)
         return 1;
-    records += 2;
-    events += 2;
-    printf("params,3,%u,", END);
-    print_params(&params);
-    printf(is_trace ? "\nreset,3,%u\n" : ",done\nreset,3,%u,done\n", END);
+    records++;
+    events++;
+    print_record(text, pie_write_params(&changed, &params, text, sizeof text), 12);
+    print_event(&reset, 3);
     show(&link);
     return 0;
 }

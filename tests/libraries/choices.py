@@ -29,6 +29,11 @@ class State(ctypes.Structure):
     _fields_ = [("params", Params), *((name, U64) for name in REST)]
 
 
+class Event(ctypes.Structure):
+    _fields_ = [*((name, U64) for name in "moment tag word delay prob burst".split()), ("size", U32), ("answer", U32),
+                ("caller", ctypes.c_uint16), ("kind", ctypes.c_uint8), ("ecn", ctypes.c_uint8), ("reserved", U32)]
+
+
 class Updated(ctypes.Structure):
     _fields_ = [(name, U64) for name in "code due delay prob burst".split()]
 
@@ -148,4 +153,5 @@ def main():
         print(f"tests/libraries/choices.py: the library answers {count} traces as their histories have it ({answers} answers)")
 
 
-main()
+if __name__ == "__main__":
+    main()

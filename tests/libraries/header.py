@@ -14,9 +14,11 @@ from fractions import Fraction
 from pathlib import Path
 
 # names in the source and what pie.h calls them
-TYPES = {"PieParams": "pie_params", "PieState": "pie_state", "PieUpdated": "pie_updated"}
-RUST_TYPES = {"Params": "pie_params", "State": "pie_state", "RawUpdated": "pie_updated"}
-PARAMETERS = {("pie_arrive", "bits"): "ecn"}
+TYPES = {"PieParams": "pie_params", "PieState": "pie_state", "PieUpdated": "pie_updated", "PieEvent": "pie_event", "usize": "size_t"}
+RUST_TYPES = {"Params": "pie_params", "State": "pie_state", "RawUpdated": "pie_updated", "RawEvent": "pie_event", "usize": "size_t"}
+PARAMETERS = {("pie_arrive", "bits"): "ecn", ("pie_write_refused", "number"): "record"}
+# a slice is a pointer and a length
+SLICES = {"&[u8]": ("&char", "length"), "&mut [u8]": ("&mut unsigned char", "room")}
 CODES = {"DONE": ["PIE_DONE", "PIE_ENQUEUE"], "OVER_BYTES": ["PIE_BYTES"], "OVER_PACKETS": ["PIE_PACKETS"]}
 ECN = {"NotEct": "PIE_NOT_ECT", "Ect1": "PIE_ECT1", "Ect0": "PIE_ECT0", "Ce": "PIE_CE"}
 REFUSALS = {"Moment": "PIE_BAD_MOMENT", "Size": "PIE_BAD_SIZE", "TooSoon": "PIE_TOO_SOON", "Params": "PIE_BAD_PARAMS",
@@ -81,7 +83,7 @@ class Header:
         enums = " ".join(re.findall(r"enum \{(.*?)\};", bare, re.S))
         self.constants = {name: int(number) for name, number in re.findall(r"(\w+) = (\d+)", enums)}
         self.functions = {}
-        for result, name, inside in re.findall(r"^(void|uint\d+_t|struct \w+) (pie_\w+)\(([^)]*)\);", bare, re.M):
+        for result, name, inside in re.findall(r"^(void|size_t|uint\d+_t|struct \w+) (pie_\w+)\(([^)]*)\);", bare, re.M):
             self.functions[name] = (plain_c(result), [declaration_of_c(it) for it in inside.split(",")])
         self.comments = {}
         for name, body in re.findall(r"struct (\w+) \{(.*?)\n\};", text, re.S):
@@ -106,6 +108,7 @@ def plain_c(text):
 
 
 def plain_rust(text, names):
+    text = text.replace("*mut u8", "&mut unsigned char")
     for name, plain in names.items():
         text = re.sub(rf"\b{name}\b", plain, text)
     return text
@@ -124,7 +127,8 @@ class Rust:
         self.functions = {}
         for name, inside, result in re.findall(exported + r"fn (pie_\w+)\(([^)]*)\)(?: -> (\w+))?", text):
             pairs = [it.split(": ") for it in map(one_line, inside.split(",")) if it]
-            pairs = [pair for field, kind in pairs for pair in ([(field, "&char"), ("length", "size_t")] if kind == "&[u8]" else [(field, kind)])]
+            pairs = [pair for field, kind in pairs
+                     for pair in ([(field, SLICES[kind][0]), (SLICES[kind][1], "size_t")] if kind in SLICES else [(field, kind)])]
             self.functions[name] = (plain_rust(result, names) or "void",
                                     [(plain_rust(kind, names), PARAMETERS.get((name, field), field)) for field, kind in pairs])
 
@@ -148,7 +152,8 @@ def same(what, here, there, other="in crates/pie_c/src"):
 
 def compare_declarations(where, declared, source, all_functions):
     for name, fields in source.structs.items():
-        yield from same(f"{where}: {name}", declared.structs.get(name), fields)
+        if all_functions or name in declared.structs:
+            yield from same(f"{where}: {name}", declared.structs.get(name), fields)
     for name, function in source.functions.items():
         if all_functions or name in declared.functions:
             yield from same(f"{where}: {name}", declared.functions.get(name), function)
@@ -164,6 +169,7 @@ def compare_constants(header, source):
     ecn = {ECN[name]: int(number) for number, name in re.findall(r"(\d) => Some\(Ecn::(\w+)\)", source.text)}
     if len(ecn) != 4:
         yield "crates/pie_c/src: no ECN fields were found"
+    named |= {"PIE_EVENT_" + kind: int(number) for kind, number in re.findall(r"const ([A-Z]+): u8 = (\d+);", source.text)}
     own = {"PIE_ALWAYS_ON": 1, "PIE_ON_AND_OFF": 2, "PIE_USUAL": 0}
     own |= {"PIE_DELAY_STAMP": 1, "PIE_PICK_RANDOM": 2, "PIE_STEP_UNCAPPED": 4, "PIE_SIZE_SCALED": 8}
     yield from same("include/pie.h: constants", header.constants, {**named, **ecn, **own})
@@ -187,9 +193,10 @@ def compare_methods(rust, source):
         method = re.search(rf"pub fn {name[4:]}\(\s*&mut self,(.*?)\)", rust, re.S)
         if method:
             found = ["state", *re.findall(r"(\w+):", method[1])]
-            yield from same(f"bindings/rust: State::{name[4:]}", found, wanted)
+            if not name.endswith("_event"):  # (these are handed a packet, a caller and a moment, and make the event)
+                yield from same(f"bindings/rust: State::{name[4:]}", found, wanted)
         for handed in re.findall(rf"unsafe \{{ {name}\((?:self|&mut \w+), ([^)]*)\)", rust):
-            found = ["state", *(it.replace(" as u32", "") for it in handed.split(", "))]
+            found = ["state", *(it.replace(" as u32", "").replace("&mut event.0", "event") for it in handed.split(", "))]
             yield from same(f"bindings/rust: what {name} is handed", found, wanted)
 
 
@@ -229,7 +236,7 @@ def compare_limits(header):
 def refusals_in(source):
     """Of each call the codes that it refuses by, in the order of its body: pie_arrive's stand in `arrive`, an opening's in `open`."""
     codes = {}
-    for name, body in re.findall(r"^(?:pub extern \"C\" )?fn (\w+)\(.*?^\{\n(.*?)^\}", source.text, re.S | re.M):
+    for name, body in re.findall(r"^(?:pub extern \"C\" |pub\(crate\) )?fn (\w+)\(.*?^\{\n(.*?)^\}", source.text, re.S | re.M):
         codes[name] = ["PIE_" + code for code in dict.fromkeys(re.findall(r"\b(BAD_\w+|TOO_SOON|NOT_WAITED)\b", body))]
     orders = {name: codes[name] or codes.get(name[4:], []) for name in codes if name.startswith("pie_")}
     opening = codes.get("open", [])
@@ -306,7 +313,7 @@ def differences(root):
     source = Rust(read_source(root / "crates/pie_c/src", "*.rt"), TYPES, r'pub extern "C" ')
     rust_text = read_source(root / "bindings/rust/src", "*.rs")
     rust = Rust(rust_text, RUST_TYPES, r"(?<!pub )")
-    if len(source.functions) < 10 or len(source.structs) != 3:
+    if len(source.functions) < 10 or len(source.structs) != 4:
         yield "crates/pie_c/src: its functions and structs were not found"
     yield from compare_declarations("include/pie.h", header, source, True)
     yield from compare_declarations("bindings/rust", rust, source, False)

@@ -57,6 +57,9 @@ else
         (cd "$work/empty" && $compiler $warnings $(pkg-config --cflags pie_c) -c -o example.o example.c &&
             ${compiler%% *} -o example example.o $(pkg-config --libs pie_c)) || fail "$compiler does not build the README's example"
         expect "the README's example by $compiler" "$wanted" "$work/empty/example"
+        # shellcheck disable=SC2046,SC2086
+        (cd "$work/empty" && $compiler $warnings $(pkg-config --cflags pie_c) -c -o ring.o "$repository/tests/libraries/ring.c") ||
+            fail "$compiler does not build a program over pie_ring.h"
     done
 fi
 
@@ -98,6 +101,7 @@ if [ -e "$repository/crates/pie/out/pie" ]; then
     expect "the installed program" "pie $version" "$prefix/bin/pie" --version
     "$prefix/bin/pie-report" --pie "$prefix/bin/pie" -o "$work/page.html" "$repository/examples/burst.history" ||
         fail "the installed pie-report makes no page"
+    [ -e "$prefix/share/man/man1/pie-report.1" ] || fail "pie-report has no manual page"
 else
     not_run "crates/pie/out/pie was not built, so the program was not installed"
 fi

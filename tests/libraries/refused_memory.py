@@ -30,6 +30,7 @@ REFUSED = {
         "Link::open": r"Link::open: (Book\(Memory\)|Memory)\n",
         "Link::open_with": r"Link::open_with: (Book\(Memory\)|Memory)\n",
         "Link::try_arrive": None,
+        "Link::arrive_all": None,
         "Link::try_fold": r"Link::try_fold: Refused\(Memory\), free and unchanged: true\nand then: events at 1 and 2, number 2\n",
         "Link::fold": r"Link::fold: Refused\(Memory\), free and unchanged: true\nand then: events at 1 and 2, number 2\n",
         "storm": r"storm: (Opening\(Book\(Memory\)\)|Opening\(Memory\)|Memory|Thread)\n",
@@ -48,9 +49,9 @@ REFUSED = {
         "explain in words": r"explain in words: Trace\(Memory\), other bytes: false\n",
     },
 }
-# What each of these calls requests at the most at once, in bytes, and what is not enough for it: an event that is handed out takes 104 bytes, and
-# a list that is collected begins with room for four, however many the tail holds.
-ROOM = {"Book::fold of one": (512, 64)}
+# What each of these calls requests at the most at once, in bytes, and what is not enough for it: an event that is handed out takes 64 bytes, however
+# many the tail holds.
+ROOM = {"Book::fold of one": (64, 63)}
 # No call makes so many requests.
 MOST = 1000
 PROGRAMS = [os.path.abspath(name) for name in sys.argv[1:]] or [f"{ROOT}/crates/{name}/out/{name}" for name in REFUSED]

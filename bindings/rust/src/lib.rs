@@ -24,16 +24,28 @@
 //!
 //! The library checks whole what comes in, so no call here asks anything that a type doesn't say: this crate is safe, and its `unsafe`
 //! is the calls alone.
+//!
+//! Each call has a form that leaves an [`Event`] beside its answer, whose text is a record of a history. With the feature `std` a `Recorder`
+//! writes a history, which `pie audit` decides again and `pie explain` explains.
 #![no_std]
 #![deny(missing_docs)]
 #![deny(unsafe_op_in_unsafe_fn)]
 
+#[cfg(feature = "std")]
+extern crate std;
+
+mod event;
 mod library;
 mod params;
+#[cfg(feature = "std")]
+mod recorder;
 mod refusal;
 mod state;
 
+pub use event::{Event, Packet, ParamsEvent};
 pub use params::{Parameter, Params};
+#[cfg(feature = "std")]
+pub use recorder::{Limits, Recorder};
 pub use refusal::Refusal;
 pub use state::{Choices, Ecn, Profile, State, Updated, Verdict};
 

@@ -58,7 +58,7 @@ pub struct Choices {
 
 impl Choices {
     /// As the library has them.
-    fn flags(self) -> u32 {
+    pub(crate) fn flags(self) -> u32 {
         u32::from(self.delay_stamp) | u32::from(self.pick_random) << 1 | u32::from(self.step_uncapped) << 2 | u32::from(self.size_scaled) << 3
     }
 }
@@ -101,6 +101,18 @@ pub enum Verdict {
 }
 
 impl Verdict {
+    /// What an arrival answered.
+    pub(crate) fn of(code: u32) -> Result<Verdict, Refusal> {
+        match code {
+            0 => Ok(Verdict::Enqueue),
+            1 => Ok(Verdict::Mark),
+            2 => Ok(Verdict::Early),
+            3 => Ok(Verdict::Bytes),
+            4 => Ok(Verdict::Packets),
+            code => Err(refusal(u64::from(code), 0)),
+        }
+    }
+
     /// Whether the packet is queued, marked or not.
     #[must_use]
     pub fn is_queued(self) -> bool {
@@ -181,14 +193,7 @@ impl State {
         moment: u64,
     ) -> Result<Verdict, Refusal> {
         // SAFETY: as `library` says.
-        match unsafe { pie_arrive(self, queued, size, room, ecn as u32, word, moment) } {
-            0 => Ok(Verdict::Enqueue),
-            1 => Ok(Verdict::Mark),
-            2 => Ok(Verdict::Early),
-            3 => Ok(Verdict::Bytes),
-            4 => Ok(Verdict::Packets),
-            code => Err(refusal(u64::from(code), 0)),
-        }
+        Verdict::of(unsafe { pie_arrive(self, queued, size, room, ecn as u32, word, moment) })
     }
 
     /// Takes in that a packet of this size left the queue, with `left` bytes after it (section 5.2).

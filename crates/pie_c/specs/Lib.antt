@@ -2,3 +2,4 @@ pub mod Params
 pub mod State
 pub mod Calls
 pub mod Reading
+pub mod Events

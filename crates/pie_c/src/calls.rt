@@ -47,6 +47,22 @@ pub extern "C" fn pie_arrive(
 ) -> u32
     ensures { Arrives state.old (arrival_of queued size room bits word) (arrival_refusal queued size bits moment) moment result state.new }
 {
+    decide(state, queued, size, room, bits, word, moment)
+}
+
+/// The same, to be compiled where it is called.
+#[inline(always)]
+pub(crate) fn decide(
+    state: &mut PieState,
+    queued: u64,
+    size: u32,
+    room: u32,
+    bits: u32,
+    word: u64,
+    moment: u64,
+) -> u32
+    ensures { Arrives state.old (arrival_of queued size room bits word) (arrival_refusal queued size bits moment) moment result state.new }
+{
     // One number: the other way is then compiled once, and is a jump.
     let is_usual = room != 0 && state.active == 1 && state.choices <= 1;
     if is_usual {
@@ -217,6 +233,23 @@ pub extern "C" fn pie_depart_waited(
         (with_departure state.old (departed (capped (held_in state.old)) size left arrived moment)) }
     ensures held { Leaves state.old (Depart size left arrived moment) (waited_refusal state.old size left arrived moment) state.new }
 {
+    depart_waited(state, size, left, arrived, moment)
+}
+
+/// The same, to be compiled where it is called.
+#[inline(always)]
+pub(crate) fn depart_waited(
+    state: &mut PieState,
+    size: u32,
+    left: u64,
+    arrived: u64,
+    moment: u64,
+) -> u32
+    ensures answer { result ≡ waited_refusal state.old size left arrived moment }
+    ensures fields { state.new ≡ if_taken (waited_refusal state.old size left arrived moment) state.old
+        (with_departure state.old (departed (capped (held_in state.old)) size left arrived moment)) }
+    ensures held { Leaves state.old (Depart size left arrived moment) (waited_refusal state.old size left arrived moment) state.new }
+{
     depart_by(state, size, left, arrived, moment)
 }
 
@@ -263,8 +296,18 @@ fn depart_stamped(state: &mut PieState, size: u32, left: u64, arrived: u64, mome
 
 /// Takes in a departure that found the queue empty: its moment counts, and nothing else.
 #[unsafe(no_mangle)]
-#[tactic(auto, unfolding(crate::specs::Calls::moment_refusal))]
 pub extern "C" fn pie_empty(state: &mut PieState, moment: u64) -> u32
+    ensures answer { result ≡ moment_refusal moment }
+    ensures fields { state.new ≡ if_taken (moment_refusal moment) state.old (record state.old { moment = max state.old.moment moment }) }
+    ensures held { Leaves state.old (Pass moment) (moment_refusal moment) state.new }
+{
+    empty(state, moment)
+}
+
+/// The same, to be compiled where it is called.
+#[inline(always)]
+#[tactic(auto, unfolding(crate::specs::Calls::moment_refusal))]
+pub(crate) fn empty(state: &mut PieState, moment: u64) -> u32
     ensures answer { result ≡ moment_refusal moment }
     ensures fields { state.new ≡ if_taken (moment_refusal moment) state.old (record state.old { moment = max state.old.moment moment }) }
     ensures held { Leaves state.old (Pass moment) (moment_refusal moment) state.new }
@@ -282,8 +325,22 @@ pub extern "C" fn pie_empty(state: &mut PieState, moment: u64) -> u32
 /// A calm update turns a controller of profile two off. That of an inactive controller takes in the moment alone, and its delay is
 /// 0 (RFC 8033, section 5.3).
 #[unsafe(no_mangle)]
-#[tactic(auto, unfolding(crate::specs::Calls::update_refusal))]
 pub extern "C" fn pie_update(state: &mut PieState, queued: u64, moment: u64) -> PieUpdated
+    ensures answer { result ≡ updated_by state.old queued moment }
+    ensures after { state.new ≡ kept_if_refused (update_refusal state.old queued moment) state.old
+        (after_call (held_in state.old) (Update queued moment)) }
+    ensures sound { is_sound state.old ≡ true → is_sound state.new ≡ true }
+    ensures shows { (opened : Opened) (events : List ControllerEvent) → update_refusal state.old queued moment ≡ 0
+        → Shows opened events (held_in state.old)
+        → Shows opened (events ++ shown_by (held_in state.old) (Update queued moment) ∷ []) (held_in state.new) }
+{
+    update(state, queued, moment)
+}
+
+/// The same, to be compiled where it is called.
+#[inline(always)]
+#[tactic(auto, unfolding(crate::specs::Calls::update_refusal))]
+pub(crate) fn update(state: &mut PieState, queued: u64, moment: u64) -> PieUpdated
     ensures answer { result ≡ updated_by state.old queued moment }
     ensures after { state.new ≡ kept_if_refused (update_refusal state.old queued moment) state.old
         (after_call (held_in state.old) (Update queued moment)) }
@@ -313,8 +370,20 @@ pub extern "C" fn pie_update(state: &mut PieState, queued: u64, moment: u64) -> 
 /// Sets probability, old delay, accumulated probability and rate estimate to 0 and the burst allowance
 /// to `max_burst`, and keeps parameters, last update, and whether the controller is active.
 #[unsafe(no_mangle)]
-#[tactic(auto, unfolding(crate::specs::Calls::reset_refusal))]
 pub extern "C" fn pie_reset(state: &mut PieState, moment: u64) -> u32
+    ensures answer { result ≡ reset_refusal state.old moment }
+    ensures after { state.new ≡ kept_if_refused (reset_refusal state.old moment) state.old (after_call (held_in state.old) (Restart moment)) }
+    ensures sound { is_sound state.old ≡ true → is_sound state.new ≡ true }
+    ensures shows { (opened : Opened) (events : List ControllerEvent) → reset_refusal state.old moment ≡ 0 → Shows opened events (held_in state.old)
+        → Shows opened (events ++ shown_by (held_in state.old) (Restart moment) ∷ []) (held_in state.new) }
+{
+    reset(state, moment)
+}
+
+/// The same, to be compiled where it is called.
+#[inline(always)]
+#[tactic(auto, unfolding(crate::specs::Calls::reset_refusal))]
+pub(crate) fn reset(state: &mut PieState, moment: u64) -> u32
     ensures answer { result ≡ reset_refusal state.old moment }
     ensures after { state.new ≡ kept_if_refused (reset_refusal state.old moment) state.old (after_call (held_in state.old) (Restart moment)) }
     ensures sound { is_sound state.old ≡ true → is_sound state.new ≡ true }
@@ -337,8 +406,22 @@ pub extern "C" fn pie_reset(state: &mut PieState, moment: u64) -> u32
 ///
 /// Refuses, of what is wrong, a state first, then parameters, then the moment.
 #[unsafe(no_mangle)]
-#[tactic(auto, unfolding(crate::specs::Calls::params_refusal, crate::specs::State::are_in_range))]
 pub extern "C" fn pie_set_params(state: &mut PieState, params: &PieParams, moment: u64) -> u32
+    ensures answer { result ≡ params_refusal state.old params.now moment }
+    ensures after { state.new ≡ kept_if_refused (params_refusal state.old params.now moment) state.old
+        (after_call (held_in state.old) (Change (raw_of params.now) moment)) }
+    ensures sound { is_sound state.old ≡ true → is_sound state.new ≡ true }
+    ensures shows { (opened : Opened) (events : List ControllerEvent) → params_refusal state.old params.now moment ≡ 0
+        → Shows opened events (held_in state.old)
+        → Shows opened (events ++ shown_by (held_in state.old) (Change (raw_of params.now) moment) ∷ []) (held_in state.new) }
+{
+    set_params(state, params, moment)
+}
+
+/// The same, to be compiled where it is called.
+#[inline(always)]
+#[tactic(auto, unfolding(crate::specs::Calls::params_refusal, crate::specs::State::are_in_range))]
+pub(crate) fn set_params(state: &mut PieState, params: &PieParams, moment: u64) -> u32
     ensures answer { result ≡ params_refusal state.old params.now moment }
     ensures after { state.new ≡ kept_if_refused (params_refusal state.old params.now moment) state.old
         (after_call (held_in state.old) (Change (raw_of params.now) moment)) }

@@ -19,6 +19,9 @@ pub(crate) const OVER_BYTES: u32 = 3;
 /// The packet is to be dropped: the caller's ring is full.
 pub(crate) const OVER_PACKETS: u32 = 4;
 
+/// There was no packet to depart.
+pub(crate) const NONE: u32 = 5;
+
 /// Refused: a moment above `2^60 - 1`.
 pub(crate) const BAD_MOMENT: u32 = 101;
 

@@ -16,8 +16,11 @@
 mod calls;
 mod checked;
 mod code;
+mod event;
 mod opening;
 mod params;
 mod reading;
+mod recording;
 mod state;
 mod updated;
+mod writing;

@@ -2,7 +2,7 @@ use Rattle.std.proofs.Common.{arith}
 use Rattle.pie_aqm.specs.Calls.{Pass}
 use Rattle.pie_c.specs.Calls.{moment_refusal}
 use Rattle.pie_c.proofs.Packets.{handed, leaves, moment-taken, passed-state}
-use Rattle.pie_c.proofs.calls.pie_empty.Goals as goal
+use Rattle.pie_c.proofs.calls.empty.Goals as goal
 
 pub returns-clause-held : goal.returns-clause-held
 unfolding moment_refusal

@@ -7,7 +7,7 @@ use Rattle.pie_c.specs.Calls.{update_refusal, updated_with}
 use Rattle.pie_c.specs.State.{held_in, is_sound}
 use Rattle.pie_c.proofs.Packets.{shows-call, stays-sound}
 use Rattle.pie_c.proofs.Sound.{held-sound}
-use Rattle.pie_c.proofs.calls.pie_update.Goals as goal
+use Rattle.pie_c.proofs.calls.update.Goals as goal
 
 pub due-requires : goal.due-requires
 due-requires c = rw c.raw-held.ensures (held-sound c.args.state.now (search rules))

@@ -5,7 +5,7 @@ use Rattle.pie_c.specs.Params.{raw_of}
 use Rattle.pie_c.specs.State.{are_in_range, is_sound}
 use Rattle.pie_c.proofs.Packets.{changed-state, shows-call, stays-sound}
 use Rattle.pie_c.proofs.Sound.{params-from}
-use Rattle.pie_c.proofs.calls.pie_set_params.Goals as goal
+use Rattle.pie_c.proofs.calls.set_params.Goals as goal
 
 pub returns-clause-after : goal.returns-clause-after
 unfolding params_refusal are_in_range

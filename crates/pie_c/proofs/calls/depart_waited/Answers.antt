@@ -1,7 +1,7 @@
 use Rattle.std.proofs.Common.{rules}
 use Rattle.pie_aqm.specs.Calls.{Depart}
 use Rattle.pie_c.proofs.Packets.{departed-after, departed-moment, leaves}
-use Rattle.pie_c.proofs.calls.pie_depart_waited.Goals as goal
+use Rattle.pie_c.proofs.calls.depart_waited.Goals as goal
 
 pub returns-clause-held : goal.returns-clause-held
 returns-clause-held c =

@@ -3,7 +3,7 @@ use Rattle.pie_aqm.specs.Calls.{Restart}
 use Rattle.pie_c.specs.Calls.{reset_refusal}
 use Rattle.pie_c.specs.State.{is_sound}
 use Rattle.pie_c.proofs.Packets.{reset-state, shows-call, stays-sound}
-use Rattle.pie_c.proofs.calls.pie_reset.Goals as goal
+use Rattle.pie_c.proofs.calls.reset.Goals as goal
 
 pub returns-clause-after : goal.returns-clause-after
 unfolding reset_refusal

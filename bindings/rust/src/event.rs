@@ -1,0 +1,205 @@
+//! Events, and the records of a history that they are written as.
+
+use core::fmt;
+
+use crate::library::{
+    RawEvent, pie_arrive_event, pie_depart_event, pie_empty_event, pie_reset_event, pie_set_params_event, pie_update_event, pie_write_event,
+    pie_write_params,
+};
+use crate::refusal::{done, done_with, refusal};
+use crate::{Ecn, Params, Refusal, State, Updated, Verdict};
+
+/// The bytes that the longest record takes.
+const ROOM: usize = 256;
+
+/// The code that a departure answers where there was no packet.
+const NONE: u32 = 5;
+
+/// A packet, as the caller knows it.
+#[derive(Clone, Copy, Debug, PartialEq, Eq, Hash)]
+pub struct Packet {
+    /// The caller's name for it.
+    pub tag: u64,
+    /// Its size in bytes, 1 to 65535.
+    pub size: u32,
+    /// Its ECN field: of an arrival as it came, of a departure as it left, [`Ecn::Ce`] where it was marked.
+    pub ecn: Ecn,
+}
+
+/// What a call was asked and what it answered, in 64 bytes. Its text, by `Display`, is its record in a history (docs/FORMATS.md); that of a
+/// call that was refused says why, and is no record: a history tells it by its number, as `Recorder` does.
+#[derive(Clone, Copy, Debug, PartialEq, Eq, Hash)]
+#[repr(transparent)]
+pub struct Event(RawEvent);
+
+/// New parameters: an event with these.
+#[derive(Clone, Copy, Debug, PartialEq, Eq, Hash)]
+pub struct ParamsEvent {
+    event: Event,
+    params: Params,
+}
+
+/// A record's bytes.
+pub(crate) struct Text {
+    bytes: [u8; ROOM],
+    count: usize,
+}
+
+impl Text {
+    /// What the library writes; none where it writes nothing.
+    pub(crate) fn of(write: impl FnOnce(*mut u8, usize) -> usize) -> Option<Text> {
+        let mut bytes = [0; ROOM];
+        let count = write(bytes.as_mut_ptr(), ROOM);
+        (1..=ROOM).contains(&count).then_some(Text { bytes, count })
+    }
+
+    /// The record, with its line feed.
+    pub(crate) fn bytes(&self) -> &[u8] {
+        &self.bytes[..self.count]
+    }
+}
+
+impl Event {
+    fn new(caller: u16, moment: u64) -> Event {
+        Event(RawEvent { caller, moment, ..RawEvent::default() })
+    }
+
+    fn of(packet: Packet, caller: u16, moment: u64) -> Event {
+        let Packet { tag, size, ecn } = packet;
+        Event(RawEvent { caller, moment, tag, size, ecn: ecn as u8, ..RawEvent::default() })
+    }
+
+    /// The code that the call answered, where it was refused.
+    pub(crate) fn refused(&self) -> Option<u32> {
+        (self.0.answer > 100).then_some(self.0.answer)
+    }
+
+    pub(crate) fn text(&self) -> Option<Text> {
+        // SAFETY: as `library` says, and `out` has `room` bytes.
+        Text::of(|out, room| unsafe { pie_write_event(&self.0, out, room) })
+    }
+
+    /// What the call answered that has no more to say.
+    fn done(&self) -> Result<(), Refusal> {
+        done(self.refused().unwrap_or(0))
+    }
+}
+
+impl ParamsEvent {
+    #[cfg(feature = "std")]
+    pub(crate) fn refused(&self) -> Option<u32> {
+        self.event.refused()
+    }
+
+    pub(crate) fn text(&self) -> Option<Text> {
+        // SAFETY: as `library` says, and `out` has `room` bytes.
+        Text::of(|out, room| unsafe { pie_write_params(&self.event.0, &self.params, out, room) })
+    }
+}
+
+/// A record without its line feed, or why there is none.
+fn show(text: Option<Text>, code: u32, f: &mut fmt::Formatter<'_>) -> fmt::Result {
+    match text.as_ref().map(|it| core::str::from_utf8(it.bytes())) {
+        Some(Ok(record)) => f.write_str(record.trim_end_matches('\n')),
+        _ => write!(f, "refused: {}", refusal(u64::from(code), 0)),
+    }
+}
+
+impl fmt::Display for Event {
+    fn fmt(&self, f: &mut fmt::Formatter<'_>) -> fmt::Result {
+        match self.0.answer {
+            103 => f.write_str("refused: an update before it is due"),
+            code => show(self.text(), code, f),
+        }
+    }
+}
+
+impl fmt::Display for ParamsEvent {
+    fn fmt(&self, f: &mut fmt::Formatter<'_>) -> fmt::Result {
+        match (self.event.0.answer, self.params.first_bad()) {
+            (107, Some(parameter)) => write!(f, "refused: {}", Refusal::Params(parameter)),
+            (code, _) => show(self.text(), code, f),
+        }
+    }
+}
+
+/// The calls that leave an event beside their answer. Each decides as the call of the same name without `_event` does.
+impl State {
+    /// [`State::arrive`] of this packet.
+    ///
+    /// # Errors
+    /// As of [`State::arrive`].
+    pub fn arrive_event(
+        &mut self,
+        queued: u64,
+        room: u32,
+        packet: Packet,
+        word: u64,
+        caller: u16,
+        moment: u64,
+    ) -> (Event, Result<Verdict, Refusal>) {
+        let mut event = Event::of(packet, caller, moment);
+        event.0.word = word;
+        // SAFETY: as `library` says.
+        let answer = Verdict::of(unsafe { pie_arrive_event(self, queued, room, &mut event.0) });
+        (event, answer)
+    }
+
+    /// [`State::depart_waited`] of this packet; where delays don't come from time stamps, `arrived` plays no part.
+    ///
+    /// # Errors
+    /// As of [`State::depart_waited`].
+    pub fn depart_event(&mut self, left: u64, arrived: u64, packet: Packet, caller: u16, moment: u64) -> (Event, Result<(), Refusal>) {
+        let mut event = Event::of(packet, caller, moment);
+        // SAFETY: as `library` says.
+        unsafe { pie_depart_event(self, left, arrived, &mut event.0) };
+        (event, event.done())
+    }
+
+    /// [`State::empty`]: a departure that found no packet.
+    ///
+    /// # Errors
+    /// As of [`State::empty`].
+    pub fn empty_event(&mut self, caller: u16, moment: u64) -> (Event, Result<(), Refusal>) {
+        let mut event = Event::new(caller, moment);
+        // SAFETY: as `library` says.
+        let code = unsafe { pie_empty_event(self, &mut event.0) };
+        debug_assert!(code == NONE || code > 100);
+        (event, event.done())
+    }
+
+    /// [`State::update`].
+    ///
+    /// # Errors
+    /// As of [`State::update`].
+    pub fn update_event(&mut self, queued: u64, caller: u16, moment: u64) -> (Event, Result<Updated, Refusal>) {
+        let mut event = Event::new(caller, moment);
+        // SAFETY: as `library` says.
+        let code = unsafe { pie_update_event(self, queued, &mut event.0) };
+        let RawEvent { delay, prob, burst, .. } = event.0;
+        let answer = if code == 0 { Ok(Updated { due: self.due(), delay, prob, burst }) } else { Err(refusal(u64::from(code), self.due())) };
+        (event, answer)
+    }
+
+    /// [`State::reset`].
+    ///
+    /// # Errors
+    /// As of [`State::reset`].
+    pub fn reset_event(&mut self, caller: u16, moment: u64) -> (Event, Result<(), Refusal>) {
+        let mut event = Event::new(caller, moment);
+        // SAFETY: as `library` says.
+        unsafe { pie_reset_event(self, &mut event.0) };
+        (event, event.done())
+    }
+
+    /// [`State::set_params`].
+    ///
+    /// # Errors
+    /// As of [`State::set_params`].
+    pub fn set_params_event(&mut self, params: &Params, caller: u16, moment: u64) -> (ParamsEvent, Result<(), Refusal>) {
+        let mut event = Event::new(caller, moment);
+        // SAFETY: as `library` says.
+        let code = unsafe { pie_set_params_event(self, params, &mut event.0) };
+        (ParamsEvent { event, params: *params }, done_with(code, params))
+    }
+}

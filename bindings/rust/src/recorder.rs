@@ -1,0 +1,145 @@
+//! A history that is written as events come.
+
+use std::io::{self, Write};
+
+use crate::event::Text;
+use crate::library::{pie_write_lost, pie_write_opening, pie_write_refused};
+use crate::{Choices, Event, Params, ParamsEvent, Profile};
+
+/// What the opening of a history allows to whoever decides it again, beside the parameters.
+#[derive(Clone, Copy, Debug, PartialEq, Eq, Hash)]
+pub struct Limits {
+    /// How many packets the queue has room for, 1 to 2^20.
+    pub packets: u64,
+    /// How many events lie in the event log at a time, 1 to 2^20.
+    pub tail: u64,
+    /// How many events there may be, 1 to 2^47.
+    pub events: u64,
+}
+
+impl Text {
+    /// The opening of a history.
+    fn opening(params: &Params, moment: u64, profile: Profile, choices: Choices, limits: Limits) -> Option<Text> {
+        let Limits { packets, tail, events } = limits;
+        // SAFETY: as `library` says, and `out` has `room` bytes.
+        Text::of(|out, room| unsafe {
+            pie_write_opening(params, moment, profile as u32, choices.flags(), packets, tail, events, out, room)
+        })
+    }
+
+    /// That the record with this number was refused by this code; none where histories don't know it.
+    fn refused(record: u64, code: u32) -> Option<Text> {
+        // SAFETY: as `library` says, and `out` has `room` bytes.
+        Text::of(|out, room| unsafe { pie_write_refused(record, code, out, room) })
+    }
+
+    /// That so many events are missing.
+    fn lost(count: u64) -> Option<Text> {
+        // SAFETY: as `library` says, and `out` has `room` bytes.
+        Text::of(|out, room| unsafe { pie_write_lost(count, out, room) })
+    }
+}
+
+/// Writes a history, which `pie audit` decides again and `pie explain` explains: the opening, and then each event in its order.
+///
+/// ```
+/// use juniperbowls::{Choices, Ecn, Limits, Packet, Params, Profile, Recorder, State};
+///
+/// # fn main() -> Result<(), Box<dyn std::error::Error>> {
+/// let params = Params { target: 20_000_000, ..Params::default() };
+/// let limits = Limits { packets: 1000, tail: 1024, events: 1 << 40 };
+/// let mut pie = State::open(&params, 0)?;
+/// let mut history = Recorder::open(Vec::new(), &params, 0, Profile::One, Choices::default(), limits)?;
+///
+/// let packet = Packet { tag: 7, size: 1500, ecn: Ecn::Ect0 };
+/// let (event, verdict) = pie.arrive_event(0, 1000, packet, 0x9e37_79b9_7f4a_7c15, 1, 10);
+/// history.record(&event)?;
+/// assert!(verdict?.is_queued());
+/// assert_eq!(event.to_string(), "arrive,1,10,7,1500,ect0,11400714819323198485,enqueue");
+///
+/// let text = String::from_utf8(history.into_inner())?;
+/// assert!(text.starts_with("open,0,1000,1024,1099511627776,20000000,15000000,"));
+/// assert_eq!(text.lines().count(), 2);
+/// # Ok(())
+/// # }
+/// ```
+#[derive(Debug)]
+pub struct Recorder<W: Write> {
+    out: W,
+    records: u64,
+    untold: u64,
+}
+
+impl<W: Write> Recorder<W> {
+    /// Writes the opening of a controller that was opened with these parameters, moment, profile and choices.
+    ///
+    /// # Errors
+    /// `InvalidInput` where a parameter, the moment or a limit is out of its range; and what the writer answers.
+    pub fn open(mut out: W, params: &Params, moment: u64, profile: Profile, choices: Choices, limits: Limits) -> io::Result<Recorder<W>> {
+        match Text::opening(params, moment, profile, choices, limits) {
+            None => Err(io::Error::new(io::ErrorKind::InvalidInput, "an opening that no history has")),
+            Some(text) => {
+                out.write_all(text.bytes())?;
+                Ok(Recorder { out, records: 1, untold: 0 })
+            }
+        }
+    }
+
+    /// Writes an event's record. One that was refused is told by its number, where histories know the refusal; others are counted.
+    ///
+    /// # Errors
+    /// What the writer answers: the history may then end within a record.
+    pub fn record(&mut self, event: &Event) -> io::Result<()> {
+        self.put(event.refused(), || event.text())
+    }
+
+    /// Writes the record of new parameters.
+    ///
+    /// # Errors
+    /// As of [`Recorder::record`].
+    pub fn record_params(&mut self, event: &ParamsEvent) -> io::Result<()> {
+        self.put(event.refused(), || event.text())
+    }
+
+    /// Writes that so many events are missing. No audit of the text is clean then.
+    ///
+    /// # Errors
+    /// As of [`Recorder::record`].
+    pub fn lost(&mut self, count: u64) -> io::Result<()> {
+        self.put(None, || Text::lost(count))
+    }
+
+    fn put(&mut self, refused: Option<u32>, text: impl FnOnce() -> Option<Text>) -> io::Result<()> {
+        let text = match refused {
+            Some(code) => Text::refused(self.records + 1, code),
+            None => text(),
+        };
+        match text {
+            Some(text) => {
+                self.records += 1;
+                self.out.write_all(text.bytes())
+            }
+            None => {
+                self.untold += 1;
+                Ok(())
+            }
+        }
+    }
+
+    /// How many records there are, with the opening.
+    #[must_use]
+    pub fn records(&self) -> u64 {
+        self.records
+    }
+
+    /// How many calls were refused for a reason that no history has.
+    #[must_use]
+    pub fn untold(&self) -> u64 {
+        self.untold
+    }
+
+    /// The writer, which is not flushed.
+    pub fn into_inner(self) -> W {
+        self.out
+    }
+}

@@ -1,0 +1,3 @@
+pub mod PlainFacts
+pub mod Records
+pub mod Openings

@@ -24,7 +24,7 @@ namespace
 /* A scenario, as the command line says it. */
 struct Scenario
 {
-    std::string queue = "recorded"; /* recorded, pie, pie-random, pie-mark, pie-mark-burst or fifo */
+    std::string queue = "recorded"; /* recorded or pie, each also with a choice of ChoicesOf; pie-mark, pie-mark-burst or fifo */
     double megabits = 10;           /* the shared link's rate */
     uint32_t flows = 4;
     double roundTrip = 40; /* ms, without queues */
@@ -113,13 +113,22 @@ SetTcp(const Scenario& scenario)
     Config::SetDefault("ns3::DropTailQueue<Packet>::MaxSize", StringValue("1p"));
 }
 
-/* What ChangedPieQueueDisc changes: at a mark, and at the burst allowance. */
-void
-SetChanges(const std::string& queue)
+/* RFC 8033's optional elements, which both PIEs have by the same names. */
+struct Choices
 {
-    NS_ABORT_MSG_UNLESS(queue == "pie" || queue == "pie-random" || queue == "pie-mark" || queue == "pie-mark-burst",
-                        "unknown queue " << queue);
-    Config::SetDefault("ns3::ChangedPieQueueDisc::WholeAllowanceWhenCalm", BooleanValue(queue == "pie-mark-burst"));
+    bool isByRate = true;       /* delays from the departure rate (section 5.2), and else from time stamps (section 4.3) */
+    bool isDerandomized = true; /* section 5.4 */
+    bool isCapped = true;       /* section 5.5 */
+};
+
+/* The choices that a queue's name asks for behind its first word: those of RFC 8033 where it asks for none. */
+Choices
+ChoicesOf(const std::string& asked)
+{
+    NS_ABORT_MSG_UNLESS(asked.empty() || asked == "-stamp" || asked == "-random" || asked == "-uncapped" || asked == "-all",
+                        "unknown choice " << asked);
+    bool isAll = asked == "-all";
+    return {!isAll && asked != "-stamp", !isAll && asked != "-random", !isAll && asked != "-uncapped"};
 }
 
 /* The queue of the shared link. What is not set here has the default of RFC 8033 in both. */
@@ -128,23 +137,32 @@ QueueOf(const Scenario& scenario)
 {
     QueueSizeValue limit(QueueSize(QueueSizeUnit::BYTES, LimitBytes(scenario)));
     TrafficControlHelper helper;
-    if (scenario.queue == "recorded")
+    if (scenario.queue.rfind("recorded", 0) == 0)
     {
+        Choices choices = ChoicesOf(scenario.queue.substr(8));
         helper.SetRootQueueDisc("ns3::RecordedPieQueueDisc",
                                 "MeanPkt", UintegerValue(MEAN_PKT),
                                 "LimitBytes", UintegerValue(LimitBytes(scenario)),
+                                "UseDequeueRateEstimator", BooleanValue(choices.isByRate),
+                                "UseCapDropAdjustment", BooleanValue(choices.isCapped),
+                                "UseDerandomization", BooleanValue(choices.isDerandomized),
                                 "UseEcn", BooleanValue(scenario.ecn),
                                 "History", StringValue(scenario.history));
     }
-    else if (scenario.queue.substr(0, 3) == "pie")
+    else if (scenario.queue.rfind("pie", 0) == 0)
     {
-        SetChanges(scenario.queue);
-        helper.SetRootQueueDisc(scenario.queue.substr(0, 8) == "pie-mark" ? "ns3::ChangedPieQueueDisc" : "ns3::PieQueueDisc",
+        bool isChanged = scenario.queue.rfind("pie-mark", 0) == 0;
+        NS_ABORT_MSG_UNLESS(!isChanged || scenario.queue == "pie-mark" || scenario.queue == "pie-mark-burst",
+                            "unknown queue " << scenario.queue);
+        /* what ChangedPieQueueDisc changes: at a mark, and at the burst allowance */
+        Config::SetDefault("ns3::ChangedPieQueueDisc::WholeAllowanceWhenCalm", BooleanValue(scenario.queue == "pie-mark-burst"));
+        Choices choices = ChoicesOf(isChanged ? "" : scenario.queue.substr(3));
+        helper.SetRootQueueDisc(isChanged ? "ns3::ChangedPieQueueDisc" : "ns3::PieQueueDisc",
                                 "MeanPktSize", UintegerValue(MEAN_PKT),
                                 "MaxSize", limit,
-                                "UseDequeueRateEstimator", BooleanValue(true),
-                                "UseCapDropAdjustment", BooleanValue(true),
-                                "UseDerandomization", BooleanValue(scenario.queue != "pie-random"),
+                                "UseDequeueRateEstimator", BooleanValue(choices.isByRate),
+                                "UseCapDropAdjustment", BooleanValue(choices.isCapped),
+                                "UseDerandomization", BooleanValue(choices.isDerandomized),
                                 "UseEcn", BooleanValue(scenario.ecn));
     }
     else
@@ -308,7 +326,7 @@ Read(int count, char** words)
     Scenario s;
     bool isHeader = false;
     CommandLine line(__FILE__);
-    line.AddValue("queue", "recorded, pie, pie-random, fifo; pie-mark, pie-mark-burst: pie with points changed", s.queue);
+    line.AddValue("queue", "recorded or pie, with -stamp, -random, -uncapped or -all for another choice; fifo; pie-mark, pie-mark-burst: pie with points changed", s.queue);
     line.AddValue("rate", "Mbit/s of the shared link", s.megabits);
     line.AddValue("flows", "TCP flows", s.flows);
     line.AddValue("rtt", "round trip without queues, ms", s.roundTrip);

@@ -9,6 +9,8 @@
 #include "ns3/string.h"
 #include "ns3/uinteger.h"
 
+#include "rolling.h"
+
 #include <cmath>
 
 namespace ns3
@@ -22,12 +24,9 @@ namespace
 {
 
 /* Who acts, in the history: the senders, the link, the timer. */
-constexpr int SENDERS = 1;
-constexpr int LINK = 2;
-constexpr int TIMER = 3;
-
-constexpr const char* ECN_WORDS[] = {"not", "ect1", "ect0", "ce"};
-constexpr const char* VERDICTS[] = {"enqueue", "mark", "early", "bytes", "packets"};
+constexpr uint16_t SENDERS = 1;
+constexpr uint16_t LINK = 2;
+constexpr uint16_t TIMER = 3;
 
 uint64_t
 Moment()
@@ -49,6 +48,16 @@ void
 Expect(uint32_t code, const char* call)
 {
     NS_ABORT_MSG_IF(code != PIE_DONE, call << " refused by code " << code);
+}
+
+/* An event of now, whose other numbers are 0. */
+pie_event
+EventBy(uint16_t caller)
+{
+    pie_event event{};
+    event.caller = caller;
+    event.moment = Moment();
+    return event;
 }
 
 } // namespace
@@ -249,18 +258,26 @@ RecordedPieQueueDisc::RecordOpening(const pie_params& p, uint64_t moment)
     }
     m_history.open(m_historyName);
     NS_ABORT_MSG_UNLESS(m_history, "cannot write " << m_historyName);
-    if (Choices() == PIE_USUAL)
+    unsigned char text[PIE_RECORD_ROOM];
+    size_t count = write_rolling_opening(&p, moment, m_profile, Choices(), m_packets, 1024, uint64_t(1) << 40, text);
+    Write(text, count);
+}
+
+void
+RecordedPieQueueDisc::Write(const unsigned char* text, size_t count)
+{
+    NS_ABORT_MSG_IF(count == 0, "an event that no history has");
+    m_history.write(reinterpret_cast<const char*>(text), static_cast<std::streamsize>(count));
+}
+
+void
+RecordedPieQueueDisc::Record(const pie_event& event)
+{
+    if (m_history.is_open())
     {
-        m_history << "open2," << m_profile;
+        unsigned char text[PIE_RECORD_ROOM];
+        Write(text, pie_write_event(&event, text, sizeof text));
     }
-    else
-    {
-        m_history << "open3," << m_profile << (m_useRate ? ",rate" : ",stamp") << (m_useDerandomization ? ",derandomized" : ",random")
-                  << (m_useCap ? ",capped" : ",uncapped") << ",unscaled";
-    }
-    m_history << ",rolling," << moment << ',' << m_packets << ",1024," << (uint64_t(1) << 40) << ','
-              << p.target << ',' << p.t_update << ',' << p.max_burst << ',' << p.alpha << ',' << p.beta << ',' << p.mean_pkt
-              << ',' << p.limit_bytes << ',' << p.mark_ecnth << ',' << p.dq_threshold << '\n';
 }
 
 uint64_t
@@ -281,18 +298,15 @@ bool
 RecordedPieQueueDisc::DoEnqueue(Ptr<QueueDiscItem> item)
 {
     Ptr<InternalQueue> queue = GetInternalQueue(0);
-    uint64_t moment = Moment();
-    uint64_t word = Word();
-    uint32_t ecn = EcnField(item, m_useEcn);
+    pie_event event = EventBy(SENDERS);
+    event.tag = ++m_arrivals;
+    event.size = item->GetSize();
+    event.ecn = static_cast<uint8_t>(EcnField(item, m_useEcn));
+    event.word = Word();
     uint32_t room = m_packets - queue->GetNPackets();
-    uint32_t verdict = pie_arrive(&m_pie, queue->GetNBytes(), item->GetSize(), room, ecn, word, moment);
-    NS_ABORT_MSG_IF(verdict > PIE_PACKETS, "pie_arrive refused by code " << verdict);
-    m_arrivals++;
-    if (m_history.is_open())
-    {
-        m_history << "arrive," << SENDERS << ',' << moment << ',' << m_arrivals << ',' << item->GetSize()
-                  << ',' << ECN_WORDS[ecn] << ',' << word << ',' << VERDICTS[verdict] << '\n';
-    }
+    uint32_t verdict = pie_arrive_event(&m_pie, queue->GetNBytes(), room, &event);
+    NS_ABORT_MSG_IF(verdict > PIE_PACKETS, "pie_arrive_event refused by code " << verdict);
+    Record(event);
     switch (verdict)
     {
     case PIE_EARLY:
@@ -321,32 +335,26 @@ RecordedPieQueueDisc::DoDequeue()
     {
         return nullptr; /* the simulator's clock does not fall, so pie_empty would change no decision */
     }
-    uint64_t moment = Moment();
+    pie_event event = EventBy(LINK);
     auto [tag, arrived] = m_tags.front();
     m_tags.pop_front();
-    Expect(pie_depart_waited(&m_pie, item->GetSize(), queue->GetNBytes(), arrived, moment), "pie_depart_waited");
-    if (m_history.is_open())
-    {
-        m_history << "depart," << LINK << ',' << moment << ",left," << tag << ',' << item->GetSize()
-                  << ',' << ECN_WORDS[EcnField(item, m_useEcn)] << '\n';
-    }
+    event.tag = tag;
+    event.size = item->GetSize();
+    event.ecn = static_cast<uint8_t>(EcnField(item, m_useEcn));
+    Expect(pie_depart_event(&m_pie, queue->GetNBytes(), arrived, &event), "pie_depart_event");
+    Record(event);
     return item;
 }
 
 void
 RecordedPieQueueDisc::Update()
 {
-    uint64_t moment = Moment();
-    pie_updated updated = pie_update(&m_pie, GetInternalQueue(0)->GetNBytes(), moment);
-    Expect(static_cast<uint32_t>(updated.code), "pie_update");
-    if (m_history.is_open())
-    {
-        m_history << "update," << TIMER << ',' << moment << ',' << updated.delay << ',' << updated.prob << ','
-                  << updated.burst << '\n';
-    }
-    m_probability = static_cast<double>(updated.prob) / 1e12;
-    m_delay = NanoSeconds(static_cast<int64_t>(updated.delay));
-    m_updateEvent = Simulator::Schedule(NanoSeconds(static_cast<int64_t>(updated.due - moment)),
+    pie_event event = EventBy(TIMER);
+    Expect(pie_update_event(&m_pie, GetInternalQueue(0)->GetNBytes(), &event), "pie_update_event");
+    Record(event);
+    m_probability = static_cast<double>(event.prob) / 1e12;
+    m_delay = NanoSeconds(static_cast<int64_t>(event.delay));
+    m_updateEvent = Simulator::Schedule(NanoSeconds(static_cast<int64_t>(pie_due(&m_pie) - event.moment)),
                                         &RecordedPieQueueDisc::Update,
                                         this);
 }

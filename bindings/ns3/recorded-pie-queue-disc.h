@@ -55,6 +55,8 @@ class RecordedPieQueueDisc : public QueueDisc
     uint64_t Word();
     bool Drop(Ptr<QueueDiscItem> item, const char* reason);
     void RecordOpening(const pie_params& params, uint64_t moment);
+    void Record(const pie_event& event);
+    void Write(const unsigned char* text, size_t count);
 
     /* The attributes. */
     Time m_target;

@@ -3,12 +3,13 @@
 # All scenarios of one seed come before those of the next, so that a batch that is stopped has the same number of runs of each.
 # Runs whose history exists already are left out, so a batch that was stopped can go on. The histories stay in FOLDER/histories; audit.sh
 # audits them, table.py makes tables. The queues that are there for comparison have three seeds: tail drop, whose runs differ little, at
-# each rate, and ns-3's PIE without de-randomization above 10 Mbit/s, where a run takes long.
-# usage: bindings/ns3/scenarios.sh FOLDER [FIRST_SEED] [LAST_SEED] [PROCESSES] [RATES] [QUEUES]
-#   RATES in Mbit/s, '10 50 100' where none are given; QUEUES: 'recorded pie pie-random fifo'
+# each rate, and ns-3's PIE without de-randomization above 10 Mbit/s, where a run takes long, unless the same choice runs here too.
+# usage: bindings/ns3/scenarios.sh FOLDER [FIRST_SEED] [LAST_SEED] [PROCESSES] [RATES] [QUEUES] [SCENARIO]
+#   RATES in Mbit/s, '10 50 100' where none are given; QUEUES: 'recorded pie pie-random fifo'; recorded and pie also with -stamp, -random,
+#   -uncapped or -all behind them, the optional elements of RFC 8033; SCENARIO: one alone, as '4 40 0 0' below
 set -eu
 if [ $# -lt 1 ] || [ "$1" = --help ]; then
-    sed -n '2,8s/^# //p' "$0"
+    sed -n '2,9s/^# //p' "$0"
     exit 1
 fi
 here=$(cd "$(dirname "$0")" && pwd)
@@ -37,6 +38,7 @@ scenarios='4 40 0 0
 4 40 1 0
 30 40 1 0
 4 40 0 1'
+scenarios=${7:-$scenarios}
 
 # rate: simulated seconds, and those of them at the start of which steady figures take no account
 declare -A lasts=([10]='20 5' [50]='6 3' [100]='6 3')
@@ -59,7 +61,7 @@ for seed in $(seq "$first" "$last"); do
             for queue in $queues; do
                 # ECN means nothing to a FIFO
                 [ "$queue" = fifo ] && { [ "$ecn" = 1 ] || [ "$seed" -gt 3 ]; } && continue
-                [ "$queue" = pie-random ] && [ "$rate" -gt 10 ] && [ "$seed" -gt 3 ] && continue
+                [ "$queue" = pie-random ] && [ "$rate" -gt 10 ] && [ "$seed" -gt 3 ] && [[ " $queues " != *" recorded-random "* ]] && continue
                 echo "$program $folder $queue $rate $flows $rtt $ecn $udp ${lasts[$rate]} $seed"
             done
         done <<< "$scenarios"

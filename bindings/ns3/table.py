@@ -1,10 +1,11 @@
 #!/usr/bin/env python3
 """Makes tables of the records that scenarios.sh left. Goodput in Mbit/s, waits in ms.
 
-usage: bindings/ns3/table.py RESULTS.csv [full | beside | plot]
+usage: bindings/ns3/table.py RESULTS.csv [full | beside | plot] [stamp | random | uncapped | all]
 
 full    for each scenario a table with a line for each queue: of each figure the mean over the runs, and in brackets the least and the greatest
-beside  a line for each scenario: this repository's PIE beside PieQueueDisc with de-randomization; then all scenarios together
+beside  a line for each scenario: this repository's PIE beside PieQueueDisc with de-randomization; then all scenarios together; both with another
+        of RFC 8033's optional elements where one is named, or with all three
 plot    the mean waits, for draw.sh
 
 How the two are compared was fixed before the runs were made. The runs of the two are mixed, and parted again at random, 5,000 times; `chance`
@@ -24,6 +25,12 @@ QUEUES = {
     "recorded": "PIE, this repository",
     "pie": "PieQueueDisc, de-randomized",
     "pie-random": "PieQueueDisc, not de-randomized",
+}
+CHOICES = {
+    "stamp": "by time stamps",
+    "random": "not de-randomized",
+    "uncapped": "not capped",
+    "all": "by time stamps, not de-randomized, not capped",
 }
 FIGURES = {
     "goodput_mbit": "goodput",
@@ -93,15 +100,23 @@ def chance(pairs):
     return (further + 1) / (PARTINGS + 1)
 
 
+def name_of_queue(queue):
+    if queue in QUEUES:
+        return QUEUES[queue]
+    kind, choice = queue.split("-")
+    return f"{'PieQueueDisc' if kind == 'pie' else QUEUES[kind]}, {CHOICES[choice]}"
+
+
 def print_full(runs, scenarios):
+    queues = dict.fromkeys([*QUEUES, *(f"{kind}-{choice}" for choice in CHOICES for kind in ("recorded", "pie"))])
     for scenario in scenarios:
         print(f"\n{name_of(scenario)}:\n")
         print("| queue | runs | " + " | ".join(FIGURES.values()) + " |")
         print("|---|" + "---|" * (len(FIGURES) + 1))
-        for queue, name in QUEUES.items():
+        for queue in queues:
             records = runs.get((scenario, queue))
             if records:
-                print(f"| {name} | {len(records)} | " + " | ".join(shown(records, figure) for figure in FIGURES) + " |")
+                print(f"| {name_of_queue(queue)} | {len(records)} | " + " | ".join(shown(records, figure) for figure in FIGURES) + " |")
 
 
 def figures(ours, theirs, fifo, figure, is_judged):
@@ -112,23 +127,24 @@ def figures(ours, theirs, fifo, figure, is_judged):
     return [tail, shown(ours, figure), shown(theirs, figure), f"**{text}**" if found is not None and found < BEYOND else text], found
 
 
-def print_together(runs, compared, name):
+def print_together(runs, beside, compared, name):
     for figure in COMPARED:
-        pairs = [tuple(values(runs[scenario, queue], figure) for queue in ("recorded", "pie")) for scenario in compared]
+        pairs = [tuple(values(runs[scenario, queue], figure) for queue in beside) for scenario in compared]
         print(f"{name}, {len(pairs)} scenarios together: {FIGURES[figure]} here is {math.exp(ratio(pairs)):.3f} times that of PieQueueDisc, "
               f"chance {chance(pairs):.4f}.")
 
 
-def print_beside(runs, scenarios):
+def print_beside(runs, scenarios, choice=None):
     """With fewer than four runs of each no parting is rarer than one of ten, so such a scenario has no chance of its own."""
-    counts = {it: [len(runs.get((it, queue), [])) for queue in ("recorded", "pie")] for it in scenarios}
+    beside = tuple(f"{kind}-{choice}" if choice else kind for kind in ("recorded", "pie"))
+    counts = {it: [len(runs.get((it, queue), [])) for queue in beside] for it in scenarios}
     compared = [it for it in scenarios if min(counts[it]) > 0]
     print("| scenario | runs | wait, tail drop | wait, here | wait, PieQueueDisc | chance | goodput, tail drop | goodput, here "
           "| goodput, PieQueueDisc | chance |")
     print("|---|" + "---|" * 9)
     chances = []
     for scenario in compared:
-        queues = [runs.get((scenario, queue), []) for queue in ("recorded", "pie", "fifo")]
+        queues = [runs.get((scenario, queue), []) for queue in (*beside, "fifo")]
         line = [name_of(scenario), ", ".join(str(it) for it in sorted(set(counts[scenario])))]
         for figure in COMPARED:
             cells, found = figures(*queues, figure, min(counts[scenario]) >= 4)
@@ -138,9 +154,9 @@ def print_beside(runs, scenarios):
     beyond = sum(it < BEYOND for it in chances)
     print(f"\n{beyond} of {len(chances)} comparisons are beyond the spread; {BEYOND * len(chances):.1f} would be by chance alone.")
     for rate in dict.fromkeys(it[0] for it in compared):
-        print_together(runs, [it for it in compared if it[0] == rate], f"{rate} Mbit/s")
-    print_together(runs, [it for it in compared if it[3] == "0"], "Without ECN")
-    print_together(runs, compared, "All")
+        print_together(runs, beside, [it for it in compared if it[0] == rate], f"{rate} Mbit/s")
+    print_together(runs, beside, [it for it in compared if it[3] == "0"], "Without ECN")
+    print_together(runs, beside, compared, "All")
 
 
 def print_plot(runs, scenarios):
@@ -158,7 +174,7 @@ def print_plot(runs, scenarios):
 def main():
     runs = read(sys.argv[1])
     scenarios = sorted({scenario for scenario, _ in runs}, key=lambda it: (float(it[0]), it[3], it[4], float(it[2]) != 40, float(it[2]), int(it[1])))
-    {"full": print_full, "beside": print_beside, "plot": print_plot}[sys.argv[2] if len(sys.argv) > 2 else "full"](runs, scenarios)
+    {"full": print_full, "beside": print_beside, "plot": print_plot}[sys.argv[2] if len(sys.argv) > 2 else "full"](runs, scenarios, *sys.argv[3:])
 
 
 main()

@@ -1,5 +1,6 @@
 /* A bottleneck in user space: two TUN devices, joined by a link of a given rate whose queue PIE manages. One thread; it waits in
- * ppoll for packets, for the end of a transmission, for the delay on the way back, and for the moment when an update is due.
+ * ppoll for packets, for the end of a transmission, for the delay on the way back, and for the moment when an update is due. Another
+ * thread writes the history, so that no packet waits for a file.
  *
  * Nothing here touches another device: what comes in by the one TUN device goes out by the other. */
 #define _GNU_SOURCE
@@ -14,7 +15,9 @@
 #include <linux/if.h>
 #include <linux/if_tun.h>
 #include <poll.h>
+#include <pthread.h>
 #include <signal.h>
+#include <stdatomic.h>
 #include <stdlib.h>
 #include <string.h>
 #include <sys/ioctl.h>
@@ -26,6 +29,7 @@
 #define AT_ONCE 64         /* packets read from one device before the link is looked at again */
 #define BACK_PACKETS 65536 /* that may be on the way back */
 #define WORDS 128          /* random words taken at once */
+#define LOOK_TIME 1000000  /* ns that the history's thread waits where there is no event */
 
 /* What was counted. */
 struct counts {
@@ -43,6 +47,8 @@ struct bottleneck {
     uint64_t free_at;      /* the moment from which the link is free */
     uint64_t next_update;  /* the moment from which an update is not too soon */
     struct history history;
+    pthread_t writer;      /* of the history */
+    atomic_bool is_closed; /* whether the writer has to end */
     struct counts counts;
 };
 
@@ -131,17 +137,20 @@ static void release(struct bottleneck *link, struct packets *packets, int device
 
 /* An arrival: the library says whether the packet waits, is marked or is dropped. */
 static void arrive(struct bottleneck *link, struct packet *packet, uint64_t now) {
-    uint64_t word = random_word();
-    uint32_t room = (uint32_t)link->options->packets - link->queue.count;
+    struct pie_event *event = next_event(&link->history, SENDER, now);
+    uint32_t room = (uint32_t)link->options->control.packets - link->queue.count;
     packet->tag = ++link->counts.arrivals;
     packet->moment = now;
-    packet->ecn = link->options->use_ecn ? ecn_of(packet->bytes, packet->size) : PIE_NOT_ECT;
-    uint32_t verdict = pie_arrive(&link->pie, link->queue.bytes, packet->size, room, packet->ecn, word, now);
+    packet->ecn = link->options->control.use_ecn ? ecn_of(packet->bytes, packet->size) : PIE_NOT_ECT;
+    event->tag = packet->tag;
+    event->size = packet->size;
+    event->ecn = (uint8_t)packet->ecn;
+    event->word = random_word();
+    uint32_t verdict = pie_arrive_event(&link->pie, link->queue.bytes, room, event);
     if (verdict > PIE_PACKETS)
-        die_refused("pie_arrive", verdict);
+        die_refused("pie_arrive_event", verdict);
     packet->arrived = link->pie.moment;
     link->counts.verdicts[verdict]++;
-    record_arrival(&link->history, packet, word, verdict, now);
     if (verdict == PIE_MARK) {
         set_ce(packet->bytes, packet->size);
         packet->ecn = PIE_CE;
@@ -181,7 +190,7 @@ static void receive(struct bottleneck *link, int device, void (*take)(struct bot
 }
 
 static uint64_t time_on_link(const struct bottleneck *link, uint32_t size) {
-    return (uint64_t)size * 8 * 1000000000u / link->options->rate;
+    return (uint64_t)size * 8 * 1000000000u / link->options->control.rate;
 }
 
 /* The link takes each packet that it has come to. Where this program was late, it catches up: a transmission begins when the
@@ -190,11 +199,14 @@ static void serve(struct bottleneck *link, uint64_t now) {
     while (link->queue.first != NULL && link->free_at <= now) {
         struct packet *packet = pop(&link->queue);
         uint64_t start = packet->moment > link->free_at ? packet->moment : link->free_at;
-        uint32_t code = pie_depart_waited(&link->pie, packet->size, link->queue.bytes, packet->arrived, now);
+        struct pie_event *event = next_event(&link->history, LINK, now);
+        event->tag = packet->tag;
+        event->size = packet->size;
+        event->ecn = (uint8_t)packet->ecn;
+        uint32_t code = pie_depart_event(&link->pie, link->queue.bytes, packet->arrived, event);
         if (code != PIE_DONE)
-            die_refused("pie_depart_waited", code);
+            die_refused("pie_depart_event", code);
         link->counts.departures++;
-        record_departure(&link->history, packet, now);
         link->free_at = start + time_on_link(link, packet->size);
         packet->moment = link->free_at;
         push(&link->there, packet);
@@ -204,17 +216,15 @@ static void serve(struct bottleneck *link, uint64_t now) {
 static void update(struct bottleneck *link, uint64_t now) {
     if (now < link->next_update)
         return;
-    struct pie_updated updated = pie_update(&link->pie, link->queue.bytes, now);
-    if (updated.code == PIE_DONE) {
-        record_update(&link->history, &updated, now);
+    struct pie_event *event = next_event(&link->history, TIMER, now);
+    uint32_t code = pie_update_event(&link->pie, link->queue.bytes, event);
+    if (code == PIE_DONE) {
         link->counts.updates++;
-        link->counts.late += now - link->next_update > link->options->params.t_update;
-    } else if (updated.code == PIE_TOO_SOON) {
-        record_refusal(&link->history, updated.code);
-    } else {
-        die_refused("pie_update", updated.code);
+        link->counts.late += now - link->next_update > link->options->control.params.t_update;
+    } else if (code != PIE_TOO_SOON) {
+        die_refused("pie_update_event", code);
     }
-    link->next_update = updated.due;
+    link->next_update = pie_due(&link->pie);
 }
 
 static uint64_t earlier(uint64_t moment, const struct packets *packets) {
@@ -245,6 +255,17 @@ static void step(struct bottleneck *link) {
     receive(link, link->from, arrive);
     receive(link, link->to, turn_back);
     serve(link, moment_of(link));
+    publish_events(&link->history);
+}
+
+/* The thread that writes the history. */
+static void *write_history(void *argument) {
+    struct bottleneck *link = argument;
+    const struct timespec pause = {.tv_nsec = LOOK_TIME};
+    while (!atomic_load(&link->is_closed))
+        if (!write_events(&link->history))
+            nanosleep(&pause, NULL);
+    return NULL;
 }
 
 /* Signals come only while the program waits. */
@@ -264,12 +285,15 @@ static void open_link(struct bottleneck *link, const struct options *options) {
     link->from = open_device(options->from);
     link->to = open_device(options->to);
     link->start = clock_now();
-    link->next_update = options->params.t_update;
-    uint32_t code = pie_open_with(&link->pie, &options->params, 0, (uint32_t)options->profile, options->choices);
+    link->next_update = options->control.params.t_update;
+    const struct control *control = &options->control;
+    uint32_t code = pie_open_with(&link->pie, &control->params, 0, (uint32_t)control->profile, control->choices);
     if (code != PIE_DONE)
         die_refused("pie_open_with", code);
-    if (!open_history(&link->history, options, 0))
+    if (!open_history(&link->history, options->history, control, 0))
         die(options->history);
+    if (pthread_create(&link->writer, NULL, write_history, link) != 0)
+        die("a thread for the history");
 }
 
 static void close_link(struct bottleneck *link) {
@@ -277,8 +301,12 @@ static void close_link(struct bottleneck *link) {
     free_all(&link->queue);
     free_all(&link->there);
     free_all(&link->back);
+    atomic_store(&link->is_closed, true);
+    pthread_join(link->writer, NULL);
     if (!close_history(&link->history))
         die("history");
+    if (link->history.text.lost != 0)
+        fprintf(stderr, "link: %" PRIu64 " events are missing in the history\n", link->history.text.lost);
     printf("link: %" PRIu64 " packets arrived: %" PRIu64 " waited, %" PRIu64 " marked, %" PRIu64 " dropped early, %" PRIu64
            " for want of bytes, %" PRIu64 " of room; %" PRIu64 " left, %" PRIu64 " lost at the devices\n",
            counts->arrivals, counts->verdicts[PIE_ENQUEUE], counts->verdicts[PIE_MARK], counts->verdicts[PIE_EARLY],

@@ -1,0 +1,22 @@
+/* The options of pie-fwd. */
+#ifndef FWD_OPTIONS_H
+#define FWD_OPTIONS_H
+
+#include "pie_stage.h"
+
+struct fwd_options {
+    struct pie_stage_params stage;
+    uint64_t rate;         /* bits a second */
+    uint64_t lasts;        /* nanoseconds, 0: until a signal */
+    uint64_t mbufs;        /* in the pool */
+    bool is_one_way;       /* nothing is forwarded from port 1 to port 0 */
+    const char *open_metrics; /* files, or NULL */
+    const char *json;
+};
+
+enum { FWD_READ, FWD_HELP, FWD_WRONG };
+
+/* Reads the words behind the EAL's; says on stderr what is wrong with them. */
+int fwd_read_options(int count, char **words, struct fwd_options *options);
+
+#endif

@@ -1,0 +1,94 @@
+#include "fwd_report.h"
+
+#include <inttypes.h>
+#include <limits.h>
+#include <stdio.h>
+
+static uint64_t drops_of(const struct pie_stage_stats *stats) {
+    return stats->early + stats->bytes + stats->full + stats->oversized + stats->refused;
+}
+
+void fwd_print_line(const struct pie_stage_stats *before, const struct pie_stage_stats *after, double seconds) {
+    uint64_t packets = after->departed - before->departed;
+    double wait = packets != 0 ? (double)(after->waited - before->waited) / (double)packets / 1e6 : 0;
+    printf("%.3f Mbit/s, %.0f packets/s, wait %.3f ms, probability %.4f, %" PRIu64 " dropped, %" PRIu64 " marked, %" PRIu64 " waiting\n",
+           (double)(after->departed_bytes - before->departed_bytes) * 8 / seconds / 1e6, (double)packets / seconds, wait,
+           (double)after->prob / 1e12, drops_of(after) - drops_of(before), after->marked - before->marked, after->waiting);
+}
+
+static void write_counter(FILE *file, const char *port, const char *name, const char *what, const char *unit, uint64_t value) {
+    fprintf(file, "# TYPE pie_%s counter\n", name);
+    if (*unit != '\0')
+        fprintf(file, "# UNIT pie_%s %s\n", name, unit);
+    fprintf(file, "# HELP pie_%s %s\npie_%s_total{port=\"%s\"} %" PRIu64 "\n", name, what, name, port, value);
+}
+
+static void write_gauge(FILE *file, const char *port, const char *name, const char *what, const char *unit, double value) {
+    fprintf(file, "# TYPE pie_%s gauge\n", name);
+    if (*unit != '\0')
+        fprintf(file, "# UNIT pie_%s %s\n", name, unit);
+    fprintf(file, "# HELP pie_%s %s\npie_%s{port=\"%s\"} %.12g\n", name, what, name, port, value);
+}
+
+static void write_open_metrics(FILE *file, const struct fwd_options *options, const char *port, const struct pie_stage_stats *stats) {
+    const struct {
+        const char *reason;
+        uint64_t count;
+    } drops[] = {
+        {"early", stats->early}, {"bytes", stats->bytes}, {"packets", stats->full}, {"size", stats->oversized}, {"refused", stats->refused}};
+    (void)options;
+    write_counter(file, port, "departed_packets", "Packets that left the queue.", "packets", stats->departed);
+    write_counter(file, port, "departed_bytes", "Bytes that left the queue.", "bytes", stats->departed_bytes);
+    write_counter(file, port, "queued_packets", "Packets that were queued.", "packets", stats->queued);
+    write_counter(file, port, "marked_packets", "Packets that were marked (CE).", "packets", stats->marked);
+    fprintf(file, "# TYPE pie_dropped_packets counter\n# UNIT pie_dropped_packets packets\n# HELP pie_dropped_packets Packets that were dropped.\n");
+    for (size_t i = 0; i < sizeof drops / sizeof drops[0]; i++)
+        fprintf(file, "pie_dropped_packets_total{port=\"%s\",reason=\"%s\"} %" PRIu64 "\n", port, drops[i].reason, drops[i].count);
+    fprintf(file, "# TYPE pie_wait_seconds summary\n# UNIT pie_wait_seconds seconds\n# HELP pie_wait_seconds Time that packets waited.\n");
+    fprintf(file, "pie_wait_seconds_count{port=\"%s\"} %" PRIu64 "\npie_wait_seconds_sum{port=\"%s\"} %" PRIu64 ".%09" PRIu64 "\n", port,
+            stats->departed, port, stats->waited / 1000000000, stats->waited % 1000000000);
+    write_counter(file, port, "updates", "Updates of the probability.", "", stats->updates);
+    write_gauge(file, port, "probability_ratio", "Probability of a drop or a mark.", "ratio", (double)stats->prob / 1e12);
+    write_gauge(file, port, "delay_seconds", "Queueing delay that the last update took.", "seconds", (double)stats->delay / 1e9);
+    write_gauge(file, port, "waiting_packets", "Packets in the queue.", "packets", (double)stats->waiting);
+    write_gauge(file, port, "waiting_bytes", "Bytes in the queue.", "bytes", (double)stats->waiting_bytes);
+    fprintf(file, "# EOF\n");
+}
+
+/* alpha and beta are in sixteenths, times in microseconds, and limit in packets, as tc has them. */
+static void write_json(FILE *file, const struct fwd_options *options, const char *port, const struct pie_stage_stats *stats) {
+    const struct pie_stage_params *stage = &options->stage;
+    fprintf(file, "[{\"kind\":\"pie\",\"dev\":\"%s\",\"root\":true,\"options\":{\"limit\":%" PRIu32 ",\"target\":%" PRIu64 ",\"tupdate\":%" PRIu64, port,
+            stage->packets, stage->pie.target / 1000, stage->pie.t_update / 1000);
+    fprintf(file, ",\"alpha\":%g,\"beta\":%g", (double)stage->pie.alpha * 0.016, (double)stage->pie.beta * 0.016);
+    fprintf(file, "%s%s%s}", stage->ecn ? ",\"ecn\":true" : "", (stage->choices & PIE_SIZE_SCALED) != 0 ? ",\"bytemode\":true" : "",
+            (stage->choices & PIE_DELAY_STAMP) == 0 ? ",\"dq_rate_estimator\":true" : "");
+    fprintf(file, ",\"bytes\":%" PRIu64 ",\"packets\":%" PRIu64 ",\"drops\":%" PRIu64 ",\"overlimits\":0,\"requeues\":0", stats->departed_bytes,
+            stats->departed, drops_of(stats));
+    fprintf(file, ",\"backlog\":%" PRIu64 ",\"qlen\":%" PRIu64 ",\"prob\":%.12g,\"delay\":%" PRIu64, stats->waiting_bytes, stats->waiting,
+            (double)stats->prob / 1e12, stats->delay / 1000);
+    fprintf(file, ",\"pkts_in\":%" PRIu64 ",\"overlimit\":%" PRIu64 ",\"dropped\":%" PRIu64 ",\"maxq\":%" PRIu64 ",\"ecn_mark\":%" PRIu64 "}]\n",
+            stats->queued, stats->bytes + stats->full, stats->early, stats->most, stats->marked);
+}
+
+typedef void writer(FILE *file, const struct fwd_options *options, const char *port, const struct pie_stage_stats *stats);
+
+/* Writes a file beside it and renames that, so that a reader finds the old text or the new one. */
+static bool replace(const char *path, writer *write, const struct fwd_options *options, const char *port, const struct pie_stage_stats *stats) {
+    char beside[PATH_MAX];
+    if (path == NULL)
+        return true;
+    if ((size_t)snprintf(beside, sizeof beside, "%s.new", path) >= sizeof beside)
+        return false;
+    FILE *file = fopen(beside, "w");
+    if (file == NULL)
+        return false;
+    write(file, options, port, stats);
+    bool is_written = ferror(file) == 0;
+    is_written &= fclose(file) == 0;
+    return is_written && rename(beside, path) == 0;
+}
+
+bool fwd_write_files(const struct fwd_options *options, const char *port, const struct pie_stage_stats *stats) {
+    return replace(options->open_metrics, write_open_metrics, options, port, stats) && replace(options->json, write_json, options, port, stats);
+}

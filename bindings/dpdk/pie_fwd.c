@@ -1,0 +1,243 @@
+/* pie-fwd: forwards between two ports through a stage that is shaped to a rate. See `pie-fwd -- --help`. */
+#include "fwd_options.h"
+#include "fwd_report.h"
+#include "pie_stage.h"
+
+#include <errno.h>
+#include <inttypes.h>
+#include <rte_cycles.h>
+#include <rte_eal.h>
+#include <rte_errno.h>
+#include <rte_ethdev.h>
+#include <rte_launch.h>
+#include <rte_lcore.h>
+#include <rte_mbuf.h>
+#include <signal.h>
+#include <stdio.h>
+#include <string.h>
+#include <time.h>
+
+#define BURST 32
+#define DESCRIPTORS 512
+#define DRAIN 1000 /* polls of a port without a packet, after which it is empty */
+
+enum { IN, OUT }; /* the ports, by their numbers */
+
+static struct {
+    struct fwd_options options;
+    struct rte_mempool *pool;
+    struct pie_stage *stage;
+    uint16_t receivers; /* lcores that receive, and queues of port 0 */
+    uint64_t unsent;    /* packets that a port did not take */
+    int is_stopped;
+} forward;
+
+static void stop(int number) {
+    (void)number;
+    __atomic_store_n(&forward.is_stopped, 1, __ATOMIC_RELAXED);
+}
+
+static bool is_stopped(void) {
+    return __atomic_load_n(&forward.is_stopped, __ATOMIC_RELAXED) != 0;
+}
+
+static bool fail(const char *what, int code) {
+    fprintf(stderr, "pie-fwd: %s: %s\n", what, rte_strerror(code));
+    return false;
+}
+
+/* Receives from a queue of port 0. */
+static int receive(void *argument) {
+    uint16_t queue = (uint16_t)(uintptr_t)argument;
+    struct rte_mbuf *mbufs[BURST];
+    while (!is_stopped()) {
+        uint16_t count = rte_eth_rx_burst(IN, queue, mbufs, BURST);
+        if (count != 0)
+            pie_stage_enqueue(forward.stage, mbufs, count, rte_rdtsc());
+    }
+    return 0;
+}
+
+static void send_burst(uint16_t port, struct rte_mbuf **mbufs, uint16_t count) {
+    uint16_t sent = rte_eth_tx_burst(port, 0, mbufs, count);
+    if (sent < count) {
+        rte_pktmbuf_free_bulk(mbufs + sent, count - sent);
+        __atomic_fetch_add(&forward.unsent, count - sent, __ATOMIC_RELAXED);
+    }
+}
+
+/* Sends what the rate allows: the link is busy until `busy`, in cycles. A link that was idle does not save up time. */
+static void serve(double cycles_a_byte, double *busy) {
+    struct rte_mbuf *mbufs[BURST];
+    uint64_t now = rte_rdtsc(), size = 0;
+    if (*busy > (double)now)
+        return;
+    uint64_t bytes = 1 + (uint64_t)(((double)now - *busy) / cycles_a_byte);
+    uint32_t count = pie_stage_dequeue_bytes(forward.stage, mbufs, BURST, bytes, now);
+    if (count == 0) {
+        *busy = (double)now;
+        return;
+    }
+    for (uint32_t i = 0; i < count; i++)
+        size += rte_pktmbuf_pkt_len(mbufs[i]);
+    *busy += (double)size * cycles_a_byte;
+    send_burst(OUT, mbufs, (uint16_t)count);
+}
+
+/* Sends on port 1, and forwards the other way. */
+static int send_packets(void *argument) {
+    struct rte_mbuf *mbufs[BURST];
+    double cycles_a_byte = (double)rte_get_tsc_hz() * 8 / (double)forward.options.rate, busy = (double)rte_rdtsc();
+    (void)argument;
+    while (!is_stopped()) {
+        serve(cycles_a_byte, &busy);
+        pie_stage_update(forward.stage, rte_rdtsc());
+        if (forward.options.is_one_way)
+            continue;
+        uint16_t count = rte_eth_rx_burst(OUT, 0, mbufs, BURST);
+        if (count != 0)
+            send_burst(IN, mbufs, count);
+    }
+    return 0;
+}
+
+static bool open_port(uint16_t port, uint16_t queues) {
+    struct rte_eth_conf conf = {.rxmode = {.mq_mode = queues > 1 ? RTE_ETH_MQ_RX_RSS : RTE_ETH_MQ_RX_NONE}};
+    struct rte_eth_dev_info info;
+    int code = rte_eth_dev_info_get(port, &info);
+    if (code != 0)
+        return fail("a port's description", -code);
+    if (queues > info.max_rx_queues) {
+        fprintf(stderr, "pie-fwd: port %u has %u queues to receive from, and there are %u lcores to receive\n", port, info.max_rx_queues, queues);
+        return false;
+    }
+    if (queues > 1)
+        conf.rx_adv_conf.rss_conf.rss_hf = (RTE_ETH_RSS_IP | RTE_ETH_RSS_TCP | RTE_ETH_RSS_UDP) & info.flow_type_rss_offloads;
+    uint16_t received = DESCRIPTORS, sent = DESCRIPTORS;
+    if ((code = rte_eth_dev_configure(port, queues, 1, &conf)) != 0 || (code = rte_eth_dev_adjust_nb_rx_tx_desc(port, &received, &sent)) != 0)
+        return fail("a port", -code);
+    for (uint16_t i = 0; i < queues; i++)
+        if ((code = rte_eth_rx_queue_setup(port, i, received, rte_eth_dev_socket_id(port), NULL, forward.pool)) != 0)
+            return fail("a port's queue to receive from", -code);
+    if ((code = rte_eth_tx_queue_setup(port, 0, sent, rte_eth_dev_socket_id(port), NULL)) != 0)
+        return fail("a port's queue to send by", -code);
+    if ((code = rte_eth_dev_start(port)) != 0)
+        return fail("the start of a port", -code);
+    rte_eth_promiscuous_enable(port); // (a forwarder takes what is not for itself; not all ports have this)
+    return true;
+}
+
+static bool open_all(void) {
+    if (rte_eth_dev_count_avail() != 2) {
+        fprintf(stderr, "pie-fwd: there are %u ports, and it forwards between two; --vdev, or -a of the EAL names them\n", rte_eth_dev_count_avail());
+        return false;
+    }
+    if (rte_lcore_count() < 3) {
+        fprintf(stderr, "pie-fwd: there are %u lcores, and it takes three; --lcores of the EAL names them, as --lcores '(0-2)@(0-3)'\n", rte_lcore_count());
+        return false;
+    }
+    forward.receivers = (uint16_t)(rte_lcore_count() - 2);
+    forward.pool = rte_pktmbuf_pool_create("pie-fwd", (unsigned int)forward.options.mbufs, 128, 0, RTE_MBUF_DEFAULT_BUF_SIZE, SOCKET_ID_ANY);
+    if (forward.pool == NULL)
+        return fail("the pool of mbufs", rte_errno);
+    forward.stage = pie_stage_create("pie-fwd", &forward.options.stage, SOCKET_ID_ANY);
+    if (forward.stage == NULL)
+        return fail("the stage", rte_errno);
+    return open_port(IN, forward.receivers) && open_port(OUT, 1);
+}
+
+static void launch(void) {
+    unsigned int lcore;
+    uint16_t number = 0;
+    RTE_LCORE_FOREACH_WORKER(lcore) {
+        if (number == forward.receivers)
+            rte_eal_remote_launch(send_packets, NULL, lcore);
+        else
+            rte_eal_remote_launch(receive, (void *)(uintptr_t)number, lcore);
+        number++;
+    }
+}
+
+/* A line a second until the end. */
+static void report(void) {
+    char port[RTE_ETH_NAME_MAX_LEN];
+    struct pie_stage_stats before = {0}, after;
+    uint64_t hz = rte_get_tsc_hz(), start = rte_rdtsc(), told = start;
+    bool is_told_of_file = false;
+    rte_eth_dev_get_name_by_port(OUT, port);
+    for (;;) {
+        uint64_t now = rte_rdtsc();
+        bool is_over = is_stopped() || (forward.options.lasts != 0 && (double)(now - start) / (double)hz * 1e9 >= (double)forward.options.lasts);
+        if (now - told >= hz || is_over) {
+            pie_stage_read(forward.stage, &after);
+            fwd_print_line(&before, &after, (double)(now - told) / (double)hz);
+            if (!fwd_write_files(&forward.options, port, &after) && !is_told_of_file) {
+                fprintf(stderr, "pie-fwd: the file of --open-metrics or --json: %s\n", strerror(errno));
+                is_told_of_file = true;
+            }
+            before = after;
+            told = now;
+        }
+        if (is_over)
+            return;
+        nanosleep(&(struct timespec){.tv_nsec = 10000000}, NULL);
+    }
+}
+
+/* Frees what a port still has for us: a net_ring holds what was sent into it. A net_null never ends, so the polls are limited. */
+static void drain(uint16_t port, uint16_t queues) {
+    struct rte_mbuf *mbufs[BURST];
+    for (uint16_t queue = 0; queue < queues; queue++)
+        for (int poll = 0; poll < DRAIN; poll++)
+            rte_pktmbuf_free_bulk(mbufs, rte_eth_rx_burst(port, queue, mbufs, BURST));
+}
+
+/* Frees everything; false where an mbuf is missing. */
+static bool close_all(void) {
+    uint16_t port;
+    struct pie_stage_stats stats = {0};
+    if (forward.stage != NULL)
+        pie_stage_read(forward.stage, &stats);
+    RTE_ETH_FOREACH_DEV(port) {
+        struct rte_eth_dev_info info;
+        if (forward.pool != NULL && rte_eth_dev_info_get(port, &info) == 0 && info.nb_rx_queues != 0)
+            drain(port, info.nb_rx_queues);
+        rte_eth_dev_stop(port);
+        rte_eth_dev_close(port);
+    }
+    pie_stage_free(forward.stage);
+    if (forward.pool == NULL)
+        return true;
+    unsigned int there = rte_mempool_avail_count(forward.pool), missing = (unsigned int)forward.options.mbufs - there;
+    rte_mempool_free(forward.pool);
+    printf("pie-fwd: %" PRIu64 " packets queued, %" PRIu64 " marked, %" PRIu64 " dropped early, %" PRIu64 " for want of bytes, %" PRIu64
+           " of room; %" PRIu64 " left, %" PRIu64 " not taken by a port; %" PRIu64 " updates; %u mbufs missing\n",
+           stats.queued, stats.marked, stats.early, stats.bytes, stats.full, stats.departed, forward.unsent, stats.updates, missing);
+    return missing == 0;
+}
+
+int main(int count, char **words) {
+    int read = rte_eal_init(count, words);
+    if (read < 0) {
+        fail("EAL", rte_errno);
+        return 1;
+    }
+    setvbuf(stdout, NULL, _IOLBF, 0);
+    int answer = fwd_read_options(count - read, words + read, &forward.options);
+    if (answer != FWD_READ) {
+        rte_eal_cleanup();
+        return answer == FWD_HELP ? 0 : 1;
+    }
+    signal(SIGINT, stop);
+    signal(SIGTERM, stop);
+    bool is_open = open_all();
+    if (is_open) {
+        launch();
+        report();
+        stop(0);
+        rte_eal_mp_wait_lcore();
+    }
+    bool is_whole = close_all();
+    rte_eal_cleanup();
+    return is_open && is_whole ? 0 : 1;
+}

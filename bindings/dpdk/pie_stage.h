@@ -1,0 +1,114 @@
+/* A queue with PIE (RFC 8033) in front of it, for a data plane on DPDK: receiving lcores enqueue bursts of mbufs, one lcore dequeues
+ * and sends. The controller is that of pie.h, whose parameters, choices and profiles these are.
+ *
+ *   struct pie_stage_params params;
+ *   pie_stage_default_params(&params, 1000000000);                               // for a link of 1 Gbit/s
+ *   struct pie_stage *stage = pie_stage_create("north", &params, SOCKET_ID_ANY); // NULL: rte_errno says why
+ *   pie_stage_enqueue(stage, mbufs, count, rte_rdtsc());                         // on a receiving lcore
+ *   count = pie_stage_dequeue(stage, mbufs, 32, rte_rdtsc());                    // on the sending lcore
+ *   pie_stage_update(stage, rte_rdtsc());                                        // on a timer
+ *   pie_stage_free(stage);
+ *
+ * `now` is rte_rdtsc() or rte_get_tsc_cycles(), in cycles of the TSC (rte_get_tsc_hz() a second). It need not be the same on all lcores
+ * to the cycle: one that is earlier than the latest so far counts as the latest so far, which statistics count as `earlier`. So after one `now`
+ * far ahead all later ones count as that one, until the clock gets there.
+ *
+ * PIE acts on what waits in the stage. What waits behind it, in a card's descriptor ring, it does not see: dequeue no faster than the
+ * link sends, by pie_stage_dequeue_bytes, or keep that ring short.
+ *
+ * Packets are Ethernet frames, and a packet's size is its pkt_len, without the frame check sequence. One whose size is outside 1 to 65535
+ * bytes, as segmentation offload makes them, is dropped (`oversized`). Marks are set in the outermost IP header, behind up to four VLAN tags.
+ *
+ * All calls but create and free may be made by any number of threads at once; they take one spin lock, a burst at a time, and
+ * nothing that waits or takes memory stands under it. A dequeue with nothing to take, and an update that is not due, take no lock.
+ */
+#ifndef PIE_STAGE_H
+#define PIE_STAGE_H
+
+#include "pie.h"
+
+#include <stdbool.h>
+#include <stdint.h>
+
+#ifdef __cplusplus
+extern "C" {
+#endif
+
+struct rte_mbuf;
+struct pie_stage;
+
+#define PIE_STAGE_MAX_PACKETS (1u << 24) /* the greatest room */
+
+struct pie_stage_params {
+    struct pie_params pie; /* the controller's parameters */
+    uint32_t profile;      /* PIE_ALWAYS_ON or PIE_ON_AND_OFF */
+    uint32_t choices;      /* PIE_USUAL, or flags as PIE_DELAY_STAMP */
+    uint32_t packets;      /* how many packets the queue has room for, 1 to 2^24 */
+    bool ecn;              /* mark packets whose ECN field allows it; else they are dropped, as others */
+    bool hands_back;       /* dropped mbufs are handed back to whoever enqueued them; else the stage frees them */
+};
+
+/* What a stage counted since it was made, and what it holds now. Each packet that was enqueued is counted once as queued (of these some are
+ * marked), early, bytes, full, oversized or refused. */
+struct pie_stage_stats {
+    uint64_t queued;         /* packets taken in */
+    uint64_t marked;         /* of these, packets marked */
+    uint64_t early;          /* dropped by early drop */
+    uint64_t bytes;          /* dropped since the queue would exceed limit_bytes */
+    uint64_t full;           /* dropped since the queue has no room for another packet */
+    uint64_t oversized;      /* dropped for a size outside 1 to 65535 bytes */
+    uint64_t refused;        /* dropped since the controller refused the arrival: 0 in a sound program */
+    uint64_t no_ip;          /* packets without an IP header where the stage looks for it: they are never marked */
+    uint64_t shared;         /* packets that could be marked but for a header that others hold too (reference count above 1, a clone): never marked */
+    uint64_t departed;       /* packets handed to the sender */
+    uint64_t departed_bytes; /* their bytes */
+    uint64_t waited;         /* nanoseconds that they waited, all together */
+    uint64_t longest;        /* nanoseconds that the longest of these waits took */
+    uint64_t updates;        /* updates made */
+    uint64_t late;           /* of these, updates made more than t_update after they were due */
+    uint64_t earlier;        /* calls with packets whose `now` was earlier than one before it */
+    uint64_t most;           /* packets, the most that the queue held */
+
+    uint64_t waiting;        /* packets in the queue */
+    uint64_t waiting_bytes;  /* their bytes */
+    uint64_t prob;           /* the probability, 0 to 10^12 */
+    uint64_t delay;          /* the delay that the last update took, in ns */
+    uint64_t burst;          /* the burst allowance, in ns */
+};
+
+/* Default parameters for a link of this rate, in bits a second: pie_params_for, always on, usual choices, a queue with room for
+ * limit_bytes of packets of 64 bytes up to 65536 packets, marks, and dropped mbufs freed. */
+void pie_stage_default_params(struct pie_stage_params *params, uint64_t rate);
+
+/* Makes a stage. Its memory is DPDK's, on this socket or SOCKET_ID_ANY; the name is that of its rte_ring, and no other ring has it.
+ * NULL, and rte_errno: EINVAL parameters out of their ranges, ENOMEM no memory, EEXIST the name is taken, ENAMETOOLONG, EIO the system has
+ * no random bits. */
+struct pie_stage *pie_stage_create(const char *name, const struct pie_stage_params *params, int socket);
+
+/* Frees a stage and the mbufs that wait in it. NULL is fine. */
+void pie_stage_free(struct pie_stage *stage);
+
+/* Enqueues a burst in its order, and makes an update first where one is due. Answers how many were queued. `mbufs` is put in order: first those
+ * that were queued, which are the stage's now, then those that were dropped: the caller's again with hands_back, and else freed. */
+uint32_t pie_stage_enqueue(struct pie_stage *stage, struct rte_mbuf **mbufs, uint32_t count, uint64_t now);
+
+/* Hands out up to `count` of the packets that have waited longest, and answers how many. */
+uint32_t pie_stage_dequeue(struct pie_stage *stage, struct rte_mbuf **mbufs, uint32_t count, uint64_t now);
+
+/* The same as long as fewer than `bytes` were handed out in this call: the last packet may exceed it. */
+uint32_t pie_stage_dequeue_bytes(struct pie_stage *stage, struct rte_mbuf **mbufs, uint32_t count, uint64_t bytes, uint64_t now);
+
+/* Makes an update where one is due, and answers whether it did. Enqueuing and dequeuing packets does so too; a timer is for the times without. */
+bool pie_stage_update(struct pie_stage *stage, uint64_t now);
+
+/* Reads the statistics, all at one moment. */
+void pie_stage_read(struct pie_stage *stage, struct pie_stage_stats *stats);
+
+/* Nanoseconds in so many cycles of the TSC, by the clock of the stage. It rounds down, and is exact to 10^-13. */
+uint64_t pie_stage_nanoseconds(const struct pie_stage *stage, uint64_t cycles);
+
+#ifdef __cplusplus
+}
+#endif
+
+#endif

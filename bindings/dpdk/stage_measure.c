@@ -1,0 +1,270 @@
+/* The stage beside DPDK's rte_pie, behind the same lock and ring.
+ *
+ * usage: stage_measure [EAL options] -- slow
+ *   A link of 20 Mbit/s with 1.2 times its load, for 80 simulated seconds: the mean wait of the last 60, in ms, and the packets dropped. Status 1
+ *   where the stage's mean wait is not within 10 per cent of the target, 15 ms, or an mbuf is lost.
+ * usage: stage_measure [EAL options] --vdev=net_null0 --vdev=net_null1 -- rate [SECONDS]
+ *   Packets a second from one null port to another in bursts of 32: forwarding alone, by rte_pie and by the stage, five times each in turn. With one
+ *   lcore it receives, enqueues, dequeues and sends; with more the main lcore dequeues and sends, and the others receive and
+ *   enqueue. 512 packets wait all the time where one lcore does it all. Each line is `name value unit`, for bench/ratios.py.
+ */
+#include "peer.h"
+#include "pie_stage.h"
+
+#include <inttypes.h>
+#include <rte_cycles.h>
+#include <rte_eal.h>
+#include <rte_errno.h>
+#include <rte_ethdev.h>
+#include <rte_launch.h>
+#include <rte_lcore.h>
+#include <stdio.h>
+#include <stdlib.h>
+#include <string.h>
+
+#define MBUFS 16383u
+#define BURST 32
+#define RUNS 5
+#define STANDING 512
+#define ROOM 1024u
+
+static struct rte_mempool *pool;
+
+static void die(const char *what) {
+    fprintf(stderr, "stage_measure: %s: %s\n", what, rte_strerror(rte_errno));
+    exit(1);
+}
+
+enum which { ALONE, PEER, STAGE };
+static const char *const names[] = {"alone", "rte_pie", "stage"};
+
+static struct peer peer;
+static struct pie_stage *stage;
+
+static uint32_t enqueue(enum which which, struct rte_mbuf **mbufs, uint32_t count) {
+    return which == PEER ? peer_enqueue(&peer, mbufs, count, rte_rdtsc()) : pie_stage_enqueue(stage, mbufs, count, rte_rdtsc());
+}
+
+static uint32_t dequeue(enum which which, struct rte_mbuf **mbufs, uint32_t count) {
+    return which == PEER ? peer_dequeue(&peer, mbufs, count, rte_rdtsc()) : pie_stage_dequeue(stage, mbufs, count, rte_rdtsc());
+}
+
+static void expect_all_back(void) {
+    if (rte_mempool_avail_count(pool) != MBUFS) {
+        fprintf(stderr, "stage_measure: %u mbufs are missing\n", MBUFS - rte_mempool_avail_count(pool));
+        exit(1);
+    }
+}
+
+/* The same load for each: sizes and spaces from a seed. */
+static uint64_t next_random(uint64_t *state) {
+    *state ^= *state << 13;
+    *state ^= *state >> 7;
+    *state ^= *state << 17;
+    return *state;
+}
+
+/* The mean wait in milliseconds. */
+static double run_slow(enum which which) {
+    uint64_t hz = rte_get_tsc_hz(), start = rte_rdtsc(), seed = 88172645463325252u, dropped = 0, departed = 0, waited = 0;
+    double arrival = 0, is_free = 0;
+    const double byte = (double)hz * 8 / 20e6, warm = 20.0 * (double)hz;
+    bool is_warm = false;
+    struct pie_stage_stats stats = {0};
+    while (arrival < 80.0 * (double)hz) {
+        struct rte_mbuf *mbuf = rte_pktmbuf_alloc(pool), *left;
+        if (mbuf == NULL)
+            die("memory");
+        uint16_t size = (uint16_t)(64 + next_random(&seed) % 1437);
+        memset(rte_pktmbuf_append(mbuf, size), 0, 34);
+        arrival += 782.0 * byte / 1.2 * 2 * (double)(next_random(&seed) % 4096) / 4096;
+        // the link takes a packet whenever it is free
+        while (is_free <= arrival) {
+            uint64_t now = start + (uint64_t)is_free;
+            if ((which == PEER ? peer_dequeue(&peer, &left, 1, now) : pie_stage_dequeue(stage, &left, 1, now)) == 0) {
+                is_free = arrival + 1;
+                break;
+            }
+            is_free += byte * rte_pktmbuf_pkt_len(left);
+            rte_pktmbuf_free(left);
+        }
+        if (!is_warm && arrival > warm) {
+            is_warm = true;
+            if (which == STAGE)
+                pie_stage_read(stage, &stats);
+            departed = which == PEER ? peer.departed : stats.departed;
+            waited = which == PEER ? peer.waited : stats.waited;
+            dropped = which == PEER ? peer.dropped : stats.early + stats.bytes + stats.full;
+        }
+        uint64_t now = start + (uint64_t)arrival;
+        which == PEER ? peer_enqueue(&peer, &mbuf, 1, now) : pie_stage_enqueue(stage, &mbuf, 1, now);
+    }
+    if (which == STAGE)
+        pie_stage_read(stage, &stats);
+    departed = (which == PEER ? peer.departed : stats.departed) - departed;
+    waited = (which == PEER ? peer.waited : stats.waited) - waited;
+    dropped = (which == PEER ? peer.dropped : stats.early + stats.bytes + stats.full) - dropped;
+    double nanoseconds = (double)waited / (double)departed * (which == PEER ? 1e9 / (double)hz : 1);
+    printf("%s: mean wait %.2f ms, %" PRIu64 " departed, %" PRIu64 " dropped; %" PRIu64 " dropped early in all\n", names[which], nanoseconds / 1e6, departed, dropped,
+           which == PEER ? peer.early : stats.early);
+    return nanoseconds / 1e6;
+}
+
+static int measure_slow(void) {
+    struct pie_stage_params params;
+    pie_stage_default_params(&params, 20000000);
+    params.packets = ROOM;
+    if (!peer_open(&peer, (uint32_t)(params.pie.limit_bytes / 782)))
+        die("rte_pie");
+    run_slow(PEER);
+    peer_close(&peer);
+    expect_all_back();
+    stage = pie_stage_create("stage", &params, SOCKET_ID_ANY);
+    if (stage == NULL)
+        die("stage");
+    double wait = run_slow(STAGE);
+    pie_stage_free(stage);
+    expect_all_back();
+    if (wait < 13.5 || wait > 16.5) {
+        fprintf(stderr, "stage_measure: the mean wait of the stage is not within 10 per cent of 15 ms\n");
+        return 1;
+    }
+    return 0;
+}
+
+/* A frame of IPv4 in each mbuf: the null port sends its mbufs as they are. */
+static void fill(struct rte_mempool *from, void *opaque, void *object, unsigned int index) {
+    static const uint8_t frame[34] = {[12] = 8, [14] = 0x45, [15] = PIE_ECT0, [17] = 50, [22] = 64, [23] = 17};
+    struct rte_mbuf *mbuf = object;
+    (void)from, (void)opaque, (void)index;
+    memcpy((uint8_t *)mbuf->buf_addr + RTE_PKTMBUF_HEADROOM, frame, sizeof frame);
+}
+
+static void open_port(uint16_t port, uint16_t queues) {
+    struct rte_eth_conf conf = {0};
+    if (rte_eth_dev_configure(port, queues, queues, &conf) != 0)
+        die("port");
+    for (uint16_t i = 0; i < queues; i++)
+        if (rte_eth_rx_queue_setup(port, i, 512, SOCKET_ID_ANY, NULL, pool) != 0 || rte_eth_tx_queue_setup(port, i, 512, SOCKET_ID_ANY, NULL) != 0)
+            die("queue of the port");
+    if (rte_eth_dev_start(port) != 0)
+        die("start of the port");
+}
+
+static int is_over;
+static enum which measured;
+
+static void send_all(struct rte_mbuf **mbufs, uint32_t count) {
+    uint32_t sent = rte_eth_tx_burst(1, 0, mbufs, (uint16_t)count);
+    rte_pktmbuf_free_bulk(mbufs + sent, count - sent);
+}
+
+static int receive(void *argument) {
+    uint16_t queue = (uint16_t)rte_lcore_index((int)rte_lcore_id());
+    struct rte_mbuf *mbufs[BURST];
+    (void)argument;
+    while (!__atomic_load_n(&is_over, __ATOMIC_RELAXED)) {
+        uint32_t count = rte_eth_rx_burst(0, queue, mbufs, BURST);
+        if (measured == ALONE) {
+            count -= rte_eth_tx_burst(1, queue, mbufs, (uint16_t)count);
+            rte_pktmbuf_free_bulk(mbufs, count);
+        } else {
+            enqueue(measured, mbufs, count);
+        }
+    }
+    return 0;
+}
+
+/* One lcore does it all. */
+static uint64_t forward_alone(uint64_t end) {
+    struct rte_mbuf *mbufs[BURST];
+    uint64_t packets = 0;
+    for (int i = 0; measured != ALONE && i < STANDING / BURST; i++)
+        enqueue(measured, mbufs, rte_eth_rx_burst(0, 0, mbufs, BURST));
+    while (rte_rdtsc() < end)
+        for (int i = 0; i < 64; i++) {
+            uint32_t count = rte_eth_rx_burst(0, 0, mbufs, BURST);
+            if (measured != ALONE) {
+                enqueue(measured, mbufs, count);
+                count = dequeue(measured, mbufs, BURST);
+            }
+            packets += count;
+            send_all(mbufs, count);
+        }
+    return packets;
+}
+
+/* The main lcore dequeues and sends, the others receive and enqueue. */
+static uint64_t forward_by_all(uint64_t end) {
+    struct rte_mbuf *mbufs[BURST];
+    struct rte_eth_stats before, after;
+    rte_eth_stats_get(1, &before);
+    __atomic_store_n(&is_over, 0, __ATOMIC_SEQ_CST);
+    rte_eal_mp_remote_launch(receive, NULL, SKIP_MAIN);
+    while (rte_rdtsc() < end)
+        if (measured != ALONE)
+            send_all(mbufs, dequeue(measured, mbufs, BURST));
+    rte_eth_stats_get(1, &after);
+    __atomic_store_n(&is_over, 1, __ATOMIC_SEQ_CST);
+    rte_eal_mp_wait_lcore();
+    return after.opackets - before.opackets;
+}
+
+static double run_rate(enum which which, double seconds) {
+    struct pie_stage_params params;
+    uint64_t hz = rte_get_tsc_hz();
+    pie_stage_default_params(&params, UINT64_C(10000000000));
+    params.packets = ROOM;
+    measured = which;
+    if (which == PEER && !peer_open(&peer, ROOM))
+        die("rte_pie");
+    if (which == STAGE && (stage = pie_stage_create("stage", &params, SOCKET_ID_ANY)) == NULL)
+        die("stage");
+    uint64_t start = rte_rdtsc(), end = start + (uint64_t)(seconds * (double)hz);
+    uint64_t packets = rte_lcore_count() == 1 ? forward_alone(end) : forward_by_all(end);
+    double took = (double)(rte_rdtsc() - start) / (double)hz;
+    if (which == PEER)
+        peer_close(&peer);
+    if (which == STAGE)
+        pie_stage_free(stage);
+    expect_all_back();
+    return (double)packets / took;
+}
+
+static int measure_rate(double seconds) {
+    uint16_t queues = (uint16_t)rte_lcore_count();
+    if (rte_eth_dev_count_avail() < 2)
+        die("two ports are needed: --vdev=net_null0 --vdev=net_null1");
+    rte_mempool_obj_iter(pool, fill, NULL);
+    open_port(0, queues);
+    open_port(1, queues);
+    for (int run = 0; run < RUNS; run++)
+        for (enum which which = ALONE; which <= STAGE; which++)
+            printf("%s %.0f packets/s\n", names[which], run_rate(which, seconds));
+    for (uint16_t port = 0; port < 2; port++) {
+        rte_eth_dev_stop(port);
+        rte_eth_dev_close(port);
+    }
+    expect_all_back();
+    return 0;
+}
+
+int main(int count, char **words) {
+    int read = rte_eal_init(count, words);
+    if (read < 0)
+        die("EAL");
+    setvbuf(stdout, NULL, _IOLBF, 0);
+    count -= read, words += read;
+    pool = rte_pktmbuf_pool_create("pool", MBUFS, 256, 0, RTE_MBUF_DEFAULT_BUF_SIZE, SOCKET_ID_ANY);
+    if (pool == NULL)
+        die("pool");
+    int status = 2;
+    if (count == 2 && strcmp(words[1], "slow") == 0)
+        status = measure_slow();
+    else if ((count == 2 || count == 3) && strcmp(words[1], "rate") == 0)
+        status = measure_rate(count == 3 ? atof(words[2]) : 1);
+    else
+        fprintf(stderr, "usage: stage_measure [EAL options] -- slow | rate [SECONDS]\n");
+    rte_eal_cleanup();
+    return status;
+}

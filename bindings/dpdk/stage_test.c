@@ -1,0 +1,506 @@
+/* Tests the stage without a port: marks in frames of every shape, the clock, the random words, and what the stage does with a full queue, want of
+ * memory, a clock that jumps back, packets of no IP and oversized ones; many threads at once; and no mbuf is lost. `now` is made up, so
+ * nothing depends on the time that it takes. Prints a line for each group; ends with status 1 at the first fault.
+ *
+ * usage: stage_test [EAL options] [-- threads]       threads: the threads alone, for a sanitizer of threads
+ */
+#include "pie_stage.h"
+#include "stage_packet.h"
+#include "stage_words.h"
+
+#include <inttypes.h>
+#include <pthread.h>
+#include <rte_cycles.h>
+#include <rte_eal.h>
+#include <rte_errno.h>
+#include <rte_ip.h>
+#include <rte_mbuf.h>
+#include <rte_memory.h>
+#include <rte_spinlock.h>
+#include <stdio.h>
+#include <stdlib.h>
+
+#define MBUFS 8191u
+#define EXPECT(what)                                                              \
+    do {                                                                          \
+        if (!(what)) {                                                            \
+            fprintf(stderr, "stage_test: %s:%d: not so: %s\n", __FILE__, __LINE__, #what); \
+            exit(1);                                                              \
+        }                                                                         \
+    } while (0)
+
+static struct rte_mempool *pool;
+
+static struct rte_mbuf *alloc(void) {
+    struct rte_mbuf *mbuf = rte_pktmbuf_alloc(pool);
+    EXPECT(mbuf != NULL);
+    return mbuf;
+}
+
+static void expect_all_back(void) {
+    EXPECT(rte_mempool_avail_count(pool) == MBUFS);
+}
+
+/* A frame with this many VLAN tags, an IP header of this version and this ECN field; answers its size. */
+static uint32_t write_frame(uint8_t *bytes, int tags, int version, uint8_t ecn) {
+    uint32_t at = 12;
+    memset(bytes, 0, 256);
+    for (int i = 0; i < tags; i++, at += 4) {
+        bytes[at] = i + 1 < tags ? 0x88 : 0x81;
+        bytes[at + 1] = i + 1 < tags ? 0xa8 : 0x00;
+    }
+    bytes[at++] = version == 4 ? 0x08 : 0x86;
+    bytes[at++] = version == 4 ? 0x00 : 0xdd;
+    if (version == 4) {
+        struct rte_ipv4_hdr header = {.version_ihl = 0x46, .type_of_service = 0xb8 | ecn, .time_to_live = 64, .next_proto_id = 17};
+        header.total_length = rte_cpu_to_be_16(64);
+        header.src_addr = rte_cpu_to_be_32(0x0a000001 + (uint32_t)tags);
+        header.dst_addr = rte_cpu_to_be_32(0xffffff00);
+        memcpy(bytes + at, &header, sizeof header);
+        ((struct rte_ipv4_hdr *)(bytes + at))->hdr_checksum = rte_ipv4_cksum((struct rte_ipv4_hdr *)(bytes + at));
+        return at + 64;
+    }
+    bytes[at] = 0x6b;
+    bytes[at + 1] = (uint8_t)(0x85 | ecn << 4);
+    return at + 80;
+}
+
+/* These bytes in mbufs of `first` bytes, `second` bytes and the rest. */
+static struct rte_mbuf *segments(const uint8_t *bytes, uint32_t size, uint32_t first, uint32_t second) {
+    uint32_t lengths[3] = {first, second, size - first - second};
+    struct rte_mbuf *head = NULL;
+    for (int i = 0; i < 3; i++) {
+        struct rte_mbuf *segment = alloc();
+        memcpy(rte_pktmbuf_append(segment, (uint16_t)lengths[i]), bytes, lengths[i]);
+        bytes += lengths[i];
+        if (head == NULL)
+            head = segment;
+        else
+            EXPECT(rte_pktmbuf_chain(head, segment) == 0);
+    }
+    return head;
+}
+
+static struct rte_mbuf *frame(int tags, int version, uint8_t ecn) {
+    uint8_t bytes[256];
+    return segments(bytes, write_frame(bytes, tags, version, ecn), 14, 0);
+}
+
+/* A frame of this size whose ECN field is this, in one segment. */
+static struct rte_mbuf *plain(uint16_t size, uint8_t ecn) {
+    uint8_t bytes[256];
+    struct rte_mbuf *mbuf = alloc();
+    uint32_t head = write_frame(bytes, 0, 4, ecn);
+    memset(rte_pktmbuf_append(mbuf, size), 0, size);
+    memcpy(rte_pktmbuf_mtod(mbuf, void *), bytes, RTE_MIN(head, (uint32_t)size));
+    return mbuf;
+}
+
+/* However it is cut into segments, a mark changes the ECN field and the checksum alone, and the checksum is right. */
+static void expect_marked(int tags, int version, uint8_t ecn, uint32_t first, uint32_t second) {
+    uint8_t bytes[256], wanted[256], copy[256];
+    uint32_t size = write_frame(bytes, tags, version, ecn);
+    EXPECT(write_frame(wanted, tags, version, PIE_CE) == size);
+    struct rte_mbuf *mbuf = segments(bytes, size, first, second);
+    struct stage_packet packet = stage_packet_look(mbuf);
+    EXPECT(packet.version == version && packet.ecn == ecn && packet.header == 14 + 4 * tags);
+    EXPECT(!stage_packet_is_shared(mbuf, &packet));
+    stage_packet_mark(mbuf, &packet);
+    EXPECT(memcmp(rte_pktmbuf_read(mbuf, 0, size, copy), wanted, size) == 0);
+    rte_pktmbuf_free(mbuf);
+}
+
+static void test_marks(void) {
+    for (int version = 4; version <= 6; version += 2)
+        for (int tags = 0; tags <= 4; tags++)
+            for (uint8_t ecn = PIE_ECT1; ecn <= PIE_CE; ecn++)
+                for (uint32_t first = 1; first < 50; first++)
+                    for (uint32_t second = 0; second < 12; second += 3)
+                        expect_marked(tags, version, ecn, first, second);
+    // the card computes the checksum: it is left alone
+    struct rte_mbuf *mbuf = frame(0, 4, PIE_ECT0);
+    struct stage_packet packet = stage_packet_look(mbuf);
+    uint8_t before[64], after[64];
+    memcpy(before, rte_pktmbuf_read(mbuf, 0, 34, before), 34);
+    mbuf->ol_flags |= RTE_MBUF_F_TX_IP_CKSUM;
+    stage_packet_mark(mbuf, &packet);
+    const uint8_t *now = rte_pktmbuf_read(mbuf, 0, 34, after);
+    EXPECT(now[15] == (before[15] | PIE_CE) && now[24] == before[24] && now[25] == before[25]);
+    rte_pktmbuf_free(mbuf);
+    expect_all_back();
+    printf("stage_test: marks in IPv4 and IPv6, behind VLAN tags, across segments\n");
+}
+
+/* What is no IP header, or is cut short, has no ECN field. */
+static void test_no_ip(void) {
+    uint8_t bytes[256];
+    for (int version = 4; version <= 6; version += 2) {
+        uint32_t size = write_frame(bytes, 5, version, PIE_ECT0);
+        struct rte_mbuf *mbuf = segments(bytes, size, 20, 0);
+        EXPECT(stage_packet_look(mbuf).version == 0); // five tags
+        rte_pktmbuf_free(mbuf);
+        write_frame(bytes, 1, version, PIE_ECT0);
+        for (uint32_t cut = 0; cut < 18u + (version == 4 ? 24 : 40); cut++) {
+            mbuf = segments(bytes, cut, cut / 2, 0);
+            EXPECT(stage_packet_look(mbuf).version == 0 && stage_packet_look(mbuf).ecn == PIE_NOT_ECT);
+            rte_pktmbuf_free(mbuf);
+        }
+    }
+    write_frame(bytes, 0, 4, PIE_ECT0);
+    bytes[14] = 0x44; // a header of 16 bytes
+    struct rte_mbuf *mbuf = segments(bytes, 78, 30, 0);
+    EXPECT(stage_packet_look(mbuf).version == 0);
+    rte_pktmbuf_free(mbuf);
+    expect_all_back();
+    printf("stage_test: no IP, and headers cut short\n");
+}
+
+/* A header that others hold is not marked. */
+static void test_shared(void) {
+    struct rte_mbuf *mbuf = plain(100, PIE_ECT0);
+    struct stage_packet packet = stage_packet_look(mbuf);
+    struct rte_mbuf *clone = rte_pktmbuf_clone(mbuf, pool);
+    EXPECT(stage_packet_is_shared(mbuf, &packet) && stage_packet_is_shared(clone, &packet));
+    rte_pktmbuf_free(mbuf);
+    EXPECT(!stage_packet_is_shared(clone, &packet)); // the last holder
+    rte_mbuf_refcnt_update(clone, 1);
+    EXPECT(stage_packet_is_shared(clone, &packet));
+    rte_mbuf_refcnt_update(clone, -1);
+    rte_pktmbuf_free(clone);
+    expect_all_back();
+    printf("stage_test: shared headers\n");
+}
+
+/* The key stream is ChaCha's: the block of RFC 8439, section 2.3.2. */
+static void test_words(void) {
+    static const uint32_t wanted[16] = {0xe4e7f110, 0x15593bd1, 0x1fdd0f50, 0xc47120a3, 0xc7f4d1c7, 0x0368c033, 0x9aaa2204, 0x4e6cd4c3,
+                                        0x466482d2, 0x09aa9f07, 0x05d7c214, 0xa2028bd9, 0xd19c12b5, 0xb94e16de, 0xe883d0cb, 0x4e3c50a2};
+    uint32_t key[8], out[64], next[64];
+    for (uint32_t i = 0; i < 8; i++)
+        key[i] = 0x03020100 + i * 0x04040404;
+    stage_blocks(out, key, UINT64_C(0x0900000000000001), 0x4a000000, 20);
+    EXPECT(memcmp(out, wanted, sizeof wanted) == 0);
+    stage_blocks(next, key, UINT64_C(0x0900000000000002), 0x4a000000, 20);
+    EXPECT(memcmp(next, out + 16, 48 * sizeof *out) == 0); // the blocks follow one another
+    struct stage_words one, two;
+    EXPECT(stage_words_seed(&one) && stage_words_seed(&two));
+    EXPECT(memcmp(one.key, two.key, sizeof one.key) != 0);
+    int set[64] = {0};
+    for (int i = 0; i < 40000; i++) {
+        uint64_t word = stage_word(&one);
+        for (int bit = 0; bit < 64; bit++)
+            set[bit] += word >> bit & 1;
+    }
+    for (int bit = 0; bit < 64; bit++)
+        EXPECT(set[bit] > 19000 && set[bit] < 21000); // ten standard deviations
+    printf("stage_test: random words\n");
+}
+
+static struct pie_stage *stage_of(struct pie_stage_params *params) {
+    struct pie_stage *stage = pie_stage_create("test", params, SOCKET_ID_ANY);
+    EXPECT(stage != NULL);
+    return stage;
+}
+
+static void test_clock(void) {
+    struct pie_stage_params params;
+    pie_stage_default_params(&params, 100000000);
+    struct pie_stage *stage = stage_of(&params);
+    uint64_t hz = rte_get_tsc_hz(), before = 0;
+    EXPECT(pie_stage_nanoseconds(stage, 0) == 0);
+    for (uint64_t seconds = 1; seconds <= UINT64_C(31622400); seconds *= 2) { // a year
+        uint64_t found = pie_stage_nanoseconds(stage, seconds * hz), wanted = seconds * 1000000000;
+        EXPECT(found <= wanted && wanted - found <= 1 + wanted / UINT64_C(10000000000000));
+    }
+    for (uint64_t cycles = 0; cycles < UINT64_MAX / 3; cycles += cycles / 64 + 1) {
+        EXPECT(pie_stage_nanoseconds(stage, cycles) >= before);
+        before = pie_stage_nanoseconds(stage, cycles);
+    }
+    EXPECT(pie_stage_nanoseconds(stage, UINT64_MAX) <= PIE_MAX_MOMENT);
+    // a clock that jumps back: the latest moment so far counts, nothing waits less than no time, and it is counted
+    struct rte_mbuf *mbufs[2] = {plain(100, PIE_NOT_ECT), plain(100, PIE_NOT_ECT)}, *out[4];
+    uint64_t now = rte_rdtsc() + hz;
+    struct pie_stage_stats stats;
+    EXPECT(pie_stage_enqueue(stage, mbufs, 1, now) == 1 && pie_stage_enqueue(stage, mbufs + 1, 1, now - hz) == 1);
+    EXPECT(pie_stage_dequeue(stage, out, 1, 0) == 1 && out[0] == mbufs[0]);
+    EXPECT(pie_stage_dequeue(stage, out, 4, now + hz) == 1 && out[0] == mbufs[1]);
+    EXPECT(!pie_stage_update(stage, 0));
+    pie_stage_read(stage, &stats);
+    EXPECT(stats.earlier == 2 && stats.longest <= 1000000001 && stats.longest >= 999999999 && stats.waited == stats.longest);
+    rte_pktmbuf_free_bulk(mbufs, 2);
+    pie_stage_free(stage);
+    expect_all_back();
+    printf("stage_test: the clock\n");
+}
+
+static void test_create(void) {
+    struct pie_stage_params params, bad;
+    pie_stage_default_params(&params, 100000000);
+    struct pie_stage *stage = stage_of(&params);
+    EXPECT(pie_stage_create("test", &params, SOCKET_ID_ANY) == NULL && rte_errno == EEXIST);
+    bad = params, bad.packets = 0;
+    EXPECT(pie_stage_create("other", &bad, SOCKET_ID_ANY) == NULL && rte_errno == EINVAL);
+    bad = params, bad.packets = PIE_STAGE_MAX_PACKETS + 1;
+    EXPECT(pie_stage_create("other", &bad, SOCKET_ID_ANY) == NULL && rte_errno == EINVAL);
+    bad = params, bad.profile = 3;
+    EXPECT(pie_stage_create("other", &bad, SOCKET_ID_ANY) == NULL && rte_errno == EINVAL);
+    bad = params, bad.pie.target = 1;
+    EXPECT(pie_stage_create("other", &bad, SOCKET_ID_ANY) == NULL && rte_errno == EINVAL);
+    bad = params, bad.choices = 16;
+    EXPECT(pie_stage_create("other", &bad, SOCKET_ID_ANY) == NULL && rte_errno == EINVAL);
+    bad = params, bad.packets = PIE_STAGE_MAX_PACKETS; // 512 megabytes, more than there are
+    EXPECT(pie_stage_create("other", &bad, SOCKET_ID_ANY) == NULL && rte_errno == ENOMEM);
+    char name[256];
+    memset(name, 'x', sizeof name - 1);
+    name[sizeof name - 1] = '\0';
+    EXPECT(pie_stage_create(name, &params, SOCKET_ID_ANY) == NULL && rte_errno == ENAMETOOLONG);
+    pie_stage_free(stage);
+    pie_stage_free(NULL);
+    stage = stage_of(&params); // the name is free again
+    pie_stage_free(stage);
+    printf("stage_test: making a stage, and want of memory\n");
+}
+
+/* A queue of four packets, and one of 1000 bytes; what is handed back, and what is freed. */
+static void test_full(void) {
+    for (int hands_back = 0; hands_back <= 1; hands_back++) {
+        struct pie_stage_params params;
+        struct pie_stage_stats stats;
+        struct rte_mbuf *mbufs[6], *kept[6], *out[8];
+        pie_stage_default_params(&params, 100000000);
+        params.packets = 4;
+        params.hands_back = hands_back == 1;
+        struct pie_stage *stage = stage_of(&params);
+        for (int i = 0; i < 6; i++)
+            kept[i] = mbufs[i] = plain(i == 1 ? 20 : 100, PIE_ECT0);
+        EXPECT(pie_stage_enqueue(stage, mbufs, 6, rte_rdtsc()) == 4);
+        EXPECT(rte_mempool_avail_count(pool) == MBUFS - (hands_back ? 6 : 4));
+        EXPECT(memcmp(mbufs, kept, sizeof kept) == 0);
+        if (hands_back)
+            rte_pktmbuf_free_bulk(mbufs + 4, 2);
+        EXPECT(pie_stage_dequeue_bytes(stage, out, 8, 101, rte_rdtsc()) == 2 && out[0] == kept[0] && out[1] == kept[1]);
+        rte_pktmbuf_free_bulk(out, 2);
+        pie_stage_read(stage, &stats);
+        EXPECT(stats.queued == 4 && stats.full == 2 && stats.most == 4 && stats.waiting == 2 && stats.waiting_bytes == 200);
+        EXPECT(stats.no_ip == 1 && stats.departed == 2 && stats.departed_bytes == 120);
+        pie_stage_free(stage); // frees the two that wait
+        expect_all_back();
+    }
+    struct pie_stage_params params;
+    struct pie_stage_stats stats;
+    pie_stage_default_params(&params, 100000000);
+    params.pie.limit_bytes = 1000;
+    params.hands_back = true;
+    struct pie_stage *stage = stage_of(&params);
+    struct rte_mbuf *mbufs[5] = {plain(600, 0), plain(600, 0), plain(300, 0), alloc(), NULL}, *kept[5];
+    for (int i = 0; i < 64; i++) { // a packet of 65536 bytes
+        struct rte_mbuf *segment = alloc();
+        EXPECT(rte_pktmbuf_append(segment, 1024) != NULL);
+        if (i == 0)
+            mbufs[4] = segment;
+        else
+            EXPECT(rte_pktmbuf_chain(mbufs[4], segment) == 0);
+    }
+    memcpy(kept, mbufs, sizeof kept);
+    EXPECT(pie_stage_enqueue(stage, mbufs, 5, rte_rdtsc()) == 2);
+    EXPECT(mbufs[0] == kept[0] && mbufs[1] == kept[2] && mbufs[2] == kept[1] && mbufs[3] == kept[3] && mbufs[4] == kept[4]);
+    rte_pktmbuf_free_bulk(mbufs + 2, 3);
+    pie_stage_read(stage, &stats);
+    EXPECT(stats.queued == 2 && stats.bytes == 1 && stats.oversized == 2 && stats.refused == 0);
+    pie_stage_free(stage);
+    expect_all_back();
+    printf("stage_test: a full queue, oversized packets, and mbufs handed back\n");
+}
+
+/* A link of 100 Mbit/s with twice its load, for a simulated second with marks up to the probability 1: packets are marked, and those that
+ * cannot be are dropped. Every third packet cannot carry a mark, of these half since their header is shared. */
+static void test_decisions(void) {
+    struct pie_stage_params params;
+    struct pie_stage_stats stats;
+    pie_stage_default_params(&params, 100000000);
+    params.pie.mark_ecnth = PIE_ONE;
+    params.pie.max_burst = 0;
+    params.pie.target = 1000000;
+    params.pie.t_update = 1000000;
+    struct pie_stage *stage = stage_of(&params);
+    uint64_t hz = rte_get_tsc_hz(), start = rte_rdtsc(), marked = 0, in = 0, out = 0, shared = 0;
+    for (uint64_t i = 0; i < 12500; i++) { // a packet of 1000 bytes takes the link 80 us
+        uint64_t now = start + i * hz / 12500;
+        struct rte_mbuf *pair[2], *left, *clone = NULL;
+        for (int k = 0; k < 2; k++, in++) {
+            pair[k] = plain(1000, in % 3 == 0 ? PIE_NOT_ECT : in % 3 == 1 ? PIE_ECT1 : PIE_ECT0);
+            if (in % 6 == 1) {
+                clone = rte_pktmbuf_clone(pair[k], pool);
+                shared++;
+            }
+        }
+        pie_stage_enqueue(stage, pair, 2, now);
+        rte_pktmbuf_free(clone);
+        if (pie_stage_dequeue(stage, &left, 1, now) == 1) {
+            struct stage_packet packet = stage_packet_look(left);
+            const struct rte_ipv4_hdr *header = rte_pktmbuf_mtod_offset(left, struct rte_ipv4_hdr *, 14);
+            uint32_t sum = rte_raw_cksum(header, 24);
+            EXPECT(packet.version == 4 && (sum == 0xffff || sum == 0));
+            marked += packet.ecn == PIE_CE;
+            rte_pktmbuf_free(left);
+            out++;
+        }
+    }
+    pie_stage_read(stage, &stats);
+    EXPECT(stats.queued + stats.early + stats.bytes + stats.full == in && stats.departed == out && stats.shared == shared);
+    EXPECT(stats.marked > 500 && stats.early > 500 && stats.updates > 900 && stats.updates <= 1000 && stats.prob > 0 && stats.no_ip == 0 && stats.refused == 0);
+    EXPECT(stats.marked >= marked && stats.marked - marked <= stats.waiting && stats.waiting == stats.queued - out);
+    pie_stage_free(stage);
+    expect_all_back();
+    printf("stage_test: decisions (%" PRIu64 " marked, %" PRIu64 " dropped early)\n", stats.marked, stats.early);
+}
+
+/* Updates are made when due, by enqueuing, dequeuing, or a timer. */
+static void test_updates(void) {
+    struct pie_stage_params params;
+    struct pie_stage_stats stats;
+    pie_stage_default_params(&params, 100000000);
+    struct pie_stage *stage = stage_of(&params);
+    uint64_t hz = rte_get_tsc_hz(), start = rte_rdtsc();
+    EXPECT(!pie_stage_update(stage, start));
+    EXPECT(pie_stage_update(stage, start + hz / 60) && !pie_stage_update(stage, start + hz / 60));
+    struct rte_mbuf *mbuf = plain(100, 0);
+    EXPECT(pie_stage_enqueue(stage, &mbuf, 1, start + hz) == 1 && pie_stage_dequeue(stage, &mbuf, 1, start + 2 * hz) == 1);
+    pie_stage_read(stage, &stats);
+    EXPECT(stats.updates == 3 && stats.late == 2);
+    rte_pktmbuf_free(mbuf);
+    pie_stage_free(stage);
+    expect_all_back();
+    printf("stage_test: updates\n");
+}
+
+/* Three threads enqueue what they own, one dequeues and gives each packet back to its owner, one updates and reads. */
+#define SENDERS 3
+#define OWNED 64
+
+struct sender {
+    pthread_t thread;
+    struct pie_stage *stage;
+    uint32_t number, rounds;
+    uint64_t handed_back;
+    rte_spinlock_t lock; /* of what comes back */
+    struct rte_mbuf *back[OWNED];
+    uint32_t count;
+};
+
+static struct sender senders[SENDERS];
+static int are_done;
+
+static void *send_bursts(void *argument) {
+    struct sender *sender = argument;
+    struct rte_mbuf *mbufs[OWNED];
+    for (uint32_t round = 0; round < sender->rounds; round++) {
+        rte_spinlock_lock(&sender->lock);
+        uint32_t count = RTE_MIN(sender->count, 1 + round % 40);
+        sender->count -= count;
+        memcpy(mbufs, sender->back + sender->count, count * sizeof *mbufs);
+        rte_spinlock_unlock(&sender->lock);
+        uint32_t queued = pie_stage_enqueue(sender->stage, mbufs, count, rte_rdtsc());
+        rte_spinlock_lock(&sender->lock);
+        memcpy(sender->back + sender->count, mbufs + queued, (count - queued) * sizeof *mbufs);
+        sender->count += count - queued;
+        sender->handed_back += count - queued;
+        rte_spinlock_unlock(&sender->lock);
+    }
+    return NULL;
+}
+
+static void *take_bursts(void *argument) {
+    struct pie_stage *stage = argument;
+    struct rte_mbuf *mbufs[16];
+    bool is_last = false;
+    for (;;) {
+        uint32_t count = pie_stage_dequeue(stage, mbufs, 16, rte_rdtsc());
+        for (uint32_t i = 0; i < count; i++) {
+            struct sender *sender = &senders[mbufs[i]->port];
+            rte_spinlock_lock(&sender->lock);
+            sender->back[sender->count++] = mbufs[i];
+            rte_spinlock_unlock(&sender->lock);
+        }
+        if (count == 0 && is_last)
+            return NULL;
+        is_last = __atomic_load_n(&are_done, __ATOMIC_SEQ_CST);
+    }
+}
+
+static void *update_and_read(void *argument) {
+    struct pie_stage_stats stats;
+    while (!__atomic_load_n(&are_done, __ATOMIC_SEQ_CST)) {
+        pie_stage_update(argument, rte_rdtsc());
+        pie_stage_read(argument, &stats);
+        EXPECT(stats.queued == stats.departed + stats.waiting);
+    }
+    return NULL;
+}
+
+static void test_threads(uint32_t rounds) {
+    struct pie_stage_params params;
+    struct pie_stage_stats stats;
+    pthread_t taker, updater;
+    pie_stage_default_params(&params, 100000000);
+    params.packets = 60;
+    params.hands_back = true;
+    params.pie.target = 2000;
+    params.pie.t_update = 10000;
+    params.pie.max_burst = 0;
+    params.pie.dq_threshold = 1024;
+    struct pie_stage *stage = stage_of(&params);
+    for (uint32_t i = 0; i < SENDERS; i++) {
+        senders[i] = (struct sender){.stage = stage, .number = i, .rounds = rounds, .count = OWNED};
+        for (uint32_t k = 0; k < OWNED; k++) {
+            senders[i].back[k] = plain(200, k % 2 ? PIE_ECT0 : PIE_NOT_ECT);
+            senders[i].back[k]->port = (uint16_t)i;
+        }
+        EXPECT(pthread_create(&senders[i].thread, NULL, send_bursts, &senders[i]) == 0);
+    }
+    EXPECT(pthread_create(&taker, NULL, take_bursts, stage) == 0 && pthread_create(&updater, NULL, update_and_read, stage) == 0);
+    uint64_t handed_back = 0;
+    for (uint32_t i = 0; i < SENDERS; i++)
+        EXPECT(pthread_join(senders[i].thread, NULL) == 0);
+    __atomic_store_n(&are_done, 1, __ATOMIC_SEQ_CST);
+    EXPECT(pthread_join(taker, NULL) == 0 && pthread_join(updater, NULL) == 0);
+    pie_stage_read(stage, &stats);
+    for (uint32_t i = 0; i < SENDERS; i++) {
+        EXPECT(senders[i].count == OWNED);
+        handed_back += senders[i].handed_back;
+        rte_pktmbuf_free_bulk(senders[i].back, OWNED);
+    }
+    EXPECT(stats.queued > 0 && stats.queued == stats.departed && stats.waiting == 0 && stats.waiting_bytes == 0);
+    EXPECT(stats.early + stats.full + stats.bytes == handed_back && stats.refused == 0);
+    pie_stage_free(stage);
+    expect_all_back();
+    printf("stage_test: threads (%" PRIu64 " queued, %" PRIu64 " dropped)\n", stats.queued, handed_back);
+}
+
+int main(int count, char **words) {
+    int read = rte_eal_init(count, words);
+    if (read < 0) {
+        fprintf(stderr, "stage_test: EAL: %s\n", rte_strerror(rte_errno));
+        return 1;
+    }
+    setvbuf(stdout, NULL, _IOLBF, 0);
+    pool = rte_pktmbuf_pool_create("pool", MBUFS, 0, 0, RTE_MBUF_DEFAULT_BUF_SIZE, SOCKET_ID_ANY);
+    EXPECT(pool != NULL);
+    if (count - read < 2 || strcmp(words[read + 1], "threads") != 0) {
+        test_words();
+        test_create();
+        test_clock();
+        test_marks();
+        test_no_ip();
+        test_shared();
+        test_full();
+        test_decisions();
+        test_updates();
+        test_threads(30000);
+    } else {
+        test_threads(2000);
+    }
+    rte_mempool_free(pool);
+    rte_eal_cleanup();
+    return 0;
+}

@@ -1,0 +1,80 @@
+/* Random words that no sender can guess: the key stream of ChaCha with 12 rounds under a key of the system's random bits. DPDK's rte_rand
+ * is no choice here: it is a linear generator, whose state can be computed from what it gave out. */
+#ifndef STAGE_WORDS_H
+#define STAGE_WORDS_H
+
+#include <stdbool.h>
+#include <stdint.h>
+#include <string.h>
+#include <sys/random.h>
+
+#define STAGE_WORDS 32 /* words made at once: four blocks of ChaCha */
+#define STAGE_ROUNDS 12
+
+struct stage_words {
+    uint32_t key[8];
+    uint64_t counter; /* blocks made */
+    uint32_t left;    /* words not yet handed out */
+    uint64_t words[STAGE_WORDS];
+};
+
+/* A number of each of four blocks. */
+typedef uint32_t stage_lanes __attribute__((vector_size(16)));
+
+static inline stage_lanes stage_rotate(stage_lanes value, int bits) {
+    return value << bits | value >> (32 - bits);
+}
+
+static inline void stage_quarter(stage_lanes *x, int a, int b, int c, int d) {
+    x[a] += x[b], x[d] = stage_rotate(x[d] ^ x[a], 16);
+    x[c] += x[d], x[b] = stage_rotate(x[b] ^ x[c], 12);
+    x[a] += x[b], x[d] = stage_rotate(x[d] ^ x[a], 8);
+    x[c] += x[d], x[b] = stage_rotate(x[b] ^ x[c], 7);
+}
+
+/* Four blocks of the key stream from this counter on (RFC 8439, section 2.3; the counter has 64 bits, and the nonce the other 64). */
+static inline void stage_blocks(uint32_t out[64], const uint32_t key[8], uint64_t counter, uint64_t nonce, int rounds) {
+    static const uint32_t constants[4] = {0x61707865, 0x3320646e, 0x79622d32, 0x6b206574};
+    stage_lanes start[16], x[16];
+    for (int i = 0; i < 4; i++)
+        start[i] = (stage_lanes){constants[i], constants[i], constants[i], constants[i]};
+    for (int i = 0; i < 8; i++)
+        start[4 + i] = (stage_lanes){key[i], key[i], key[i], key[i]};
+    for (int lane = 0; lane < 4; lane++) {
+        start[12][lane] = (uint32_t)(counter + (uint64_t)lane);
+        start[13][lane] = (uint32_t)((counter + (uint64_t)lane) >> 32);
+        start[14][lane] = (uint32_t)nonce;
+        start[15][lane] = (uint32_t)(nonce >> 32);
+    }
+    memcpy(x, start, sizeof x);
+    for (int i = 0; i < rounds; i += 2) {
+        for (int column = 0; column < 4; column++)
+            stage_quarter(x, column, 4 + column, 8 + column, 12 + column);
+        for (int column = 0; column < 4; column++)
+            stage_quarter(x, column, 4 + (column + 1) % 4, 8 + (column + 2) % 4, 12 + (column + 3) % 4);
+    }
+    for (int i = 0; i < 16; i++) {
+        x[i] += start[i];
+        for (int lane = 0; lane < 4; lane++)
+            out[16 * lane + i] = x[i][lane];
+    }
+}
+
+/* Takes a key from the system; false where it has no random bits. */
+static inline bool stage_words_seed(struct stage_words *words) {
+    memset(words, 0, sizeof *words);
+    return getrandom(words->key, sizeof words->key, 0) == sizeof words->key;
+}
+
+static inline uint64_t stage_word(struct stage_words *words) {
+    if (words->left == 0) {
+        uint32_t blocks[64];
+        stage_blocks(blocks, words->key, words->counter, 0, STAGE_ROUNDS);
+        memcpy(words->words, blocks, sizeof words->words);
+        words->counter += 4;
+        words->left = STAGE_WORDS;
+    }
+    return words->words[--words->left];
+}
+
+#endif

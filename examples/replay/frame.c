@@ -1,0 +1,100 @@
+#include "frame.h"
+
+#include <pcap/dlt.h>
+
+enum { TYPE_IPV4 = 0x0800, TYPE_IPV6 = 0x86dd, TYPE_VLAN = 0x8100, TYPE_SERVICE_VLAN = 0x88a8, TYPE_OLD_VLAN = 0x9100 };
+enum { PROTOCOL_TCP = 6, PROTOCOL_UDP = 17 };
+enum { IPV4_HEADER = 20, IPV6_HEADER = 40, TCP_HEADER = 20, UDP_HEADER = 8, VLAN_TAG = 4 };
+
+/* Of each link type: where the type of what it carries stands, and how long its header is. */
+static const struct link_header {
+    int link;
+    size_t type_at, size;
+} links[] = {
+    {DLT_EN10MB, 12, 14},  {DLT_LINUX_SLL, 14, 16}, {DLT_LINUX_SLL2, 0, 20}, {DLT_RAW, 0, 0},
+    {DLT_IPV4, 0, 0},      {DLT_IPV6, 0, 0},
+};
+
+static const struct link_header *header_of(int link) {
+    for (size_t i = 0; i < sizeof links / sizeof links[0]; i++)
+        if (links[i].link == link)
+            return &links[i];
+    return NULL;
+}
+
+bool is_known_link(int link) {
+    return header_of(link) != NULL;
+}
+
+static uint32_t two_bytes(const uint8_t *bytes) {
+    return (uint32_t)bytes[0] << 8 | bytes[1];
+}
+
+static bool is_vlan(uint32_t type) {
+    return type == TYPE_VLAN || type == TYPE_SERVICE_VLAN || type == TYPE_OLD_VLAN;
+}
+
+/* The bytes of the header behind the IP header: TCP tells its own, where it was captured. */
+static uint32_t transport_header(uint32_t protocol, const uint8_t *bytes, size_t caught) {
+    if (protocol == PROTOCOL_UDP)
+        return UDP_HEADER;
+    if (protocol != PROTOCOL_TCP)
+        return 0;
+    uint32_t told = caught > 12 ? (bytes[12] >> 4) * 4u : TCP_HEADER;
+    return told < TCP_HEADER ? TCP_HEADER : told;
+}
+
+static int read_ipv4(const uint8_t *bytes, size_t caught, size_t length, struct ip_packet *packet) {
+    if (length < IPV4_HEADER)
+        return FRAME_WRONG;
+    if (caught < IPV4_HEADER)
+        return FRAME_CUT;
+    uint32_t header = (bytes[0] & 15u) * 4, total = two_bytes(bytes + 2);
+    bool is_first = (two_bytes(bytes + 6) & 0x1fff) == 0;
+    if (total == 0)
+        total = (uint32_t)length;
+    if (header < IPV4_HEADER || total < header || total > length)
+        return FRAME_WRONG;
+    size_t behind = caught > header ? caught - header : 0;
+    packet->size = total;
+    packet->ecn = bytes[1] & 3;
+    packet->headers = header + (is_first ? transport_header(bytes[9], bytes + header, behind) : 0);
+    return FRAME_IP;
+}
+
+static int read_ipv6(const uint8_t *bytes, size_t caught, size_t length, struct ip_packet *packet) {
+    if (length < IPV6_HEADER)
+        return FRAME_WRONG;
+    if (caught < IPV6_HEADER)
+        return FRAME_CUT;
+    uint32_t payload = two_bytes(bytes + 4);
+    if (payload == 0)
+        payload = (uint32_t)length - IPV6_HEADER;
+    if (payload + IPV6_HEADER > length)
+        return FRAME_WRONG;
+    packet->size = payload + IPV6_HEADER;
+    packet->ecn = bytes[1] >> 4 & 3;
+    packet->headers = IPV6_HEADER + transport_header(bytes[6], bytes + IPV6_HEADER, caught - IPV6_HEADER);
+    return FRAME_IP;
+}
+
+int read_frame(int link, const uint8_t *bytes, size_t caught, size_t length, struct ip_packet *packet) {
+    const struct link_header *header = header_of(link);
+    size_t at = header->size;
+    if (caught > length)
+        return FRAME_WRONG;
+    if (caught < at + 1)
+        return FRAME_CUT;
+    uint32_t type = at == 0 ? (bytes[0] >> 4 == 4 ? TYPE_IPV4 : bytes[0] >> 4 == 6 ? TYPE_IPV6 : 0) : two_bytes(bytes + header->type_at);
+    while (is_vlan(type)) {
+        if (caught < at + VLAN_TAG + 1)
+            return FRAME_CUT;
+        type = two_bytes(bytes + at + 2);
+        at += VLAN_TAG;
+    }
+    if (type == TYPE_IPV4 && bytes[at] >> 4 == 4)
+        return read_ipv4(bytes + at, caught - at, length - at, packet);
+    if (type == TYPE_IPV6 && bytes[at] >> 4 == 6)
+        return read_ipv6(bytes + at, caught - at, length - at, packet);
+    return type == TYPE_IPV4 || type == TYPE_IPV6 ? FRAME_WRONG : FRAME_OTHER;
+}

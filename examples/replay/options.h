@@ -1,0 +1,23 @@
+/* What the command line says. */
+#ifndef REPLAY_OPTIONS_H
+#define REPLAY_OPTIONS_H
+
+#include "control.h"
+
+struct options {
+    const char *capture;    /* the file that is replayed; "-": standard input */
+    char *filter;           /* in libpcap's language; empty: every packet */
+    const char *history;    /* the file for the history; "-": standard output */
+    const char *commented;  /* the file for the capture with comments; NULL with none */
+    uint64_t seed;          /* of the random words */
+    uint64_t mtu;           /* super-packets are split into packets of at most so many bytes; 0: they are not */
+    struct control control; /* the link and its queue */
+};
+
+/* What read_options answers. */
+enum { OPTIONS_READ, OPTIONS_HELP, OPTIONS_WRONG };
+
+/* Reads the words; what is wrong with them, and the help that was asked for, is printed. */
+int read_options(int count, char **words, struct options *options);
+
+#endif

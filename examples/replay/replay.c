@@ -1,0 +1,297 @@
+/* The packets of a capture, sent through a link of a given rate whose queue PIE manages, at the times of the capture. The clock is the
+ * capture's: a departure, an update and an arrival come in the order of their moments, and at the same moment in this order. */
+#include "commented.h"
+#include "frame.h"
+#include "history.h"
+#include "options.h"
+
+#include <errno.h>
+#include <inttypes.h>
+#include <stdlib.h>
+#include <string.h>
+
+#define SECOND UINT64_C(1000000000)
+#define LONGEST_GAP (86400 * SECOND) /* between two frames: a day; more is a time stamp that is broken */
+#define USUAL_MTU 1500               /* bytes: larger packets are told of */
+
+struct waiting {
+    uint64_t tag, arrived; /* the frame's number; the controller's moment right after the arrival */
+    uint32_t size, ecn;
+};
+
+struct counts {
+    uint64_t frames, verdicts[PIE_PACKETS + 1], departures, updates, refused;
+    uint64_t passed_over, others, cut, wrong; /* frames that the filter passed over, of other protocols, cut, of a wrong length */
+    uint64_t large, backwards;                /* packets above USUAL_MTU; frames earlier than one before them */
+};
+
+struct replay {
+    struct options options;
+    struct pie_state pie;
+    struct history history;
+    struct waiting queue[MOST_PACKETS];
+    uint64_t first, packets, bytes; /* the queue's: of its first packet the place, and how many packets and bytes wait */
+    uint64_t now;                   /* the greatest moment of an arrival */
+    uint64_t free_at, rest;         /* when the link is free; and what its last transmission took of a ns more, times the rate */
+    uint64_t word;                  /* the random generator's state */
+    uint64_t events;                /* so far */
+    struct counts counts;
+};
+
+/* The capture that is read, and that which is written. */
+struct capture {
+    pcap_t *file;
+    struct bpf_program filter;
+    int link;
+    uint64_t start, last; /* of the first frame and of the one before, in ns since 1970 */
+    FILE *commented;      /* NULL with none */
+};
+
+static void die(const char *name, const char *why) {
+    fprintf(stderr, "replay: %s: %s\n", name, why);
+    exit(1);
+}
+
+static void die_refused(const char *call, uint64_t code) {
+    fprintf(stderr, "replay: %s: %s (%" PRIu64 ")\n", call, pie_text(code), code);
+    exit(1);
+}
+
+/* The next random word: splitmix64, so that a seed gives the same words everywhere. */
+static uint64_t random_word(uint64_t *state) {
+    uint64_t word = *state += UINT64_C(0x9e3779b97f4a7c15);
+    word = (word ^ word >> 30) * UINT64_C(0xbf58476d1ce4e5b9);
+    word = (word ^ word >> 27) * UINT64_C(0x94d049bb133111eb);
+    return word ^ word >> 31;
+}
+
+/* The history is written here, in the same thread, before the ring is full. */
+static void keep(struct replay *replay) {
+    publish_events(&replay->history);
+    if (++replay->events % (HISTORY_SLOTS / 2) == 0)
+        write_events(&replay->history);
+}
+
+/* The link takes the oldest packet; it is free again at the end of its transmission. */
+static void depart(struct replay *replay) {
+    const struct waiting *packet = &replay->queue[replay->first];
+    struct pie_event *event = next_event(&replay->history, LINK, replay->free_at);
+    event->tag = packet->tag;
+    event->size = packet->size;
+    event->ecn = (uint8_t)packet->ecn;
+    replay->first = (replay->first + 1) % MOST_PACKETS;
+    replay->packets--;
+    replay->bytes -= packet->size;
+    uint32_t code = pie_depart_event(&replay->pie, replay->bytes, packet->arrived, event);
+    if (code != PIE_DONE)
+        die_refused("a departure", code);
+    uint64_t parts = packet->size * 8 * SECOND + replay->rest;
+    replay->free_at += parts / replay->options.control.rate;
+    replay->rest = parts % replay->options.control.rate;
+    replay->counts.departures++;
+    keep(replay);
+}
+
+static void update(struct replay *replay) {
+    struct pie_event *event = next_event(&replay->history, TIMER, pie_due(&replay->pie));
+    uint32_t code = pie_update_event(&replay->pie, replay->bytes, event);
+    if (code != PIE_DONE)
+        die_refused("an update", code);
+    replay->counts.updates++;
+    keep(replay);
+}
+
+/* What comes before an arrival at this moment. */
+static void go_on(struct replay *replay, uint64_t until) {
+    for (;;) {
+        uint64_t due = pie_due(&replay->pie);
+        if (replay->packets != 0 && replay->free_at <= until && replay->free_at <= due)
+            depart(replay);
+        else if (due <= until)
+            update(replay);
+        else
+            return;
+    }
+}
+
+/* An arrival; answers the verdict, or why it is refused. */
+static uint32_t arrive(struct replay *replay, const struct ip_packet *packet, uint32_t size, uint64_t tag) {
+    struct pie_event *event = next_event(&replay->history, SENDER, replay->now);
+    uint32_t ecn = replay->options.control.use_ecn ? packet->ecn : PIE_NOT_ECT;
+    event->tag = tag;
+    event->size = size;
+    event->ecn = (uint8_t)ecn;
+    event->word = random_word(&replay->word);
+    uint32_t room = (uint32_t)(replay->options.control.packets - replay->packets);
+    uint32_t verdict = pie_arrive_event(&replay->pie, replay->bytes, room, event);
+    keep(replay);
+    if (verdict > PIE_PACKETS) {
+        replay->counts.refused++;
+        return verdict;
+    }
+    replay->counts.verdicts[verdict]++;
+    if (verdict == PIE_ENQUEUE || verdict == PIE_MARK) {
+        if (replay->packets == 0 && replay->free_at < replay->now) {
+            replay->free_at = replay->now;
+            replay->rest = 0;
+        }
+        struct waiting *place = &replay->queue[(replay->first + replay->packets) % MOST_PACKETS];
+        *place = (struct waiting){tag, replay->pie.moment, size, verdict == PIE_MARK ? PIE_CE : ecn};
+        replay->packets++;
+        replay->bytes += size;
+    }
+    return verdict;
+}
+
+/* The comment on a packet, or on the packets that it was split into, where one was dropped or marked: why, and by what. */
+static void tell(char *comment, const uint32_t *answers, uint32_t parts, const struct pie_state *before) {
+    int count = 0;
+    for (uint32_t verdict = PIE_MARK; verdict <= PIE_PACKETS; verdict++) {
+        if (answers[verdict] == 0)
+            continue;
+        count += snprintf(comment + count, LONGEST_COMMENT - (size_t)count, "%s", count == 0 ? "PIE: " : "; ");
+        if (parts > 1)
+            count += snprintf(comment + count, LONGEST_COMMENT - (size_t)count, "%" PRIu32 " of %" PRIu32 " segments: ", answers[verdict], parts);
+        count += snprintf(comment + count, LONGEST_COMMENT - (size_t)count, "%s", pie_text(verdict));
+    }
+    if (count != 0)
+        snprintf(comment + count, LONGEST_COMMENT - (size_t)count, " (probability %.4f %%, delay %.3f ms)", (double)before->prob / 1e10,
+                 (double)before->old_delay / 1e6);
+}
+
+/* Sends a frame's packet, split where it is a super-packet, and leaves the comment on it. */
+static void send_packet(struct replay *replay, const struct ip_packet *packet, char *comment) {
+    const uint64_t mtu = replay->options.mtu;
+    const struct pie_state before = replay->pie;
+    uint32_t answers[PIE_PACKETS + 1] = {0}, parts = 1, left = packet->size, most = packet->size, again = 0;
+    if (mtu != 0 && packet->size > mtu && packet->headers < mtu) {
+        again = packet->headers;
+        most = (uint32_t)mtu;
+        parts = (packet->size - again + (most - again) - 1) / (most - again);
+    }
+    replay->counts.large += most > USUAL_MTU;
+    for (uint32_t i = 0; i < parts; i++) {
+        uint32_t size = left < most ? left : most;
+        uint32_t answer = arrive(replay, packet, size, replay->counts.frames);
+        left -= size - (i + 1 < parts ? again : 0);
+        if (answer <= PIE_PACKETS)
+            answers[answer]++;
+    }
+    tell(comment, answers, parts, &before);
+}
+
+/* Takes in a frame of the capture; false where its time stamp can't be. */
+static bool take(struct replay *replay, struct capture *capture, const struct pcap_pkthdr *header, const uint8_t *bytes) {
+    char comment[LONGEST_COMMENT] = "";
+    struct ip_packet packet;
+    uint64_t stamp = (uint64_t)header->ts.tv_sec * SECOND + (uint64_t)header->ts.tv_usec;
+    if (++replay->counts.frames == 1)
+        capture->start = capture->last = stamp;
+    if (header->ts.tv_sec < 0 || stamp > capture->last + LONGEST_GAP)
+        return false;
+    replay->counts.backwards += stamp < capture->last;
+    capture->last = stamp > capture->last ? stamp : capture->last;
+    int kind = read_frame(capture->link, bytes, header->caplen, header->len, &packet);
+    if (pcap_offline_filter(&capture->filter, header, bytes) == 0) {
+        replay->counts.passed_over++;
+    } else if (kind == FRAME_IP) {
+        replay->now = capture->last - capture->start;
+        go_on(replay, replay->now);
+        send_packet(replay, &packet, comment);
+    } else {
+        replay->counts.others += kind == FRAME_OTHER;
+        replay->counts.cut += kind == FRAME_CUT;
+        replay->counts.wrong += kind == FRAME_WRONG;
+    }
+    if (capture->commented != NULL && !write_frame(capture->commented, header, stamp, bytes, comment))
+        die(replay->options.commented, strerror(errno));
+    return true;
+}
+
+static void open_capture(struct capture *capture, const struct options *options) {
+    char fault[PCAP_ERRBUF_SIZE];
+    capture->file = pcap_open_offline_with_tstamp_precision(options->capture, PCAP_TSTAMP_PRECISION_NANO, fault);
+    if (capture->file == NULL)
+        die(options->capture, fault);
+    capture->link = pcap_datalink(capture->file);
+    if (!is_known_link(capture->link)) {
+        const char *name = pcap_datalink_val_to_name(capture->link);
+        fprintf(stderr, "replay: %s: frames of link type %s (%d), which this program doesn't read\n", options->capture,
+                name != NULL ? name : "unknown", capture->link);
+        exit(1);
+    }
+    if (pcap_compile(capture->file, &capture->filter, options->filter, 1, PCAP_NETMASK_UNKNOWN) != 0)
+        die(options->filter, pcap_geterr(capture->file));
+    if (options->commented == NULL)
+        return;
+    capture->commented = fopen(options->commented, "wb");
+    if (capture->commented == NULL || !write_interface(capture->commented, capture->link, (uint32_t)pcap_snapshot(capture->file)))
+        die(options->commented, strerror(errno));
+}
+
+/* Takes in all frames; false where the capture is broken, which is told. */
+static bool read_capture(struct replay *replay, struct capture *capture) {
+    struct pcap_pkthdr *header;
+    const uint8_t *bytes;
+    int answer;
+    while ((answer = pcap_next_ex(capture->file, &header, &bytes)) == 1) {
+        if (!take(replay, capture, header, bytes)) {
+            fprintf(stderr, "replay: %s: frame %" PRIu64 ": a time stamp more than a day after those before it\n", replay->options.capture,
+                    replay->counts.frames);
+            return false;
+        }
+    }
+    if (answer != PCAP_ERROR_BREAK)
+        fprintf(stderr, "replay: %s: after frame %" PRIu64 ": %s\n", replay->options.capture, replay->counts.frames,
+                pcap_geterr(capture->file));
+    return answer == PCAP_ERROR_BREAK;
+}
+
+/* Tells a number where it isn't 0. */
+static void say(uint64_t count, const char *what) {
+    if (count != 0)
+        fprintf(stderr, "replay: %" PRIu64 " %s\n", count, what);
+}
+
+static void summarize(const struct replay *replay) {
+    const struct counts *counts = &replay->counts;
+    fprintf(stderr, "replay: %" PRIu64 " frames; of the packets %" PRIu64 " waited, %" PRIu64 " were marked, %" PRIu64 " dropped early, %" PRIu64
+            " for want of bytes, %" PRIu64 " of room; %" PRIu64 " left; %" PRIu64 " updates\n",
+            counts->frames, counts->verdicts[PIE_ENQUEUE], counts->verdicts[PIE_MARK], counts->verdicts[PIE_EARLY],
+            counts->verdicts[PIE_BYTES], counts->verdicts[PIE_PACKETS], counts->departures, counts->updates);
+    say(counts->passed_over, "frames that the filter passed over");
+    say(counts->others, "frames without an IP packet, passed over");
+    say(counts->cut, "frames that were captured too short to tell their packet's length, passed over");
+    say(counts->wrong, "frames with lengths that can't be, passed over");
+    say(counts->backwards, "frames earlier than one before them, sent at that one's time");
+    say(counts->large, "frames with packets above 1500 bytes, as offloading joins them: --mtu splits them");
+    say(counts->refused, "packets that were refused, as those above 65535 bytes are");
+}
+
+int main(int count, char **words) {
+    static struct replay replay;
+    static struct capture capture;
+    int answer = read_options(count, words, &replay.options);
+    if (answer != OPTIONS_READ)
+        return answer == OPTIONS_HELP ? 0 : 2;
+    const struct control *control = &replay.options.control;
+    open_capture(&capture, &replay.options);
+    uint32_t code = pie_open_with(&replay.pie, &control->params, 0, (uint32_t)control->profile, control->choices);
+    if (code != PIE_DONE)
+        die_refused("the opening", code);
+    if (!open_history(&replay.history, replay.options.history, control, 0))
+        die(replay.options.history, strerror(errno));
+    replay.word = replay.options.seed;
+    bool is_whole = read_capture(&replay, &capture);
+    while (is_whole && replay.packets != 0)
+        go_on(&replay, replay.free_at);
+    if (!close_history(&replay.history))
+        die(replay.options.history, "could not be written");
+    if (capture.commented != NULL && fclose(capture.commented) != 0)
+        die(replay.options.commented, "could not be written");
+    pcap_freecode(&capture.filter);
+    pcap_close(capture.file);
+    free(replay.options.filter);
+    summarize(&replay);
+    return is_whole ? 0 : 1;
+}

@@ -123,10 +123,10 @@ def cut_out(folder):
 def lying_program(folder):
     """A page from a program that says hostile things: they stay text, and are refused where numbers belong."""
     path = Path(folder, "pie-that-lies")
-    text = subprocess.run([PROGRAM, "explain", "--lost", ROOT / "examples/overload.history"], capture_output=True, text=True, check=True).stdout
+    text = "".join(explain(ROOT / "examples/overload.history", which)[1] for which in ("--lost", "--marked"))
     Path(folder, "words").write_text(text.replace("Not-ECT", HOSTILE.replace(":", "")).replace("picked", HOSTILE))
     path.write_text(f"""#!/bin/sh
-case "$*" in *--lost*) cat {folder}/words ;; *) {PROGRAM} "$@"; cat {folder}/said >&2; exit 2 ;; esac\n""")
+case "$*" in *--digest*) {PROGRAM} "$@" | grep -v '^event \\|^  '; cat {folder}/words ;; *) {PROGRAM} "$@"; cat {folder}/said >&2; exit 2 ;; esac\n""")
     path.chmod(0o755)
     Path(folder, "said").write_text(HOSTILE)
     status, page, _ = report(ROOT / "examples/overload.history", using=path)
@@ -160,6 +160,12 @@ def files(folder):
     for path in ("-", folder, f"{folder}/none"):
         check(report(path)[0] == 1, f"{path}: read as a history")
     check(history.read_text() == (ROOT / "examples/burst.history").read_text(), "the history was changed")
+    counting = Path(folder, "pie-that-counts")
+    counting.write_text(f"#!/bin/sh\necho \"$*\" >> {folder}/calls\nexec {PROGRAM} \"$@\"\n")
+    counting.chmod(0o755)
+    check(report(ROOT / "examples/overload.history", using=counting)[0] == 0, "a program that counts its calls: no page")
+    calls = Path(folder, "calls").read_text().splitlines()
+    check(len(calls) == 2, f"a history is read {len(calls)} times: {calls}")
     data = inside(report(ROOT / "examples/overload.history", "--list", "5")[1])[0]
     check(data["lost"][0] == 5 == len(data["packets"]) and data["lost"][1] > 5, "--list: more or fewer")
     odd = os.fsencode(folder) + b"/\xff\xfe.history"
@@ -342,6 +348,9 @@ def hold_looks(driver, place):
             page = Page(driver, f"{scheme} {width}", place, width)
             grounds.add(page.run("return getComputedStyle(document.body).backgroundColor"))
             page.says(page.run("return document.documentElement.scrollWidth <= innerWidth"), "it is wider than the window")
+            over = page.run("return [...document.querySelectorAll('.card dd')].filter((it) => it.getBoundingClientRect().right >"
+                            " it.closest('.card').getBoundingClientRect().right).map((it) => it.textContent)")
+            page.says(not over, f"numbers beyond their card: {over}")
             page.picture("looks")
     check(len(grounds) == 2, f"light and dark: {grounds}")
     driver.execute_cdp_cmd("Emulation.setEmulatedMedia", {"media": "print", "features": [{"name": "prefers-color-scheme", "value": "dark"}]})

@@ -12,6 +12,7 @@ use Rattle.pie_explain.specs.declared.which.Which.{Which}
 use Rattle.pie_explain.specs.declared.which.Which.TheVariants.{Number, Tag, Lost, Marked, All}
 use Rattle.pie_units.specs.Moment.{moment_in}
 use Rattle.pie_explain.specs.Output.{pages}
+use Rattle.pie_summary.specs.Digest.{digest_of}
 use Rattle.pie_summary.specs.Summary.{summary_of}
 
 -- ---- moments
@@ -46,9 +47,13 @@ every_in (Err why) = None
 abbrev pub every_of : List Row → Option ℕ
 every_of options = every_in (moment_given (codes "every") options)
 
--- these options ask for summaries: of all chosen events, or of each period
+-- these options ask for what is said of lost and marked packets between summaries
+abbrev pub is_digest : List Row → Bool
+is_digest options = flag_given (codes "digest") options
+
+-- .. for summaries: of all chosen events, or of each period
 abbrev pub is_summary : List Row → Bool
-is_summary options = flag_given (codes "summary") options || is_some (every_of options)
+is_summary options = (flag_given (codes "summary") options || is_some (every_of options)) || is_digest options
 
 -- the events that are chosen, where exactly one of the five options chooses some; a summary is of all where none does
 abbrev pub chosen : Bool → Option ℕ → Option ℕ → Bool → Bool → Bool → Option Which
@@ -95,10 +100,11 @@ form_where false = Words
 abbrev pub form_of : List Row → Form
 form_of options = form_where (flag_given (codes "csv") options)
 
--- what is told of the explained events: each, or summaries of all or of each period
-abbrev pub tale_by : Bool → Option ℕ → Form → List Explained → List ℕ
-tale_by true every form = summary_of (record { form = form; every = every })
-tale_by false every form = pages form
+-- what is told of the explained events: each; or summaries of all or of each period, with the words for lost and marked packets or without
+abbrev pub tale_by : Bool → Bool → Option ℕ → Form → List Explained → List ℕ
+tale_by true true every form = digest_of (record { summary = record { form = form; every = every } })
+tale_by true false every form = summary_of (record { form = form; every = every })
+tale_by false digest every form = pages form
 
 abbrev pub tale_of : List Row → List Explained → List ℕ
-tale_of options = tale_by (is_summary options) (every_of options) (form_of options)
+tale_of options = tale_by (is_summary options) (is_digest options) (every_of options) (form_of options)

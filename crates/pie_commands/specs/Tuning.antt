@@ -1,11 +1,13 @@
 -- `pie params`: what the options ask for, and how it ends.
-use Rattle.std.specs.Prelude.{ℕ, ◌≡◌, ◌⊎◌, List, Option, Some, None, Result, Ok, codes}
+use Rattle.std.specs.Prelude.{ℕ, ◌≡◌, ◌≤◌, ◌^◌, ◌⊎◌, List, Option, Some, None, Result, Ok, codes}
 use Rattle.std.specs.Io.KnownBytes.{Appends}
 use Rattle.clap.specs.Words.{Row, Text, first_of}
 use Rattle.pie_params.specs.Range.{IsInRange}
 use Rattle.pie_tuning.specs.declared.asked.Asked.{Asked}
 use Rattle.pie_tuning.specs.declared.units.OptionFault.{OptionFault}
-use Rattle.pie_tuning.specs.Opening.{gain_of, opening_line, params_for}
+use Rattle.pie_record.specs.Text.{text_of}
+use Rattle.pie_record.specs.Write.{opening_row}
+use Rattle.pie_tuning.specs.Opening.{elements_for, gain_of, opening_for, params_for}
 use Rattle.pie_tuning.specs.Units.{packets_of, rate_of, time_of}
 use Rattle.pie_options.specs.Words.{flag_given, number_or}
 
@@ -23,13 +25,19 @@ pub record AsksFor (options : List Row) (asked : Asked) : Type 0 where
   pub alpha : asked.alpha ≡ gain_of (number_or (codes "alpha") 0 32 2 options)
   pub beta : asked.beta ≡ gain_of (number_or (codes "beta") 0 32 20 options)
   pub ecn : asked.ecn ≡ flag_given (codes "ecn") options
+  pub dq_rate_estimator : asked.dq_rate_estimator ≡ flag_given (codes "dq_rate_estimator") options
+  pub bytemode : asked.bytemode ≡ flag_given (codes "bytemode") options
+  pub mtu : asked.mtu ≡ number_or (codes "mtu") 1 65535 1514 options
+  pub no_derandomization : asked.no_derandomization ≡ flag_given (codes "no_derandomization") options
+  pub no_cap_drop_adjustment : asked.no_cap_drop_adjustment ≡ flag_given (codes "no_cap_drop_adjustment") options
 
--- the record of what the options ask for was written: its parameters are in their ranges
+-- the record of what the options ask for was written: its parameters are in their ranges, and so many packets may wait
 pub record WritesParams (options : List Row) (before now : Option (List ℕ)) : Type 0 where
   pub asked : Asked
   pub asks : AsksFor options asked
   pub in_range : IsInRange (params_for asked)
-  pub written : Appends before now (opening_line asked.packets (params_for asked))
+  pub packets : (1 ≤ asked.packets) × (asked.packets ≤ 2 ^ 20)
+  pub written : Appends before now (text_of (opening_row (opening_for asked.packets (elements_for asked) (params_for asked))))
 
 -- the status is 0, and that record was written; or it is 1, where a text writes no such number, a number is out of its range, or the writer fails
 abbrev pub EndsParams : List Row → ℕ → Option (List ℕ) → Option (List ℕ) → Type 0

@@ -8,7 +8,7 @@ ghost use Rattle.pie_explain.specs.Output.{output as output_of};
 ghost use Rattle.pie_files.specs.Files.{text_given};
 ghost use Rattle.pie_options.specs.Words.{file_in};
 ghost use Rattle.pie_commands.specs.Ends.{status_of};
-ghost use Rattle.pie_commands.specs.Choice.{choice_of, chosen, every_of, form_of, in_order, is_summary, lasts, moment_given, tale_by, units_of, which_of};
+ghost use Rattle.pie_commands.specs.Choice.{choice_of, chosen, every_of, form_of, in_order, is_digest, is_summary, lasts, moment_given, tale_by, units_of, which_of};
 ghost use Rattle.pie_commands.specs.ExplainEnds.{EndsExplain, answer_status};
 
 use crate::end::{DIFFERS, DONE, End, FAULT, fault};
@@ -18,7 +18,7 @@ use pie_explain::{Choice, ExplainFault, Form, Which};
 use pie_files::{NamedFiles, reader_of};
 use pie_options::{file, flag, number};
 use pie_progress::Watched;
-use pie_summary::Summary;
+use pie_summary::{Digest, Summary};
 use pie_units::{Moment, MomentFault};
 use std::alloc::Global;
 use std::io::{Read, Write};
@@ -26,7 +26,7 @@ use std::time::Clock;
 
 /// What is said where the words don't choose events by exactly one option.
 const NO_CHOICE: &str =
-    "explain takes one of --event N, --tag T, --lost, --marked and --all, or --summary or --every; see pie explain --help";
+    "explain takes one of --event N, --tag T, --lost, --marked and --all, or --summary, --every or --digest; see pie explain --help";
 
 /// What is said where a period has no length.
 const NO_PERIOD: &str = "--every: a period lasts at least 1 ns";
@@ -81,11 +81,18 @@ fn every_of(options: &ArgMatches<'_>) -> Option<u64>
     }
 }
 
+/// Whether these options ask for what is said of lost and marked packets between summaries.
+fn is_digest(options: &ArgMatches<'_>) -> bool
+    ensures { result ≡ is_digest (rows_of (found_of options.now)) }
+{
+    flag(options, "digest")
+}
+
 /// Whether these options ask for summaries, of all chosen events or of each period.
 fn is_summary(options: &ArgMatches<'_>) -> bool
     ensures { result ≡ is_summary (rows_of (found_of options.now)) }
 {
-    flag(options, "summary") || every_of(options).is_some()
+    flag(options, "summary") || every_of(options).is_some() || is_digest(options)
 }
 
 /// Whether a period lasts some time.
@@ -178,24 +185,28 @@ fn form_of(options: &ArgMatches<'_>) -> Form
     }
 }
 
-/// Writes what there is to say of the chosen events: of each, or summaries.
+/// Writes what there is to say of the chosen events: of each, or summaries, or summaries and of the lost and marked packets.
 fn tell<R: Read + Drop, W: Write>(
     alloc: Global,
     input: R,
     output: &mut W,
     choice: Choice,
     summary: bool,
+    digest: bool,
     every: Option<u64>,
     form: Form,
 ) -> Result<u64, ExplainFault>
     ensures answers { IfSome (R.remaining input) (λ text. IsTold result → result ≡ answer choice (records_of text)) }
     ensures writes { IfSome (R.remaining input) (λ text. IsTold result
-        → Appends (W.contents output.old) (W.contents output.new) (output_of (tale_by summary every form) choice (records_of text))) }
+        → Appends (W.contents output.old) (W.contents output.new) (output_of (tale_by summary digest every form) choice (records_of text))) }
 {
-    if summary {
-        pie_explain::explain(alloc, input, output, choice, Summary { form, every })
-    } else {
-        pie_explain::explain(alloc, input, output, choice, form)
+    let summaries = Summary { form, every };
+    match (summary, digest) {
+        (true, true) => {
+            pie_explain::explain(alloc, input, output, choice, Digest { summary: summaries })
+        }
+        (true, false) => pie_explain::explain(alloc, input, output, choice, summaries),
+        (false, _) => pie_explain::explain(alloc, input, output, choice, form),
     }
 }
 
@@ -244,7 +255,8 @@ fn explain_input<H: Clock, R: Read + Drop, W: Write, E: Write>(
     let Some(choice) = choice_of(options, errors) else {
         return FAULT;
     };
-    let (summary, every) = (is_summary(options), every_of(options));
+    let (summary, digest) = (is_summary(options), is_digest(options));
+    let every = every_of(options);
     let watched = Watched::new(input, &mut *errors, rt, is_shown);
     let given = tell(
         alloc,
@@ -252,6 +264,7 @@ fn explain_input<H: Clock, R: Read + Drop, W: Write, E: Write>(
         output,
         choice,
         summary,
+        digest,
         every,
         form_of(options),
     );

@@ -1,4 +1,4 @@
-//! `pie params`: the parameters that `tc`'s options ask for, as the record that opens a book.
+//! `pie params`: the parameters and the choices that `tc`'s options ask for, as the record that opens a book.
 ghost use Rattle.std.specs.Prelude.{◌≡◌, codes, IfSome, Ok};
 ghost use Rattle.clap.specs.Words.{first_of, found_of, rows_of};
 ghost use Rattle.pie_tuning.specs.Units.{packets_of, rate_of, time_of};
@@ -6,10 +6,12 @@ ghost use Rattle.pie_commands.specs.Tuning.{AsksFor, EndsParams, given_or};
 
 use crate::end::{DONE, FAULT, fault};
 use clap::ArgMatches;
+use pie_book::Limits;
 use pie_options::{flag, number, number_or};
 use pie_params::{Params, RawParams};
 use pie_tuning::{
-    Asked, OptionFault, gain_of, is_short, packets_of, params_for, rate_of, time_of, write_opening,
+    Asked, OptionFault, elements_for, gain_of, is_short, opening_for, packets_of, params_for,
+    rate_of, time_of, write_opening,
 };
 use std::io::Write;
 
@@ -80,23 +82,16 @@ fn asked_in<E: Write>(options: &ArgMatches<'_>, errors: &mut E) -> Option<Asked>
         alpha: gain_of(number_or(options, "alpha", 0, 32, 2)),
         beta: gain_of(number_or(options, "beta", 0, 32, 20)),
         ecn: flag(options, "ecn"),
+        dq_rate_estimator: flag(options, "dq_rate_estimator"),
+        bytemode: flag(options, "bytemode"),
+        mtu: number_or(options, "mtu", 1, 65535, 1514),
+        no_derandomization: flag(options, "no_derandomization"),
+        no_cap_drop_adjustment: flag(options, "no_cap_drop_adjustment"),
     })
 }
 
-/// Says what has no counterpart among these parameters.
-fn say_missing<E: Write>(options: &ArgMatches<'_>, errors: &mut E) {
-    if flag(options, "bytemode") {
-        let _ = fault(
-            errors,
-            "bytemode has no counterpart: a packet's size doesn't change its chance",
-        );
-    }
-    if !flag(options, "dq_rate_estimator") {
-        let _ = fault(
-            errors,
-            "time stamps have no counterpart: delays are estimated from the departure rate, as by dq_rate_estimator",
-        );
-    }
+/// Says which gains are rounded.
+fn say_rounded<E: Write>(options: &ArgMatches<'_>, errors: &mut E) {
     for name in ["alpha", "beta"] {
         if number(options, name).unwrap_or(0) % 2 == 1 {
             let _ = writeln!(
@@ -129,16 +124,17 @@ pub(crate) fn params<W: Write, E: Write>(
     let Some(asked) = asked_in(options, errors) else {
         return FAULT;
     };
-    let params = params_for(&asked);
-    if let Err(why) = Params::check(params) {
-        return fault(errors, why);
+    let params = match Params::check(params_for(&asked)) {
+        Ok(params) => params,
+        Err(why) => return fault(errors, why),
+    };
+    if asked.packets == 0 || u64::from(Limits::MOST_PACKETS) < asked.packets {
+        return fault(errors, "--limit is 1 to 1048576 packets");
     }
-    if asked.packets == 0 || 65536 < asked.packets {
-        return fault(errors, "--limit is 1 to 65536 packets");
-    }
-    say_missing(options, errors);
-    say_short(&asked, &params, errors);
-    match write_opening(asked.packets, &params, output) {
+    say_rounded(options, errors);
+    say_short(&asked, &params.raw(), errors);
+    let opening = opening_for(asked.packets as u32, elements_for(&asked), params);
+    match write_opening(&opening, output) {
         Ok(()) => DONE,
         Err(_) => fault(errors, "cannot write the output"),
     }

@@ -22,6 +22,6 @@ pub use choice::Choice;
 pub use explainer::{Form, explain};
 pub use explanation::{Explained, Explanation};
 pub use fault::ExplainFault;
-pub use report::Report;
+pub use report::{Report, push_words};
 pub use units::{Millis, PerCent, Share};
 pub use which::Which;

@@ -59,8 +59,12 @@ fn push_header(page: &mut Page, form: Form) -> Result<(), AllocError>
     }
 }
 
-/// Writes an explanation in words onto the page.
-fn push_words(page: &mut Page, told: &Explained) -> Result<(), AllocError>
+/// Writes an explanation in words onto the page, as `Form::Text` has it.
+///
+/// # Errors
+///
+/// `AllocError` where there is no memory.
+pub fn push_words(page: &mut Page, told: &Explained) -> Result<(), AllocError>
     ensures { OnOk result (page.new ≡ page.old ++ words told.now) }
 {
     let mut text = page.words();

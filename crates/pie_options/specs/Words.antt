@@ -57,7 +57,7 @@ rules_for Run = flag_rule (codes "count") ∷ progress_rule ∷ output_rule ∷ 
 rules_for Audit = progress_rule ∷ files_rule ∷ []
 rules_for Explain = number_rule (codes "event") 1 (2 ^ 64 - 1) ∷ number_rule (codes "tag") 0 (2 ^ 64 - 1) ∷ flag_rule (codes "lost")
     ∷ flag_rule (codes "marked") ∷ flag_rule (codes "all") ∷ text_rule (codes "from") ∷ text_rule (codes "to") ∷ flag_rule (codes "summary")
-    ∷ text_rule (codes "every") ∷ flag_rule (codes "csv") ∷ progress_rule ∷ output_rule ∷ force_rule ∷ file_rule ∷ []
+    ∷ text_rule (codes "every") ∷ flag_rule (codes "digest") ∷ flag_rule (codes "csv") ∷ progress_rule ∷ output_rule ∷ force_rule ∷ file_rule ∷ []
 rules_for Migrate = progress_rule ∷ output_rule ∷ force_rule ∷ file_rule ∷ []
 rules_for Storm = number_rule (codes "senders") 2 8 ∷ number_rule (codes "packets") 1 10_000 ∷ number_rule (codes "seed") 0 (2 ^ 64 - 1)
     ∷ number_rule (codes "load") 50 200 ∷ number_rule (codes "changes") 0 100 ∷ number_rule (codes "folds") 0 100
@@ -65,7 +65,8 @@ rules_for Storm = number_rule (codes "senders") 2 8 ∷ number_rule (codes "pack
     ∷ text_rule (codes "size") ∷ flag_rule (codes "count") ∷ []
 rules_for Params = text_rule (codes "rate") ∷ text_rule (codes "target") ∷ text_rule (codes "tupdate") ∷ text_rule (codes "limit")
     ∷ number_rule (codes "alpha") 0 32 ∷ number_rule (codes "beta") 0 32 ∷ flag_rule (codes "ecn") ∷ flag_rule (codes "bytemode")
-    ∷ flag_rule (codes "dq_rate_estimator") ∷ []
+    ∷ number_rule (codes "mtu") 1 65535 ∷ flag_rule (codes "dq_rate_estimator") ∷ flag_rule (codes "no_derandomization")
+    ∷ flag_rule (codes "no_cap_drop_adjustment") ∷ []
 
 abbrev pub app_for : Subcommand → App
 app_for subcommand = with_rules (new_app (word_of subcommand)) (rules_for subcommand)

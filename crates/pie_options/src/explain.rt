@@ -15,9 +15,9 @@ const ABOUT: &str =
 
 /// What `pie explain --help` says below its options.
 const HELP: &str =
-    "One of --event, --tag, --lost, --marked and --all chooses the events; with --summary or --every none has to. Each event of
-the history is decided again, as pie audit does, and of a chosen one is said which case of the rules decided it, and on which
-numbers: those before the event.
+    "One of --event, --tag, --lost, --marked and --all chooses the events; with --summary, --every or --digest none has to. Each
+event of the history is decided again, as pie audit does, and of a chosen one is said which case of the rules decided it, and on
+which numbers: those before the event.
 
 With --from and --to only the chosen events are explained whose effective moments are within, both ends included; a --from that is
 after its --to is refused. A moment is written as whole nanoseconds, or as a number with ns, us, ms or s: 1500000, 1500us, 1.5ms
@@ -29,6 +29,10 @@ the delays that updates took, and the probabilities after the events; and when t
 there is such a summary of each period that has chosen events: with 100ms one of those before 100 ms, one of those from
 100 ms to before 200 ms, and so on. With --csv there is a header, and one record a summary. A summary is of the events before
 the first fault and the first event that differs.
+
+With --digest a history is read once for both: there are these summaries, and what --lost and --marked say of the chosen events, in
+the order of the events. A summary stands before the words for the first event of the next period, and these are words also with
+--csv, where a record begins with a digit, and each line of words with the word event or two spaces.
 
 In words an event has some lines, with moments in milliseconds and probabilities in per cent, and the exact whole numbers in
 parentheses. With --csv there is a header, and then one record an event:
@@ -105,6 +109,11 @@ pub(crate) fn command<'a>(alloc: Global) -> Result<Command<'a>, AllocError>
             name: "every",
             takes: Takes::Value("TIME"),
             help: "Sum up the events of each period of this length, such as 100ms",
+        },
+        Argument {
+            name: "digest",
+            takes: Takes::Nothing,
+            help: "Sum up, and between the summaries explain each packet that was lost or marked",
         },
         Argument {
             name: "csv",

@@ -11,31 +11,33 @@ use std::alloc::{AllocError, Global};
 
 /// What `pie params` is for.
 const ABOUT: &str =
-    "Writes the parameters that tc's options ask for as the first record of a trace";
+    "Writes the parameters and choices that tc's options ask for as the first record of a trace";
 
 /// What `pie params --help` says below its options.
-const HELP: &str =
-    "The record opens a rolling book of version two: open2,1,rolling,0,<packets>,<tail>,<events>,<nine>, as pie run --help has it. TIME,
-RATE and PACKETS are written as tc reads them, in letters of any case: TIME is a number of ns, us, ms or s, as 20ms or 1.5msec; RATE one of
-bit, kbit, mbit, gbit or tbit (by 1024: kibit, mibit, gibit, tibit), or of bytes a second, bps, kbps, kibps and so on, as 100mbit or
-12.5mbps; PACKETS is one of packets, with or without a p. Nothing is rounded: 1.5ns and 0.5bit are refused.
+const HELP: &str = "The record opens a rolling book of version three, which may have 2^47 events:
+open3,1,<delay>,<picking>,<step>,<size>,rolling,0,<packets>,<tail>,<events>, and the nine parameters where they are not the default
+ones, as pie run --help has it. TIME, RATE and PACKETS are written as tc reads them, in letters of any case: TIME is a number of ns, us,
+ms or s, as 20ms or 1.5msec; RATE one of bit, kbit, mbit, gbit or tbit (by 1024: kibit, mibit, gibit, tibit), or of bytes a second, bps,
+kbps, kibps and so on, as 100mbit or 12.5mbps; PACKETS is one of packets, with or without a p. Nothing is rounded: 1.5ns and 0.5bit are
+refused.
 
 alpha and beta count sixteenths per second, as those of tc: 2 and 20 are 125 and 1250 thousandths, the values of RFC 8033. With --ecn
 packets of ECN-capable endpoints are marked while the probability is below 10 per cent, and without it never. limit_bytes is 200 ms
-at the rate, but no less than 262144 and no more than 2^30.
+at the rate, but no less than 262144 and no more than 2^30; where it is under rate x target, standard error warns.
 
---bytemode and --dq_rate_estimator are read as those of tc, and change no parameter. With bytemode tc scales the chance of a drop
-by the packet's size, which is not done here. With dq_rate_estimator tc estimates delays from the departure rate, as is done here
-in any case, and without it from time stamps, which is not done here. Standard error says so where tc would act otherwise, and
-warns where limit_bytes is under rate x target.
+As with tc, delays are taken from time stamps: what the packet that departed last had waited. With --dq_rate_estimator they are
+estimated from the departure rate. With --bytemode a packet below the MTU is picked less often, in proportion to its size.
+--no_derandomization and --no_cap_drop_adjustment are ns-3's UseDerandomization and UseCapDropAdjustment, turned off; tc always has
+both on.
 
 Example: what tc qdisc add dev eth0 root pie target 20ms limit 1000p ecn dq_rate_estimator asks for at 100 Mbit/s:
 
   pie params --rate 100mbit --target 20ms --limit 1000p --ecn --dq_rate_estimator
 
-writes
+writes, in one line,
 
-  open2,1,rolling,0,1000,1000,1099511627776,20000000,15000000,150000000,125,1250,1024,2500000,100000000000,16384";
+  open3,1,rate,derandomized,capped,unscaled,rolling,0,1000,1000,140737488355328,
+  20000000,15000000,150000000,125,1250,1024,2500000,100000000000,16384";
 
 /// The subcommand `params`.
 pub(crate) fn command<'a>(alloc: Global) -> Result<Command<'a>, AllocError>
@@ -80,12 +82,27 @@ pub(crate) fn command<'a>(alloc: Global) -> Result<Command<'a>, AllocError>
         Argument {
             name: "bytemode",
             takes: Takes::Nothing,
-            help: "Changes nothing, which standard error says; in tc a packet's chance of a drop goes by its size",
+            help: "Pick a packet below the MTU less often, in proportion to its size",
+        },
+        Argument {
+            name: "mtu",
+            takes: Takes::Number(1, 65535),
+            help: "The link's MTU in bytes, for --bytemode; 1514 by default",
         },
         Argument {
             name: "dq_rate_estimator",
             takes: Takes::Nothing,
-            help: "Delays from the departure rate, as in any case; left out, standard error says that tc has time stamps",
+            help: "Take delays from the departure rate, not from time stamps",
+        },
+        Argument {
+            name: "no_derandomization",
+            takes: Takes::Nothing,
+            help: "Pick packets by the random word alone",
+        },
+        Argument {
+            name: "no_cap_drop_adjustment",
+            takes: Takes::Nothing,
+            help: "Raise the probability as far as the control law says",
         },
     ];
     command_of(alloc, "params", ABOUT, HELP, &arguments)

@@ -5,3 +5,4 @@ pub mod SeriesFacts
 pub mod SumsFacts
 pub mod PeriodFacts
 pub mod SummaryFacts
+pub mod DigestFacts

@@ -6,3 +6,4 @@ pub mod Period
 pub mod Words
 pub mod Record
 pub mod Summary
+pub mod Digest

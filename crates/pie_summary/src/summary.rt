@@ -25,7 +25,7 @@ pub struct Summary {
 
 /// Writes what stands before the first summary: for CSV the header row.
 #[tactic(auto, unfolding(crate::specs::Summary::header, pie_aqm::specs::CauseName::word_of_cause))]
-fn push_header(page: &mut Page, form: Form) -> Result<(), AllocError>
+pub(crate) fn push_header(page: &mut Page, form: Form) -> Result<(), AllocError>
     ensures { OnOk result (page.new ≡ page.old ++ header form) }
 {
     match form {
@@ -46,7 +46,7 @@ fn push_sums(text: &mut String, form: Form, sums: &Sums, waits: &Ranges) -> Resu
 }
 
 /// Writes the numbers of a period onto the page.
-fn push_said(page: &mut Page, form: Form, period: &Period) -> Result<(), AllocError>
+pub(crate) fn push_said(page: &mut Page, form: Form, period: &Period) -> Result<(), AllocError>
     ensures { OnOk result (page.new ≡ page.old ++ said form period.now.sums period.now.waits) }
 {
     let mut text = page.words();
@@ -55,7 +55,12 @@ fn push_said(page: &mut Page, form: Form, period: &Period) -> Result<(), AllocEr
 }
 
 /// Writes a summary of the events of a period, where the next event is in another one.
-fn push_ended(page: &mut Page, form: Form, period: &Period, next: u64) -> Result<(), AllocError>
+pub(crate) fn push_ended(
+    page: &mut Page,
+    form: Form,
+    period: &Period,
+    next: u64,
+) -> Result<(), AllocError>
     ensures { OnOk result (page.new ≡ page.old ++ ended form (begins period.now.number next) period.now.sums period.now.waits) }
 {
     if !period.ends_before(next) {

@@ -14,9 +14,9 @@ returns-clause-explains g c =
     let known = remaining_of g.R.Read.remaining c.new-watched.result in
     let before = g.W.Write.contents c.args.output.now in
     let now = g.W.Write.contents c.tell-given.new.output in
-    let tale : List Explained → List ℕ = tale_by c.is_summary-summary.result c.every_of-every.result c.form_of.result in
+    let tale : List Explained → List ℕ = tale_by c.is_summary-summary.result c.is_digest-digest.result c.every_of-every.result c.form_of.result in
     let same : tale ≡ tale_of (rows_of (found_of c.args.options.now)) = rw
-    (c.is_summary-summary.ensures, c.every_of-every.ensures, c.form_of.ensures) refl in
+    (c.is_summary-summary.ensures, c.is_digest-digest.ensures, c.every_of-every.ensures, c.form_of.ensures) refl in
     subst (λ (read : Option (List ℕ)). IfSome read (λ text. EndsExplain (rows_of (found_of c.args.options.now)) text c.ended.result before now))
     c.new-watched.ensures
     (subst (λ (choice : Option Choice). IfSome known (λ text. explain_ends choice (tale_of (rows_of (found_of c.args.options.now))) text

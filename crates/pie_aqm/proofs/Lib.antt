@@ -4,6 +4,7 @@ pub mod Looks
 pub mod Parts
 pub mod Laws
 pub mod Sounds
+pub mod SoundNumbers
 mod Examples
 pub mod Causes
 mod CauseNames

@@ -1,13 +1,14 @@
 //! The controller and its calls: those of plain numbers that are in their ranges.
-ghost use Rattle.std.specs.Prelude.{◌≡◌, ◌+◌, ◌^◌, ◌≤◌, List, [], ◌∷◌, ◌++◌, true, false};
+ghost use Rattle.std.specs.Prelude.{◌≡◌, ◌+◌, ◌^◌, ◌≤◌, ◌↔◌, List, [], ◌∷◌, ◌++◌, true, false, None, Some, IsOk, IfOk, IfErr};
 ghost use Rattle.pie_aqm.specs.Calls.{Arrive, Change, Depart, Pass, Restart, Update, shown_by};
 ghost use Rattle.pie_aqm.specs.Events.{ControllerEvent, Opened};
 ghost use Rattle.pie_aqm.specs.Held.{IsSound, held_by};
 ghost use Rattle.pie_aqm.specs.History.{Shows};
+ghost use Rattle.pie_aqm.specs.Sound.{first_unsound};
 ghost use Rattle.pie_aqm.specs.Steps.{arrived, changed, delay_answered, delay_in, departed, due, is_queued, opened, passed, reset, updated};
 ghost use Rattle.pie_aqm.specs.Steps.{verdict};
 
-use crate::{Arrival, Profile, RawController, Verdict};
+use crate::{Arrival, Profile, RawController, Register, Verdict};
 use pie_control::Control;
 use pie_early::Early;
 use pie_fixed::Nanos;
@@ -42,6 +43,22 @@ impl Controller {
     {
         Controller {
             raw: RawController::opened(profile, elements, params.raw(), moment.units()),
+        }
+    }
+
+    /// A controller that goes on from these numbers.
+    ///
+    /// # Errors
+    ///
+    /// The first of the numbers that no controller holds ([`RawController::first_unsound`]).
+    pub fn resumed(raw: RawController) -> Result<Self, Register>
+        ensures sound { IsOk result ↔ IsSound (held_by raw) }
+        ensures refused { IfErr result (λ register. first_unsound (held_by raw) ≡ Some register) }
+        ensures value { IfOk result (λ controller. (controller ≡ held_by raw) × (first_unsound (held_by raw) ≡ None)) }
+    {
+        match raw.first_unsound() {
+            None => Ok(Controller { raw }),
+            Some(register) => Err(register),
         }
     }
 

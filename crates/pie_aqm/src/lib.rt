@@ -15,6 +15,7 @@ mod controller;
 mod law;
 mod profile;
 mod raw;
+mod register;
 mod verdict;
 
 pub use cause::{Cause, Fate};
@@ -23,4 +24,5 @@ pub use controller::Controller;
 pub use law::{calls_keep_it_sound, calls_look_back};
 pub use profile::Profile;
 pub use raw::RawController;
+pub use register::Register;
 pub use verdict::{Arrival, Verdict};

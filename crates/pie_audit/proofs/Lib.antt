@@ -5,3 +5,4 @@ pub mod AuditFacts
 pub mod RunFindings
 pub mod LegalFacts
 mod Examples
+pub mod Written

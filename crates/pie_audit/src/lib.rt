@@ -6,7 +6,8 @@
 //! at the first that is not.
 //!
 //! `runs_are_clean` is the law that ties runs and audits together: the history text of every trace is found clean, with as many events as
-//! the run recorded. `migration_keeps_the_finding`: a history in version two is found what it was found before.
+//! the run recorded. `recorded_calls_are_clean` says it of the events of a controller beside its caller's queue.
+//! `migration_keeps_the_finding`: a history in version two is found what it was found before.
 #![tactic(auto)]
 
 pub mod auditor;
@@ -15,6 +16,6 @@ pub mod migration;
 pub mod text;
 
 pub use auditor::{Auditor, Finding};
-pub use law::{clean_is_legal, runs_are_clean};
+pub use law::{clean_is_legal, recorded_calls_are_clean, runs_are_clean};
 pub use migration::migration_keeps_the_finding;
 pub use text::{audit, write_finding};

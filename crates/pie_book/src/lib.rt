@@ -42,6 +42,7 @@ pub use deciding_core::Core;
 pub use law::{folds_change_no_answer, profile_one_is_always_active, registers_look_back};
 pub use opening::{Choices, Elements, Limits, Mode, Opening, Profile};
 pub use ranges::all_numbers_are_held;
+pub use recorded::Recorded;
 pub use refusal::{FoldRefusal, OpenRefusal, Refusal};
 pub use registers::Registers;
 pub use stats::Stats;

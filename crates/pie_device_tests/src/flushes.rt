@@ -4,9 +4,9 @@ use crate::failing::{FailingWriter, Fault};
 use crate::history::{EXPLAINED, HISTORY, MIGRATED, write_to};
 use pie_audit::{Finding, write_finding};
 use pie_explain::{Choice, ExplainFault, Form, Which, explain};
-use pie_params::Params;
+use pie_params::{Elements, Params};
 use pie_trace::{TraceFault, migrate, run_trace_within};
-use pie_tuning::write_opening;
+use pie_tuning::{opening_for, write_opening};
 use std::alloc::Global;
 use std::fmt::Debug;
 use std::io;
@@ -19,9 +19,8 @@ pub(crate) fn all(rt: &impl Print, alloc: Global) -> io::Result<()> {
     others(rt, alloc)
 }
 
-/// The record of the opening with the default parameters, whose ring and tail hold four.
-const OPENING: &[u8] =
-    b"open2,1,rolling,0,4,4,1099511627776,15000000,15000000,150000000,125,1250,1024,262144,100000000000,16384\n";
+/// The record of the opening with the default parameters and the usual elements, whose ring and tail hold four.
+const OPENING: &[u8] = b"open3,1,rate,derandomized,capped,unscaled,rolling,0,4,4,140737488355328\n";
 
 /// How a call ended.
 #[derive(Clone, Copy)]
@@ -147,8 +146,8 @@ fn written(alloc: Global, flush_fails: bool) -> End<TraceFault> {
 /// How the record of an opening is written.
 fn opening(flush_fails: bool) -> End<TraceFault> {
     let mut writer = writer(OPENING, flush_fails);
-    let params = Params::default_profile().raw();
-    let fault = match write_opening(4, &params, &mut writer) {
+    let opening = opening_for(4, Elements::usual(), Params::default_profile());
+    let fault = match write_opening(&opening, &mut writer) {
         Ok(()) => None,
         Err(_) => Some(TraceFault::Write),
     };

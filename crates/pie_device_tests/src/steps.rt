@@ -1,7 +1,7 @@
 //! The row of marks, drops and a lone enqueue, event by event: through a core alone, and through a book that folds as it goes.
 
 use crate::history::next_event;
-use pie_book::{Answer, Book, Core, Event, Opening, Refusal};
+use pie_book::{Answer, Book, Core, Event, Opening, Recorded, Refusal};
 use pie_trace::HistoryLines;
 use std::alloc::Global;
 use std::io;
@@ -80,9 +80,9 @@ fn core(rt: &impl Print, alloc: Global, lines: &mut Lines, opening: &Opening) ->
 }
 
 /// Lets a core make these events.
-fn make(core: &mut Core, events: &[Event]) {
-    for event in events {
-        let _ = apply(core, event);
+fn make(core: &mut Core, events: &[Recorded]) {
+    for recorded in events {
+        let _ = apply(core, &recorded.event());
     }
 }
 

@@ -19,7 +19,7 @@ use crate::ending::{StormEnd, StormFault};
 use crate::gate::Gate;
 use crate::plan::Plan;
 use crate::worker::{Folding, Work, make_calls};
-use pie_book::{Book, Event};
+use pie_book::{Book, Recorded};
 use pie_link::{Caller, Link, LinkRefusal, entries_look_back};
 use std::alloc::Global;
 use std::sync::Wait;
@@ -266,6 +266,9 @@ fn end_of(
     let Ok(()) = events.append(&mut tail) else {
         return Err(StormFault::Memory);
     };
+    let Ok(events) = Recorded::events(alloc, &events) else {
+        return Err(StormFault::Memory);
+    };
     Ok(StormEnd {
         events,
         too_soon,
@@ -276,7 +279,7 @@ fn end_of(
 }
 
 // The events of a book's tail, where there is memory for them.
-fn tail_of(alloc: Global, book: Book) -> Option<Vec<Event>>
+fn tail_of(alloc: Global, book: Book) -> Option<Vec<Recorded>>
     ensures { IfSome result (λ tail. tail.items ≡ book.tail) }
 {
     let mut book = book;

@@ -9,7 +9,7 @@ ghost use Rattle.pie_link.specs.Views.{StaysOne};
 
 use crate::gate::Gate;
 use crate::plan::Plan;
-use pie_book::{Answer, Command, Event, FoldRefusal, Refusal};
+use pie_book::{Answer, Command, FoldRefusal, Recorded, Refusal};
 use pie_link::{Caller, Link, Told, entries_look_back};
 use std::alloc::Global;
 use std::sync::Wait;
@@ -27,7 +27,7 @@ pub(crate) struct Work {
 #[derive(Drop)]
 pub(crate) struct Folding {
     /// The folded events, while none is missing.
-    pub(crate) events: Vec<Event>,
+    pub(crate) events: Vec<Recorded>,
     /// How many folds were refused, since the tail held fewer events.
     pub(crate) too_many: u64,
     /// Whether memory was wanting for the events of a fold.
@@ -48,7 +48,7 @@ impl Folding {
     }
 
     // Adds what one more fold handed out.
-    fn follow(&mut self, told: Told<Vec<Event>>)
+    fn follow(&mut self, told: Told<Vec<Recorded>>)
         ensures first { self.new.is_short_of_memory ≡ false → self.old.is_short_of_memory ≡ false }
         ensures events { self.new.is_short_of_memory ≡ false → self.new.events.items ≡ self.old.events.items ++ told.answer.items }
         ensures too_many { self.new.too_many ≡ self.old.too_many }
@@ -61,7 +61,7 @@ impl Folding {
 
     // Takes in what one more fold was answered.
     #[tactic(auto, unfolding(crate::specs::Storms::refused_by))]
-    fn take_in(&mut self, answer: Result<Told<Vec<Event>>, FoldRefusal>)
+    fn take_in(&mut self, answer: Result<Told<Vec<Recorded>>, FoldRefusal>)
         requires room { self.old.too_many < 2 ^ 64 - 1 }
         ensures first { self.new.is_short_of_memory ≡ false → self.old.is_short_of_memory ≡ false }
         ensures told { self.new.is_short_of_memory ≡ false → IfOk answer

@@ -1,8 +1,9 @@
-//! The parameters that a link of some rate is to have.
+//! The parameters and the choices that a link of some rate is to have.
 ghost use Rattle.std.specs.Prelude.{◌≡◌, ◌≤◌, ◌*◌, nat_lt};
-ghost use Rattle.pie_tuning.specs.Opening.{gain_of, limit_for, mark_ecnth_for, params_for};
+ghost use Rattle.pie_tuning.specs.Opening.{delay_for, elements_for, gain_of, limit_for, mark_ecnth_for, mean_pkt_for, params_for, picking_for, size_for};
+ghost use Rattle.pie_tuning.specs.Opening.{step_for};
 
-use pie_params::RawParams;
+use pie_params::{Delay, Elements, Picking, RawParams, Size, Step};
 
 /// What is asked for.
 #[derive(Clone, Copy, Debug, PartialEq, Eq)]
@@ -21,6 +22,16 @@ pub struct Asked {
     pub beta: u64,
     /// Whether packets of ECN-capable endpoints are marked.
     pub ecn: bool,
+    /// Whether delays are taken from the departure rate (RFC 8033, section 5.2), and not from time stamps (section 4.3).
+    pub dq_rate_estimator: bool,
+    /// Whether a packet is picked less often the smaller it is.
+    pub bytemode: bool,
+    /// The link's MTU, in bytes, of which a packet's size is a part in `bytemode`.
+    pub mtu: u64,
+    /// Whether packets are picked by the random word alone, not de-randomized (RFC 8033, section 5.4).
+    pub no_derandomization: bool,
+    /// Whether an update raises the probability as far as the control law says (RFC 8033, section 5.5).
+    pub no_cap_drop_adjustment: bool,
 }
 
 /// What a gain of `tc`, which counts sixteenths per second, is in thousandths per second, rounded down.
@@ -45,8 +56,71 @@ fn mark_ecnth_for(ecn: bool) -> u64
     if ecn { 100_000_000_000 } else { 0 }
 }
 
+/// Where delays are taken from.
+fn delay_for(dq_rate_estimator: bool) -> Delay
+    ensures { result ≡ delay_for dq_rate_estimator }
+{
+    if dq_rate_estimator {
+        Delay::Rate
+    } else {
+        Delay::Stamp
+    }
+}
+
+/// How packets are picked.
+fn picking_for(no_derandomization: bool) -> Picking
+    ensures { result ≡ picking_for no_derandomization }
+{
+    if no_derandomization {
+        Picking::Random
+    } else {
+        Picking::Derandomized
+    }
+}
+
+/// How far an update may raise the probability.
+fn step_for(no_cap_drop_adjustment: bool) -> Step
+    ensures { result ≡ step_for no_cap_drop_adjustment }
+{
+    if no_cap_drop_adjustment {
+        Step::Uncapped
+    } else {
+        Step::Capped
+    }
+}
+
+/// Whether a packet's size counts.
+fn size_for(bytemode: bool) -> Size
+    ensures { result ≡ size_for bytemode }
+{
+    if bytemode {
+        Size::Scaled
+    } else {
+        Size::Unscaled
+    }
+}
+
+/// RFC 8033's optional elements of what is asked for, as `tc` and ns-3 have them.
+pub fn elements_for(asked: &Asked) -> Elements
+    ensures { result ≡ elements_for asked.now }
+{
+    Elements {
+        delay: delay_for(asked.dq_rate_estimator),
+        picking: picking_for(asked.no_derandomization),
+        step: step_for(asked.no_cap_drop_adjustment),
+        size: size_for(asked.bytemode),
+    }
+}
+
+/// The mean size of a packet: the MTU where a packet's size is a part of it, and else the default.
+fn mean_pkt_for(bytemode: bool, mtu: u64) -> u64
+    ensures { result ≡ mean_pkt_for bytemode mtu }
+{
+    if bytemode { mtu } else { 1024 }
+}
+
 /// The nine parameters of what is asked for. Those that `tc` has no option for are the defaults, but for `limit_bytes`, which is 200 ms at
-/// the link's rate, no less than 262144 and no more than 2^30.
+/// the link's rate, no less than 262144 and no more than 2^30, and for `mean_pkt`, which is the MTU in `bytemode`.
 pub fn params_for(asked: &Asked) -> RawParams
     ensures { result ≡ params_for asked.now }
 {
@@ -56,7 +130,7 @@ pub fn params_for(asked: &Asked) -> RawParams
         max_burst: 150_000_000,
         alpha: asked.alpha,
         beta: asked.beta,
-        mean_pkt: 1024,
+        mean_pkt: mean_pkt_for(asked.bytemode, asked.mtu),
         limit_bytes: limit_for(asked.rate),
         mark_ecnth: mark_ecnth_for(asked.ecn),
         dq_threshold: 16384,

@@ -1,0 +1,5 @@
+use Rattle.pie_aqm.proofs.SoundNumbers.{sound_is}
+use Rattle.pie_aqm.proofs.raw.RawController.first_unsound.Goals as goal
+
+pub returns-clause-sound : goal.returns-clause-sound
+returns-clause-sound c = rw c.look.ensures (sound_is _)

@@ -1,0 +1,109 @@
+//! The numbers that a controller holds, by name, and which of them can't be believed.
+ghost use Rattle.std.specs.Prelude.{◌≡◌, ◌↔◌, None};
+ghost use Rattle.pie_aqm.specs.Held.{IsSound, held_by};
+ghost use Rattle.pie_aqm.specs.Sound.{first_unsound, is_sound_at};
+
+use crate::{Profile, RawController};
+use pie_control::MAX_DELAY;
+use pie_fixed::{ALWAYS_PICKED, MAX_NANOS, ONE};
+use pie_params::Params;
+
+/// The greatest burst allowance, in nanoseconds.
+const MAX_BURST: u64 = 1_000_000_000_000;
+
+/// A number that a controller holds, or several that are believed together.
+#[derive(Clone, Copy, Debug, PartialEq, Eq)]
+pub enum Register {
+    /// The parameters in force: each is in its range.
+    Params,
+    /// The effective moment: at most `2^60 - 1`.
+    Moment,
+    /// The probability: at most `10^12`.
+    Prob,
+    /// The old delay: at most `2^40`.
+    OldDelay,
+    /// The accumulated probability: below `85 * 10^11`.
+    Accu,
+    /// The burst allowance: at most `10^12`.
+    Burst,
+    /// The moment of the last update: not after the effective moment.
+    Last,
+    /// The average of the departure rate: at most `2^60 - 1`.
+    Average,
+    /// The moment at which the open cycle of the departure rate began: not after the effective moment.
+    CycleStart,
+    /// The bytes that it has counted: fewer than `dq_threshold`.
+    CycleCount,
+    /// What the packet that departed last had waited: at most `2^40`.
+    Waited,
+    /// Whether the controller works: always in profile one.
+    Active,
+}
+
+/// All of them, in the order in which they are looked at.
+const REGISTERS: [Register; 12] = [
+    Register::Params,
+    Register::Moment,
+    Register::Prob,
+    Register::OldDelay,
+    Register::Accu,
+    Register::Burst,
+    Register::Last,
+    Register::Average,
+    Register::CycleStart,
+    Register::CycleCount,
+    Register::Waited,
+    Register::Active,
+];
+
+impl RawController {
+    /// The first of the numbers that no controller holds, in the order of [`Register`]: it is out of its range, or doesn't fit those
+    /// before it. `None` where the numbers are sound.
+    pub fn first_unsound(&self) -> Option<Register>
+        ensures first { result ≡ first_unsound (held_by self.now) }
+        ensures sound { (result ≡ None) ↔ IsSound (held_by self.now) }
+    {
+        self.look()
+    }
+
+    /// The same.
+    #[tactic(auto, unfolding(crate::specs::Sound::first_unsound))]
+    fn look(&self) -> Option<Register>
+        ensures { result ≡ first_unsound (held_by self.now) }
+    {
+        REGISTERS
+            .iter()
+            .copied()
+            .find(|&register| !self.is_sound_at(register))
+    }
+
+    /// Whether this number can be believed.
+    #[tactic(auto, using(std::proofs::lemmas::Bool::Decides::nat_tests))]
+    fn is_sound_at(&self, register: Register) -> bool
+        ensures { result ≡ is_sound_at (held_by self.now) register }
+    {
+        match register {
+            Register::Params => Params::from_raw(self.params).is_some(),
+            Register::Moment => self.moment <= MAX_NANOS,
+            Register::Prob => self.control.prob <= ONE,
+            Register::OldDelay => self.control.old_delay <= MAX_DELAY,
+            Register::Accu => self.accu < ALWAYS_PICKED,
+            Register::Burst => self.control.burst <= MAX_BURST,
+            Register::Last => self.control.last <= self.moment,
+            Register::Average => self.rate.average <= MAX_NANOS,
+            Register::CycleStart => match self.rate.begun {
+                Some(cycle) => cycle.start <= self.moment,
+                None => true,
+            },
+            Register::CycleCount => match self.rate.begun {
+                Some(cycle) => cycle.count < self.params.dq_threshold,
+                None => true,
+            },
+            Register::Waited => self.waited <= MAX_DELAY,
+            Register::Active => match self.profile {
+                Profile::One => self.active,
+                Profile::Two => true,
+            },
+        }
+    }
+}

@@ -1,0 +1,13 @@
+use Rattle.pie_book.specs.Decision.{IsLegalAt}
+use Rattle.pie_audit.proofs.LegalFacts.{at-push}
+use Rattle.pie_audit.proofs.Written.{written-clean}
+use Rattle.pie_audit.proofs.law.recorded_calls_are_clean.Goals as goal
+
+pub returns-clause-clean : goal.returns-clause-clean
+returns-clause-clean c = written-clean
+
+pub returns-clause-goes_on : goal.returns-clause-goes_on
+returns-clause-goes_on c = λ opening history caller command good legal fit free. at-push (IsLegalAt opening) history _ legal (record {
+  taken = free;
+  answered = c.runs_decide_as_a_core.ensures opening history command good legal fit free;
+})

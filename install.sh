@@ -1,6 +1,6 @@
 #!/usr/bin/env bash
-# Installs below a prefix what was built: the program pie with its manual page and completions, pie-report, and the library for C with its header
-# and its pkg-config file.
+# Installs below a prefix what was built: the program pie with its manual page and completions, pie-report with its own, and the library for C
+# with its headers and its pkg-config file.
 #
 # usage: ./install.sh PREFIX [program|library]..   both, where neither is named; DESTDIR, where it is set, is put before PREFIX
 #
@@ -34,6 +34,7 @@ program() {
     for part in page.html page.css page.js; do
         put 644 report/$part share/pie/$part
     done
+    put 644 man/pie-report.1 share/man/man1/pie-report.1
     # the manual page and completions, where the repository has them
     [ ! -e man/pie.1 ] || put 644 man/pie.1 share/man/man1/pie.1
     [ ! -e completions/pie.bash ] || put 644 completions/pie.bash share/bash-completion/completions/pie
@@ -47,6 +48,7 @@ library() {
     version=$(sed -n 's/^#define PIE_VERSION "\(.*\)"$/\1/p' include/pie.h)
     put 644 crates/pie_c/out/libpie_c.a lib/libpie_c.a
     put 644 include/pie.h include/pie.h
+    put 644 include/pie_ring.h include/pie_ring.h
     # shellcheck disable=SC2016
     printf '%s\n' "prefix=$prefix" 'libdir=${prefix}/lib' 'includedir=${prefix}/include' '' 'Name: pie_c' \
         'Description: PIE (RFC 8033) for a packet queue that its caller owns' "Version: $version" \

@@ -23,13 +23,13 @@ print("|---|---|---|---|---|")
 
 
 def shown(number, unit):
-    return f"{number / 1e6:.1f}" if unit == "calls/s" else f"{number:.1f}"
+    return f"{number / 1e6:.1f}" if unit in ("calls/s", "packets/s") else f"{number:.1f}"
 
 
 def side(name):
     unit = units[name]
-    best = max(values[name]) if unit == "calls/s" else min(values[name])
-    return best, statistics.median(values[name]), "million calls/s" if unit == "calls/s" else unit
+    best = max(values[name]) if unit in ("calls/s", "packets/s") else min(values[name])
+    return best, statistics.median(values[name]), f"million {unit}" if unit in ("calls/s", "packets/s") else unit
 
 
 differ = []

@@ -10,7 +10,7 @@ work=$(mktemp -d)
 trap 'kill $(jobs -p) 2>/dev/null; wait 2>/dev/null; rm -rf "$work"' EXIT
 mkdir "$work/histories"
 for n in $(seq "$many"); do
-    "$program" storm --senders 2 --packets $((events / 4)) --seed "$n" > "$work/histories/link$n.history"
+    "$here/../bench/trace.py" "$events" "$n" mixed | "$program" run > "$work/histories/link$n.history"
 done
 export PATH="$(dirname "$program"):$PATH"
 cat > "$work/one" <<END
@@ -31,22 +31,26 @@ least() {
 }
 
 by_xargs() { find "$work/histories" -name '*.history' -print0 | xargs -0 -n 1 -P "$1" "$work/one"; }
-by_dask() { (cd "$here" && "$python" -m pie_fleet --scheduler "tcp://127.0.0.1:$1" "$work/histories/*.history" -o "$work/table.csv" --force --quiet); }
+by_dask() { (cd "$here" && "$python" -m pie_fleet --scheduler "$1" "$work/histories/*.history" -o "$work/table.csv" --force --quiet); }
 
+echo "$many histories of some $events events, the least of $runs runs; $(nproc) processors, load before: $(cut -d' ' -f1 /proc/loadavg)"
 echo "| workers | xargs, histories a second | Dask | ratio |"
 echo "|---|---|---|---|"
 for workers in 1 2 4; do
-    port=$((18700 + workers))
-    "$python" -m distributed.cli.dask_scheduler --host 127.0.0.1 --port $port --no-dashboard > "$work/log" 2>&1 &
-    sleep 3
-    "$python" -m distributed.cli.dask_worker tcp://127.0.0.1:$port --nworkers "$workers" --nthreads 1 --no-dashboard --local-directory "$work" > "$work/log$workers" 2>&1 &
-    sleep 6
-    "$python" - "$port" "$workers" <<'END'
+    place=$work/scheduler$workers
+    "$python" -m distributed.cli.dask_scheduler --host 127.0.0.1 --port 0 --no-dashboard --scheduler-file "$place" > "$work/log" 2>&1 &
+    "$python" -m distributed.cli.dask_worker --scheduler-file "$place" --nworkers "$workers" --nthreads 1 --no-dashboard --local-directory "$work" \
+        > "$work/log$workers" 2>&1 &
+    until [ -s "$place" ]; do sleep 0.1; done
+    address=$("$python" - "$place" "$workers" <<'END'
 import sys
 from distributed import Client
-Client(f"tcp://127.0.0.1:{sys.argv[1]}").wait_for_workers(int(sys.argv[2]))
+client = Client(scheduler_file=sys.argv[1], timeout=60)
+client.wait_for_workers(int(sys.argv[2]), timeout=120)
+print(client.scheduler.address)
 END
-    x=$(least by_xargs "$workers") d=$(least by_dask "$port")
+    )
+    x=$(least by_xargs "$workers") d=$(least by_dask "$address")
     awk -v n="$many" -v w="$workers" -v x="$x" -v d="$d" 'BEGIN { printf "| %d | %.1f | %.1f | %.2f |\n", w, n / x, n / d, x / d }'
     kill %1 %2 2>/dev/null || true
     kill $(jobs -p) 2>/dev/null || true

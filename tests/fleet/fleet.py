@@ -5,13 +5,14 @@ worker with another `pie` gets no work; files that vanish, hosts without a worke
 Then the way over SSH of docs/FLEET.md: three servers on loopback addresses, by GNU parallel.
 
 usage: tests/fleet/fleet.py [PROGRAM [HISTORIES]]      PROGRAM: crates/pie/out/pie where none is named; of HISTORIES (300) a tenth is damaged
-needs: program, a request
+needs: program
 """
 import csv
 import os
 import random
 import shutil
 import signal
+import socket
 import subprocess
 import sys
 import tempfile
@@ -40,24 +41,30 @@ def check(what, holds, told=""):
         print(f"tests/fleet/fleet.py: {what}: {told}")
 
 
+def storm(seed, packets, load):
+    """The history of a storm. Its threads wait for one another, so on a busy machine it takes seconds, and only some are made."""
+    words = [PROGRAM, "storm", "--senders", "2", "--seed", str(seed), "--packets", str(packets), "--load", str(load)]
+    return subprocess.run(words, capture_output=True, text=True, check=True).stdout
+
+
 def make_histories(folder):
-    """Histories of storms, a few of them with many packets, and of examples; each tenth is damaged, one of three ways."""
+    """Histories of storms and of examples, most cut at a length of their own, a few of them long; each tenth is damaged, one of three ways."""
     chance = random.Random(8033)
     names = []
-    examples = sorted(name for name in os.listdir(f"{TOP}/examples") if name.endswith(".history"))
+    examples = [open(f"{TOP}/examples/{name}").read() for name in sorted(os.listdir(f"{TOP}/examples")) if name.endswith(".history")]
+    storms, long = [storm(seed, 250, load) for seed, load in enumerate((100, 120, 50, 80, 150), 1)], storm(6, 6000, 100)
     for number in range(MANY):
         name = f"{folder}/link{number:03}.history"
-        if number % 7 == 0:
-            text = open(f"{TOP}/examples/{examples[number // 7 % len(examples)]}").read()
-        else:
-            packets = 3000 if number % 50 == 1 else 60 + number
-            text = subprocess.run([PROGRAM, "storm", "--seed", str(number), "--packets", str(packets)], capture_output=True, text=True).stdout
-        lines = text.splitlines(keepends=True)
+        whole = long if number % 50 == 1 else examples[number // 7 % len(examples)] if number % 7 == 0 else storms[number % len(storms)]
+        lines = whole.splitlines(keepends=True)
+        if number % 7 != 0:
+            lines = lines[: len(lines) - number]
         at = chance.randrange(len(lines) // 2, len(lines))
         if number % 30 == 4:
             lines[at] = lines[at].replace("\n", ",1\n")
         elif number % 30 == 14:
-            arrival = next(place for place in range(at // 2, len(lines)) if lines[place].endswith(",enqueue\n"))
+            arrivals = [place for place, line in enumerate(lines) if line.endswith(",enqueue\n")]
+            arrival = arrivals[len(arrivals) // 2]
             lines[arrival] = lines[arrival].replace(",enqueue\n", ",early\n")
         elif number % 30 == 24:
             lines = lines[:at] + ["nonsense\n"]
@@ -160,6 +167,11 @@ class Cluster:
             process.wait()
 
 
+def stage(told):
+    """Says on the error stream how far the test is, and when."""
+    print(f"{time.strftime('%H:%M:%S')} {told}", file=sys.stderr, flush=True)
+
+
 def fleet(*words, status, errors=None, environment=None):
     """Runs pie-fleet, and looks at its status; answers what it printed."""
     ended = subprocess.run([PYTHON, "-m", "pie_fleet", *words], cwd=f"{TOP}/fleet", capture_output=True, text=True, stdin=subprocess.DEVNULL,
@@ -176,10 +188,14 @@ def main():
     try:
         histories = f"{work}/histories"
         os.mkdir(histories)
+        stage("histories")
         names = make_histories(histories)
+        stage("alone")
         run_alone(work, names)
+        stage("a cluster")
         cluster = Cluster(work)
         run_cluster(cluster, work, names)
+        stage("over SSH")
         run_ssh(work, names)
     finally:
         if cluster:
@@ -214,25 +230,35 @@ def run_cluster(cluster, work, names):
     check("a worker killed in the middle: status", begun.returncode == 1, errors[-2000:])
     same("a worker killed in the middle", f"{work}/table.csv", names)
     check("the journal is gone", not os.path.exists(f"{work}/table.csv.journal"))
+    stage("ten files changed")
     run_changed(cluster, work, names, where)
+    stage("a run that is stopped")
     run_stopped(work, names, where)
+    stage("files of hosts")
     run_hosts(cluster, work, names, where)
 
 
 def run_changed(cluster, work, names, where):
     """Ten files change: one that was clean differs, one becomes worse, one goes, one comes; the others are not read again."""
     clean = [name for number, name in enumerate(names) if number % 10 != 4 and number % 7 != 0]
+    # (the second is the one that lost least, and becomes the one that lost most: what storms lose is not known beforehand)
+    lost = table(f"{work}/table.csv")
+    order = sorted(range(1, len(clean)), key=lambda place: float(lost[clean[place]]["loss_percent"] or 0))
+    worse = f"{work}/worse"
+    shutil.copy(clean[order[-1]], worse)
+    clean[1], clean[order[0]] = clean[order[0]], clean[1]
     with open(clean[0]) as text:
         lines = text.readlines()
     arrival = next(place for place, line in enumerate(lines) if line.endswith(",enqueue\n"))
     lines[arrival] = lines[arrival].replace(",enqueue\n", ",early\n")
     with open(clean[0], "w") as out:
         out.writelines(lines)
-    shutil.copy(f"{TOP}/examples/overload.history", clean[1])
+    shutil.copy(worse, clean[1])
     for number, name in enumerate(clean[2:9]):
-        text = subprocess.run([PROGRAM, "storm", "--seed", str(1000 + number), "--packets", "50"], capture_output=True, text=True).stdout
+        with open(f"{TOP}/examples/reset.history") as text:
+            lines = text.readlines()
         with open(name, "w") as out:
-            out.write(text)
+            out.writelines(lines[: 500 + number])
     os.unlink(clean[9])
     left = [name for name in names if name != clean[9]]
     new = f"{work}/histories/new.history"
@@ -308,6 +334,22 @@ def run_hosts(cluster, work, names, where):
     check("the page", page.count("<tr") == 24 and "pie-report " in page)
 
 
+def free_port(host):
+    with socket.socket() as any_port:
+        any_port.bind((host, 0))
+        return any_port.getsockname()[1]
+
+
+def wait_for_server(host, port):
+    for _ in range(300):
+        try:
+            socket.create_connection((host, port), timeout=10).close()
+            return
+        except OSError:
+            time.sleep(0.1)
+    sys.exit(f"tests/fleet/fleet.py: no server came on {host}")
+
+
 def run_ssh(work, names):
     """docs/FLEET.md's command over SSH, with three servers of this user's on loopback addresses."""
     if not shutil.which("parallel") or not shutil.which("rsync") or not os.path.exists("/usr/sbin/sshd"):
@@ -319,21 +361,23 @@ def run_ssh(work, names):
     shutil.copy(f"{ssh}/key.pub", f"{ssh}/authorized_keys")
     os.makedirs("/run/sshd", exist_ok=True)
     hosts = [f"127.0.0.{number}" for number in (2, 3, 4)]
+    ports = [free_port(host) for host in hosts]
     servers = []
     with open(f"{ssh}/config", "w") as out:
-        for number, host in enumerate(hosts):
-            out.write(f"Host {host}\n Port {22022 + number}\n IdentityFile {ssh}/key\n UserKnownHostsFile {ssh}/known\n StrictHostKeyChecking no\n"
+        for host, port in zip(hosts, ports):
+            out.write(f"Host {host}\n Port {port}\n IdentityFile {ssh}/key\n UserKnownHostsFile {ssh}/known\n StrictHostKeyChecking no\n"
                       f" LogLevel ERROR\n")
     try:
-        for number, host in enumerate(hosts):
+        for number, (host, port) in enumerate(zip(hosts, ports)):
             servers.append(subprocess.Popen(
-                ["/usr/sbin/sshd", "-D", "-e", "-f", "/dev/null", "-h", f"{ssh}/key", "-p", str(22022 + number), "-o", f"ListenAddress={host}",
+                ["/usr/sbin/sshd", "-D", "-e", "-f", "/dev/null", "-h", f"{ssh}/key", "-p", str(port), "-o", f"ListenAddress={host}",
                  "-o", f"AuthorizedKeysFile={ssh}/authorized_keys", "-o", "StrictModes=no", "-o", "PidFile=none", "-o", "MaxStartups=100",
                  "-o", f"SetEnv=PATH={os.path.dirname(PROGRAM)}:{os.defpath}"], stderr=open(f"{ssh}/log{number}", "w")))
-        time.sleep(1)
+        for host, port in zip(hosts, ports):
+            wait_for_server(host, port)
         # (files are sent to a folder of their own there, since all hosts are this machine, and are removed from it behind the audit)
         os.mkdir(f"{work}/there")
-        some = [os.path.relpath(name, work) for name in names if os.path.exists(name)][:60]
+        some = [os.path.relpath(name, work) for name in names if os.path.exists(name)][:30]
         alone = subprocess.run([PROGRAM, "audit", *some], capture_output=True, text=True, cwd=work)
         words = ["parallel", "--ssh", f"ssh -F {ssh}/config", "--sshlogin", ",".join(hosts), "--workdir", f"{work}/there", "--transferfile", "{}",
                  "--cleanup", "--joblog", f"{work}/joblog", "pie", "audit", "{}", ":::", *some]

@@ -1,11 +1,11 @@
 #!/usr/bin/env python3
-"""Runs the built program at size, and compares all that it writes with what a line of Python says of each record: two million events,
-which are run, audited, migrated and explained; a fold of the greatest tail, 2^20 events, and folds of 5000; a tail that is full; the
-greatest queue, 65536 packets, and one packet too many; packets with the tag 0; and ten million records with a short tail. Each command holds one record, its queue and its
-tail, so it needs no memory that grows with the text: each runs with its address space limited to MEMORY bytes.
+"""Runs the built program at size, and compares all that it writes with what a line of Python says of each record: 1.2 million events, which are
+run, audited, migrated and explained; a fold of the greatest tail, 2^20 events, and folds of 5000; a tail that is full; 65536 packets, and one packet
+too many; packets with the tag 0; and ten million records with a short tail. Each command holds one record, its queue and its tail, so it needs no
+memory that grows with the text: each runs with its address space limited to MEMORY bytes.
 
 usage: tests/program/large.py [PROGRAM]      PROGRAM: crates/pie/out/pie where none is given
-needs: program, a request"""
+needs: program"""
 import os
 import resource
 import subprocess
@@ -16,7 +16,7 @@ sys.path.insert(0, f"{os.path.dirname(os.path.abspath(__file__))}/../shared")
 from checks import NAME, check, finish, program  # noqa: E402
 
 PROGRAM = program()
-TAIL, PACKETS, PAIRS, FOLD, MANY = 2**20, 65536, 1_000_000, 5000, 10_000_000
+TAIL, PACKETS, PAIRS, FOLD, MANY = 2**20, 65536, 600_000, 5000, 10_000_000
 # A threshold of 65536 bytes for a cycle of the departure rate, which no queue here reaches: so no delay and no probability is above 0.
 OPENING = f"0,{PACKETS},{TAIL},4194304,15000000,15000000,150000000,125,1250,1024,262144,100000000000,65536\n"
 HEADER = (
@@ -68,8 +68,8 @@ def size_of(tag):
     return 1 + tag % 1500
 
 
-def two_million():
-    """A million packets, each of which departs before the next arrives."""
+def many_events():
+    """So many packets, each of which departs before the next arrives."""
     course = Course()
     fold = TAIL
     held = 0
@@ -134,7 +134,7 @@ def compare(work, name, words, given, wanted):
 
 def main():
     with tempfile.TemporaryDirectory() as work:
-        for name, course in (("two million events:", two_million()), ("65536 packets:", full_queue())):
+        for name, course in (("many events:", many_events()), ("65536 packets:", full_queue())):
             compare(work, name, ["run"], course.trace, course.history)
             compare(work, name, ["audit"], course.history, [f"clean,{course.events}\n"])
             compare(work, name, ["migrate"], course.history, course.migrated)

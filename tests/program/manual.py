@@ -1,7 +1,8 @@
 #!/usr/bin/env python3
 """Holds the manual page and the completions to the program: each subcommand and each long option that `--help` tells is in man/pie.1 and in
-the completions for bash, zsh and fish, under its subcommand, and they have no others. Where bash, zsh and fish are there, what they offer is
-asked of them. Exit status 1 where something is missing or too much.
+the completions for bash, zsh and fish, under its subcommand, and they have no others; the page's synopsis has those of each subcommand too, but
+where it ends in dots. Where bash, zsh and fish are there, what they offer is asked of them. So are the options of man/pie-report.1 those that
+`pie-report --help` tells. Exit status 1 where something is missing or too much.
 
 usage: tests/program/manual.py [PROGRAM]      PROGRAM: crates/pie/out/pie where none is given
 needs: program
@@ -44,16 +45,43 @@ def told():
     return names, options
 
 
+TAGGED = re.compile(r"^\.TP\n\.B(I?) \\-\\-([\w\\-]+)", re.M)
+
+
+def tagged(text):
+    """The options of a part of a manual page: `.B \\-\\-NAME` and `.BI \\-\\-NAME " N"`."""
+    return {option.replace("\\", ""): bool(value) for value, option in TAGGED.findall(text)}
+
+
+def hold_report():
+    """The manual page of pie-report beside its help."""
+    text = (ROOT / "man/pie-report.1").read_text(encoding="utf-8").split(".SH OPTIONS\n")[1].split(".SH EXIT")[0]
+    help_text = section(output([ROOT / "report/pie-report", "--help"]), "Options")
+    wanted = {option: bool(value) for option, value in re.findall(r"^ +(?:-\w, )?--([\w-]+)( <\w+>)?", help_text, re.M)}
+    if tagged(text) != wanted or "output" not in wanted:
+        fail("man/pie-report.1: options", tagged(text), "and not", wanted)
+
+
 def manual():
-    """The same of the manual page: sections `.SS NAME`, options `.B \\-\\-NAME` and `.BI \\-\\-NAME " N"`."""
+    """The same of the manual page, in sections `.SS NAME`."""
     text = (ROOT / "man/pie.1").read_text(encoding="utf-8")
     parts = re.split(r"^\.SS (\w+)\n", text.split(".SH SUBCOMMANDS\n")[1].split(".SH OPTIONS\n")[0], flags=re.M)[1:]
     names = parts[0::2]
-    tagged = re.compile(r"^\.TP\n\.B(I?) \\-\\-([\w\\-]+)", re.M)
-    options = {name: {option.replace("\\", ""): bool(value) for value, option in tagged.findall(part)} for name, part in zip(names, parts[1::2])}
-    top = text.split(".SH OPTIONS\n")[1].split(".SH EXIT")[0]
-    options[""] = {option.replace("\\", ""): bool(value) for value, option in tagged.findall(top)}
+    options = {name: tagged(part) for name, part in zip(names, parts[1::2])}
+    options[""] = tagged(text.split(".SH OPTIONS\n")[1].split(".SH EXIT")[0])
     return names, options, text
+
+
+def synopsis(page):
+    """The long options of each subcommand in the synopsis, with -o for --output, and whether that of a subcommand ends in dots."""
+    text = page.split(".SH SYNOPSIS\n")[1].split(".SH DESCRIPTION")[0].replace("\\-", "-")
+    lines = re.split(r"^\.B pie (\w+)\n", text, flags=re.M)[1:]
+    found = {name: {*re.findall(r"--([\w-]+)", part)} | ({"output"} if re.search(r" -o$", part, re.M) else set()) for name, part in pairs(lines)}
+    return found, {name for name, part in pairs(lines) if part.rstrip().endswith("\\|.\\|.")}
+
+
+def pairs(items):
+    return zip(items[0::2], items[1::2])
 
 
 def bash_offers(words, last):
@@ -97,10 +125,15 @@ def main():
     version = output([PROGRAM, "--version"]).strip()
     if f'"{version}"' not in page:
         fail("man/pie.1 is of another version than", version)
+    listed, cut = synopsis(page)
+    hold_report()
     zsh = zsh_options(names)
     for name in ["", *names]:
         # Each subcommand has --help; the manual page says so once.
         compare("man/pie.1:", name, {**man.get(name, {}), **({"help": False} if name else {})}, {**wanted[name], **({"help": False} if name else {})})
+        if name not in ("", "help"):
+            options = {option for option in wanted[name] if option != "help" and (name not in cut or option in listed[name])}
+            compare("man/pie.1, synopsis:", name, listed.get(name), options)
         if name != "help":
             compare("completions/_pie:", name, zsh.get(name), wanted[name])
         words = [name] if name else []
@@ -116,9 +149,10 @@ def main():
     if shutil.which("zsh") and subprocess.run(["zsh", "-n", ROOT / "completions/_pie"], check=False).returncode != 0:
         fail("completions/_pie: zsh can't read it")
     if shutil.which("man"):
-        read = ["man", "--warnings", "-l", ROOT / "man/pie.1"]
-        if subprocess.run(read, stdout=subprocess.DEVNULL, stderr=subprocess.PIPE, check=False).stderr:
-            fail("man/pie.1: man warns of it")
+        for page in ("pie.1", "pie-report.1"):
+            read = ["man", "--warnings", "-l", ROOT / "man" / page]
+            if subprocess.run(read, stdout=subprocess.DEVNULL, stderr=subprocess.PIPE, check=False).stderr:
+                fail(f"man/{page}: man warns of it")
     for failure in failures:
         print(f"{NAME}:", failure)
     if not failures:

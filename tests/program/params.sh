@@ -4,7 +4,9 @@
 # needs: program
 . "$(dirname "$0")/../shared/expect.sh"
 
-stamps='pie: time stamps have no counterpart: delays are estimated from the departure rate, as by dq_rate_estimator\n'
+# The usual elements, and as many events as there may be.
+usual=open3,1,rate,derandomized,capped,unscaled,rolling
+events=140737488355328
 # params NAME RECORD ERRORS WORDS..
 params() {
     local name=$1 record=$2 errors=$3
@@ -12,29 +14,44 @@ params() {
     expect "$name" 0 "$record\n" "$errors" '' params --dq_rate_estimator "$@"
     expect "a run of $name" 0 "$record\n" '' "$record\n" run
 }
-params 'the defaults of tc' 'open2,1,rolling,0,1000,1000,1099511627776,15000000,15000000,150000000,125,1250,1024,262144,0,16384' ''
-params 'what tc shows' 'open2,1,rolling,0,1000,1000,1099511627776,20000000,15000000,150000000,125,1250,1024,2500000,100000000000,16384' '' \
+params 'the defaults of tc' "$usual,0,1000,1000,$events,15000000,15000000,150000000,125,1250,1024,262144,0,16384" ''
+params 'what tc shows' "$usual,0,1000,1000,$events,20000000,15000000,150000000,125,1250,1024,2500000,100000000000,16384" '' \
     --rate 100mbit --target 20ms --limit 1000p --alpha 2 --beta 20 --tupdate 15ms --ecn
-params 'other units' 'open2,1,rolling,0,65536,65536,1099511627776,500000,1000,150000000,0,2000,1024,262144,0,16384' '' \
+params 'other units' "$usual,0,65536,65536,$events,500000,1000,150000000,0,2000,1024,262144,0,16384" '' \
     --rate 9000kbit --target 500us --limit 65536 --alpha 0 --beta 32 --tupdate 1000ns
 # (the bytes are those of the table of include/pie.h, by pie_params_for)
 for row in 10mbit:262144 100mbit:2500000 1gbit:25000000 10gbit:250000000 40gbit:1000000000 100gbit:1073741824 41bit:262144 \
     2.5GBIT:62500000 0.1tbit:1073741824 12.5Mbps:2500000 100Mibit:2621440 1gibps:214748365 1000kbit:262144 125000kbps:25000000; do
-    record="open2,1,rolling,0,1000,1000,1099511627776,15000000,15000000,150000000,125,1250,1024,${row#*:},0,16384"
+    record="$usual,0,1000,1000,$events,15000000,15000000,150000000,125,1250,1024,${row#*:},0,16384"
     params "a limit at ${row%:*}" "$record" '' --rate "${row%:*}"
 done
 short='is under rate x target: the queue is full before it waits so long, and all losses are tail drops\n'
-params 'a limit that is too small' 'open2,1,rolling,0,1000,1000,1099511627776,1000000000,15000000,150000000,125,1250,1024,2500000,0,16384' \
+params 'a limit that is too small' "$usual,0,1000,1000,$events,1000000000,15000000,150000000,125,1250,1024,2500000,0,16384" \
     "pie: limit_bytes, 2500000, $short" --rate 100mbit --target 1s
-bytemode="pie: bytemode has no counterpart: a packet's size doesn't change its chance\n"
 rounded="pie: alpha is rounded down to whole thousandths per second\npie: beta is rounded down to whole thousandths per second\n"
-params 'odd gains and bytemode' 'open2,1,rolling,0,1000,1000,1099511627776,15000000,15000000,150000000,187,1312,1024,262144,0,16384' \
-    "$bytemode$rounded" --alpha 3 --beta 21 --bytemode
-expect 'time stamps' 0 'open2,1,rolling,0,1000,1000,1099511627776,15000000,15000000,150000000,125,1250,1024,262144,0,16384\n' "$stamps" '' params
+params 'odd gains' "$usual,0,1000,1000,$events,15000000,15000000,150000000,187,1312,1024,262144,0,16384" \
+    "$rounded" --alpha 3 --beta 21
+params 'the defaults of RFC 8033' "$usual,0,1000,1000,$events" '' --ecn
+params 'as many packets as there may be' "$usual,0,1048576,1048576,$events,15000000,15000000,150000000,125,1250,1024,262144,0,16384" '' --limit 1048576
+# Each choice alone, and all of them.
+nine=15000000,15000000,150000000,125,1250,1024,262144,0,16384
+chosen() {
+    local words=$1 mean=$2
+    shift 2
+    local record="open3,1,$words,rolling,0,1000,1000,$events,${nine/1024/$mean}"
+    expect "choices $*" 0 "$record\n" '' '' params "$@"
+    expect "a run of choices $*" 0 "$record\n" '' "$record\n" run
+}
+chosen stamp,derandomized,capped,unscaled 1024
+chosen rate,random,capped,unscaled 1024 --dq_rate_estimator --no_derandomization
+chosen rate,derandomized,uncapped,unscaled 1024 --dq_rate_estimator --no_cap_drop_adjustment
+chosen rate,derandomized,capped,scaled 1514 --dq_rate_estimator --bytemode
+chosen stamp,random,uncapped,scaled 9000 --no_derandomization --no_cap_drop_adjustment --bytemode --mtu 9000
+chosen stamp,derandomized,capped,unscaled 1024 --mtu 9000
 for time in 20ms 20MS 020ms 20.0ms 20msec 20Msecs 0.02s .02sec 20000us 20000usecs 20000000ns 20000000nsecs; do
-    params "a target of $time" 'open2,1,rolling,0,1000,1000,1099511627776,20000000,15000000,150000000,125,1250,1024,262144,0,16384' '' --target "$time"
+    params "a target of $time" "$usual,0,1000,1000,$events,20000000,15000000,150000000,125,1250,1024,262144,0,16384" '' --target "$time"
 done
-params 'decimals' 'open2,1,rolling,0,1000,1000,1099511627776,1500000,2500,150000000,125,1250,1024,262144,0,16384' '' --target 1.5ms --tupdate 2.5us --limit 1000P
+params 'decimals' "$usual,0,1000,1000,$events,1500000,2500,150000000,125,1250,1024,262144,0,16384" '' --target 1.5ms --tupdate 2.5us --limit 1000P
 for time in 20 20m ms 20min +20ms ' 20ms' '20 ms' 2e1ms 0x14ms 20.ms . 20msecss 20mbit ''; do
     expect "no time: $time" 1 '' 'pie: --target is a number of ns, us, ms or s, as 20ms\n' '' params --target "$time"
 done
@@ -51,8 +68,8 @@ most='is at most 1152921504606846975, in nanoseconds, bits a second or packets\n
 expect 'a rate that is too great' 1 '' "pie: --rate $most" '' params --rate 1152922tbit
 expect 'a time that is too great' 1 '' "pie: --target $most" '' params --target 99999999999999999999ms
 expect 'no limit' 1 '' 'pie: --limit is a number of packets, as 1000p\n' '' params --limit 1000kb
-expect 'a limit that is too great' 1 '' 'pie: --limit is 1 to 65536 packets\n' '' params --limit 65537p
-expect 'no packets' 1 '' 'pie: --limit is 1 to 65536 packets\n' '' params --limit 0
+expect 'a limit that is too great' 1 '' 'pie: --limit is 1 to 1048576 packets\n' '' params --limit 1048577p
+expect 'no packets' 1 '' 'pie: --limit is 1 to 1048576 packets\n' '' params --limit 0
 expect 'a target that is too great' 1 '' 'pie: the parameter target is out of its range\n' '' params --target 11s
 expect 'a time above 2^64' 1 '' "pie: --tupdate $most" '''' params --tupdate 18446744073709551615s
 exit "$failed"

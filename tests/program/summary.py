@@ -1,12 +1,14 @@
 #!/usr/bin/env python3
 """Holds `pie explain --summary` and `--every` to a computation of its own over the records of `pie explain --all --csv`: of each history of
 examples/, and of random ones by tests/shared/reference.py, the summaries in words and as CSV, of all events, of those within some moments, and of
-each period, with lengths in each way of writing them. Exit status 1 where something differs.
+each period, with lengths in each way of writing them; and `--digest` to these and the words of `--lost` and `--marked`, in their order. Exit status
+1 where something differs.
 
 usage: tests/program/summary.py [PROGRAM [FIRST_SEED [RUNS [STEPS]]]]      PROGRAM: crates/pie/out/pie where none is given
 needs: program
 """
 import os
+import re
 import sys
 from itertools import compress
 
@@ -125,12 +127,40 @@ def by_period(rows, every):
     return [numbers([row for row, period in zip(rows, periods) if period == wanted]) for wanted in sorted(set(periods))] or [numbers([])]
 
 
+def digest(rows, every, told, packets):
+    """The summaries of periods of these records, each before the words for the first packet of the next period."""
+    periods = [int(row["effective_moment"]) // every for row in rows]
+    starts, lines = [0] + [place for place in range(1, len(rows)) if periods[place] != periods[place - 1]], []
+    for start, end in zip(starts, [*starts[1:], len(rows)]):
+        lines += [packets[row["number"]] for row in rows[start:end] if row["number"] in packets]
+        lines.append(told([numbers(rows[start:end])]))
+    return "".join(lines)
+
+
+def hold_digest(name, history, words, options, rows, every):
+    """Holds what is written for summaries and packets at once to these by themselves."""
+    packets = {}
+    for which in ("--lost", "--marked"):
+        for text in re.findall(r"^event .*\n(?:  .*\n)*", pie(history, which, *options)[1], re.M):
+            packets[text.split()[1][:-1]] = text
+    period = f"--every={written(every, words)}"
+    got = pie(history, "--digest", *options, period)
+    expect(f"{name}: --digest {period} {options}", got, (0, digest(rows, every, lambda some: "".join(map(in_words, some)), packets), ""))
+    header, record = (lambda some: in_csv(some).split("\n", 1)[0] + "\n"), (lambda some: in_csv(some).split("\n", 1)[1])
+    got = pie(history, "--csv", "--digest", *options, period)
+    expect(f"{name}: --digest --csv {period} {options}", got, (0, header([numbers([])]) + digest(rows, every, record, packets), ""))
+    marked = [row for row in rows if row["verdict"] == "mark"]
+    got = pie(history, "--marked", "--csv", "--digest", *options)
+    expect(f"{name}: --digest --marked {options}", got, (0, header([numbers([])]) + digest(marked, 2**64, record, packets), ""))
+
+
 def hold(name, history, words):
     _, rows, moments = records(name, history)
     with_targets(history, rows)
     length = max(moments[-1] - moments[0], 100)
     for options, are_kept in within(moments, words):
         kept = list(compress(rows, are_kept))
+        hold_digest(name, history, words, options, kept, length // words.randrange(3, 30) + 1)
         lost = [row for row in kept if row["verdict"] in LOST]
         for which, some in (((), kept), (("--all",), kept), (("--lost",), lost)):
             every = words.choice((10**6, 10**9, length // 2 + 1, length // words.randrange(3, 30) + 1))

@@ -1,0 +1,102 @@
+#!/usr/bin/env python3
+"""Holds `pie explain --all --csv` to tests/shared/reference.py, event by event: of each worked trace of tests/rows and of tests/rows/choices every
+field of every event, with verdicts, causes and delays, which the reference computes by looking back over the whole list of events. Exit status 1
+where something differs.
+
+usage: tests/program/explained_rows.py [PROGRAM]      PROGRAM: crates/pie/out/pie where none is given
+needs: program
+"""
+import csv
+import io
+import os
+import re
+import sys
+
+sys.path.insert(0, f"{os.path.dirname(os.path.abspath(__file__))}/../shared")
+from checks import NAME, ROOT, check, expect, finish  # noqa: E402
+from explaining import pie  # noqa: E402
+from reference import ANSWERS, USUAL, Book  # noqa: E402
+
+# RFC 8033's parameters, with what this project adds where a first record names none.
+DEFAULTS = (15_000_000, 15_000_000, 150_000_000, 125, 1250, 1024, 262_144, 100_000_000_000, 16_384)
+STATE = ("bytes", "packets", "delay", "probability", "accumulated_probability", "burst_allowance", "active")
+
+
+def opened(fields):
+    """The book that a first record opens."""
+    kind, *rest = fields
+    profile = int(rest.pop(0)) if kind in ("open2", "open3") else 1
+    elements = tuple(rest.pop(0) for _ in USUAL) if kind == "open3" else USUAL
+    mode = rest.pop(0) if kind in ("open2", "open3") else kind
+    moment, packets, tail, most, *params = map(int, rest)
+    return Book(packets, tail, most, params or DEFAULTS, moment, mode == "rolling", profile, elements)
+
+
+def step_of(fields):
+    """The caller and the step of a record of a trace; none of a `show` or a `tally`."""
+    kind, *rest = fields
+    if kind == "arrive":
+        caller, moment, tag, size, ecn, word = rest
+        return int(caller), ("arrive", int(moment), int(tag), int(size), ecn, int(word))
+    if kind == "params":
+        return int(rest[0]), ("set", int(rest[1]), tuple(map(int, rest[2:])))
+    if kind == "fold":
+        return 0, ("fold", int(rest[0]))
+    return None if kind in ("show", "tally") else (int(rest[0]), (kind, int(rest[1])))
+
+
+def state(book, n):
+    """What the controller holds after the first n events."""
+    numbers = (book.bytes(n), len(book.waiting(n)), book.delay(n), book.prob(n), book.accu(n), book.burst(n), int(book.active(n)))
+    return dict(zip(STATE, numbers))
+
+
+def record(book, i):
+    """The fields of the CSV record that explains event i."""
+    caller, command, answer = book.events[i - 1]
+    kind, before, after = command[0], state(book, i - 1), state(book, i)
+    told = {"number": i, "kind": "params" if kind == "set" else kind, "caller": caller, "moment": command[1], "effective_moment": book.moment(i)}
+    told |= {"verdict": ANSWERS.get(answer[0], answer[0]), "set_by": book.set_by(i - 1) or ""}
+    told |= dict.fromkeys(("tag", "size", "cause", "ecn", "word", "waited"), "")
+    if kind == "arrive":
+        told |= dict(zip(("tag", "size", "ecn", "word"), command[2:])) | {"cause": book.cause(i - 1, command)}
+    if answer[0] == "left":
+        told |= dict(zip(("tag", "size", "ecn"), answer[1:])) | {"waited": book.moment(i) - book.waiting(i - 1)[0][3]}
+    told |= before | {f"{name}_after": value for name, value in after.items()}
+    return {name: str(value) for name, value in told.items()}
+
+
+def hold(trace):
+    """How many events of this row were compared, and their causes."""
+    lines = [line.replace('"', "").split(",") for line in trace.read_text().splitlines()]
+    history = trace.with_suffix(".out").read_text()
+    book = opened(lines[0])
+    for fields, answer in zip(lines[1:], history.splitlines()[1:], strict=True):
+        # (which parameters are out of their ranges the reference doesn't say)
+        step = None if re.fullmatch(r"refused,\d+,7", answer) else step_of(fields)
+        if step:
+            book.step(*step)
+    status, text, errors = pie(history, "--all", "--csv")
+    expect(f"{trace.stem}: status", (status, errors), (0, ""))
+    rows = list(csv.DictReader(io.StringIO(text)))
+    expect(f"{trace.stem}: events", len(rows), len(book.events))
+    for i, row in enumerate(rows, 1):
+        wanted = record(book, i)
+        other = {name: (row.get(name), wanted.get(name)) for name in {*row, *wanted} if row.get(name) != wanted.get(name)}
+        check(not other, f"{trace.stem}: event {i}, each other field with what it has and what it should have: {other}")
+    return len(rows), {row["cause"] for row in rows}
+
+
+def main():
+    # Where a run ends at its first record there is no event to explain.
+    rows = [path for path in sorted((ROOT / "tests/rows").glob("**/*.in")) if not path.with_suffix(".fault").exists()]
+    count, causes = 0, set()
+    for trace in rows:
+        held, of_row = hold(trace)
+        count, causes = count + held, causes | of_row
+    expect("rows and causes", (len(rows) >= 50, len(causes) >= 13), (True, True))
+    print(f"{NAME}: {count} events of {len(rows)} rows are explained as the reference has them, by {len(causes - {''})} causes")
+    finish()
+
+
+main()

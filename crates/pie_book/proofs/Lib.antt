@@ -2,6 +2,7 @@ pub mod HistoryFacts
 pub mod StatisticsFacts
 pub mod CoreFacts
 pub mod BookFacts
+pub mod StandingFacts
 pub mod FoldParts
 pub mod RunFacts
 pub mod RangeFacts

@@ -17,3 +17,4 @@ pub mod Recorded
 pub mod Ranges
 pub mod Step
 pub mod Beside
+pub mod Standing

@@ -29,7 +29,7 @@ impl Model for Tally {
 }
 
 impl Tally {
-    ghost use Rattle.pie_book.specs.Tally.{TallyView};
+    ghost use Rattle.pie_book.specs.Tally.{TallyView, IsReached};
     ghost use Rattle.pie_book.specs.Statistics.{no_stats};
 
     /// No event yet.
@@ -54,6 +54,14 @@ impl Tally {
             waited: 0,
         };
         Tally { count: 0, stats }
+    }
+
+    /// So many events, with these statistics.
+    pub(crate) fn resumed(count: u64, stats: Stats) -> Tally
+        requires { IsReached count stats }
+        ensures { result ≡ record { count = count; stats = stats } }
+    {
+        Tally { count, stats }
     }
 
     /// The same tally.
@@ -151,7 +159,8 @@ impl Tally {
 
     /// The statistics.
     pub(crate) fn stats(&self) -> Stats
-        ensures { result ≡ self.now.stats }
+        ensures value { result ≡ self.now.stats }
+        ensures reached { IsReached self.now.count self.now.stats }
     {
         self.stats
     }

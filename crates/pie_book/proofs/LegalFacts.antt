@@ -41,7 +41,7 @@ params-arrived h a moment = by (Steps.turns_on h (bytes_with (Steps.verdict h a)
     by true = refl
     by false = refl
 
-good-next : (core : CoreView) (command : Command) → first_bad core.held.params ≡ None → CommandFits command
+pub good-next : (core : CoreView) (command : Command) → first_bad core.held.params ≡ None → CommandFits command
     → first_bad (after_call core.held (call_in core command)).params ≡ None
 good-next core (Arrive moment packet word) good fit = rw (params-arrived core.held (arrival_of core.waiting core.packets packet word) moment) good
 good-next core (Depart moment) good fit = by core.waiting

@@ -9,6 +9,7 @@ pub mod RangeFacts
 pub mod RangeLaws
 pub mod LegalFacts
 pub mod BesideFacts
+pub mod ExcerptFacts
 pub mod Examples
 pub mod ExamplesRates
 pub mod ExamplesMarks

@@ -51,5 +51,5 @@ pub use refusal::{FoldRefusal, OpenRefusal, Refusal};
 pub use registers::Registers;
 pub use resume_refusal::{EndRefusal, QueueRefusal, ResumeRefusal};
 pub use resuming::Resuming;
-pub use standing::Standing;
+pub use standing::{Standing, excerpts_are_legal_after_any_history};
 pub use stats::Stats;

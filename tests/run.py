@@ -14,6 +14,7 @@ Each script says in its head what it needs, on a line `needs: WORD, WORD..`, and
 
 usage: tests/run.py [--jobs N] [--unbuilt | --built | NAME..]
        NAME: a script by its path or its name, with or without its ending, or all of a folder: program, libraries, documents, bindings
+       --jobs: so many at once that need the library, and so many that don't (as many as there are processors)
        --unbuilt: those that need nothing that is built; --built: the others; with none of these all that need no request"""
 import argparse
 import os
@@ -29,6 +30,8 @@ ME = "tests/run.py"
 NEEDS = re.compile(r"^(?:# )?needs: ([\w, ]+?)(?:\"\"\")?$", re.M)
 LIBRARY = ROOT / "bindings/c/library.py"
 MARKS = {"nothing", "library", "root", "quiet", "an early start", "a request"}
+# The library is waited for, so scripts that do without it make room for it, and for those that need it, which begin as soon as it is there.
+ASIDE = ["nice", "-n", "5"]
 
 
 class Script:
@@ -89,12 +92,12 @@ def run(name, words):
     return passed, text.count("\nNOT RUN") + text.startswith("NOT RUN")
 
 
-def run_script(script):
+def run_script(script, before=()):
     missing = [path for path in script.programs() if not path.exists()]
     if missing:
         print(f"{ME}: {script.name}: {missing[0].relative_to(ROOT)} is not built: FAILED", file=sys.stderr, flush=True)
         return False, 0
-    return run(script.name, [script.path])
+    return run(script.name, [*before, script.path])
 
 
 def main():
@@ -107,13 +110,12 @@ def main():
     jobs = parser.parse_args().jobs
     aside = [it for it in wanted if "quiet" not in it.needs]
     ended = {}
-    with ThreadPoolExecutor(max(jobs, 1)) as pool:
-        library = pool.submit(run, "bindings/c/library.py", [LIBRARY]) if any("library" in it.needs for it in wanted) else None
-        # Those that need the library wait for it, so they come behind the others.
-        begun = {it: pool.submit(run_script, it) for it in aside if "library" not in it.needs}
+    with ThreadPoolExecutor(max(jobs, 1)) as pool, ThreadPoolExecutor(max(jobs, 1)) as over_library:
+        library = over_library.submit(run, "bindings/c/library.py", [LIBRARY]) if any("library" in it.needs for it in wanted) else None
+        begun = {it: pool.submit(run_script, it, ASIDE if library else ()) for it in aside if "library" not in it.needs}
         if library and not library.result()[0]:
             ended |= {it: (False, 0) for it in wanted if "library" in it.needs}
-        begun |= {it: pool.submit(run_script, it) for it in aside if "library" in it.needs and it not in ended}
+        begun |= {it: over_library.submit(run_script, it) for it in aside if "library" in it.needs and it not in ended}
         ended |= {it: future.result() for it, future in begun.items()}
     for it in wanted:
         if it not in ended:

@@ -1,8 +1,9 @@
 #!/usr/bin/env python3
 """Damages texts, and compares what the built program makes of each, its status, its output and its error stream, with what the reader and the
 reference of tests/shared/reference_texts.py make of it: of a trace `run`; of a history `audit`, `migrate` and `explain --all --csv`. First come
-malformed texts that were written by hand, and then the richest traces and their histories, of each version and both profiles: each is cut at
-every byte, and each of its bytes is made another, a sample of two.
+malformed texts that were written by hand, and then the richest traces and their histories, of each version and both profiles: of version one each
+is cut at every byte, and each of its bytes is made another, a sample of two; of the later versions so is each byte of the first record, which alone
+reads otherwise, and one in THIN behind it. The audits of many texts are one call, over files.
 
 With `every` each byte is made each of the 255 others, and nothing else is done; with two numbers K and N behind it only each N-th place from the
 K-th on: N such runs are all.
@@ -13,6 +14,7 @@ import os
 import random
 import signal
 import sys
+import tempfile
 from concurrent.futures import ProcessPoolExecutor
 
 sys.path.insert(0, f"{os.path.dirname(os.path.abspath(__file__))}/../shared")
@@ -31,6 +33,8 @@ TRACES = [
 # What a command has to end with of a text.
 COMMANDS = {"run": plain.run, "audit": plain.audit, "migrate": plain.migrate, "explain --all --csv": plain.explain}
 OF_A_HISTORY = [name for name in COMMANDS if name != "run"]
+# How thinly the records behind the first are damaged in versions two and three.
+THIN = 3
 # Bytes that mean something to a reader of records.
 TELLING = b'0,\n"'
 
@@ -65,23 +69,47 @@ class Streams:
             os.close(file)
 
 
+def audits_differing(program, streams, texts):
+    """What differs when all these texts are audited as files, by one call for those that have to end with the same status."""
+    found, by_status = [], {}
+    for what, text in texts:
+        status, *written = wanted("audit", text)
+        by_status.setdefault(status, []).append((what, text, written))
+    for status, its in by_status.items():
+        with tempfile.TemporaryDirectory() as work:
+            names = [f"{work}/{number}" for number in range(len(its))]
+            for name, (_, text, _) in zip(names, its):
+                with open(name, "wb") as file:
+                    file.write(text)
+            got = streams.ran([program, "audit", *names], b"")
+        output = b"".join(f"{name}: ".encode() + out for name, (_, _, (out, _)) in zip(names, its) if out)
+        errors = b"".join(f"pie: {name}: ".encode() + error.removeprefix(b"pie: ") for name, (_, _, (_, error)) in zip(names, its) if error)
+        if got != (status, output, errors):
+            lines = [set(got[stream].splitlines()) ^ set(want.splitlines()) for stream, want in ((1, output), (2, errors))]
+            texts_of = {name: what for name, (what, _, _) in zip(names, its)}
+            found.append(f"audit: status {got[0]} and not {status}, and these lines differ: {lines} of {texts_of}")
+    return found
+
+
 def differing(program, names, texts):
     """Of these texts, with their names, those of which a command ends with something else."""
-    found, streams = [], Streams()
+    streams = Streams()
+    found = audits_differing(program, streams, texts) if "audit" in names else []
     for what, text in texts:
         for name in names:
-            got, want = streams.ran([program, *name.split()], text), wanted(name, text)
-            if got != want:
-                found.append(f"{name}: {what}: {got} and not {want}")
+            if name != "audit":
+                got, want = streams.ran([program, *name.split()], text), wanted(name, text)
+                if got != want:
+                    found.append(f"{name}: {what}: {got} and not {want}")
     streams.close()
     return found
 
 
-def damaged(text, bytes_at, first, step):
+def damaged(text, bytes_at, places):
     """The beginnings of a text, and the text with the byte at a place made another of those that `bytes_at` gives, for each place of these."""
-    for place in range(first, len(text) + 1, step):
+    for place in places:
         yield f"cut at {place}", text[:place]
-    for place in range(first, len(text), step):
+    for place in places[: -1 if len(text) in places else None]:
         for byte in sorted(bytes_at(place)):
             if text[place] != byte:
                 yield f"byte {place} made {byte}", text[:place] + bytes([byte]) + text[place + 1 :]
@@ -96,14 +124,20 @@ def sample(place):
     return {TELLING[place % len(TELLING)], random.Random(place).randrange(256)}
 
 
-def compare(program, bytes_at, first=0, step=1):
-    """What differs, of the traces and of their histories, at each place of these; and it says how many were compared."""
+def sampled(number, text):
+    """The places at which the trace of this number, or its history, is damaged where a sample is made."""
+    behind = text.index(b"\n") + 1
+    return range(len(text) + 1) if number == 0 else [*range(behind), *range(behind + number - 1, len(text), THIN), len(text)]
+
+
+def compare(program, bytes_at, places):
+    """What differs, of the traces and of their histories, at each place that `places` gives; and it says how many were compared."""
     found = []
     with ProcessPoolExecutor(os.cpu_count()) as pool:
-        for trace in TRACES:
+        for number, trace in enumerate(TRACES):
             history = wanted("run", trace)[1]
             for names, text in ((["run"], trace), (OF_A_HISTORY, history)):
-                texts = list(damaged(text, bytes_at, first, step))
+                texts = list(damaged(text, bytes_at, places(number, text)))
                 parts = [pool.submit(differing, program, names, texts[part::64]) for part in range(64)]
                 found += [it for part in parts for it in part.result()]
                 opening = text.split(b",")[0].decode()
@@ -180,11 +214,11 @@ def main():
     words = sys.argv[2:]
     if words[:1] == ["every"]:
         first, step = [int(word) for word in words[1:]] or (1, 1)
-        found = compare(PROGRAM, every, first - 1, step)
+        found = compare(PROGRAM, every, lambda _, text: range(first - 1, len(text) + 1, step))
     else:
         malformed()
         small()
-        found = compare(PROGRAM, sample)
+        found = compare(PROGRAM, sample, sampled)
     for it in found[:50]:
         check(False, it[:500])
     check(not found, len(found), "texts differ")

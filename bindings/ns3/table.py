@@ -1,7 +1,7 @@
 #!/usr/bin/env python3
 """Makes tables of the records that scenarios.sh left. Goodput in Mbit/s, waits in ms.
 
-usage: bindings/ns3/table.py RESULTS.csv [full | beside | plot | choices] [stamp | random | uncapped | all]
+usage: bindings/ns3/table.py RESULTS.csv [full | beside | plot | choices] [stamp | random | uncapped | all | scaled]
 
 full    for each scenario a table with a line for each queue: of each figure the mean over the runs, and in brackets the least and the greatest
 beside  a line for each scenario: this repository's PIE beside PieQueueDisc with de-randomization; then all scenarios together; both with another
@@ -34,6 +34,7 @@ CHOICES = {
     "random": "not de-randomized",
     "uncapped": "not capped",
     "all": "by time stamps, not de-randomized, not capped",
+    "scaled": "scaled by size",
 }
 FIGURES = {
     "goodput_mbit": "goodput",
@@ -139,7 +140,7 @@ def print_together(runs, beside, compared, name):
 
 def print_beside(runs, scenarios, choice=None):
     """With fewer than four runs of each no parting is rarer than one of ten, so such a scenario has no chance of its own."""
-    beside = tuple(f"{kind}-{choice}" if choice else kind for kind in ("recorded", "pie"))
+    beside = beside_of(choice)
     counts = {it: [len(runs.get((it, queue), [])) for queue in beside] for it in scenarios}
     compared = [it for it in scenarios if min(counts[it]) > 0]
     print("| scenario | runs | wait, tail drop | wait, here | wait, PieQueueDisc | chance | goodput, tail drop | goodput, here "
@@ -162,6 +163,11 @@ def print_beside(runs, scenarios, choice=None):
     print_together(runs, beside, compared, "All")
 
 
+def beside_of(choice):
+    """This repository's queue of a choice, and that of ns-3 beside it: PieQueueDisc always scales under a limit in bytes."""
+    return (f"recorded-{choice}", "pie" if choice == "scaled" else f"pie-{choice}") if choice else ("recorded", "pie")
+
+
 def chances_of(ours, theirs):
     """The chance of a difference in each figure that is compared, as a cell; nothing where there are too few runs, or the same ones."""
     if ours is theirs or min(len(ours), len(theirs)) < 4:
@@ -172,7 +178,7 @@ def chances_of(ours, theirs):
 
 def print_choice(runs, scenario, choice, name):
     usual = runs[scenario, "recorded"]
-    ours, theirs = [runs.get((scenario, f"{kind}-{choice}" if choice else kind), []) for kind in ("recorded", "pie")]
+    ours, theirs = [runs.get((scenario, queue), []) for queue in beside_of(choice)]
     if not ours or not theirs:
         return
     shares = [shown(ours, figure) for figure in ("wait_mean_ms", "wait_p99_ms", "goodput_mbit", "early", "tail", "marked")]
@@ -206,7 +212,8 @@ def print_choices(runs, scenarios):
     print("| elements | wait, beside usual | goodput | wait, PieQueueDisc beside its usual | goodput | wait, here beside PieQueueDisc | goodput |")
     print("|---|" + "---|" * 6)
     for choice in CHOICES:
-        queues = [(f"recorded-{choice}", "recorded"), (f"pie-{choice}", "pie"), (f"recorded-{choice}", f"pie-{choice}")]
+        ours, theirs = beside_of(choice)
+        queues = [(ours, "recorded"), (theirs, "pie"), (ours, theirs)]
         cells = [cell for pair in queues for cell in together(runs, scenarios, pair)]
         print(f"| {CHOICES[choice]} | " + " | ".join(cells) + " |")
 

@@ -1,6 +1,7 @@
 #!/usr/bin/env bash
-# Builds the queue discipline and the dumbbell, and runs three simulated seconds with ECN: packets are marked and dropped, and the
-# history is clean. Where ns-3 is not installed, a line that begins with NOT RUN says so.
+# Builds the queue discipline and the dumbbell, and runs three simulated seconds with ECN, by RFC 8033's usual elements and by the others all at
+# once: packets are marked and dropped, and the history is clean. Each choice alone opens a history of its own words. Where ns-3 is not installed, a
+# line that begins with NOT RUN says so.
 # usage: bindings/ns3/check.sh [PIE]      PIE: crates/pie/out/pie where none is given
 # needs: program, library, an early start
 set -u
@@ -17,19 +18,35 @@ if ! (cd "$top/crates/pie_c" && { [ -e out/libpie_c.a ] || rt lib; } && make -s 
     cat "$work/build.log"
     exit 1
 fi
-"$here/out/dumbbell" --queue=recorded --ecn=1 --seconds=3 --warm-up=0 --history="$work/history" > "$work/record" || exit 1
-events=$(grep -c -E '^(arrive|depart|update),' "$work/history")
-found=$("$program" audit < "$work/history")
-marks=$(grep -c ',mark$' "$work/history")
-drops=$(grep -c -E ',(early|bytes)$' "$work/history")
-if [ "$found" != "clean,$events" ] || [ "$marks" = 0 ] || [ "$drops" = 0 ]; then
-    echo "bindings/ns3/check.sh: $found of $events events, $marks marks, $drops drops"
-    exit 1
-fi
-# ns-3 counted the same marks and drops as the history has
-if ! awk -F, -v marks="$marks" -v drops="$drops" 'END { exit !($16 + $17 == drops && $18 == marks) }' "$work/record"; then
-    echo "bindings/ns3/check.sh: ns-3 counted otherwise than the $marks marks and $drops drops of the history:"
-    cat "$work/record"
-    exit 1
-fi
-echo "bindings/ns3: the history of a simulation is clean ($events events, $marks marks, $drops drops)"
+# a choice is read by its attribute, and no other: what the opening says of the elements
+opens() {
+    "$here/out/dumbbell" --queue="recorded$1" --seconds=0.001 --warm-up=0 --history="$work/opening" > /dev/null || exit 1
+    grep -q "^$2,0,65536," "$work/opening" || { echo "bindings/ns3/check.sh: recorded$1 opens with $(cat "$work/opening")"; exit 1; }
+}
+opens '' open2,1,rolling
+opens -stamp open3,1,stamp,derandomized,capped,unscaled,rolling
+opens -random open3,1,rate,random,capped,unscaled,rolling
+opens -uncapped open3,1,rate,derandomized,uncapped,unscaled,rolling
+opens -scaled open3,1,rate,derandomized,capped,scaled,rolling
+
+# the history of a run is clean, and ns-3 counted the same marks and drops as it has
+runs() {
+    local queue=$1 events found marks drops
+    "$here/out/dumbbell" --queue="$queue" --ecn=1 --seconds=3 --warm-up=0 --history="$work/history" > "$work/record" || exit 1
+    events=$(grep -c -E '^(arrive|depart|update),' "$work/history")
+    found=$("$program" audit < "$work/history")
+    marks=$(grep -c ',mark$' "$work/history")
+    drops=$(grep -c -E ',(early|bytes)$' "$work/history")
+    if [ "$found" != "clean,$events" ] || [ "$marks" = 0 ] || [ "$drops" = 0 ]; then
+        echo "bindings/ns3/check.sh: $queue: $found of $events events, $marks marks, $drops drops"
+        exit 1
+    fi
+    if ! awk -F, -v marks="$marks" -v drops="$drops" 'END { exit !($16 + $17 == drops && $18 == marks) }' "$work/record"; then
+        echo "bindings/ns3/check.sh: $queue: ns-3 counted otherwise than the $marks marks and $drops drops of the history:"
+        cat "$work/record"
+        exit 1
+    fi
+    echo "bindings/ns3: the history of a simulation by $queue is clean ($events events, $marks marks, $drops drops)"
+}
+runs recorded
+runs recorded-all

@@ -24,7 +24,7 @@ namespace
 /* A scenario, as the command line says it. */
 struct Scenario
 {
-    std::string queue = "recorded"; /* recorded or pie, each also with a choice of ChoicesOf; pie-mark, pie-mark-burst or fifo */
+    std::string queue = "recorded"; /* recorded or pie, also with a choice of ChoicesOf; recorded-scaled; pie-mark, pie-mark-burst or fifo */
     double megabits = 10;           /* the shared link's rate */
     uint32_t flows = 4;
     double roundTrip = 40; /* ms, without queues */
@@ -139,13 +139,15 @@ QueueOf(const Scenario& scenario)
     TrafficControlHelper helper;
     if (scenario.queue.rfind("recorded", 0) == 0)
     {
-        Choices choices = ChoicesOf(scenario.queue.substr(8));
+        bool isScaled = scenario.queue == "recorded-scaled"; /* ns-3's own scales under a limit in bytes, and has no choice there */
+        Choices choices = ChoicesOf(isScaled ? "" : scenario.queue.substr(8));
         helper.SetRootQueueDisc("ns3::RecordedPieQueueDisc",
                                 "MeanPkt", UintegerValue(MEAN_PKT),
                                 "LimitBytes", UintegerValue(LimitBytes(scenario)),
                                 "UseDequeueRateEstimator", BooleanValue(choices.isByRate),
                                 "UseCapDropAdjustment", BooleanValue(choices.isCapped),
                                 "UseDerandomization", BooleanValue(choices.isDerandomized),
+                                "ScaleBySize", BooleanValue(isScaled),
                                 "UseEcn", BooleanValue(scenario.ecn),
                                 "History", StringValue(scenario.history));
     }
@@ -326,7 +328,10 @@ Read(int count, char** words)
     Scenario s;
     bool isHeader = false;
     CommandLine line(__FILE__);
-    line.AddValue("queue", "recorded or pie, with -stamp, -random, -uncapped or -all for another choice; fifo; pie-mark, pie-mark-burst: pie with points changed", s.queue);
+    line.AddValue("queue",
+                  "recorded or pie, with -stamp, -random, -uncapped or -all for another choice; recorded-scaled; fifo; pie-mark, "
+                  "pie-mark-burst: pie with points changed",
+                  s.queue);
     line.AddValue("rate", "Mbit/s of the shared link", s.megabits);
     line.AddValue("flows", "TCP flows", s.flows);
     line.AddValue("rtt", "round trip without queues, ms", s.roundTrip);

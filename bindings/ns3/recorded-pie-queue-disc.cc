@@ -145,6 +145,11 @@ RecordedPieQueueDisc::GetTypeId()
                           BooleanValue(true),
                           MakeBooleanAccessor(&RecordedPieQueueDisc::m_useCap),
                           MakeBooleanChecker())
+            .AddAttribute("ScaleBySize",
+                          "Whether packets below MeanPkt are picked less often, in proportion to their size (appendix B)",
+                          BooleanValue(false),
+                          MakeBooleanAccessor(&RecordedPieQueueDisc::m_isScaled),
+                          MakeBooleanChecker())
             .AddAttribute("History",
                           "The file for the history; none where empty",
                           StringValue(""),
@@ -215,7 +220,7 @@ uint32_t
 RecordedPieQueueDisc::Choices() const
 {
     return (m_useRate ? PIE_USUAL : PIE_DELAY_STAMP) | (m_useDerandomization ? PIE_USUAL : PIE_PICK_RANDOM) |
-           (m_useCap ? PIE_USUAL : PIE_STEP_UNCAPPED);
+           (m_useCap ? PIE_USUAL : PIE_STEP_UNCAPPED) | (m_isScaled ? PIE_SIZE_SCALED : PIE_USUAL);
 }
 
 bool

@@ -6,7 +6,7 @@
 # each rate, and ns-3's PIE without de-randomization above 10 Mbit/s, where a run takes long, unless the same choice runs here too.
 # usage: bindings/ns3/scenarios.sh FOLDER [FIRST_SEED] [LAST_SEED] [PROCESSES] [RATES] [QUEUES] [SCENARIO]
 #   RATES in Mbit/s, '10 50 100' where none are given; QUEUES: 'recorded pie pie-random fifo'; recorded and pie also with -stamp, -random,
-#   -uncapped or -all behind them, the optional elements of RFC 8033; SCENARIO: one alone, as '4 40 0 0' below
+#   -uncapped or -all behind them, the optional elements of RFC 8033, and recorded with -scaled; SCENARIO: one alone, as '4 40 0 0' below
 set -eu
 if [ $# -lt 1 ] || [ "$1" = --help ]; then
     sed -n '2,9s/^# //p' "$0"

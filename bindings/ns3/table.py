@@ -1,12 +1,15 @@
 #!/usr/bin/env python3
 """Makes tables of the records that scenarios.sh left. Goodput in Mbit/s, waits in ms.
 
-usage: bindings/ns3/table.py RESULTS.csv [full | beside | plot] [stamp | random | uncapped | all]
+usage: bindings/ns3/table.py RESULTS.csv [full | beside | plot | choices] [stamp | random | uncapped | all | scaled]
 
 full    for each scenario a table with a line for each queue: of each figure the mean over the runs, and in brackets the least and the greatest
 beside  a line for each scenario: this repository's PIE beside PieQueueDisc with de-randomization; then all scenarios together; both with another
         of RFC 8033's optional elements where one is named, or with all three
 plot    the mean waits, for draw.sh
+choices for each rate a table of RFC 8033's optional elements: for each scenario that was run with others a line for each choice. It has this
+        repository's PIE, with the chances of its differences from the usual elements, and PieQueueDisc, with those from this PIE: of the mean
+        wait, then of goodput. Then a table of all scenarios together
 
 How the two are compared was fixed before the runs were made. The runs of the two are mixed, and parted again at random, 5,000 times; `chance`
 is the share of those in which the means lie at least as far apart as they do in truth. Below 0.05 they differ beyond the spread of the runs.
@@ -31,6 +34,7 @@ CHOICES = {
     "random": "not de-randomized",
     "uncapped": "not capped",
     "all": "by time stamps, not de-randomized, not capped",
+    "scaled": "scaled by size",
 }
 FIGURES = {
     "goodput_mbit": "goodput",
@@ -136,7 +140,7 @@ def print_together(runs, beside, compared, name):
 
 def print_beside(runs, scenarios, choice=None):
     """With fewer than four runs of each no parting is rarer than one of ten, so such a scenario has no chance of its own."""
-    beside = tuple(f"{kind}-{choice}" if choice else kind for kind in ("recorded", "pie"))
+    beside = beside_of(choice)
     counts = {it: [len(runs.get((it, queue), [])) for queue in beside] for it in scenarios}
     compared = [it for it in scenarios if min(counts[it]) > 0]
     print("| scenario | runs | wait, tail drop | wait, here | wait, PieQueueDisc | chance | goodput, tail drop | goodput, here "
@@ -159,6 +163,61 @@ def print_beside(runs, scenarios, choice=None):
     print_together(runs, beside, compared, "All")
 
 
+def beside_of(choice):
+    """This repository's queue of a choice, and that of ns-3 beside it: PieQueueDisc always scales under a limit in bytes."""
+    return (f"recorded-{choice}", "pie" if choice == "scaled" else f"pie-{choice}") if choice else ("recorded", "pie")
+
+
+def chances_of(ours, theirs):
+    """The chance of a difference in each figure that is compared, as a cell; nothing where there are too few runs, or the same ones."""
+    if ours is theirs or min(len(ours), len(theirs)) < 4:
+        return ""
+    found = [chance([(values(ours, figure), values(theirs, figure))]) for figure in COMPARED]
+    return ", ".join(f"**{it:.2g}**" if it < BEYOND else f"{it:.2f}" for it in found)
+
+
+def print_choice(runs, scenario, choice, name):
+    usual = runs[scenario, "recorded"]
+    ours, theirs = [runs.get((scenario, queue), []) for queue in beside_of(choice)]
+    if not ours or not theirs:
+        return
+    shares = [shown(ours, figure) for figure in ("wait_mean_ms", "wait_p99_ms", "goodput_mbit", "early", "tail", "marked")]
+    counts = ", ".join(str(it) for it in sorted({len(ours), len(theirs)}))
+    cells = [name, CHOICES[choice] if choice else "usual", counts, *shares, chances_of(ours, usual)]
+    print("| " + " | ".join([*cells, shown(theirs, "wait_mean_ms"), shown(theirs, "goodput_mbit"), chances_of(ours, theirs)]) + " |")
+
+
+def together(runs, scenarios, queues):
+    """How one queue's means are to another's over the scenarios that both have, with the chance of it: mean wait, and goodput."""
+    both = [it for it in scenarios if all((it, queue) in runs for queue in queues)]
+    cells = []
+    for figure in COMPARED if both else ():
+        pairs = [tuple(values(runs[it, queue], figure) for queue in queues) for it in both]
+        cells.append(f"{math.exp(ratio(pairs)):.2f} ({chance(pairs):.2g})")
+    return cells or ["", ""]
+
+
+def print_choices(runs, scenarios):
+    scenarios = [it for it in scenarios if any((it, f"recorded-{choice}") in runs for choice in CHOICES)]
+    for rate in dict.fromkeys(it[0] for it in scenarios):
+        print(f"\n{rate} Mbit/s:\n")
+        print("| scenario | elements | runs | wait | wait 99th | goodput | early drops | tail drops | marks | chance beside usual "
+              "| wait, PieQueueDisc | goodput, PieQueueDisc | chance beside it |")
+        print("|---|" + "---|" * 12)
+        for scenario in scenarios:
+            name = name_of(scenario).split(", ", 1)[1]
+            for choice in (None, *CHOICES) if scenario[0] == rate else ():
+                print_choice(runs, scenario, choice, name if choice is None else "")
+    print("\nAll scenarios above together, as ratios of mean wait and of goodput, with the chance of each:\n")
+    print("| elements | wait, beside usual | goodput | wait, PieQueueDisc beside its usual | goodput | wait, here beside PieQueueDisc | goodput |")
+    print("|---|" + "---|" * 6)
+    for choice in CHOICES:
+        ours, theirs = beside_of(choice)
+        queues = [(ours, "recorded"), (theirs, "pie"), (ours, theirs)]
+        cells = [cell for pair in queues for cell in together(runs, scenarios, pair)]
+        print(f"| {CHOICES[choice]} | " + " | ".join(cells) + " |")
+
+
 def print_plot(runs, scenarios):
     """Of each scenario its rate, its place among those of this rate, its name, and of each queue mean, least and greatest."""
     for rate in dict.fromkeys(scenario[0] for scenario in scenarios):
@@ -174,7 +233,8 @@ def print_plot(runs, scenarios):
 def main():
     runs = read(sys.argv[1])
     scenarios = sorted({scenario for scenario, _ in runs}, key=lambda it: (float(it[0]), it[3], it[4], float(it[2]) != 40, float(it[2]), int(it[1])))
-    {"full": print_full, "beside": print_beside, "plot": print_plot}[sys.argv[2] if len(sys.argv) > 2 else "full"](runs, scenarios, *sys.argv[3:])
+    kinds = {"full": print_full, "beside": print_beside, "choices": print_choices, "plot": print_plot}
+    kinds[sys.argv[2] if len(sys.argv) > 2 else "full"](runs, scenarios, *sys.argv[3:])
 
 
 main()

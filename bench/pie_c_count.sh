@@ -15,7 +15,8 @@ work=$(mktemp -d)
 trap 'rm -rf "$work"' EXIT
 stored=bench/pie_c_count.txt
 "${CC:-cc}" -O2 -Iinclude -o "$work/count" bench/pie_c_count.c crates/pie_c/out/libpie_c.a
-for kind in arrive_considered arrive_passed arrive_dropped depart_measured depart_unmeasured update update_too_soon empty reset set_params arrive_event write_event; do
+for kind in arrive_considered arrive_passed arrive_dropped depart_measured depart_unmeasured update update_too_soon empty reset set_params \
+    arrive_event write_event; do
     case $kind in set_params | arrive_event | write_event) call=pie_$kind ;; *) call=pie_${kind%%_*} ;; esac
     valgrind --tool=callgrind --callgrind-out-file=/dev/null --toggle-collect="$call" "$work/count" "$kind" 1000 2> "$work/said"
     echo "$kind $(($(awk '/Collected/ {print $NF}' "$work/said") / 1000))"

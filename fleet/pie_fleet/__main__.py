@@ -75,14 +75,16 @@ def known_of(row):
     return None
 
 
-def batches_of(files, sizes):
-    """The files in batches of some megabytes, those of one host together."""
+def batches_of(files, sizes, threads):
+    """The files in batches, those of one host together: for each thread some twenty, and none of more than 64 files or 256 megabytes. A batch costs
+    some milliseconds beside its histories, and the fewer histories it has the closer together the workers end."""
     from .cluster import Batch
+    most = min(64, max(1, len(files) // (20 * threads)))
     batches, last, held = [], None, 0
     for each in files:
         link, _, host, _ = each
         size = sizes.get(link, 2 ** 20)
-        if last is None or last.host != host or len(last.files) == 16 or held + size > 2 ** 23:
+        if last is None or last.host != host or len(last.files) == most or held + size > 2 ** 28:
             last, held = Batch(host, []), 0
             batches.append(last)
         last.files.append(each)
@@ -119,7 +121,7 @@ def gather(asked, rows, add):
         bar.add(len(made))
 
     if client:
-        cluster.run(client, workers, batches_of(files, sizes), done, asked.patience)
+        cluster.run(client, workers, batches_of(files, sizes, sum(workers.threads.values())), done, asked.patience)
         client.close()
     else:
         for each in files:

@@ -1,7 +1,8 @@
 """The work on a Dask cluster: batches of histories go to workers that have the right `pie`, and their rows come back as they are made."""
 import queue
 import socket
-from collections import Counter, namedtuple
+import time
+from collections import Counter, defaultdict, namedtuple
 
 import cloudpickle
 
@@ -20,7 +21,7 @@ class Workers:
 
     def __init__(self, client, pie, tell):
         self.client, self.pie, self.tell = client, pie, tell
-        self.versions, self.names, self.told = {}, {}, set()
+        self.versions, self.names, self.threads, self.told = {}, {}, {}, set()
         self.look()
         counted = Counter(version for version in self.versions.values() if version)
         self.wanted = max(sorted(counted), key=lambda version: counted[version]) if counted else None
@@ -29,6 +30,7 @@ class Workers:
     def look(self):
         """Looks at workers that have come, and forgets those that have gone."""
         live = self.client.scheduler_info()["workers"]
+        self.threads = {at: worker["nthreads"] for at, worker in live.items()}
         self.names = {at: names for at, names in self.names.items() if at in live}
         new = [at for at in live if at not in self.names]
         if new:
@@ -59,71 +61,87 @@ class Workers:
 
 
 def run(client, workers, batches, add, patience):
-    """Makes the rows of all batches, and hands each batch's rows to `add`. Of a batch whose machine has no fit worker for `patience` turns of a
-    second, and of one whose workers died, the rows say so."""
-    ended = queue.Queue()
-    waiting = list(reversed(batches))
-    under_way, unreached, tries = {}, Counter(), Counter()
+    """Makes the rows of all batches, and hands each batch's rows to `add`. Of a batch whose machine has no fit worker for `patience` seconds, and of
+    one whose workers died, the rows say so."""
+    Run(client, workers, add, patience).make(batches)
 
-    def give_up(batch, finding, note):
-        add([{**dict.fromkeys(work.KNOWN, ""), "link": link, "path": path, "host": host, "status": 1, "finding": finding, "note": note}
-             for link, path, host, _ in batch.files])
 
-    def submit():
-        left = []
-        threads = sum(worker["nthreads"] for worker in client.scheduler_info()["workers"].values())
-        while waiting and len(under_way) < 3 * max(1, threads) + 8:
-            batch = waiting.pop()
-            fit = workers.fit(batch.host)
-            if not fit:
-                left.append(batch)
-                continue
-            future = client.submit(work.rows_of, batch.files, workers.pie, workers.wanted, workers=fit, allow_other_workers=False, pure=False)
-            under_way[future.key] = future, batch, fit
-            future.add_done_callback(ended.put)
-        waiting.extend(reversed(left))
+class Run:
+    """Of each host (None: of any) the batches that wait and how many workers have; and how often a history was tried."""
 
-    def again(batch, why, finding):
-        """A batch that failed with its worker: its histories one by one, and each so often."""
-        if len(batch.files) > 1:
-            waiting.extend(Batch(batch.host, [each]) for each in batch.files)
+    def __init__(self, client, workers, add, patience):
+        self.client, self.workers, self.add, self.patience = client, workers, add, patience
+        self.waiting, self.under_way, self.ended = defaultdict(list), {}, queue.Queue()
+        self.busy, self.unreached, self.tries = Counter(), Counter(), Counter()
+
+    def make(self, batches):
+        for batch in reversed(batches):
+            self.waiting[batch.host].append(batch)
+        looked = time.monotonic()
+        self.submit()
+        while self.under_way or any(self.waiting.values()):
+            try:
+                self.take(self.ended.get(timeout=1))
+            except queue.Empty:
+                pass
+            if time.monotonic() - looked >= 1:
+                self.look()
+                looked = time.monotonic()
+            self.submit()
+
+    def submit(self):
+        """Hands out batches, so many that each thread of a host has one behind its own."""
+        for host, waiting in self.waiting.items():
+            fit = self.workers.fit(host)
+            room = 2 * sum(self.workers.threads[at] for at in fit)
+            while fit and waiting and self.busy[host] < room:
+                batch = waiting.pop()
+                words = (batch.files, self.workers.pie, self.workers.wanted)
+                future = self.client.submit(work.rows_of, *words, workers=fit, allow_other_workers=False, pure=False)
+                self.under_way[future.key] = future, batch, fit
+                self.busy[host] += 1
+                future.add_done_callback(self.ended.put)
+
+    def take(self, future):
+        """Takes what came of a batch."""
+        if future.key not in self.under_way:
             return
-        tries[batch.files[0][0]] += 1
-        if tries[batch.files[0][0]] < TRIES:
-            waiting.append(batch)
-        else:
-            give_up(batch, finding, why)
-
-    submit()
-    while waiting or under_way:
-        try:
-            future = ended.get(timeout=1)
-        except queue.Empty:
-            workers.look()
-            workers.tell_wrong()
-            live = set(workers.names)
-            for key, (future, batch, fit) in list(under_way.items()):
-                if not live & set(fit):
-                    del under_way[key]
-                    future.cancel()
-                    waiting.append(batch)
-            for batch in [batch for batch in waiting if not workers.fit(batch.host)]:
-                unreached[batch.files[0][0]] += 1
-                if unreached[batch.files[0][0]] >= patience:
-                    waiting.remove(batch)
-                    give_up(batch, "unreached", f"no worker that fits on {batch.host}" if batch.host else "no worker that fits")
-            submit()
-            continue
-        if future.key not in under_way:
-            continue
-        _, batch, _ = under_way.pop(future.key)
+        _, batch, _ = self.under_way.pop(future.key)
+        self.busy[batch.host] -= 1
         made = future.result() if future.status == "finished" else None
         if isinstance(made, list):
-            add(made)
+            self.add(made)
         elif made:
-            workers.look_again()
-            again(batch, f"{made}, and not {workers.wanted}", "unreached")
+            self.workers.look_again()
+            self.again(batch, f"{made}, and not {self.workers.wanted}")
         else:
             fault = future.exception() if future.status == "error" else future.status
-            again(batch, f"its worker died, or failed: {type(fault).__name__}: {fault}".split("\n")[0], "unreached")
-        submit()
+            self.again(batch, f"its worker died, or failed: {type(fault).__name__}: {fault}".split("\n")[0])
+
+    def again(self, batch, why):
+        """A batch that failed with its worker: its histories one by one, and each so often."""
+        link = batch.files[0][0]
+        self.tries[link] += len(batch.files) == 1
+        if self.tries[link] < TRIES:
+            self.waiting[batch.host].extend(Batch(batch.host, [each]) for each in batch.files)
+        else:
+            self.give_up(batch, why)
+
+    def give_up(self, batch, note):
+        self.add([{**dict.fromkeys(work.KNOWN, ""), "link": link, "path": path, "host": host, "status": 1, "finding": "unreached", "note": note}
+                  for link, path, host, _ in batch.files])
+
+    def look(self):
+        """Looks which workers there are. What workers had that are gone is handed out anew, and what no worker fits for long is given up."""
+        self.workers.look()
+        self.workers.tell_wrong()
+        for key, (future, batch, fit) in list(self.under_way.items()):
+            if not self.workers.names.keys() & set(fit):
+                del self.under_way[key]
+                self.busy[batch.host] -= 1
+                future.cancel()
+                self.waiting[batch.host].append(batch)
+        for host, waiting in self.waiting.items():
+            self.unreached[host] = 0 if self.workers.fit(host) else self.unreached[host] + 1
+            while waiting and self.unreached[host] >= self.patience:
+                self.give_up(waiting.pop(), f"no worker that fits on {host}" if host else "no worker that fits")

@@ -15,7 +15,7 @@ KNOWN = ["link", "path", "host", "size", "changed", "status", "finding", "event"
 def version_of(pie):
     """The version that `pie --version` tells here, or None."""
     try:
-        told = subprocess.run([pie, "--version"], capture_output=True, text=True, stdin=subprocess.DEVNULL)
+        told = _call([pie, "--version"])
     except OSError:
         return None
     return told.stdout.strip() if told.returncode == 0 else None
@@ -24,6 +24,10 @@ def version_of(pie):
 def _stamp(path):
     known = os.stat(path)
     return known.st_size, known.st_mtime_ns
+
+
+def _call(words):
+    return subprocess.run(words, capture_output=True, text=True, errors="replace", stdin=subprocess.DEVNULL)
 
 
 def row_of(link, path, host, known, pie):
@@ -38,8 +42,8 @@ def row_of(link, path, host, known, pie):
         return {"link": link, "same": True}
     row["size"], row["changed"] = size, changed
     try:
-        audit = subprocess.run([pie, "audit", path], capture_output=True, text=True, errors="replace", stdin=subprocess.DEVNULL)
-        summed = subprocess.run([pie, "explain", "--summary", "--csv", path], capture_output=True, text=True, errors="replace", stdin=subprocess.DEVNULL)
+        audit = _call([pie, "audit", path])
+        summed = _call([pie, "explain", "--summary", "--csv", path])
     except OSError as fault:
         return {**row, "finding": "unread", "note": f"{pie}: {fault.strerror}"}
     found = re.fullmatch(r"(?s:.*: )(clean|differs),(\d+)\n", audit.stdout)

@@ -8,6 +8,7 @@ usage: tests/fleet/fleet.py [PROGRAM [HISTORIES]]      PROGRAM: crates/pie/out/p
 needs: program
 """
 import csv
+import json
 import os
 import random
 import shutil
@@ -27,7 +28,8 @@ failures = []
 
 def python_with_dask():
     for name in ("python3", "/usr/bin/python3"):
-        if shutil.which(name) and subprocess.run([name, "-c", "import distributed"], capture_output=True).returncode == 0:
+        look = "import importlib.util, sys; sys.exit(importlib.util.find_spec('distributed') is None)"
+        if shutil.which(name) and subprocess.run([name, "-c", look], capture_output=True).returncode == 0:
             return name
     return None
 
@@ -52,7 +54,7 @@ def make_histories(folder):
     chance = random.Random(8033)
     names = []
     examples = [open(f"{TOP}/examples/{name}").read() for name in sorted(os.listdir(f"{TOP}/examples")) if name.endswith(".history")]
-    storms, long = [storm(seed, 250, load) for seed, load in enumerate((100, 120, 50, 80, 150), 1)], storm(6, 6000, 100)
+    storms, long = [storm(seed, 250, load) for seed, load in enumerate((100, 120, 50, 80, 150), 1)], storm(6, 3000, 100)
     for number in range(MANY):
         name = f"{folder}/link{number:03}.history"
         whole = long if number % 50 == 1 else examples[number // 7 % len(examples)] if number % 7 == 0 else storms[number % len(storms)]
@@ -114,6 +116,15 @@ def same(what, path, names, links=None):
             check(f"{what}: {link}", False, differ)
 
 
+def address_in(place):
+    """The scheduler's address, once its file has all of it."""
+    try:
+        with open(place) as text:
+            return json.load(text)["address"]
+    except (OSError, ValueError, KeyError):
+        return None
+
+
 class Cluster:
     """A scheduler and workers on this machine, each worker with one thread and a folder of its own on its path."""
 
@@ -122,26 +133,22 @@ class Cluster:
         place = f"{folder}/scheduler.json"
         self.begin([PYTHON, "-m", "distributed.cli.dask_scheduler", "--host", "127.0.0.1", "--port", "0", "--no-dashboard",
                     "--scheduler-file", place])
-        self.wait_for(place)
-        import json
-        for _ in range(100):
-            try:
-                self.address = json.load(open(place))["address"]
-                break
-            except (ValueError, KeyError):
-                time.sleep(0.1)
+        self.address = self.wait_for("the scheduler", lambda: address_in(place))
 
     def begin(self, words, **more):
         log = open(f"{self.folder}/log{len(self.processes)}", "w")
-        self.processes.append(subprocess.Popen(words, stdout=log, stderr=log, stdin=subprocess.DEVNULL, cwd=self.folder, start_new_session=True, **more))
+        more = {**more, "stdout": log, "stderr": log, "stdin": subprocess.DEVNULL}
+        self.processes.append(subprocess.Popen(words, cwd=self.folder, start_new_session=True, **more))
         return self.processes[-1]
 
-    def wait_for(self, path):
-        for _ in range(300):
-            if os.path.exists(path):
-                return
+    def wait_for(self, what, look):
+        """Waits, on a busy machine for minutes, until there is what `look` answers."""
+        for _ in range(1800):
+            found = look()
+            if found:
+                return found
             time.sleep(0.1)
-        sys.exit(f"tests/fleet/fleet.py: {path} did not come: {open(f'{self.folder}/log0').read()}")
+        sys.exit(f"tests/fleet/fleet.py: {what} did not come: {open(f'{self.folder}/log0').read()[-2000:]}")
 
     def worker(self, name, program=PROGRAM, nanny=True):
         bin_folder = f"{self.folder}/{name}"
@@ -149,14 +156,13 @@ class Cluster:
         if program:
             os.symlink(program, f"{bin_folder}/pie")
         path = f"{bin_folder}:{os.path.dirname(shutil.which('env'))}"
-        self.workers[name] = self.begin(
-            [shutil.which(PYTHON), "-m", "distributed.cli.dask_worker", self.address, "--name", name, "--nthreads", "1", "--no-dashboard", "--host", "127.0.0.1",
-             "--nanny" if nanny else "--no-nanny", "--local-directory", bin_folder], env={**os.environ, "PATH": path})
+        words = [shutil.which(PYTHON), "-m", "distributed.cli.dask_worker", self.address, "--name", name, "--nthreads", "1", "--no-dashboard",
+                 "--host", "127.0.0.1", "--nanny" if nanny else "--no-nanny", "--local-directory", bin_folder]
+        self.workers[name] = self.begin(words, env={**os.environ, "PATH": path})
 
     def count(self, wanted):
-        """Waits until so many workers are there."""
-        look = f"from distributed import Client\nc = Client({self.address!r})\nc.wait_for_workers({wanted}, timeout=60)\n"
-        subprocess.run([PYTHON, "-c", look], check=True, capture_output=True)
+        """Waits until the scheduler has told of so many workers that came."""
+        self.wait_for(f"{wanted} workers", lambda: open(f"{self.folder}/log0").read().count("Register worker") >= wanted)
 
     def end(self):
         for process in reversed(self.processes):
@@ -215,9 +221,9 @@ def run_alone(work, names):
 def run_cluster(cluster, work, names):
     pattern = f"{work}/histories/*.history"
     where = ["--scheduler", cluster.address, "--patience", "3"]
-    for name in ("one", "two"):
-        cluster.worker(name)
-    cluster.worker("three", nanny=False)
+    cluster.worker("one")
+    for name in ("two", "three"):
+        cluster.worker(name, nanny=False)
     cluster.count(3)
     # The third worker is killed as soon as a row has come, and has no nanny to start it again.
     begun = subprocess.Popen([PYTHON, "-m", "pie_fleet", pattern, *where, "-o", f"{work}/table.csv"], cwd=f"{TOP}/fleet", stderr=subprocess.PIPE,
@@ -289,9 +295,10 @@ def run_changed(cluster, work, names, where):
 
 
 def run_stopped(work, names, where):
-    """A run that is stopped leaves its journal, and the same command goes on; a line of the journal that was cut is made again."""
-    begun = subprocess.Popen([PYTHON, "-m", "pie_fleet", f"{work}/histories/*.history", *where, "-o", f"{work}/third.csv"], cwd=f"{TOP}/fleet",
-                             stderr=subprocess.DEVNULL, stdout=subprocess.DEVNULL)
+    """A run of a hundred that is stopped leaves its journal, and the same command goes on; a line of the journal that was cut is made again."""
+    some = [name for name in names if "/link0" in name]
+    words = [f"{work}/histories/link0*.history", *where, "-o", f"{work}/third.csv"]
+    begun = subprocess.Popen([PYTHON, "-m", "pie_fleet", *words], cwd=f"{TOP}/fleet", stderr=subprocess.DEVNULL, stdout=subprocess.DEVNULL)
     journal = f"{work}/third.csv.journal"
     while begun.poll() is None and not (os.path.exists(journal) and os.path.getsize(journal)):
         time.sleep(0.02)
@@ -300,11 +307,11 @@ def run_stopped(work, names, where):
     check("a run that was stopped: no table", not os.path.exists(f"{work}/third.csv"))
     with open(journal) as text:
         rows = text.readlines()
-    check("a run that was stopped: a journal of some", 0 < len(rows) < len(names), len(rows))
+    check("a run that was stopped: a journal of some", 0 < len(rows) < len(some), len(rows))
     with open(journal, "a") as out:
         out.write(rows[0][:40])
-    fleet(f"{work}/histories/*.history", *where, "-o", f"{work}/third.csv", status=1)
-    same("a run that was stopped", f"{work}/third.csv", names)
+    fleet(*words, status=1)
+    same("a run that was stopped", f"{work}/third.csv", some)
 
 
 def run_hosts(cluster, work, names, where):
@@ -313,13 +320,14 @@ def run_hosts(cluster, work, names, where):
     with open(other, "w") as out:
         out.write("#!/bin/sh\necho pie 0.0.1\n")
     os.chmod(other, 0o755)
-    cluster.worker("four", program=None)
-    cluster.worker("five", program=other)
-    cluster.count(4)
+    cluster.worker("four", program=None, nanny=False)
+    cluster.worker("five", program=other, nanny=False)
+    cluster.count(5)
     listed = [f"{host}: {name}" for host, name in zip(["one", "two"] * 10, names)]
     with open(f"{work}/list", "w") as out:
         out.write("\n".join([*listed, f"nowhere: {names[0]}", f"one: {work}/gone.history", f"four: {names[1]}"]) + "\n")
-    fleet("--list", f"{work}/list", *where, "-o", f"{work}/hosts.csv", "--page", f"{work}/page.html", status=1, errors="gets no work: it has pie 0.0.1")
+    fleet("--list", f"{work}/list", *where, "-o", f"{work}/hosts.csv", "--page", f"{work}/page.html", status=1,
+          errors="gets no work: it has pie 0.0.1")
     rows = table(f"{work}/hosts.csv")
     check("a host without a worker", rows[f"nowhere: {names[0]}"]["finding"] == "unreached", rows[f"nowhere: {names[0]}"])
     check("a worker without pie", rows[f"four: {names[1]}"]["finding"] == "unreached", rows[f"four: {names[1]}"])
@@ -350,49 +358,60 @@ def wait_for_server(host, port):
     sys.exit(f"tests/fleet/fleet.py: no server came on {host}")
 
 
-def run_ssh(work, names):
-    """docs/FLEET.md's command over SSH, with three servers of this user's on loopback addresses."""
-    if not shutil.which("parallel") or not shutil.which("rsync") or not os.path.exists("/usr/sbin/sshd"):
-        print("NOT RUN: tests/fleet/fleet.py: no GNU parallel, no rsync or no sshd here (fleet/install.sh), so nothing went over SSH")
-        return
-    ssh = f"{work}/ssh"
-    os.makedirs(ssh, mode=0o700)
+def start_servers(ssh, hosts):
+    """An SSH server of this user's on each of some loopback addresses, and the client's configuration for all. Sessions share a connection, and
+    start no shell's profile of this user's."""
     subprocess.run(["ssh-keygen", "-q", "-t", "ed25519", "-N", "", "-f", f"{ssh}/key"], check=True)
     shutil.copy(f"{ssh}/key.pub", f"{ssh}/authorized_keys")
     os.makedirs("/run/sshd", exist_ok=True)
-    hosts = [f"127.0.0.{number}" for number in (2, 3, 4)]
-    ports = [free_port(host) for host in hosts]
     servers = []
     with open(f"{ssh}/config", "w") as out:
-        for host, port in zip(hosts, ports):
+        for host in hosts:
+            port = free_port(host)
             out.write(f"Host {host}\n Port {port}\n IdentityFile {ssh}/key\n UserKnownHostsFile {ssh}/known\n StrictHostKeyChecking no\n"
-                      f" LogLevel ERROR\n")
-    try:
-        for number, (host, port) in enumerate(zip(hosts, ports)):
-            servers.append(subprocess.Popen(
-                ["/usr/sbin/sshd", "-D", "-e", "-f", "/dev/null", "-h", f"{ssh}/key", "-p", str(port), "-o", f"ListenAddress={host}",
-                 "-o", f"AuthorizedKeysFile={ssh}/authorized_keys", "-o", "StrictModes=no", "-o", "PidFile=none", "-o", "MaxStartups=100",
-                 "-o", f"SetEnv=PATH={os.path.dirname(PROGRAM)}:{os.defpath}"], stderr=open(f"{ssh}/log{number}", "w")))
-        for host, port in zip(hosts, ports):
+                      f" LogLevel ERROR\n ControlMaster auto\n ControlPath {ssh}/to-%h\n ControlPersist 60\n")
+            words = ["/usr/sbin/sshd", "-D", "-e", "-f", "/dev/null", "-h", f"{ssh}/key", "-p", str(port)]
+            for option in (f"ListenAddress={host}", f"AuthorizedKeysFile={ssh}/authorized_keys", "StrictModes=no", "PidFile=none", "MaxStartups=100",
+                           "MaxSessions=100", f"SetEnv=PATH={os.path.dirname(PROGRAM)}:{os.defpath} HOME={ssh}"):
+                words += ["-o", option]
+            servers.append(subprocess.Popen(words, stderr=open(f"{ssh}/log-{host}", "w")))
             wait_for_server(host, port)
+    return servers
+
+
+def run_ssh(work, names):
+    """docs/FLEET.md's commands over SSH, with three servers on loopback addresses: all histories, which every host sees, and some that are sent."""
+    if not shutil.which("parallel") or not shutil.which("rsync") or not os.path.exists("/usr/sbin/sshd"):
+        print("NOT RUN: tests/fleet/fleet.py: no GNU parallel, no rsync or no sshd here (fleet/install.sh), so nothing went over SSH")
+        return
+    ssh, hosts = f"{work}/ssh", [f"127.0.0.{number}" for number in (2, 3, 4)]
+    os.makedirs(ssh, mode=0o700)
+    os.mkdir(f"{work}/there")
+    servers = start_servers(ssh, hosts)
+    words = ["parallel", "--ssh", f"ssh -F {ssh}/config", "--sshlogin", ",".join(f"2/{host}" for host in hosts), "--joblog", f"{work}/joblog"]
+    try:
+        by_parallel("over SSH", work, hosts, [*words, "-X", "pie", "audit", "{}"], sorted(names))
         # (files are sent to a folder of their own there, since all hosts are this machine, and are removed from it behind the audit)
-        os.mkdir(f"{work}/there")
-        some = [os.path.relpath(name, work) for name in names if os.path.exists(name)][:30]
-        alone = subprocess.run([PROGRAM, "audit", *some], capture_output=True, text=True, cwd=work)
-        words = ["parallel", "--ssh", f"ssh -F {ssh}/config", "--sshlogin", ",".join(hosts), "--workdir", f"{work}/there", "--transferfile", "{}",
-                 "--cleanup", "--joblog", f"{work}/joblog", "pie", "audit", "{}", ":::", *some]
-        ended = subprocess.run(words, capture_output=True, text=True, cwd=work, stdin=subprocess.DEVNULL, timeout=300)
-        check("over SSH: the findings", sorted(ended.stdout.splitlines()) == sorted(alone.stdout.splitlines()), ended.stderr[-2000:])
-        # (what the hosts' shells say as they start is none of it)
-        told = [line for line in ended.stderr.splitlines() if line.startswith("pie: ")]
-        check("over SSH: the faults", sorted(told) == sorted(alone.stderr.splitlines()), ended.stderr[-2000:])
-        with open(f"{work}/joblog") as text:
-            jobs = list(csv.DictReader(text, delimiter="\t"))
-        check("over SSH: each host worked", {job["Host"] for job in jobs} == set(hosts), {job["Host"] for job in jobs})
+        sent = [*words, "--workdir", f"{work}/there", "--transferfile", "{}", "--cleanup", "pie", "audit", "{}"]
+        by_parallel("sent over SSH", work, hosts, sent, [os.path.relpath(name, work) for name in sorted(names)[:15]])
+        check("sent over SSH: removed there", not any(files for _, _, files in os.walk(f"{work}/there")))
     finally:
         for server in servers:
             server.terminate()
             server.wait()
+
+
+def by_parallel(what, work, hosts, words, names):
+    """Whether a command of GNU parallel finds of some histories what one process finds, and each host had a part."""
+    alone = subprocess.run([PROGRAM, "audit", *names], capture_output=True, text=True, cwd=work)
+    ended = subprocess.run([*words, ":::", *names], capture_output=True, text=True, cwd=work, stdin=subprocess.DEVNULL, timeout=600)
+    check(f"{what}: the findings", sorted(ended.stdout.splitlines()) == sorted(alone.stdout.splitlines()), ended.stderr[-2000:])
+    told = [line for line in ended.stderr.splitlines() if line.startswith("pie: ")]
+    check(f"{what}: the faults", sorted(told) == sorted(alone.stderr.splitlines()), ended.stderr[-2000:])
+    with open(f"{work}/joblog") as text:
+        jobs = list(csv.DictReader(text, delimiter="\t"))
+    check(f"{what}: the status", ended.returncode == sum(job["Exitval"] != "0" for job in jobs), (ended.returncode, jobs))
+    check(f"{what}: each host worked", {job["Host"].rpartition("/")[2] for job in jobs} == set(hosts), {job["Host"] for job in jobs})
 
 
 if __name__ == "__main__":

@@ -32,7 +32,8 @@ rounded="pie: alpha is rounded down to whole thousandths per second\npie: beta i
 params 'odd gains' "$usual,0,1000,1000,$events,15000000,15000000,150000000,187,1312,1024,262144,0,16384" \
     "$rounded" --alpha 3 --beta 21
 params 'the defaults of RFC 8033' "$usual,0,1000,1000,$events" '' --ecn
-params 'as many packets as there may be' "$usual,0,1048576,1048576,$events,15000000,15000000,150000000,125,1250,1024,262144,0,16384" '' --limit 1048576
+params 'as many packets as there may be' "$usual,0,1048576,1048576,$events,15000000,15000000,150000000,125,1250,1024,262144,0,16384" '' \
+    --limit 1048576
 # Each choice alone, and all of them.
 nine=15000000,15000000,150000000,125,1250,1024,262144,0,16384
 chosen() {
@@ -56,7 +57,8 @@ for time in 20 20m ms 20min +20ms ' 20ms' '20 ms' 2e1ms 0x14ms 20.ms . 20msecss 
     expect "no time: $time" 1 '' 'pie: --target is a number of ns, us, ms or s, as 20ms\n' '' params --target "$time"
 done
 for rate in 100 100m 100mb 100mbyte mbit 100kmbit 100kiibit +1mbit ''; do
-    expect "no rate: $rate" 1 '' 'pie: --rate is a number of bit, kbit, mbit, gbit or tbit, or of bps, kbps and so on, as 100mbit\n' '' params --rate "$rate"
+    expect "no rate: $rate" 1 '' 'pie: --rate is a number of bit, kbit, mbit, gbit or tbit, or of bps, kbps and so on, as 100mbit\n' '' \
+        params --rate "$rate"
 done
 for rate in 0mbit 0bit 0.000tbps; do
     expect "a rate of $rate" 1 '' 'pie: --rate is at least 1bit\n' '' params --rate "$rate"

@@ -195,7 +195,8 @@ def choices(tool):
 
 
 def filters(tool):
-    mixed = [(i * 10**6, frame(ETHERNET, (ipv4 if i % 2 else ipv6)(200, 0))) for i in range(20)] + [(20 * 10**6, bytes(12) + b"\x08\x06" + bytes(28))]
+    arp = bytes(12) + struct.pack(">H", 0x0806) + bytes(28)
+    mixed = [(i * 10**6, frame(ETHERNET, (ipv4 if i % 2 else ipv6)(200, 0))) for i in range(20)] + [(20 * 10**6, arp)]
     _, lines, found, frames, said = tool.run(pcap(ETHERNET, mixed), filter_words=["ip6", "and", "udp"])
     expect([int(it[3]) for it in arrivals(lines)] == list(range(1, 21, 2)) and is_clean(lines, found), "ip6 and udp")
     expect(len(frames) == 21 and "11 frames that the filter passed over" in said, said)
@@ -235,7 +236,7 @@ def broken(tool):
     for name, data in {"an unknown link type": pcap(BLUETOOTH, good), "no capture": b"no capture at all, but text", "nothing": b""}.items():
         status, lines, _, _, said = tool.run(data)
         expect(status == 1 and lines == [] and said.count("\n") == 1, f"{name}: status {status}: {said}")
-    odd = [ipv4(100, 0, total=10), ipv4(100, 0, total=101), ipv6(100, 0, total=61), bytes([0x42]) + ipv4(100, 0)[1:], ipv4(19, 0), b"\x45"]
+    odd = [ipv4(100, 0, total=10), ipv4(100, 0, total=101), ipv6(100, 0, total=61), bytes([0x42]) + ipv4(100, 0)[1:], ipv4(19, 0), bytes([0x45])]
     status, lines, found, _, said = tool.run(pcap(ETHERNET, [(i, frame(ETHERNET, p)) for i, p in enumerate(odd)] + [(9, b"short")]))
     expect(status == 0 and arrivals(lines) == [] and "6 frames with lengths that can't be" in said, said)
     expect("1 frames that were captured too short" in said, said)

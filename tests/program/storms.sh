@@ -114,9 +114,9 @@ for profile in 1 2; do
         fi
     done
 done
+wanted='--delay is rate or stamp, --picking derandomized or random, --step capped or uncapped, --size unscaled or scaled'
 for words in --delay=stamps --picking=rate --step=Capped --size=scaled,; do
-    expect "storm $words" 1 '' 'pie: storm: --delay is rate or stamp, --picking derandomized or random, --step capped or uncapped, --size unscaled or scaled\n' \
-        '' storm $words
+    expect "storm $words" 1 '' "pie: storm: $wanted\n" '' storm $words
 done
 full 'a storm' storm --packets 1 < /dev/null
 exit "$failed"

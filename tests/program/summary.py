@@ -166,7 +166,8 @@ def hold(name, history, words):
             every = words.choice((10**6, 10**9, length // 2 + 1, length // words.randrange(3, 30) + 1))
             period = f"--every={written(every, words)}"
             for form, told in (((), lambda n: "".join(map(in_words, n))), (("--csv",), in_csv)):
-                expect(f"{name}: --summary {form} {which} {options}", pie(history, "--summary", *form, *which, *options), (0, told([numbers(some)]), ""))
+                got = pie(history, "--summary", *form, *which, *options)
+                expect(f"{name}: --summary {form} {which} {options}", got, (0, told([numbers(some)]), ""))
                 got = pie(history, *options, *which, *form, period, *words.choice(((), ("--summary",))))
                 expect(f"{name}: {period} {form} {which} {options}", got, (0, told(by_period(some, every)), ""))
 

@@ -62,7 +62,7 @@ def hold_data(name, page, path, *words):
     data, script, style, policy = inside(page)
     check(f"default-src 'none'; script-src {hash_of(script)}; style-src {hash_of(style)};" in policy, f"{name}: the policy is {policy}")
     check(page.count("<script") == 2 and page.isascii(), f"{name}: more scripts than two, or letters that are not ASCII")
-    check("://" not in re.sub(r"http://www\.w3\.org/2000/svg", "", page), f"{name}: an address of the network")
+    check("://" not in re.sub(r"http://www\.w\d\.org/2000/svg", "", page), f"{name}: an address of the network")
     rows = table(explain(path, "--summary", "--csv", *words)[1])
     check([dict(zip(data["fields"], map(str, data["summary"])))] == rows, f"{name}: the summary")
     periods = table(explain(path, f"--every={data['period']}", "--csv", *words)[1])
@@ -126,7 +126,8 @@ def lying_program(folder):
     text = "".join(explain(ROOT / "examples/overload.history", which)[1] for which in ("--lost", "--marked"))
     Path(folder, "words").write_text(text.replace("Not-ECT", HOSTILE.replace(":", "")).replace("picked", HOSTILE))
     path.write_text(f"""#!/bin/sh
-case "$*" in *--digest*) {PROGRAM} "$@" | grep -v '^event \\|^  '; cat {folder}/words ;; *) {PROGRAM} "$@"; cat {folder}/said >&2; exit 2 ;; esac\n""")
+case "$*" in *--digest*) {PROGRAM} "$@" | grep -v '^event \\|^  '; cat {folder}/words ;;
+*) {PROGRAM} "$@"; cat {folder}/said >&2; exit 2 ;; esac\n""")
     path.chmod(0o755)
     Path(folder, "said").write_text(HOSTILE)
     status, page, _ = report(ROOT / "examples/overload.history", using=path)

@@ -1,6 +1,7 @@
 /* Loaded before a program (LD_PRELOAD), refuses one of its requests: the n-th for memory (REFUSE_MEMORY=n), the n-th read of standard
  * input (REFUSE_READ=n), the n-th write of standard output (REFUSE_WRITE=n), the n-th start of a thread (REFUSE_THREAD=n), or the n-th
- * request of those that make, write, move and remove a file (REFUSE_FILE=n). With REFUSE_ON=1 those after it are refused as well. REFUSE_OVER=n refuses each request for more than n bytes of memory.
+ * request of those that make, write, move and remove a file (REFUSE_FILE=n). With REFUSE_ON=1 those after it are refused as well.
+ * REFUSE_OVER=n refuses each request for more than n bytes of memory.
  * A request that was refused makes the file that REFUSE_MET names. Where REFUSE_AFTER names a line that the program writes, only the
  * requests from that line to the next one are counted, and at that next one it is said on standard error if a thread is still running. */
 #define _GNU_SOURCE

@@ -6,3 +6,4 @@ pub mod RunFindings
 pub mod LegalFacts
 mod Examples
 pub mod Written
+mod PastFacts

@@ -121,7 +121,7 @@ impl Controller {
     /// Makes an update, with `queued` bytes in the queue, and answers its delay (RFC 8033, sections 4.2, 4.4 and 5.5). A calm one turns
     /// the controller off in profile two. An inactive controller takes in the moment alone, and the delay is 0. Whether the update
     /// is due is not looked at.
-    #[inline(always)]
+    #[inline(never)]
     pub fn update(&mut self, queued: u64, moment: Nanos) -> u64
         requires { queued ≤ 2 ^ 30 }
         ensures delay { result ≡ delay_answered self.old queued }

@@ -266,7 +266,7 @@ impl RawController {
 
 /// What a packet had waited that departs now, has waited since then and leaves so many bytes, in nanoseconds: at most `2^40`, and 0 where
 /// it leaves the queue empty (RFC 8033, section 4.3; the greatest is this project's own).
-#[inline(always)]
+#[inline(never)]
 fn wait(left: u64, since: u64, now: u64) -> u64
     ensures { result ≡ wait_of left since now }
 {

@@ -83,7 +83,6 @@ impl Core {
         ensures after { self.new ≡ after_command self.old (Depart moment) }
         ensures threshold { (packet : Packet) → result ≡ Left packet → self.old.held.params.dq_threshold ≤ 65536 }
     {
-        let now = self.controller.moment().max(moment);
         let Some(oldest) = self.queue.take() else {
             self.controller.pass(moment);
             self.tally.found_none();
@@ -92,6 +91,7 @@ impl Core {
         let packet = oldest.packet;
         self.controller
             .depart(packet.size, self.queue.bytes(), oldest.since, moment);
+        let now = self.controller.moment();
         let waited = now.units().saturating_sub(oldest.since.units());
         self.tally.departed(packet, waited);
         Answer::Left(packet)

@@ -1,5 +1,6 @@
 ghost use Rattle.std.specs.Prelude.{◌≡◌, ◌+◌, ◌*◌, ◌^◌, ◌<◌, ◌≤◌, nat_lt};
 ghost use Rattle.pie_control.specs.Parts.{parts_of};
+ghost use Rattle.pie_params.specs.declared.elements.Size.TheVariants.{Scaled};
 ghost use Rattle.pie_early.specs.Decision.{accu_after, choice_of, counted_as, is_below, is_considered, is_picked, picked_choice};
 
 use crate::early::{Choice, LOW_PROB, NEVER_PICKED};
@@ -96,16 +97,27 @@ fn half(number: u64) -> u64
 /// What a probability, in units of `10^-12`, counts as for a packet of so many bytes: where sizes are scaled, for one smaller than
 /// `mean_pkt` in proportion to its size, rounded down (this project's own; Linux's `bytemode` where `mean_pkt` is the link's MTU).
 #[inline(always)]
-#[tactic(auto, using(std::proofs::lemmas::Bool::Decides::nat_tests, crate::proofs::Scaling::scaled_below))]
 pub fn counted_as(sizes: Size, params: &RawParams, size: u32, prob: u64) -> u64
     ensures value { result ≡ counted_as sizes params.now size prob }
     ensures at_most { result ≤ prob }
 {
     match sizes {
-        Size::Scaled if u64::from(size) < params.mean_pkt => {
-            (u128::from(prob) * u128::from(size) / u128::from(params.mean_pkt)) as u64
-        }
-        Size::Scaled | Size::Unscaled => prob,
+        Size::Unscaled => prob,
+        Size::Scaled => scaled(params, size, prob),
+    }
+}
+
+/// The same where sizes are scaled.
+#[inline(never)]
+#[tactic(auto, using(std::proofs::lemmas::Bool::Decides::nat_tests, crate::proofs::Scaling::scaled_below))]
+fn scaled(params: &RawParams, size: u32, prob: u64) -> u64
+    ensures value { result ≡ counted_as Scaled params.now size prob }
+    ensures at_most { result ≤ prob }
+{
+    if u64::from(size) < params.mean_pkt {
+        (u128::from(prob) * u128::from(size) / u128::from(params.mean_pkt)) as u64
+    } else {
+        prob
     }
 }
 

@@ -55,12 +55,9 @@ impl RawRate {
         requires { threshold ≤ 65536 }
         ensures { estimate_of self.new ≡ after_departure threshold (estimate_of self.old) (departure size bytes_left moment) }
     {
-        if let Some(cycle) = self.begun {
+        if let Some(cycle) = &mut self.begun {
             if let Some(count) = cycle.counted(size, threshold) {
-                self.begun = Some(RawCycle {
-                    start: cycle.start,
-                    count,
-                });
+                cycle.count = count;
                 return;
             }
             let sample = sample(cycle.start, moment);

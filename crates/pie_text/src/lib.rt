@@ -4,12 +4,14 @@
 #![tactic(auto)]
 
 mod event;
+pub mod law;
 mod note;
 mod opening;
 mod params;
 mod words;
 
 pub use event::{put_arrival, put_empty, put_event, put_left, put_reset, put_update};
+pub use law::lost_records_are_faults;
 pub use note::{put_folded, put_lost, put_refused, put_shown, put_tallied};
 pub use opening::put_opening;
 pub use params::put_params;

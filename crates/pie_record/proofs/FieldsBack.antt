@@ -2,7 +2,7 @@
 use Rattle.std.proofs.Common.{◌≡◌, ◌<◌, ◌+◌, ◌^◌, ℕ, zero, suc, List, [], ◌∷◌, length, drop, Bool, true, false, decimal, refl, ap, subst, ◌∙◌}
 use Rattle.std.proofs.Common.{add-one, arith}
 use Rattle.std.proofs.lemmas.List.{drop_all}
-use Rattle.std.specs.Prelude.{⊤, Option, Some, None, Result, Ok, Err, codes, if◌then◌else◌, map}
+use Rattle.std.specs.Prelude.{⊤, Option, Some, None, Result, Ok, codes, if◌then◌else◌, map}
 use Rattle.std.specs.Option.{ok_or, option_and_then}
 use Rattle.std.specs.Str.{bytes_eq}
 use Rattle.csv.specs.Records.{field_at}
@@ -21,13 +21,13 @@ use Rattle.pie_record.specs.declared.fault.Flaw.{Flaw}
 use Rattle.pie_record.specs.declared.fault.Flaw.TheVariants as flaw
 use Rattle.pie_record.specs.declared.trace_record.Request.TheVariants as request
 use Rattle.pie_record.specs.Command.{arrival_at, asked_at, change_at, change_to, command_at, command_kind, command_length}
-use Rattle.pie_record.specs.Field.{and_then, ecn_at, ecn_of, is_kind, is_word, most_u16, most_u32, most_u64, number_at, packet_at, params_at}
+use Rattle.pie_record.specs.Field.{ecn_at, ecn_of, is_kind, is_word, most_u16, most_u32, most_u64, number_at, packet_at, params_at}
 use Rattle.pie_record.specs.Number.{number}
 use Rattle.pie_record.specs.TraceRecord.{request_of}
 use Rattle.pie_record.specs.Text.{Row}
 use Rattle.pie_record.specs.Words.{ecn_word}
 use Rattle.pie_record.specs.Write.{command_fields, nine_of}
-use Rattle.pie_record.proofs.CommandFacts.{AsksCommand, asks-command}
+use Rattle.pie_record.proofs.CommandFacts.{asks-command}
 use Rattle.pie_record.proofs.FieldFacts.{and_after, same-bytes}
 use Rattle.pie_record.proofs.NumberFacts.{number-some}
 

@@ -8,6 +8,7 @@ mod Appended
 mod TextBack
 mod FieldFacts
 mod CommandFacts
+mod FieldsBack
 mod EventBack
 mod OpeningBack
 mod HistoryBack

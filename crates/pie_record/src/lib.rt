@@ -1,18 +1,18 @@
-//! Records of traces and histories: what a record is, how it is read, how its fault is told and how it is written. Running, auditing,
+//! Records of traces and histories: what a record is, how it is read, how its fault is told and which text it has. Running, auditing,
 //! explaining and migrating stand on this crate.
 //!
 //! The definitions that the contracts cite stand in `specs/`: the records of a text (`records_of`), what its first record opens, what a
 //! record of a trace asks and what a record of a history tells, and the text of records. A record of an event is a command's record with its
 //! answer, so both read the command by one reader (`command_at`).
 //!
-//! `Records` reads one record after another from any reader, and `HistoryLines` the opening and the lines of a history. `Rows` writes records to any
-//! writer, many at a time. Both take memory for one record and one page. A reader never answers `Write`, and a writer never `Read` (clauses
+//! `Records` reads one record after another from any reader, and `HistoryLines` the opening and the lines of a history. `Rows` writes records that were
+//! read, and texts of others, to any writer, many at a time. Both take memory for one record and one page. A reader never answers `Write`, and a writer never `Read` (clauses
 //! `input` and `device`).
 //!
 //! Proofs of crates above cite the laws in `proofs/Laws.antt`, and no other lemma of this crate.
 #![tactic(auto)]
 
-pub mod answer;
+pub mod code;
 pub mod command;
 pub mod fault;
 pub mod field;
@@ -20,7 +20,6 @@ pub mod first_record;
 pub mod history_reader;
 pub mod history_record;
 pub mod long;
-pub mod make;
 pub mod number;
 pub mod records;
 pub mod rows;

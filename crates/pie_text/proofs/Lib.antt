@@ -1,3 +1,4 @@
 pub mod PlainFacts
 pub mod Records
 pub mod Openings
+pub mod LostFacts

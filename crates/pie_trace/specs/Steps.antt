@@ -12,6 +12,7 @@ use Rattle.pie_trace.specs.declared.run.RunEnd.{RunEnd}
 use Rattle.pie_record.specs.declared.version.Version.{Version}
 use Rattle.pie_record.specs.Fault.{is_device}
 use Rattle.pie_record.specs.Text.{Row, text_of}
+use Rattle.pie_record.specs.TraceRecord.{request_of}
 use Rattle.pie_trace.specs.History.{end_of, fault_of, first_fault, history_text, progress_at_end, refused_count, replies, requests_of, steps_of}
 use Rattle.pie_trace.specs.History.{text_left}
 use Rattle.pie_trace.specs.Reply.{Reply, after, history_row, is_refused, reply}
@@ -36,18 +37,18 @@ pub record HasCome (version : Version) (most : ℕ) (opening : Opening) (all : L
 abbrev pub refusals_in : Reply → ℕ
 refusals_in given = cond (is_refused given) 1 0
 
--- what a request did: the book stands where the run stands after it, a refusal is counted, and the row is its history record
+-- what a request did: the book stands where the run stands after it, a refusal is counted, and the text is that of its history record
 pub record IsReplied (version : Version) (number : ℕ) (row : Row) (request : Request) (opening : Opening) (new : BookView) (refused refused_then : ℕ)
-    (row_then : Row) (progress : Progress) : Type 0 where
+    (text : List ℕ) (progress : Progress) : Type 0 where
   pub stands : IsAt new opening (after opening progress request)
   pub refusals : refused_then ≡ refused + refusals_in (reply opening progress request)
-  pub made : row_then ≡ history_row version number row (reply opening progress request)
+  pub made : text ≡ text_of (history_row version number row (reply opening progress request))
 
--- .. wherever the run stood
-abbrev pub Replies : Version → ℕ → Row → Request → BookView → BookView → ℕ → ℕ → Row → Type 0
-Replies version number row request old new refused refused_then row_then =
-    (progress : Progress) → IsAt old old.opening progress → IsReplied version number row request old.opening new refused refused_then row_then
-    progress
+-- .. whichever record asked it, and wherever the run stood
+abbrev pub Replies : Version → ℕ → Request → BookView → BookView → ℕ → ℕ → List ℕ → Type 0
+Replies version number request old new refused refused_then text =
+    (row : Row) → request_of row ≡ Ok request → (progress : Progress) → IsAt old old.opening progress
+    → IsReplied version number row request old.opening new refused refused_then text progress
 
 -- what a record after the first did, where it reads well: its request is answered after the run so far, and its history
 -- record joins the text

@@ -237,18 +237,16 @@ def run_cluster(cluster, work, names):
     same("a worker killed in the middle", f"{work}/table.csv", names)
     check("the journal is gone", not os.path.exists(f"{work}/table.csv.journal"))
     stage("ten files changed")
-    run_changed(cluster, work, names, where)
+    run_changed(work, names, where)
     stage("a run that is stopped")
     run_stopped(work, names, where)
     stage("files of hosts")
     run_hosts(cluster, work, names, where)
 
 
-def run_changed(cluster, work, names, where):
-    """Ten files change: one that was clean differs, one becomes worse, one goes, one comes; the others are not read again."""
-    clean = [name for number, name in enumerate(names) if number % 10 != 4 and number % 7 != 0]
+def change_ten(work, clean, lost):
+    """Ten of these files change: the first differs at the event that is answered, the second becomes one that lost far more, one goes."""
     # (the second is the one that lost least, and becomes the one that lost most: what storms lose is not known beforehand)
-    lost = table(f"{work}/table.csv")
     order = sorted(range(1, len(clean)), key=lambda place: float(lost[clean[place]]["loss_percent"] or 0))
     worse = f"{work}/worse"
     shutil.copy(clean[order[-1]], worse)
@@ -266,10 +264,11 @@ def run_changed(cluster, work, names, where):
         with open(name, "w") as out:
             out.writelines(lines[: 500 + number])
     os.unlink(clean[9])
-    left = [name for name in names if name != clean[9]]
-    new = f"{work}/histories/new.history"
-    shutil.copy(clean[10], new)
-    # What is not read again keeps its row: a mark in the old table's notes shows which.
+    return arrival
+
+
+def with_notes(work):
+    """The table as first.csv, with a mark in the notes of its rows: of what is not read again it stays."""
     with open(f"{work}/table.csv") as text:
         rows = list(csv.DictReader(text))
     for row in rows:
@@ -278,6 +277,16 @@ def run_changed(cluster, work, names, where):
         to = csv.DictWriter(out, rows[0].keys())
         to.writeheader()
         to.writerows(rows)
+
+
+def run_changed(work, names, where):
+    """Ten files change: one that was clean differs, one becomes worse, one goes, one comes; the others are not read again."""
+    clean = [name for number, name in enumerate(names) if number % 10 != 4 and number % 7 != 0]
+    arrival = change_ten(work, clean, table(f"{work}/table.csv"))
+    left = [name for name in names if name != clean[9]]
+    new = f"{work}/histories/new.history"
+    shutil.copy(clean[10], new)
+    with_notes(work)
     told = fleet(f"{work}/histories/*.history", *where, "-o", f"{work}/second.csv", "--since", f"{work}/first.csv", "--worse", "loss_percent=1",
                  "--worst", "greatest_wait", status=1)
     check("ten files changed: differs", f"{clean[0]}: differs for the first time, at event {arrival}\n" in told, told)

@@ -288,9 +288,9 @@ def hold_pages(driver, made):
         page.picture("wide")
 
 
-def hold_use(driver, place, path):
-    """A zoom, a reading, a click, a search and keys."""
-    from selenium.webdriver import ActionChains, Keys
+def hold_zoom(driver, place):
+    """A zoom, by the mouse, by a key and by buttons, and a reading."""
+    from selenium.webdriver import ActionChains
 
     page = Page(driver, "use", place)
     chart = driver.find_elements("css selector", "svg")
@@ -307,6 +307,15 @@ def hold_use(driver, place, path):
     driver.find_element("css selector", "#whole").click()
     ActionChains(driver).move_to_element_with_offset(chart[0], 50, 20).perform()
     page.says(re.search(r"queueing delay [\d.,]+ ms, probability [\d.]+ %", page.text("#read")), f"a reading: {page.text('#read')}")
+    page.quiet()
+
+
+def hold_use(driver, place, path):
+    """A click, a search and keys."""
+    from selenium.webdriver import ActionChains, Keys
+
+    page = Page(driver, "use", place)
+    chart = driver.find_elements("css selector", "svg")
     # a click on the line of a lost packet in the chart of lost packets
     lost = page.run("const it = PACKETS[7]; return [it.number, it.said, across(it.time) - width / 2]")
     ActionChains(driver).move_to_element_with_offset(chart[3], round(lost[2]), 0).click().perform()
@@ -370,6 +379,7 @@ def main():
             try:
                 hold_pages(driver, made)
                 overload = next(it for it in made if it[0] == "overload")
+                hold_zoom(driver, overload[2])
                 hold_use(driver, overload[2], overload[1])
                 hold_looks(driver, overload[2])
                 Page(driver, "hostile words of a program", lies).quiet()

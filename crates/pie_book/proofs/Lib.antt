@@ -10,6 +10,7 @@ pub mod RangeLaws
 pub mod LegalFacts
 pub mod BesideFacts
 pub mod ExcerptFacts
+pub mod QueuedFacts
 pub mod Examples
 pub mod ExamplesRates
 pub mod ExamplesMarks

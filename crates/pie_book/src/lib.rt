@@ -12,6 +12,10 @@
 //! `registers`, `stats`, `count` and `waiting` of the whole history, `checkpoint` and `checkpoint_stats` of the history without
 //! the tail. `folds_change_no_answer` is the law over runs, and `all_numbers_are_held` the law that every register, statistic and answer after a
 //! legal history is a number that its field holds. `apply` and `step` take no memory.
+//!
+//! `Core::standing` and `Book::checkpoint_standing` tell the numbers that a core stands on, `Core::resume` begins a core of such numbers, which takes
+//! the packets that waited one by one, and `Book::resume` opens a book that goes on from a core. The core is that of the numbers (`core_of`), so it
+//! shows each history that they stand for. `packets_that_waited_are_taken` and `excerpts_are_legal_after_any_history` are the laws of it.
 #![tactic(auto)]
 
 pub mod beside;
@@ -50,6 +54,6 @@ pub use recorded::Recorded;
 pub use refusal::{FoldRefusal, OpenRefusal, Refusal};
 pub use registers::Registers;
 pub use resume_refusal::{EndRefusal, QueueRefusal, ResumeRefusal};
-pub use resuming::Resuming;
+pub use resuming::{Resuming, packets_that_waited_are_taken};
 pub use standing::{Standing, excerpts_are_legal_after_any_history};
 pub use stats::Stats;

@@ -26,6 +26,7 @@ complete -c pie -n '__fish_seen_subcommand_from explain' -l digest -d 'sum up, a
 complete -c pie -n '__fish_seen_subcommand_from explain' -l csv -d 'write CSV in place of words'
 complete -c pie -n '__fish_seen_subcommand_from storm' -l senders -x -d 'how many senders, 2 to 8'
 complete -c pie -n '__fish_seen_subcommand_from storm' -l packets -x -d 'how many packets each sender has, 1 to 10000'
+complete -c pie -n '__fish_seen_subcommand_from storm' -l burst -x -d 'how many packets a sender hands in at once, 1 to 1024'
 complete -c pie -n '__fish_seen_subcommand_from storm' -l seed -x -d 'what the random words are made of'
 complete -c pie -n '__fish_seen_subcommand_from storm' -l load -x -d 'packets for each hundred that the link sends, 50 to 200'
 complete -c pie -n '__fish_seen_subcommand_from storm' -l changes -x -d 'how often the parameters change, 0 to 100'

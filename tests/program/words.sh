@@ -69,6 +69,8 @@ mistake "error: invalid value '9' for '--senders <N>': 9 is not in 2..=8" storm 
 mistake "error: invalid value 'two' for '--senders <N>': invalid digit found in string" storm --senders two
 mistake "error: invalid value '0' for '--packets <N>': 0 is not in 1..=10000" storm --packets 0
 mistake "error: invalid value '10001' for '--packets <N>': 10001 is not in 1..=10000" storm --packets 10001
+mistake "error: invalid value '0' for '--burst <N>': 0 is not in 1..=1024" storm --burst 0
+mistake "error: invalid value '1025' for '--burst <N>': 1025 is not in 1..=1024" storm --burst 1025
 mistake "error: invalid value '18446744073709551616' for '--seed <N>': number too large to fit in target type" storm --seed 18446744073709551616
 mistake "error: unexpected argument '-1' found" storm --seed -1
 mistake "error: invalid value '33' for '--alpha <N>': 33 is not in 0..=32" params --alpha 33

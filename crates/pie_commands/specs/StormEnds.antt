@@ -16,7 +16,7 @@ use Rattle.pie_record.specs.FirstRecord.{which_of}
 use Rattle.pie_record.specs.Words.{delay_word, picking_word, size_word, step_word}
 use Rattle.pie_storm.specs.declared.numbers.StormNumbers.{StormNumbers}
 use Rattle.pie_storm.specs.declared.plan.Plan.{Plan}
-use Rattle.pie_options.specs.Words.{changes_in, folds_in, load_in, packets_in, profile_in, seed_in, senders_in}
+use Rattle.pie_options.specs.Words.{burst_in, changes_in, folds_in, load_in, packets_in, profile_in, seed_in, senders_in}
 use Rattle.pie_storm.specs.StormHistory.{WritesStorm}
 use Rattle.pie_storm.specs.StormPlan.{IsStormPlan}
 
@@ -61,6 +61,7 @@ abbrev pub numbers_in : Elements → List Row → StormNumbers
 numbers_in elements options = record {
   senders = senders_in options;
   packets = packets_in options;
+  burst = burst_in options;
   seed = seed_in options;
   load = load_in options;
   changes = changes_in options;

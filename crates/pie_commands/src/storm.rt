@@ -146,6 +146,7 @@ fn numbers_of(options: &ArgMatches<'_>, elements: Elements) -> StormNumbers
     StormNumbers {
         senders: number_or(options, "senders", 2, 8, SENDERS) as u16,
         packets: number_or(options, "packets", 1, 10_000, PACKETS) as u32,
+        burst: number_or(options, "burst", 1, 1024, 1) as u16,
         seed: number_or(options, "seed", 0, u64::MAX, SEED),
         load: number_or(options, "load", 50, 200, LOAD),
         changes: number_or(options, "changes", 0, 100, 0),

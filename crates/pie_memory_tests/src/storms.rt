@@ -52,6 +52,7 @@ fn plan(alloc: Global) -> Result<Plan, AllocError> {
         profile: Profile::One,
         elements: Elements::usual(),
         arrivals: arrivals(alloc)?,
+        burst: 1,
         departs: one(alloc, 3)?,
         updates: one(alloc, 15_000_000)?,
         changes: one(alloc, Change { moment: 4, params })?,

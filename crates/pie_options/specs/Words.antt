@@ -59,8 +59,8 @@ rules_for Explain = number_rule (codes "event") 1 (2 ^ 64 - 1) ∷ number_rule (
     ∷ flag_rule (codes "marked") ∷ flag_rule (codes "all") ∷ text_rule (codes "from") ∷ text_rule (codes "to") ∷ flag_rule (codes "summary")
     ∷ text_rule (codes "every") ∷ flag_rule (codes "digest") ∷ flag_rule (codes "csv") ∷ progress_rule ∷ output_rule ∷ force_rule ∷ file_rule ∷ []
 rules_for Migrate = progress_rule ∷ output_rule ∷ force_rule ∷ file_rule ∷ []
-rules_for Storm = number_rule (codes "senders") 2 8 ∷ number_rule (codes "packets") 1 10_000 ∷ number_rule (codes "seed") 0 (2 ^ 64 - 1)
-    ∷ number_rule (codes "load") 50 200 ∷ number_rule (codes "changes") 0 100 ∷ number_rule (codes "folds") 0 100
+rules_for Storm = number_rule (codes "senders") 2 8 ∷ number_rule (codes "packets") 1 10_000 ∷ number_rule (codes "burst") 1 1024
+    ∷ number_rule (codes "seed") 0 (2 ^ 64 - 1) ∷ number_rule (codes "load") 50 200 ∷ number_rule (codes "changes") 0 100 ∷ number_rule (codes "folds") 0 100
     ∷ number_rule (codes "profile") 1 2 ∷ text_rule (codes "delay") ∷ text_rule (codes "picking") ∷ text_rule (codes "step")
     ∷ text_rule (codes "size") ∷ flag_rule (codes "count") ∷ []
 rules_for Params = text_rule (codes "rate") ∷ text_rule (codes "target") ∷ text_rule (codes "tupdate") ∷ text_rule (codes "limit")
@@ -132,12 +132,15 @@ is_forced options = flag_given (codes "force") options
 abbrev pub output_in : List Row → Option Text
 output_in options = first_of (codes "output") options
 
--- the seven numbers of `pie storm`
+-- the eight numbers of `pie storm`
 abbrev pub senders_in : List Row → ℕ
 senders_in options = number_or (codes "senders") 2 8 2 options
 
 abbrev pub packets_in : List Row → ℕ
 packets_in options = number_or (codes "packets") 1 10_000 100 options
+
+abbrev pub burst_in : List Row → ℕ
+burst_in options = number_or (codes "burst") 1 1024 1 options
 
 abbrev pub seed_in : List Row → ℕ
 seed_in options = number_or (codes "seed") 0 (2 ^ 64 - 1) 1 options

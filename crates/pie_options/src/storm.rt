@@ -22,6 +22,9 @@ evenly over that time. All moments are planned, and no clock is read. The random
 of the seed, but who comes first is the machine's choice: so two storms may have other histories. The threads
 start together, and none runs further ahead of another than four milliseconds of the plan, unless that one is not scheduled.
 
+With --burst 32 a sender hands in 32 packets in one call, all at the moment of the last, with nothing of another thread between;
+its last burst may be shorter. Departures stay one a call.
+
 With --profile, --delay, --picking, --step and --size the controller is one with other choices of RFC 8033's elements, whose
 sections are named above. A delay by time stamps stands still while a link stalls, since no packet departs.
 
@@ -46,6 +49,11 @@ pub(crate) fn command<'a>(alloc: Global) -> Result<Command<'a>, AllocError>
             name: "packets",
             takes: Takes::Number(1, 10_000),
             help: "How many packets each sender has, 1 to 10000; 100 by default",
+        },
+        Argument {
+            name: "burst",
+            takes: Takes::Number(1, 1024),
+            help: "How many packets a sender hands in at once, 1 to 1024; 1 by default",
         },
         Argument {
             name: "seed",

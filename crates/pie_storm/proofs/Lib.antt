@@ -2,6 +2,7 @@ mod OwnEvents
 mod PlanCommands
 mod Working
 mod FoldsMade
+mod Bursting
 mod Gathering
 mod Counting
 mod Closing

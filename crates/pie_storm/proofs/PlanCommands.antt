@@ -1,6 +1,6 @@
 -- What a sound plan says of the commands of its callers.
 use Rattle.std.proofs.Common.{◌≡◌, ℕ, zero, suc, ◌+◌, ◌-◌, ◌==◌, ◌≤◌, nat_le, Bool, true, false, List, [], ◌∷◌, Some, Vec, map, length, slice_get}
-use Rattle.std.proofs.Common.{refl, subst, arith}
+use Rattle.std.proofs.Common.{◌∙◌, ap, drop, refl, subst, sym, take, arith}
 use Rattle.std.specs.Prelude.{if◌then◌else◌}
 use Rattle.std.specs.List.{All}
 use Rattle.std.specs.declared.alloc.Global.{Global}
@@ -9,10 +9,11 @@ use Rattle.std.proofs.lemmas.Bool.Decides.{nat_tests}
 use Rattle.std.proofs.lemmas.List.Elements.{All-nil, All-cons, All-head, All-tail}
 use Rattle.pie_book.specs.declared.command.Command.{Command}
 use Rattle.pie_book.specs.declared.command.Command.TheVariants.{Depart, Update}
-use Rattle.pie_storm.specs.declared.plan.Arrival.{Arrival}
+use Rattle.pie_link.specs.declared.arrival.Arrival.{Arrival}
+use Rattle.pie_link.specs.Bursts.{arrive}
 use Rattle.pie_storm.specs.declared.plan.Change.{Change}
 use Rattle.pie_storm.specs.declared.plan.Plan.{Plan}
-use Rattle.pie_storm.specs.Plans.{senders, sent, arrive, change, commands_of, count_of, planned, IsMoment, IsSoundArrival, IsFair, IsSound}
+use Rattle.pie_storm.specs.Plans.{senders, sent, change, commands_of, count_of, planned, IsMoment, IsSoundArrival, IsFair, IsSound}
 
 -- what holds of both branches holds
 pub of_either : {A : Type 0} (P : A → Type 0) (b : Bool) (x y : A) → P x → P y → P (if b then x else y)
@@ -81,3 +82,29 @@ folder_has_none plan caller is =
     let no_sender : nat_le caller (senders plan) ≡ false = grind (arith, nat_tests, is) in
     let fourth : caller - senders plan ≡ 4 = omega (arith, is) in
     rw (not_first, no_sender, fourth) refl
+
+take_map : {A B : Type 0} (f : A → B) (n : ℕ) (xs : List A) → take n (map f xs) ≡ map f (take n xs)
+take_map f zero xs = refl
+take_map f (suc n) [] = refl
+take_map f (suc n) (x ∷ xs) = ap (λ l. f x ∷ l) (take_map f n xs)
+
+drop_map : {A B : Type 0} (f : A → B) (k : ℕ) (xs : List A) → drop k (map f xs) ≡ map f (drop k xs)
+drop_map f zero xs = refl
+drop_map f (suc k) [] = refl
+drop_map f (suc k) (x ∷ xs) = drop_map f k xs
+
+-- a part of a sender's list has the commands of that part
+pub part_of : (k n : ℕ) (list part : List Arrival) (commands : List Command) → commands ≡ map arrive list → part ≡ take n (drop k list)
+    → map arrive part ≡ take n (drop k commands)
+part_of k n list part commands has is =
+    ap (λ (l : List Arrival). map arrive l) is ∙ sym (take_map arrive n (drop k list))
+    ∙ ap (λ (l : List Command). take n l) (sym (drop_map arrive k list)) ∙ ap (λ (l : List Command). take n (drop k l)) (sym has)
+
+-- a sender's commands are those of its list
+pub sender_has : (plan : Plan) (caller : ℕ) (list : Vec Arrival Global) → 1 ≤ caller → caller ≤ senders plan
+    → slice_get plan.arrivals.items (caller - 1) ≡ Some list → commands_of plan caller ≡ map arrive list.items
+unfolding commands_of
+sender_has plan caller list one within at =
+    let not_first : (caller == 0) ≡ false = grind (arith, nat_tests, one) in
+    let sender : nat_le caller (senders plan) ≡ true = grind (arith, nat_tests, within) in
+    rw (not_first, sender, at) refl

@@ -6,7 +6,7 @@ use Rattle.std.specs.declared.alloc.Global.{Global}
 use Rattle.std.proofs.lemmas.List.{map-append}
 use Rattle.std.proofs.lemmas.List.FromFn.{map-range_with_len_more}
 use Rattle.rand_core.specs.Stream.{Stream, next_u64}
-use Rattle.pie_storm.specs.declared.plan.Arrival.{Arrival}
+use Rattle.pie_link.specs.declared.arrival.Arrival.{Arrival}
 use Rattle.pie_storm.specs.StormPlan.{arrival_at, arrival_by, arrivals_of, held_by, word_at, words_after}
 
 -- ---- lists
@@ -19,15 +19,15 @@ pub item-push : {A : Type 0} (f : ℕ → A) (j : ℕ) (list later : List A) (it
     → later ≡ list ++ item ∷ [] → item ≡ f j → later ≡ map f (range_with_len 0 (j + 1))
 item-push f j list later item before pushed is = rw (pushed, before, is) (sym (map-range_with_len_more f 0 j j (omega arith)))
 
-pub lists-push : (packets seed before : ℕ) (lists later : List (Vec Arrival Global)) (list : Vec Arrival Global)
-    → map held_by lists ≡ map (arrivals_of packets seed) (range_with_len 1 before) → later ≡ lists ++ list ∷ []
-    → held_by list ≡ arrivals_of packets seed (before + 1)
-    → map held_by later ≡ map (arrivals_of packets seed) (range_with_len 1 (before + 1))
-lists-push packets seed before lists later list so_far pushed is =
+pub lists-push : (packets burst seed before : ℕ) (lists later : List (Vec Arrival Global)) (list : Vec Arrival Global)
+    → map held_by lists ≡ map (arrivals_of packets burst seed) (range_with_len 1 before) → later ≡ lists ++ list ∷ []
+    → held_by list ≡ arrivals_of packets burst seed (before + 1)
+    → map held_by later ≡ map (arrivals_of packets burst seed) (range_with_len 1 (before + 1))
+lists-push packets burst seed before lists later list so_far pushed is =
     ap (λ (all : List (Vec Arrival Global)). map held_by all) pushed ∙ map-append held_by lists (list ∷ [])
     ∙ ap (λ (all : List (List Arrival)). all ++ held_by list ∷ []) so_far
-    ∙ ap (λ (last : List Arrival). map (arrivals_of packets seed) (range_with_len 1 before) ++ last ∷ []) is
-    ∙ sym (map-range_with_len_more (arrivals_of packets seed) 1 before (before + 1) (omega arith))
+    ∙ ap (λ (last : List Arrival). map (arrivals_of packets burst seed) (range_with_len 1 before) ++ last ∷ []) is
+    ∙ sym (map-range_with_len_more (arrivals_of packets burst seed) 1 before (before + 1) (omega arith))
 
 -- ---- words
 
@@ -40,10 +40,10 @@ words_after-next (suc count) words =
     rw e (words_after-next count (next_u64 words).1)
 
 -- an arrival by the next three words, and the words that are left after it
-pub drawn : (sender i : ℕ) (all first second third last : Stream) (size ecn word : ℕ) → first ≡ words_after (3 * i) all
+pub drawn : (sender i moment : ℕ) (all first second third last : Stream) (size ecn word : ℕ) → first ≡ words_after (3 * i) all
     → (size, second) ≡ next_u64 first → (ecn, third) ≡ next_u64 second → (word, last) ≡ next_u64 third
-    → (arrival_by sender i size ecn word ≡ arrival_at sender all i) × (last ≡ words_after (3 * (i + 1)) all)
-drawn sender i all first second third last size ecn word at one two three =
+    → (arrival_by sender i moment size ecn word ≡ arrival_at sender all i moment) × (last ≡ words_after (3 * (i + 1)) all)
+drawn sender i moment all first second third last size ecn word at one two three =
     let second_is : second ≡ words_after (3 * i + 1) all = ap (λ p. p.1) one ∙ ap (λ (s : Stream). (next_u64 s).1) at
     ∙ sym (words_after-next (3 * i) all) in
     let third_is : third ≡ words_after (3 * i + 1 + 1) all = ap (λ p. p.1) two ∙ ap (λ (s : Stream). (next_u64 s).1) second_is

@@ -65,6 +65,18 @@ goes_start opening caller commands front none = record {
       (sym none) (λ made. made) m);
 }
 
+-- it goes on the same in a history with no further event of the caller
+pub goes_seen : (opening : Opening) (caller : ℕ) (commands : List Command) (k : ℕ) (front g : List Event) (passed : ℕ)
+    → Goes opening caller commands k front passed → IsPrefix front g → events_of caller g ≡ events_of caller front
+    → Goes opening caller commands k g passed
+goes_seen opening caller commands k front g passed goes begins same = record {
+  few = omega (arith, goes.few, ap (λ (l : List Event). length l) same);
+  made = λ history shown_all later n m.
+      let m' = subst (λ (es : List Event). AreMade opening caller history es (drop k commands) later n) same m in
+      subst (λ (es : List Event). AreMade opening caller history [] commands (es ++ later) (passed + n)) (sym same)
+      (goes.made history (prefix_trans front g history begins shown_all) later n m');
+}
+
 -- one more command was taken after the history g, and has an event
 pub goes_event : (opening : Opening) (caller : ℕ) (commands : List Command) (k : ℕ) (front g : List Event) (passed : ℕ) (command : Command)
     (event : Event)
@@ -128,7 +140,7 @@ pub record IsAlone (caller : CallerView) (number : ℕ) : Type 0 where
   pub first : caller.first ≡ number
   pub limit : caller.limit ≡ number + 1
 
-own_same : (law : EntriesLookBack) (caller : CallerView) (number : ℕ) (history : List Entry) → IsAlone caller number
+pub own_same : (law : EntriesLookBack) (caller : CallerView) (number : ℕ) (history : List Entry) → IsAlone caller number
     → GoesOn number_of caller.first caller.limit caller.front history
     → IsPrefix (events_in caller.front) (events_in history) × (events_of number (events_in history) ≡ events_of number (events_in caller.front))
 own_same law caller number history alone on =
@@ -197,7 +209,7 @@ full_tail : (mode : Mode) (held room : ℕ) → is_refused_full mode (held == ro
 full_tail Bounded held room full = grind (arith, nat_tests, full)
 full_tail Rolling held room full = absurd (cc full)
 
-full_after : (opening : Opening) (history : List Entry) (command : Command) (why : Refusal) → IsFair command → IsWhy opening history command why
+pub full_after : (opening : Opening) (history : List Entry) (command : Command) (why : Refusal) → IsFair command → IsWhy opening history command why
     → ((d : ℕ) → why ≡ TooSoon d → ⊥) → min opening.limits.tail opening.limits.events ≤ length (events_in history)
 full_after opening history command why fair is not_soon =
     let events = events_in history in
@@ -244,7 +256,7 @@ goes_or_ends : (law : EntriesLookBack) (link : LinkView) (number : ℕ) (command
     (before after : CallerView)
     → IsAlone before number → slice_get commands k ≡ Some command → IsFair command → Answers link before command answer after
     → (passed : ℕ) → EachGoes link number commands k (events_in before.front) passed
-    → GoesOrEnds link number commands k (events_in after.front) passed (added_by answer)
+    → GoesOrEnds link number commands (k + 1) (events_in after.front) passed (added_by answer)
 unfolding GoesOrEnds added_by
 goes_or_ends law link number commands k command (Ok told) before after alone at fair answers passed goes =
     let none : passed + 0 ≡ passed = omega arith in
@@ -266,7 +278,7 @@ pub asked_next : (law : EntriesLookBack) (link : LinkView) (plan : Plan) (number
     → number ≡ before.first → before.limit ≡ before.first + 1 → IsSound plan → slice_get (commands_of plan number) k ≡ Some command
     → Answers link before command answer after
     → (passed : ℕ) → EachGoes link before.first (commands_of plan before.first) k (events_in before.front) passed
-    → GoesOrEnds link before.first (commands_of plan before.first) k (events_in after.front) passed (added_by answer)
+    → GoesOrEnds link before.first (commands_of plan before.first) (k + 1) (events_in after.front) passed (added_by answer)
 asked_next law link plan number k command answer before after is one sound at answers passed goes =
     let there : slice_get (commands_of plan before.first) k ≡ Some command = subst (λ (n : ℕ). slice_get (commands_of plan n) k ≡ Some command) is
     at in
@@ -278,22 +290,22 @@ pub each_start : (link : LinkView) (number : ℕ) (commands : List Command) (fro
 unfolding EachGoes
 each_start link number commands front none opening from = goes_start opening number commands front none
 
-pub each_next : (link : LinkView) (plan : Plan) (number k passed soon : ℕ) (mine : CallerView) (front : List Event) → mine.first ≡ number
+pub each_next : (link : LinkView) (plan : Plan) (number k next_k passed soon : ℕ) (mine : CallerView) (front : List Event) → mine.first ≡ number
     → (EachGoes link mine.first (commands_of plan mine.first) k (events_in mine.front) passed
-    → GoesOrEnds link mine.first (commands_of plan mine.first) k front passed (Some soon))
+    → GoesOrEnds link mine.first (commands_of plan mine.first) next_k front passed (Some soon))
     → EachGoes link number (commands_of plan number) k (events_in mine.front) passed
-    → EachGoes link number (commands_of plan number) (k + 1) front (passed + soon)
+    → EachGoes link number (commands_of plan number) next_k front (passed + soon)
 unfolding GoesOrEnds
-each_next link plan number k passed soon mine front is next goes =
-    subst (λ (n : ℕ). EachGoes link n (commands_of plan n) (k + 1) front (passed + soon)) is
+each_next link plan number k next_k passed soon mine front is next goes =
+    subst (λ (n : ℕ). EachGoes link n (commands_of plan n) next_k front (passed + soon)) is
     (next (subst (λ (n : ℕ). EachGoes link n (commands_of plan n) k (events_in mine.front) passed) (sym is) goes))
 
-pub each_ended : (link : LinkView) (plan : Plan) (number k passed : ℕ) (mine : CallerView) (front : List Event) → mine.first ≡ number
+pub each_ended : (link : LinkView) (plan : Plan) (number k next_k passed : ℕ) (mine : CallerView) (front : List Event) → mine.first ≡ number
     → (EachGoes link mine.first (commands_of plan mine.first) k (events_in mine.front) passed
-    → GoesOrEnds link mine.first (commands_of plan mine.first) k front passed None)
+    → GoesOrEnds link mine.first (commands_of plan mine.first) next_k front passed None)
     → EachGoes link number (commands_of plan number) k (events_in mine.front) passed → CameAt link plan number front passed
 unfolding GoesOrEnds CameAt CameOf
-each_ended link plan number k passed mine front is next goes opening from =
+each_ended link plan number k next_k passed mine front is next goes opening from =
     inr (subst (λ (n : ℕ). IsCutShort opening n (commands_of plan n) front) is
     (next (subst (λ (n : ℕ). EachGoes link n (commands_of plan n) k (events_in mine.front) passed) (sym is) goes) opening from))
 

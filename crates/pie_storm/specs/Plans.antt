@@ -3,14 +3,15 @@ use Rattle.std.specs.Prelude.{◌≡◌, ◌+◌, ◌-◌, ◌==◌, ◌≤◌, 
 use Rattle.std.specs.Prelude.{if◌then◌else◌}
 use Rattle.std.specs.declared.alloc.Global.{Global}
 use Rattle.pie_book.specs.declared.command.Command.{Command}
-use Rattle.pie_book.specs.declared.command.Command.TheVariants.{Arrive, Depart, Update, SetParams}
+use Rattle.pie_book.specs.declared.command.Command.TheVariants.{Depart, Update, SetParams}
 use Rattle.pie_book.specs.declared.opening.Mode.TheVariants.{Bounded}
 use Rattle.pie_book.specs.declared.opening.Choices.{Choices}
 use Rattle.pie_book.specs.declared.opening.Opening.{Opening}
 use Rattle.pie_book.specs.Opening.{last_moment}
 use Rattle.pie_book.specs.Deed.{handed_in}
 use Rattle.pie_book.specs.Decision.{has_bad_size}
-use Rattle.pie_storm.specs.declared.plan.Arrival.{Arrival}
+use Rattle.pie_link.specs.declared.arrival.Arrival.{Arrival}
+use Rattle.pie_link.specs.Bursts.{arrive}
 use Rattle.pie_storm.specs.declared.plan.Change.{Change}
 use Rattle.pie_storm.specs.declared.plan.Plan.{Plan}
 
@@ -26,10 +27,7 @@ opening_of plan = record { moment = plan.moment; limits = plan.limits; params = 
 abbrev pub senders : Plan → ℕ
 senders plan = length plan.arrivals.items
 
--- the command of an arrival, and of a change
-abbrev pub arrive : Arrival → Command
-arrive arrival = Arrive arrival.moment arrival.packet arrival.word
-
+-- the command of a change
 abbrev pub change : Change → Command
 change new = SetParams new.moment new.params
 
@@ -58,6 +56,13 @@ commands_of plan caller =
     else if nat_le caller (senders plan) then sent plan.arrivals.items (caller - 1)
     else commands_after_senders plan (caller - senders plan)
 
+-- how many commands a caller makes in one turn at the link: a sender those of a burst
+abbrev pub turn_of : Plan → ℕ → ℕ
+turn_of plan caller =
+    if caller == 0 then 1
+    else if nat_le caller (senders plan) then plan.burst
+    else 1
+
 -- how many arrivals these lists have
 abbrev pub count_of : List (Vec Arrival Global) → ℕ
 count_of [] = 0
@@ -82,6 +87,8 @@ pub record IsFair (command : Command) : Type 0 where
 pub record IsSound (plan : Plan) : Type 0 where
   pub two : 2 ≤ senders plan
   pub eight : senders plan ≤ 8
+  pub some : 1 ≤ plan.burst
+  pub burst : plan.burst ≤ 1024
   pub moment : IsMoment plan.moment
   pub arrivals : All (λ (list : Vec Arrival Global). All IsSoundArrival list.items) plan.arrivals.items
   pub departs : All IsMoment plan.departs.items

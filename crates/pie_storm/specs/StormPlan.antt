@@ -1,5 +1,5 @@
 -- The plan of a storm: what each of its callers does, with random words from a generator for each sender.
-use Rattle.std.specs.Prelude.{ℕ, ◌≡◌, ◌≤◌, ◌==◌, ◌+◌, ◌*◌, ◌/◌, ◌%◌, ◌^◌, List, Vec, map, zero, suc, if◌then◌else◌}
+use Rattle.std.specs.Prelude.{ℕ, ◌≡◌, ◌≤◌, ◌==◌, ◌+◌, ◌*◌, ◌/◌, ◌%◌, ◌^◌, List, Vec, map, min, zero, suc, if◌then◌else◌}
 use Rattle.std.specs.List.{range_with_len}
 use Rattle.std.specs.declared.alloc.Global.{Global}
 use Rattle.rand_core.specs.Steps.{steps_u64_low, stream_of}
@@ -11,7 +11,7 @@ use Rattle.pie_queue.specs.declared.ecn.Ecn.TheVariants.{NotEct, Ect1, Ect0, Ce}
 use Rattle.pie_params.specs.Profile.{default_profile}
 use Rattle.pie_params.specs.declared.raw.RawParams.{RawParams}
 use Rattle.pie_storm.specs.declared.numbers.StormNumbers.{StormNumbers}
-use Rattle.pie_storm.specs.declared.plan.Arrival.{Arrival}
+use Rattle.pie_link.specs.declared.arrival.Arrival.{Arrival}
 use Rattle.pie_storm.specs.declared.plan.Change.{Change}
 use Rattle.pie_storm.specs.declared.plan.Plan.{Plan}
 
@@ -43,22 +43,30 @@ ecn_of (suc zero) = Ect1
 ecn_of (suc (suc zero)) = Ect0
 ecn_of _ = Ce
 
--- an arrival of a sender, counted from 0, by three words: one for the packet's size, one for its ECN field, and the random
+-- the moment at which a sender hands in a packet, counted from 0: that of the last packet of its burst, where it has one each millisecond
+abbrev pub moment_of : ℕ → ℕ → ℕ → ℕ
+moment_of packets burst i = min ((i / burst + 1) * burst) packets * 1_000_000
+
+-- an arrival of a sender, counted from 0, by its moment and three words: one for the packet's size, one for its ECN field, and the random
 -- word that is handed in
-abbrev pub arrival_by : ℕ → ℕ → ℕ → ℕ → ℕ → Arrival
-arrival_by sender i size ecn word = record {
-  moment = (i + 1) * 1_000_000;
+abbrev pub arrival_by : ℕ → ℕ → ℕ → ℕ → ℕ → ℕ → Arrival
+arrival_by sender i moment size ecn word = record {
+  moment = moment;
   packet = record { tag = sender * 2 ^ 32 + i; size = 64 + size % 1437; ecn = ecn_of (ecn % 4) };
   word = word;
 }
 
 -- .. which are the next three of the sender's random words
-abbrev pub arrival_at : ℕ → Stream → ℕ → Arrival
-arrival_at sender words i = arrival_by sender i (word_at (3 * i) words) (word_at (3 * i + 1) words) (word_at (3 * i + 2) words)
+abbrev pub arrival_at : ℕ → Stream → ℕ → ℕ → Arrival
+arrival_at sender words i moment = arrival_by sender i moment (word_at (3 * i) words) (word_at (3 * i + 1) words) (word_at (3 * i + 2) words)
 
--- the arrivals of a sender: a packet each millisecond
-abbrev pub arrivals_of : ℕ → ℕ → ℕ → List Arrival
-arrivals_of packets seed sender = map (arrival_at sender (sender_words seed sender)) (range_with_len 0 packets)
+-- the arrival of this place of a sender, in bursts
+abbrev pub planned_arrival : ℕ → ℕ → ℕ → Stream → ℕ → Arrival
+planned_arrival packets burst sender words i = arrival_at sender words i (moment_of packets burst i)
+
+-- the arrivals of a sender
+abbrev pub arrivals_of : ℕ → ℕ → ℕ → ℕ → List Arrival
+arrivals_of packets burst seed sender = map (planned_arrival packets burst sender (sender_words seed sender)) (range_with_len 0 packets)
 
 -- a departure for each packet, spread evenly, where so many packets come for each hundred that the link sends
 abbrev pub departs_of : ℕ → ℕ → ℕ → List ℕ
@@ -99,6 +107,8 @@ pub record HasStormRange (n : StormNumbers) : Type 0 where
   pub senders : n.senders ≤ 8
   pub one : 1 ≤ n.packets
   pub packets : n.packets ≤ 10_000
+  pub some : 1 ≤ n.burst
+  pub burst : n.burst ≤ 1024
   pub load : n.load ≤ 200
   pub changes : n.changes ≤ 100
   pub folds : n.folds ≤ 100
@@ -110,7 +120,8 @@ pub record IsStormPlan (n : StormNumbers) (plan : Plan) : Type 0 where
   pub moment : plan.moment ≡ 0
   pub profile : plan.profile ≡ n.profile
   pub elements : plan.elements ≡ n.elements
-  pub arrivals : map held_by plan.arrivals.items ≡ map (arrivals_of n.packets n.seed) (range_with_len 1 n.senders)
+  pub arrivals : map held_by plan.arrivals.items ≡ map (arrivals_of n.packets n.burst n.seed) (range_with_len 1 n.senders)
+  pub burst : plan.burst ≡ n.burst
   pub departs : plan.departs.items ≡ departs_of n.senders n.packets n.load
   pub updates : plan.updates.items ≡ updates_of n.packets
   pub changes : plan.changes.items ≡ changes_of n.packets n.changes

@@ -97,9 +97,9 @@ added_by (Err (TooSoon due)) = Some 1
 added_by (Err Exhausted) = None
 added_by (Err HistoryFull) = None
 
--- the caller's next command went on so, or the caller was cut short at it
+-- the caller's next turn went on so to k commands, or the caller was cut short in it
 unfoldable pub GoesOrEnds : LinkView → ℕ → List Command → ℕ → List Event → ℕ → Option ℕ → Type 0
-GoesOrEnds link caller commands k front passed (Some soon) = EachGoes link caller commands (k + 1) front (passed + soon)
+GoesOrEnds link caller commands k front passed (Some soon) = EachGoes link caller commands k front (passed + soon)
 GoesOrEnds link caller commands k front passed None = (opening : Opening) → link.origin ≡ Some opening → IsCutShort opening caller commands front
 
 -- the caller that makes the folds of a plan

@@ -20,17 +20,17 @@ pub struct StormEnd {
 }
 
 /// Why a storm has no end (this project's own). They are looked for in this order: `BadPlan` before all else, then `Opening`, then
-/// `Thread`, and last `Memory`. `Gap` never comes. Nothing of the run is kept.
+/// `Thread` and the memory for the answers to bursts, and last the memory for events. `Gap` never comes. Nothing of the run is kept.
 #[derive(Clone, Copy, Debug, PartialEq, Eq, Error)]
 pub enum StormFault {
-    /// The plan has fewer than 2 or more than 8 senders, a moment above `2^60 - 1`, an arrival whose size is outside 1 to
-    /// 65535 bytes, or more arrivals, departures, updates and changes than its limits have room for.
+    /// The plan has fewer than 2 or more than 8 senders, bursts outside 1 to 1024 arrivals, a moment above `2^60 - 1`, an arrival whose
+    /// size is outside 1 to 65535 bytes, or more arrivals, departures, updates and changes than its limits have room for.
     #[error("the plan is not sound")]
     BadPlan,
     /// The link was not opened.
     #[error("{0}")]
     Opening(LinkRefusal),
-    /// There was no memory for the events.
+    /// There was no memory for the events, or for the answers to a burst.
     #[error("out of memory")]
     Memory,
     /// A worker's thread could not be started.

@@ -9,6 +9,8 @@ pub struct StormNumbers {
     pub senders: u16,
     /// How many packets each of them sends: 1 to 10,000.
     pub packets: u32,
+    /// How many of them a sender hands in at once, in one call of the link: 1 to 1024.
+    pub burst: u16,
     /// What the senders' random words are made of.
     pub seed: u64,
     /// How many packets come for each hundred that the link sends: 50 to 200.

@@ -56,14 +56,17 @@ impl<'a> Pace<'a> {
         }
     }
 
-    /// The moment of a call of a caller in the plan, both counted from 1; `GONE` after its last.
+    /// The moment of a call of a caller in the plan, both counted from 1; `GONE` after its last. A sender's call is a burst.
     fn moment(&self, caller: u16, call: u64) -> u64 {
         let Ok(place) = usize::try_from(call.wrapping_sub(1)) else {
             return GONE;
         };
         let caller = usize::from(caller).wrapping_sub(1);
         let moment = match self.plan.arrivals.get(caller) {
-            Some(arrivals) => arrivals.get(place).map(|arrival| arrival.moment),
+            Some(arrivals) => {
+                let first = place.saturating_mul(usize::from(self.plan.burst));
+                arrivals.get(first).map(|arrival| arrival.moment)
+            }
             None => self.moment_beside(caller.saturating_sub(self.plan.arrivals.len()), place),
         };
         match moment {

@@ -1,23 +1,18 @@
 //! What a storm is asked to do.
-ghost use Rattle.std.specs.Prelude.{◌≡◌, ◌≤◌, ◌^◌, ◌-◌, ◌↔◌, IsTrue, All, Option, length, map, min, slice_get};
-ghost use Rattle.pie_storm.specs.Plans.{IsMoment, IsSoundArrival, IsSound, arrive, change, choices_of, commands_of, count_of, planned};
+ghost use Rattle.std.specs.Prelude.{◌≡◌, ◌≤◌, ◌^◌, ◌-◌, ◌↔◌, IsTrue, All, Option, drop, length, map, min, slice_get, take, ◌+◌};
+ghost use Rattle.pie_link.specs.Bursts.{arrive};
+ghost use Rattle.pie_storm.specs.Plans.{IsMoment, IsSoundArrival, IsSound, change, choices_of, commands_of, count_of, planned, turn_of};
 ghost use Rattle.pie_storm.specs.Plans.{senders};
 ghost use Rattle.pie_book.specs.declared.command.Command.TheVariants.{Depart, Update};
 
 use pie_book::{Choices, Command, Elements, Limits, Mode, Profile};
+use pie_fixed::MAX_NANOS;
+use pie_link::Arrival;
 use pie_params::Params;
-use pie_queue::Packet;
+use pie_queue::MAX_SIZE;
 
-/// A packet that a sender sends (this project's own).
-#[derive(Clone, Copy, Debug, PartialEq, Eq)]
-pub struct Arrival {
-    /// The moment that the sender hands in, in nanoseconds: at most `2^60 - 1`.
-    pub moment: u64,
-    /// The packet, of 1 to 65535 bytes.
-    pub packet: Packet,
-    /// A random word, any of the 2^64, by which an early drop is decided.
-    pub word: u64,
-}
+/// How many arrivals a sender may make at once.
+pub const LONGEST_BURST: u16 = 1024;
 
 /// New parameters from a moment on (this project's own).
 #[derive(Clone, Copy, Debug, PartialEq, Eq)]
@@ -45,6 +40,9 @@ pub struct Plan {
     pub elements: Elements,
     /// The packets of each sender: 2 to 8 lists.
     pub arrivals: Vec<Vec<Arrival>>,
+    /// How many of its packets a sender hands in at once, by `Link::arrive_all`: 1 to 1024. The last of its bursts may be shorter.
+    /// In bursts of 1 it calls `Link::arrive`.
+    pub burst: u16,
     /// The moments of the departures.
     pub departs: Vec<u64>,
     /// The moments of the updates.
@@ -55,28 +53,23 @@ pub struct Plan {
     pub folds: Vec<u64>,
 }
 
-// The greatest moment that may be handed in.
-const LAST_MOMENT: u64 = (1 << 60) - 1;
-
-impl Arrival {
-    // Whether moment and size are in their ranges.
-    fn is_sound(&self) -> bool
-        ensures { IsTrue result ↔ IsSoundArrival self.now }
-    {
-        self.moment <= LAST_MOMENT && 1 <= self.packet.size && self.packet.size <= 65535
-    }
+// Whether moment and size are in their ranges.
+fn is_sound(arrival: &Arrival) -> bool
+    ensures { IsTrue result ↔ IsSoundArrival arrival.now }
+{
+    arrival.moment <= MAX_NANOS && 1 <= arrival.packet.size && arrival.packet.size <= MAX_SIZE
 }
 
 fn are_sound(arrivals: &[Arrival]) -> bool
     ensures { IsTrue result ↔ All IsSoundArrival arrivals.now }
 {
-    arrivals.iter().all(|arrival| arrival.is_sound())
+    arrivals.iter().all(|arrival| is_sound(arrival))
 }
 
 fn are_moments(moments: &[u64]) -> bool
     ensures { IsTrue result ↔ All IsMoment moments.now }
 {
-    moments.iter().all(|moment| *moment <= LAST_MOMENT)
+    moments.iter().all(|moment| *moment <= MAX_NANOS)
 }
 
 // How many arrivals these lists have, as far as a u64 can count.
@@ -109,20 +102,28 @@ impl Plan {
         planned <= u64::from(self.limits.tail) && planned <= self.limits.events
     }
 
+    // Whether the numbers of senders and of a burst's arrivals, and the moment of the opening, are in their ranges.
+    fn has_sound_numbers(&self) -> bool
+        ensures { IsTrue result ↔ (2 ≤ senders self.now) × (senders self.now ≤ 8) × (1 ≤ self.now.burst) × (self.now.burst ≤ 1024)
+            × IsMoment self.now.moment }
+    {
+        let senders = self.arrivals.len();
+        2 <= senders
+            && senders <= 8
+            && 1 <= self.burst
+            && self.burst <= LONGEST_BURST
+            && self.moment <= MAX_NANOS
+    }
+
     /// Whether a storm takes the plan.
     pub(crate) fn is_sound(&self) -> bool
         ensures { IsTrue result ↔ IsSound self.now }
     {
-        2 <= self.arrivals.len()
-            && self.arrivals.len() <= 8
-            && self.moment <= LAST_MOMENT
+        self.has_sound_numbers()
             && self.arrivals.iter().all(|list| are_sound(list.as_slice()))
             && are_moments(self.departs.as_slice())
             && are_moments(self.updates.as_slice())
-            && self
-                .changes
-                .iter()
-                .all(|change| change.moment <= LAST_MOMENT)
+            && self.changes.iter().all(|change| change.moment <= MAX_NANOS)
             && self.has_room()
     }
 
@@ -159,6 +160,30 @@ impl Plan {
         }
     }
 
+    /// How many commands a caller makes in one turn at the link: a sender those of a burst, and another caller one.
+    pub(crate) fn turn(&self, caller: u16) -> usize
+        ensures size { result ≡ turn_of self.now caller }
+        ensures some { IsSound self.now → 1 ≤ result }
+    {
+        let place = usize::from(caller);
+        if 1 <= place && place <= self.arrivals.len() {
+            usize::from(self.burst)
+        } else {
+            1
+        }
+    }
+
+    /// The `count` arrivals of a sender that come after `k` others.
+    #[tactic(auto, unfolding(crate::specs::Plans::commands_of))]
+    pub(crate) fn burst(&self, caller: u16, k: usize, count: usize) -> &[Arrival]
+        requires sender { (1 ≤ caller) × (caller ≤ senders self.now) }
+        requires there { k + count ≤ length (commands_of self.now caller) }
+        ensures long { length result.now ≡ count }
+        ensures value { map arrive result.now ≡ take count (drop k (commands_of self.now caller)) }
+    {
+        part(self.arrivals[usize::from(caller) - 1].as_slice(), k, count)
+    }
+
     /// The command that a caller makes after `k` others.
     #[tactic(auto, unfolding(crate::specs::Plans::commands_of))]
     pub(crate) fn command(&self, caller: u16, k: usize) -> Option<Command>
@@ -182,15 +207,19 @@ impl Plan {
     }
 }
 
+// So many arrivals after `k` others.
+fn part(arrivals: &[Arrival], k: usize, count: usize) -> &[Arrival]
+    requires { k + count ≤ length arrivals.now }
+    ensures { result.now ≡ take count (drop k arrivals.now) }
+{
+    &arrivals[k..k + count]
+}
+
 fn arrival_at(arrivals: &[Arrival], k: usize) -> Option<Command>
     ensures { result ≡ slice_get (map arrive arrivals.now) k }
 {
     let arrival = arrivals.get(k)?;
-    Some(Command::Arrive {
-        moment: arrival.moment,
-        packet: arrival.packet,
-        word: arrival.word,
-    })
+    Some(arrival.command())
 }
 
 fn departure_at(moments: &[u64], k: usize) -> Option<Command>

@@ -1,13 +1,14 @@
 //! The plan of a storm.
-ghost use Rattle.std.specs.Prelude.{◌≡◌, ◌+◌, ◌*◌, ◌<◌, ◌≤◌, IfOk, map};
+ghost use Rattle.std.specs.Prelude.{◌≡◌, ◌+◌, ◌*◌, ◌^◌, ◌<◌, ◌≤◌, IfOk, map};
 ghost use Rattle.std.specs.List.{range_with_len};
 ghost use Rattle.rand_core.specs.Stream.{Stream};
 ghost use Rattle.pie_storm.specs.StormPlan.{IsStormPlan, arrival_at, arrivals_of, change_at, changes_of, departs_of, ecn_of, folds_of, held_by};
-ghost use Rattle.pie_storm.specs.StormPlan.{HasStormRange, params_at, updates_of, words_after, words_of};
+ghost use Rattle.pie_storm.specs.StormPlan.{HasStormRange, moment_of, params_at, updates_of, words_after, words_of};
 
 use crate::numbers::StormNumbers;
-use crate::plan::{Arrival, Change, Plan};
+use crate::plan::{Change, Plan};
 use pie_book::Limits;
+use pie_link::Arrival;
 use pie_params::{Params, RawParams};
 use pie_queue::{Ecn, Memory, Packet};
 use rand_core::Rng;
@@ -38,18 +39,29 @@ fn ecn_of(bits: u64) -> Ecn
     }
 }
 
-/// An arrival of this sender, counted from 0, by its next three random words.
-fn next_arrival(words: &mut Lcg128Xsl64, sender: u64, i: u64) -> Arrival
+/// The moment at which a sender hands in a packet, counted from 0: that of the last packet of its burst.
+fn moment_of(packets: u64, burst: u64, i: u64) -> u64
+    requires some { 1 ≤ burst }
+    requires burst { burst ≤ 1024 }
+    requires packets { packets ≤ 10_000 }
+    requires i { i < packets }
+    ensures { result ≡ moment_of packets burst i }
+{
+    ((i / burst + 1) * burst).min(packets) * PACKET_TIME
+}
+
+/// An arrival of this sender at this moment, counted from 0, by its next three random words.
+fn next_arrival(words: &mut Lcg128Xsl64, sender: u64, i: u64, moment: u64) -> Arrival
     requires sender { sender ≤ 8 }
     requires i { i < 10_000 }
     ensures { (all : Stream) → words_of words.old ≡ words_after (3 * i) all
-        → (result ≡ arrival_at sender all i) × (words_of words.new ≡ words_after (3 * (i + 1)) all) }
+        → (result ≡ arrival_at sender all i moment) × (words_of words.new ≡ words_after (3 * (i + 1)) all) }
 {
     let size = words.next_u64();
     let ecn = words.next_u64();
     let word = words.next_u64();
     Arrival {
-        moment: (i + 1) * PACKET_TIME,
+        moment,
         packet: Packet {
             tag: sender * SENDER_TAGS + i,
             size: 64 + (size % 1437) as u32,
@@ -64,16 +76,20 @@ fn arrivals_of(
     alloc: Global,
     sender: u64,
     packets: u64,
+    burst: u64,
     seed: u64,
 ) -> Result<Vec<Arrival>, AllocError>
     requires sender { sender ≤ 8 }
     requires packets { packets ≤ 10_000 }
-    ensures { IfOk result (λ list. held_by list ≡ arrivals_of packets seed sender) }
+    requires some { 1 ≤ burst }
+    requires burst { burst ≤ 1024 }
+    ensures { IfOk result (λ list. held_by list ≡ arrivals_of packets burst seed sender) }
 {
     let mut words = Lcg128Xsl64::new(u128::from(seed), u128::from(sender));
     let mut arrivals = Vec::with_capacity(alloc, packets as usize)?;
     for i in 0..packets {
-        arrivals.push(next_arrival(&mut words, sender, i))?;
+        let moment = moment_of(packets, burst, i);
+        arrivals.push(next_arrival(&mut words, sender, i, moment))?;
     }
     Ok(arrivals)
 }
@@ -83,15 +99,18 @@ fn all_arrivals(
     alloc: Global,
     senders: u64,
     packets: u64,
+    burst: u64,
     seed: u64,
 ) -> Result<Vec<Vec<Arrival>>, AllocError>
     requires senders { senders ≤ 8 }
     requires packets { packets ≤ 10_000 }
-    ensures { IfOk result (λ lists. map held_by lists.items ≡ map (arrivals_of packets seed) (range_with_len 1 senders)) }
+    requires some { 1 ≤ burst }
+    requires burst { burst ≤ 1024 }
+    ensures { IfOk result (λ lists. map held_by lists.items ≡ map (arrivals_of packets burst seed) (range_with_len 1 senders)) }
 {
     let mut lists = Vec::with_capacity(alloc, senders as usize)?;
     for before in 0..senders {
-        lists.push(arrivals_of(alloc, before + 1, packets, seed)?)?;
+        lists.push(arrivals_of(alloc, before + 1, packets, burst, seed)?)?;
     }
     Ok(lists)
 }
@@ -167,12 +186,12 @@ fn folds_of(alloc: Global, senders: u64, packets: u64, folds: u64) -> Result<Vec
     Ok(list)
 }
 
-/// The plan of a storm (this project's own) with default parameters from moment 0 on, and these choices. Each sender has a packet each millisecond, of 64 to
-/// 1500 bytes and any ECN field, whose size, ECN field and random word are three words of a generator that is made of `seed` and the
-/// sender's number. As many departures are spread evenly over that time at a `load` of 100, and over `load` hundredths of it at any other.
-/// An update is made at each due moment while packets arrive. The changes are spread evenly over that time, to a reference delay of 5 ms and
-/// back in turn. The folds together hand out as many events as there are packets. The tail has room for all events, so that none is
-/// needed.
+/// The plan of a storm (this project's own) with default parameters from moment 0 on, and these choices. Each sender has a packet each
+/// millisecond, of 64 to 1500 bytes and any ECN field, whose size, ECN field and random word are three words of a generator that is made of
+/// `seed` and the sender's number. It hands them in by so many as `burst` says, all at the moment of the last. As many departures are spread
+/// evenly over that time at a `load` of 100, and over `load` hundredths of it at any other. An update is made at each due moment while packets
+/// arrive. The changes are spread evenly over that time, to a reference delay of 5 ms and back in turn. The folds together hand out as many
+/// events as there are packets. The tail has room for all events, so that none is needed.
 ///
 /// # Errors
 ///
@@ -183,6 +202,7 @@ pub fn storm_plan(alloc: Global, numbers: StormNumbers) -> Result<Plan, Memory>
 {
     let StormNumbers {
         load,
+        burst,
         seed,
         changes,
         folds,
@@ -192,7 +212,7 @@ pub fn storm_plan(alloc: Global, numbers: StormNumbers) -> Result<Plan, Memory>
     } = numbers;
     let (senders, packets) = (u64::from(numbers.senders), u64::from(numbers.packets));
     let commands = 2 * senders * packets + packets / 15 + 1 + changes;
-    let Ok(arrivals) = all_arrivals(alloc, senders, packets, seed) else {
+    let Ok(arrivals) = all_arrivals(alloc, senders, packets, u64::from(burst), seed) else {
         return Err(Memory);
     };
     let Ok(departs) = departs_of(alloc, senders, packets, load) else {
@@ -218,6 +238,7 @@ pub fn storm_plan(alloc: Global, numbers: StormNumbers) -> Result<Plan, Memory>
         profile,
         elements,
         arrivals,
+        burst,
         departs,
         updates,
         changes,

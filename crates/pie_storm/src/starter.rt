@@ -1,5 +1,5 @@
 //! The storm: a link under many threads at once, recorded.
-ghost use Rattle.std.specs.Prelude.{◌≡◌, ◌+◌, ◌*◌, ◌^◌, ◌≤◌, ◌≢◌, ◌↔◌, ◌++◌, List, [], false, Some, None, Err, IfSome, IfOk, IfErr, OnOk};
+ghost use Rattle.std.specs.Prelude.{vec_capacity, ◌≡◌, ◌+◌, ◌*◌, ◌^◌, ◌≤◌, ◌≢◌, ◌↔◌, ◌++◌, List, [], false, Some, None, Err, IfSome, IfOk, IfErr, OnOk};
 ghost use denote.Param.Send.{IsSync};
 ghost use Rattle.pie_book.specs.declared.command.Event.{Event};
 ghost use Rattle.pie_book.specs.Book.{Tells};
@@ -10,7 +10,7 @@ ghost use Rattle.pie_storm.specs.declared.plan.Plan.{Plan};
 ghost use Rattle.pie_link.specs.declared.refusal.LinkRefusal.{LinkRefusal};
 ghost use Rattle.pie_link.specs.Entries.{events_in};
 ghost use Rattle.pie_link.specs.Opening.{IsRefusedFor, link_refusal};
-ghost use Rattle.pie_storm.specs.Plans.{IsSound, opening_of, planned, senders};
+ghost use Rattle.pie_storm.specs.Plans.{IsSound, opening_of, planned, senders, turn_of};
 ghost use Rattle.pie_storm.specs.Storms.{AllCameAt, AreFoldedAt, CameAt, IsStorm, MadeAll, MadeFolds, NoneElseFoldsAt, OnlyMadeAt, folder};
 ghost use Rattle.pie_link.specs.Views.{StaysOne};
 ghost use Rattle.pie_lock.specs.Promises.{first_pass};
@@ -18,13 +18,20 @@ ghost use Rattle.pie_lock.specs.Promises.{first_pass};
 use crate::ending::{StormEnd, StormFault};
 use crate::gate::Gate;
 use crate::plan::Plan;
-use crate::worker::{Folding, Work, make_calls};
+use crate::worker::{Folding, Replies, Work, make_calls};
 use pie_book::{Book, Recorded};
 use pie_link::{Caller, Link, LinkRefusal, entries_look_back};
-use std::alloc::Global;
+use std::alloc::{AllocError, Global};
 use std::sync::Wait;
 use std::thread;
 use std::thread::{Promise, Scope, Threads};
+
+// Why a worker was not started: its thread was refused, or the memory for what its bursts are answered.
+#[derive(Clone, Copy)]
+enum Unstarted {
+    Thread,
+    Memory,
+}
 
 // What a worker promises: it made all calls of the caller with this number.
 #[derive(Clone, Copy)]
@@ -40,8 +47,16 @@ impl<'a> Promise<Work> for MakesAll<'a> {
         work.caller.front };
 }
 
+// A vector with room for what the burst of a caller is answered: a caller whose turn is one command needs none.
+fn room_for_replies(alloc: Global, plan: &Plan, caller: u16) -> Result<Replies, AllocError>
+    ensures { IfOk result (λ replies. turn_of plan.now caller ≢ 1 → turn_of plan.now caller ≤ vec_capacity replies) }
+{
+    let turn = plan.turn(caller);
+    Vec::with_capacity(alloc, if turn == 1 { 0 } else { turn })
+}
+
 // Lets the callers with these numbers work at once, each but the first in a thread of its own, and gathers them in order. The
-// first is the starter, which makes no calls. There is no answer where a thread could not be started; those that were have ended.
+// first is the starter, which makes no calls. Where one is not started, those that were have ended.
 #[tactic(auto, unfolding(crate::specs::Storms::MadeAll, crate::specs::Storms::MadeFolds))]
 fn work_in<'s, E: 's, R: Threads + Wait + Sync, G: Gate + Sync>(
     scope: &Scope<'s, E>,
@@ -51,17 +66,17 @@ fn work_in<'s, E: 's, R: Threads + Wait + Sync, G: Gate + Sync>(
     plan: &'s Plan,
     gate: &'s G,
     caller: Caller,
-) -> Option<Work>
+) -> Result<Work, Unstarted>
     requires own { caller.lock ≡ link.now }
     requires first { caller.first ≡ 0 }
     requires new { caller.front ≡ [] }
     requires sound { IsSound plan.now }
     requires few { planned plan.now ≤ 2 ^ 20 }
-    ensures stays { IfSome result (λ work. StaysOne caller work.caller) }
-    ensures made { IfSome result (λ work. AllCameAt link.now plan.now caller.limit (events_in work.caller.front) work.too_soon) }
-    ensures alone { IfSome result (λ work. NoneElseFoldsAt link.now plan.now caller.limit work.caller.front) }
-    ensures few { IfSome result (λ work. work.too_soon ≤ caller.limit * 2 ^ 20) }
-    ensures folds { caller.limit ≡ senders plan.now + 5 → IfSome result (λ work.
+    ensures stays { IfOk result (λ work. StaysOne caller work.caller) }
+    ensures made { IfOk result (λ work. AllCameAt link.now plan.now caller.limit (events_in work.caller.front) work.too_soon) }
+    ensures alone { IfOk result (λ work. NoneElseFoldsAt link.now plan.now caller.limit work.caller.front) }
+    ensures few { IfOk result (λ work. work.too_soon ≤ caller.limit * 2 ^ 20) }
+    ensures folds { caller.limit ≡ senders plan.now + 5 → IfOk result (λ work.
         AreFoldedAt link.now (folder plan.now) (work.folding.is_short_of_memory ≡ false) plan.now.folds.items
         work.folding.events.items work.caller.front work.folding.too_many) }
 {
@@ -69,12 +84,15 @@ fn work_in<'s, E: 's, R: Threads + Wait + Sync, G: Gate + Sync>(
     let last = match link.share(&mut rest) {
         Ok(last) => last,
         Err(_) => {
-            return Some(Work {
+            return Ok(Work {
                 caller: rest,
                 too_soon: 0,
                 folding: Folding::none(alloc),
             });
         }
+    };
+    let Ok(replies) = room_for_replies(alloc, plan, last.first()) else {
+        return Err(Unstarted::Memory);
     };
     let promise = MakesAll {
         link,
@@ -84,17 +102,18 @@ fn work_in<'s, E: 's, R: Threads + Wait + Sync, G: Gate + Sync>(
     let Ok(worker) = scope.spawn_with(
         promise,
         move || -> Work
-            requires { (last.lock ≡ link.now) × (last.limit ≡ last.first + 1) × (last.front ≡ []) × IsSound plan.now × (planned plan.now ≤ 2 ^ 20) }
+            requires { (last.lock ≡ link.now) × (last.limit ≡ last.first + 1) × (last.front ≡ []) × IsSound plan.now × (planned plan.now ≤ 2 ^ 20)
+                × (turn_of plan.now last.first ≢ 1 → turn_of plan.now last.first ≤ vec_capacity replies) }
             ensures made { MadeAll link.entry.now plan.entry.now last.first result.caller result.too_soon }
             ensures folds { MadeFolds link.entry.now plan.entry.now last.first (result.folding.is_short_of_memory ≡ false)
                 result.folding.events.items result.folding.too_many result.caller.front }
-        { make_calls(rt, alloc, link, plan, gate, last) },
+        { make_calls(rt, alloc, link, plan, gate, last, replies) },
     ) else {
-        return None;
+        return Err(Unstarted::Thread);
     };
     let others = work_in(scope, rt, alloc, link, plan, gate, rest);
     let theirs = worker.join(rt);
-    Some(both(link, others?, theirs))
+    Ok(both(link, others?, theirs))
 }
 
 // The same in a scope, which ends when all workers have.
@@ -105,29 +124,29 @@ fn work_at_once<R: Threads + Wait + Sync, G: Gate + Sync>(
     plan: &Plan,
     gate: &G,
     caller: Caller,
-) -> Option<Work>
+) -> Result<Work, Unstarted>
     requires own { caller.lock ≡ link.now }
     requires first { caller.first ≡ 0 }
     requires new { caller.front ≡ [] }
     requires sound { IsSound plan.now }
     requires few { planned plan.now ≤ 2 ^ 20 }
-    ensures stays { IfSome result (λ work. StaysOne caller work.caller) }
-    ensures made { IfSome result (λ work. AllCameAt link.now plan.now caller.limit (events_in work.caller.front) work.too_soon) }
-    ensures alone { IfSome result (λ work. NoneElseFoldsAt link.now plan.now caller.limit work.caller.front) }
-    ensures folds { caller.limit ≡ senders plan.now + 5 → IfSome result (λ work.
+    ensures stays { IfOk result (λ work. StaysOne caller work.caller) }
+    ensures made { IfOk result (λ work. AllCameAt link.now plan.now caller.limit (events_in work.caller.front) work.too_soon) }
+    ensures alone { IfOk result (λ work. NoneElseFoldsAt link.now plan.now caller.limit work.caller.front) }
+    ensures folds { caller.limit ≡ senders plan.now + 5 → IfOk result (λ work.
         AreFoldedAt link.now (folder plan.now) (work.folding.is_short_of_memory ≡ false) plan.now.folds.items
         work.folding.events.items work.caller.front work.folding.too_many) }
 {
     thread::scope(
         thread::scope_env(),
         rt,
-        |scope| -> Option<Work>
+        |scope| -> Result<Work, Unstarted>
             requires { IsSync R.row × IsSync G.row × (caller.lock ≡ link.now) × (caller.first ≡ 0) × (caller.front ≡ []) × IsSound plan.now
                 × (planned plan.now ≤ 2 ^ 20) }
-            ensures stays { IfSome result (λ work. StaysOne caller work.caller) }
-            ensures made { IfSome result (λ work. AllCameAt link.entry.now plan.entry.now caller.limit (events_in work.caller.front) work.too_soon) }
-            ensures alone { IfSome result (λ work. NoneElseFoldsAt link.entry.now plan.entry.now caller.limit work.caller.front) }
-            ensures folds { caller.limit ≡ senders plan.entry.now + 5 → IfSome result (λ work.
+            ensures stays { IfOk result (λ work. StaysOne caller work.caller) }
+            ensures made { IfOk result (λ work. AllCameAt link.entry.now plan.entry.now caller.limit (events_in work.caller.front) work.too_soon) }
+            ensures alone { IfOk result (λ work. NoneElseFoldsAt link.entry.now plan.entry.now caller.limit work.caller.front) }
+            ensures folds { caller.limit ≡ senders plan.entry.now + 5 → IfOk result (λ work.
                 AreFoldedAt link.entry.now (folder plan.entry.now) (work.folding.is_short_of_memory ≡ false) plan.entry.now.folds.items
                 work.folding.events.items work.caller.front work.folding.too_many) }
         { work_in(scope, rt, alloc, link, plan, gate, caller) },
@@ -170,14 +189,16 @@ fn both(link: &Link, work: Work, last: Work) -> Work
 /// Makes all calls of the plan at once, each list in a thread of its own, and answers what was recorded (this project's own).
 ///
 /// With N lists of arrivals, callers 1 to N send them, N + 1 makes the departures, N + 2 the updates, N + 3 the changes and
-/// N + 4 the folds, each in the order of its list, with `gate.before` and `gate.after` around each call. An update that is too
+/// N + 4 the folds, each in the order of its list, with `gate.before` and `gate.after` around each call. A sender makes a burst of
+/// its arrivals in one call. An update that is too
 /// soon, and a fold of more events than the tail holds, are counted and passed over.
 ///
 /// # Errors
 ///
 /// `BadPlan` before anything else, where the plan is not sound; `Opening` where the link is not opened; `Thread` where a worker's
-/// thread could not be started, whatever the others met; then `Memory`, where a fold or the list of all events had none. All
-/// workers that were started have ended then. `Gap` never comes: no event is lost between folds and tail.
+/// thread could not be started, whatever the others met, or `Memory` where there was none for the answers to its bursts; then
+/// `Memory`, where a fold or the list of all events had none. All workers that were started have ended then. `Gap` never comes: no
+/// event is lost between folds and tail.
 pub fn storm<R: Threads + Wait + Sync, G: Gate + Sync>(
     rt: &R,
     alloc: Global,
@@ -203,8 +224,10 @@ pub fn storm<R: Threads + Wait + Sync, G: Gate + Sync>(
         Ok(opened) => opened,
         Err(why) => return Err(StormFault::Opening(why)),
     };
-    let Some(work) = work_at_once(rt, alloc, &link, plan, gate, starter) else {
-        return Err(StormFault::Thread);
+    let work = match work_at_once(rt, alloc, &link, plan, gate, starter) {
+        Ok(work) => work,
+        Err(Unstarted::Thread) => return Err(StormFault::Thread),
+        Err(Unstarted::Memory) => return Err(StormFault::Memory),
     };
     let Work {
         caller,

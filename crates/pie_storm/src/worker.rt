@@ -1,8 +1,9 @@
 //! The workers of a storm: each makes the calls of one caller, one after another.
-ghost use Rattle.std.specs.Prelude.{◌≡◌, ◌≢◌, ◌+◌, ◌^◌, ◌<◌, ◌≤◌, ◌-◌, ◌++◌, ℕ, [], false, Some, None, Err, IfSome, IfOk, OnErr, length, vec_len};
+ghost use Rattle.std.specs.Prelude.{◌≡◌, ◌≢◌, ◌+◌, ◌^◌, ◌<◌, ◌≤◌, ◌-◌, ◌++◌, ◌↔◌, ℕ, All, [], false, Some, None, Err, IfSome, IfOk, IsOk, IsTrue};
+ghost use Rattle.std.specs.Prelude.{OnErr, length, vec_capacity, vec_len};
 ghost use Rattle.pie_link.specs.Commands.{Answers};
 ghost use Rattle.pie_link.specs.Entries.{events_in};
-ghost use Rattle.pie_storm.specs.Plans.{IsSound, commands_of, planned};
+ghost use Rattle.pie_storm.specs.Plans.{IsSound, commands_of, planned, senders, turn_of};
 ghost use Rattle.pie_storm.specs.Storms.{AreFoldedAt, CameAt, EachGoes, FoldsGoAt, GoesOrEnds, HasNoneAt, MadeAll, MadeFolds, OnlyMadeAt, added_by};
 ghost use Rattle.pie_storm.specs.Storms.{folder, refused_by};
 ghost use Rattle.pie_link.specs.Views.{StaysOne};
@@ -103,6 +104,16 @@ fn ask<R: Wait>(
     }
 }
 
+/// What the arrivals of a burst are answered.
+pub(crate) type Replies = Vec<Result<Told<Answer>, Refusal>>;
+
+// Whether no arrival of a burst was refused.
+fn are_taken(replies: &[Result<Told<Answer>, Refusal>]) -> bool
+    ensures { IsTrue result ↔ All IsOk replies.now }
+{
+    replies.iter().all(|reply| reply.is_ok())
+}
+
 // What an answer adds to the updates that were too soon; none where the book was full.
 #[tactic(auto, unfolding(crate::specs::Storms::added_by))]
 fn added_by(answer: &Result<Told<Answer>, Refusal>) -> Option<u64>
@@ -116,7 +127,7 @@ fn added_by(answer: &Result<Told<Answer>, Refusal>) -> Option<u64>
     }
 }
 
-// Makes the command of a caller that comes after `k` others, and tells how many were too soon: this one, or none. There is no
+// Makes the command of a caller that comes after `k` others, in its turn after `call` others, and tells how many were too soon: this one, or none. There is no
 // answer where the book was full, and then nothing was recorded.
 fn ask_next<R: Wait, G: Gate>(
     rt: &R,
@@ -124,8 +135,10 @@ fn ask_next<R: Wait, G: Gate>(
     plan: &Plan,
     gate: &G,
     caller: &mut Caller,
+    call: usize,
     k: usize,
 ) -> Option<u64>
+    requires call { call < 2 ^ 20 }
     requires own { caller.old.lock ≡ link.now }
     requires one { caller.old.limit ≡ caller.old.first + 1 }
     requires sound { IsSound plan.now }
@@ -134,7 +147,7 @@ fn ask_next<R: Wait, G: Gate>(
     ensures stays { StaysOne caller.old caller.new }
     ensures few { IfSome result (λ soon. soon ≤ 1) }
     ensures goes { (passed : ℕ) → EachGoes link.now caller.old.first (commands_of plan.now caller.old.first) k (events_in caller.old.front) passed
-        → GoesOrEnds link.now caller.old.first (commands_of plan.now caller.old.first) k (events_in caller.new.front) passed result }
+        → GoesOrEnds link.now caller.old.first (commands_of plan.now caller.old.first) (k + 1) (events_in caller.new.front) passed result }
     ensures only_made { OnlyMadeAt link.now caller.old.first caller.old.front → OnlyMadeAt link.now caller.old.first caller.new.front }
 {
     entries_look_back();
@@ -142,10 +155,90 @@ fn ask_next<R: Wait, G: Gate>(
     let Some(command) = plan.command(number, k) else {
         unreachable!()
     };
-    gate.before(number, k as u64 + 1);
+    gate.before(number, call as u64 + 1);
     let answer = ask(rt, link, caller, &command);
-    gate.after(number, k as u64 + 1);
+    gate.after(number, call as u64 + 1);
     added_by(&answer)
+}
+
+// Hands in at once the `count` arrivals of a sender that come after `k` others, in its turn after `call` others. There is no answer where the book was full.
+fn send_next<R: Wait, G: Gate>(
+    rt: &R,
+    link: &Link,
+    plan: &Plan,
+    gate: &G,
+    caller: &mut Caller,
+    replies: &mut Replies,
+    call: usize,
+    k: usize,
+    count: usize,
+) -> Option<u64>
+    requires own { caller.old.lock ≡ link.now }
+    requires one { caller.old.limit ≡ caller.old.first + 1 }
+    requires sound { IsSound plan.now }
+    requires sender { (1 ≤ caller.old.first) × (caller.old.first ≤ senders plan.now) }
+    requires call { call < 2 ^ 20 }
+    requires some { 1 ≤ count }
+    requires there { k + count ≤ length (commands_of plan.now caller.old.first) }
+    requires room { count ≤ vec_capacity replies.old }
+    ensures stays { StaysOne caller.old caller.new }
+    ensures capacity { vec_capacity replies.new ≡ vec_capacity replies.old }
+    ensures few { IfSome result (λ soon. soon ≤ 1) }
+    ensures goes { (passed : ℕ) → EachGoes link.now caller.old.first (commands_of plan.now caller.old.first) k (events_in caller.old.front) passed
+        → GoesOrEnds link.now caller.old.first (commands_of plan.now caller.old.first) (k + count) (events_in caller.new.front) passed result }
+    ensures only_made { OnlyMadeAt link.now caller.old.first caller.old.front → OnlyMadeAt link.now caller.old.first caller.new.front }
+{
+    entries_look_back();
+    let number = caller.first();
+    let burst = plan.burst(number, k, count);
+    replies.clear();
+    gate.before(number, call as u64 + 1);
+    let Ok(()) = link.arrive_all(rt, caller, burst, replies) else {
+        unreachable!()
+    };
+    gate.after(number, call as u64 + 1);
+    if are_taken(replies.as_slice()) {
+        Some(0)
+    } else {
+        None
+    }
+}
+
+// Makes the `count` commands of a caller that come after `k` others, in one turn at the link after `call` others, and tells how many were
+// too soon; where there are none, it makes no call. There is no answer where the book was full.
+fn take_turn<R: Wait, G: Gate>(
+    rt: &R,
+    link: &Link,
+    plan: &Plan,
+    gate: &G,
+    caller: &mut Caller,
+    replies: &mut Replies,
+    call: usize,
+    k: usize,
+    count: usize,
+) -> Option<u64>
+    requires own { caller.old.lock ≡ link.now }
+    requires one { caller.old.limit ≡ caller.old.first + 1 }
+    requires sound { IsSound plan.now }
+    requires few { planned plan.now ≤ 2 ^ 20 }
+    requires call { call < 2 ^ 20 }
+    requires turn { count ≤ turn_of plan.now caller.old.first }
+    requires there { k + count ≤ length (commands_of plan.now caller.old.first) }
+    requires room { turn_of plan.now caller.old.first ≢ 1 → turn_of plan.now caller.old.first ≤ vec_capacity replies.old }
+    ensures stays { StaysOne caller.old caller.new }
+    ensures capacity { vec_capacity replies.new ≡ vec_capacity replies.old }
+    ensures few { IfSome result (λ soon. soon ≤ 1) }
+    ensures goes { (passed : ℕ) → EachGoes link.now caller.old.first (commands_of plan.now caller.old.first) k (events_in caller.old.front) passed
+        → GoesOrEnds link.now caller.old.first (commands_of plan.now caller.old.first) (k + count) (events_in caller.new.front) passed result }
+    ensures only_made { OnlyMadeAt link.now caller.old.first caller.old.front → OnlyMadeAt link.now caller.old.first caller.new.front }
+{
+    if count == 0 {
+        Some(0)
+    } else if plan.turn(caller.first()) == 1 {
+        ask_next(rt, link, plan, gate, caller, call, k)
+    } else {
+        send_next(rt, link, plan, gate, caller, replies, call, k, count)
+    }
 }
 
 // Makes all commands of a caller.
@@ -156,7 +249,9 @@ fn ask_all<R: Wait, G: Gate>(
     plan: &Plan,
     gate: &G,
     caller: Caller,
+    replies: Replies,
 ) -> Work
+    requires room { turn_of plan.now caller.first ≢ 1 → turn_of plan.now caller.first ≤ vec_capacity replies }
     requires own { caller.lock ≡ link.now }
     requires one { caller.limit ≡ caller.first + 1 }
     requires new { caller.front ≡ [] }
@@ -167,12 +262,30 @@ fn ask_all<R: Wait, G: Gate>(
     ensures few { result.too_soon ≤ 2 ^ 20 }
     ensures only_made { OnlyMadeAt link.now caller.first result.caller.front }
 {
-    let commands = plan.commands(caller.first());
+    let number = caller.first();
+    let commands = plan.commands(number);
+    let turn = plan.turn(number);
     let mut mine = caller;
+    let mut replies = replies;
     let mut too_soon = 0u64;
-    for k in 0..commands {
-        match ask_next(rt, link, plan, gate, &mut mine, k) {
-            Some(soon) => too_soon += soon,
+    let mut k = 0;
+    for call in 0..commands {
+        let count = turn.min(commands - k);
+        match take_turn(
+            rt,
+            link,
+            plan,
+            gate,
+            &mut mine,
+            &mut replies,
+            call,
+            k,
+            count,
+        ) {
+            Some(soon) => {
+                too_soon += soon;
+                k += count;
+            }
             None => {
                 return Work {
                     caller: mine,
@@ -262,7 +375,9 @@ pub(crate) fn make_calls<R: Wait, G: Gate>(
     plan: &Plan,
     gate: &G,
     caller: Caller,
+    replies: Replies,
 ) -> Work
+    requires room { turn_of plan.now caller.first ≢ 1 → turn_of plan.now caller.first ≤ vec_capacity replies }
     requires own { caller.lock ≡ link.now }
     requires one { caller.limit ≡ caller.first + 1 }
     requires new { caller.front ≡ [] }
@@ -275,6 +390,6 @@ pub(crate) fn make_calls<R: Wait, G: Gate>(
     if usize::from(caller.first()) == plan.arrivals.len() + 4 {
         fold_all(rt, alloc, link, plan, gate, caller)
     } else {
-        ask_all(rt, alloc, link, plan, gate, caller)
+        ask_all(rt, alloc, link, plan, gate, caller, replies)
     }
 }

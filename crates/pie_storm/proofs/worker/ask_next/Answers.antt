@@ -1,5 +1,4 @@
-use Rattle.std.proofs.Common.{ℕ, Option, sym, subst, arith}
-use Rattle.pie_storm.proofs.PlanCommands.{fits}
+use Rattle.std.proofs.Common.{◌+◌, ℕ, Option, sym, subst}
 use Rattle.pie_storm.specs.Plans.{commands_of}
 use Rattle.pie_storm.specs.Storms.{GoesOrEnds}
 use Rattle.pie_link.specs.Entries.{events_in}
@@ -10,7 +9,7 @@ use Rattle.pie_storm.proofs.worker.ask_next.Goals as goal
 pub returns-clause-goes : goal.returns-clause-goes
 returns-clause-goes g c = λ passed goes.
     let first = c.args.caller.now.first in
-    subst (λ (soon : Option ℕ). GoesOrEnds c.args.link.now first (commands_of c.args.plan.now first) c.args.k
+    subst (λ (soon : Option ℕ). GoesOrEnds c.args.link.now first (commands_of c.args.plan.now first) (c.args.k + 1)
     (events_in c.ask-answer.new.caller.front) passed soon) (sym c.added_by.ensures.value)
     (asked_next c.entries_look_back.ensures c.args.link.now c.args.plan.now c.first-number.result c.args.k c.in-Some.command c.ask-answer.result
     c.args.caller.now
@@ -21,9 +20,3 @@ pub returns-clause-only_made : goal.returns-clause-only_made
 returns-clause-only_made g c =
     only_next c.args.link.now c.in-Some.command c.ask-answer.result c.args.caller.now c.ask-answer.new.caller c.requires.one
     c.ask-answer.ensures.answered
-
-pub overflow_add-k : goal.overflow_add-k
-overflow_add-k g c = omega (arith, c.requires.some, c.requires.few, fits c.args.plan.now c.args.caller.now.first)
-
-pub overflow_add-k-2 : goal.overflow_add-k-2
-overflow_add-k-2 g c = omega (arith, c.requires.some, c.requires.few, fits c.args.plan.now c.args.caller.now.first)

@@ -129,6 +129,7 @@ fn plan(alloc: Global, arrivals: Vec<Vec<Arrival>>) -> Plan {
         profile: Profile::One,
         elements: Elements::usual(),
         arrivals,
+        burst: 1,
         departs: Vec::new(alloc),
         updates: Vec::new(alloc),
         changes: Vec::new(alloc),

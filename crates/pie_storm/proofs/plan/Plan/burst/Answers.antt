@@ -1,0 +1,17 @@
+use Rattle.std.proofs.Common.{◌≡◌, ◌∙◌, ◌-◌, ℕ, List, Some, drop, length, slice_get, take, ap, refl, subst, arith, rules}
+use Rattle.std.proofs.lemmas.Option.{slice_get_read}
+use Rattle.pie_link.specs.declared.arrival.Arrival.{Arrival}
+use Rattle.pie_storm.specs.Plans.{commands_of}
+use Rattle.pie_storm.proofs.PlanCommands.{part_of, sender_has}
+use Rattle.pie_storm.proofs.plan.Plan.burst.Goals as goal
+
+pub returns-clause-value : goal.returns-clause-value
+returns-clause-value c =
+    let lists = c.args.self.now.arrivals.items in
+    let place : c.from.result ≡ c.args.caller = search rules in
+    let at = slice_get_read lists (length lists) (c.from.result - 1) c.index.result.now refl
+    (omega (arith, place, c.requires.sender.0, c.requires.sender.1)) c.index.ensures in
+    part_of c.args.k c.args.count c.index.result.now.items c.part.result.now (commands_of c.args.self.now c.args.caller)
+    (sender_has c.args.self.now c.args.caller c.index.result.now c.requires.sender.0 c.requires.sender.1
+    (subst (λ (n : ℕ). slice_get lists (n - 1) ≡ Some c.index.result.now) place at))
+    (c.part.ensures ∙ ap (λ (l : List Arrival). take c.args.count (drop c.args.k l)) c.as_slice.ensures.value)

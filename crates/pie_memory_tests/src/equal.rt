@@ -1,30 +1,14 @@
 //! Equality of the public types that tests compare: where `==` says yes, the two values are the same in every field. A `==` that skips a field
 //! would meet every other contract, and blind each test that compares. (That it says yes of a value and itself is a law of `Eq`, which each
-//! derive proves.) These functions are there for their contracts. What texts tell of is compared in pie_device_tests.
+//! derive proves.) These functions are there for their contracts. A type that is compared as a part of another one, as packets, parameters, limits
+//! and choices are, has none of its own: where its `==` skips a field, that of the whole is refused. What texts tell of is compared in
+//! pie_device_tests.
 ghost use Rattle.std.specs.Prelude.{◌≡◌, true};
 
-use pie_book::{
-    Answer, Cause, Choices, Command, Fate, FoldRefusal, Limits, Mode, OpenRefusal, Opening,
-    Profile, Refusal, Registers, Stats,
-};
-use pie_link::LinkRefusal;
-use pie_params::{Params, RawParams};
-use pie_queue::{Ecn, Packet, Waiting};
+use pie_book::{Answer, Cause, Command, FoldRefusal, Opening, Refusal, Registers, Stats};
+use pie_params::RawParams;
+use pie_queue::Waiting;
 use pie_storm::StormFault;
-
-/// Equal ECN fields are the same.
-pub(crate) fn ecn_fields(one: Ecn, other: Ecn) -> bool
-    ensures { result ≡ true → one ≡ other }
-{
-    one == other
-}
-
-/// Equal packets are the same.
-pub(crate) fn packets(one: Packet, other: Packet) -> bool
-    ensures { result ≡ true → one ≡ other }
-{
-    one == other
-}
 
 /// Equal packets that wait are the same.
 pub(crate) fn waiting(one: Waiting, other: Waiting) -> bool
@@ -35,13 +19,6 @@ pub(crate) fn waiting(one: Waiting, other: Waiting) -> bool
 
 /// Equal raw parameters are the same.
 pub(crate) fn raw_params(one: RawParams, other: RawParams) -> bool
-    ensures { result ≡ true → one ≡ other }
-{
-    one == other
-}
-
-/// Equal parameters are the same.
-pub(crate) fn params(one: Params, other: Params) -> bool
     ensures { result ≡ true → one ≡ other }
 {
     one == other
@@ -68,43 +45,8 @@ pub(crate) fn openings(one: Opening, other: Opening) -> bool
     one == other
 }
 
-/// Equal limits are the same.
-pub(crate) fn limits(one: Limits, other: Limits) -> bool
-    ensures { result ≡ true → one ≡ other }
-{
-    one == other
-}
-
-/// Equal modes are the same.
-pub(crate) fn modes(one: Mode, other: Mode) -> bool
-    ensures { result ≡ true → one ≡ other }
-{
-    one == other
-}
-
-/// Equal profiles are the same.
-pub(crate) fn profiles(one: Profile, other: Profile) -> bool
-    ensures { result ≡ true → one ≡ other }
-{
-    one == other
-}
-
-/// Equal choices of an opening are the same.
-pub(crate) fn choices(one: Choices, other: Choices) -> bool
-    ensures { result ≡ true → one ≡ other }
-{
-    one == other
-}
-
 /// Equal refusals are the same.
 pub(crate) fn refusals(one: Refusal, other: Refusal) -> bool
-    ensures { result ≡ true → one ≡ other }
-{
-    one == other
-}
-
-/// Equal refusals of an opening are the same.
-pub(crate) fn open_refusals(one: OpenRefusal, other: OpenRefusal) -> bool
     ensures { result ≡ true → one ≡ other }
 {
     one == other
@@ -131,22 +73,8 @@ pub(crate) fn stats(one: Stats, other: Stats) -> bool
     one == other
 }
 
-/// Equal fates of a picked packet are the same.
-pub(crate) fn fates(one: Fate, other: Fate) -> bool
-    ensures { result ≡ true → one ≡ other }
-{
-    one == other
-}
-
 /// Equal causes of a decision are the same.
 pub(crate) fn causes(one: Cause, other: Cause) -> bool
-    ensures { result ≡ true → one ≡ other }
-{
-    one == other
-}
-
-/// Equal refusals of a link are the same.
-pub(crate) fn link_refusals(one: LinkRefusal, other: LinkRefusal) -> bool
     ensures { result ≡ true → one ≡ other }
 {
     one == other

@@ -1,4 +1,5 @@
-//! The lock, and the link.
+//! The lock, the link, and the parts below them.
 
 mod link;
 mod lock;
+mod parts;

@@ -5,7 +5,6 @@ ghost use Rattle.std.specs.Prelude.{◌≡◌, IfOk};
 mod bursts;
 mod one_thread;
 mod storms;
-mod threads;
 
 use pie_book::Limits;
 use pie_link::{Caller, Link, LinkRefusal};

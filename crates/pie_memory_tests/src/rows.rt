@@ -1,7 +1,4 @@
-//! `pie_link_tests`: makes the commands of a history's events again, one after another, at a link with one caller, and says of how many the link's
-//! answer is another one. It reads the history on standard input; `tests/libraries/link_rows.py` hands it the worked ones.
-#![tactic(auto)]
-
+//! A history's commands, made again one after another at a link with one caller: of how many the link's answer is another one.
 ghost use Rattle.std.specs.Prelude.{◌≡◌};
 
 use pie_book::{Answer, Choices, Command, Event, Mode, Opening, Refusal};
@@ -12,11 +9,15 @@ use std::io;
 use std::io::Read;
 use std::sync::Wait;
 
-fn main(rt: HostRuntime) -> io::Result<()> {
-    let (alloc, input) = (rt.alloc(), rt.stdin());
+/// Makes the events of this history again.
+pub(crate) fn all<I: Read + Drop, R: Wait + Print>(
+    rt: &R,
+    alloc: Global,
+    input: I,
+) -> io::Result<()> {
     match HistoryLines::open(alloc, input) {
-        Ok((mut lines, opening)) => replay(&rt, alloc, &mut lines, &opening),
-        Err(why) => println!(rt; "pie_link_tests: {why:?}"),
+        Ok((mut lines, opening)) => replay(rt, alloc, &mut lines, &opening),
+        Err(why) => println!(rt; "a history at a link: {why:?}"),
     }
 }
 
@@ -113,8 +114,8 @@ fn replay<I: Read + Drop, R: Wait + Print>(
             Some((events, others)) => {
                 println!(rt; "{events} events, {others} with another answer")
             }
-            None => println!(rt; "pie_link_tests: a line that can't be read"),
+            None => println!(rt; "a history at a link: a line that can't be read"),
         },
-        Err(why) => println!(rt; "pie_link_tests: {why:?}"),
+        Err(why) => println!(rt; "a history at a link: {why:?}"),
     }
 }

@@ -8,12 +8,14 @@ mod equal;
 mod links;
 mod locks;
 mod report;
+mod resumed;
 mod storms;
 
 use std::io;
 
 fn main(rt: HostRuntime) -> io::Result<()> {
     books::all(&rt, rt.alloc())?;
+    resumed::all(&rt, rt.alloc())?;
     locks::all(&rt, rt.alloc())?;
     links::all(&rt, rt.alloc())?;
     storms::all(&rt, rt.alloc())

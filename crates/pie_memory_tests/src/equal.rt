@@ -5,7 +5,7 @@ ghost use Rattle.std.specs.Prelude.{◌≡◌, true};
 
 use pie_book::{
     Answer, Cause, Choices, Command, Fate, FoldRefusal, Limits, Mode, OpenRefusal, Opening,
-    Profile, Refusal, Registers, Stats,
+    Profile, Refusal, Registers, Standing, Stats,
 };
 use pie_link::LinkRefusal;
 use pie_params::{Params, RawParams};
@@ -154,6 +154,13 @@ pub(crate) fn link_refusals(one: LinkRefusal, other: LinkRefusal) -> bool
 
 /// Equal faults of storms are the same.
 pub(crate) fn storm_faults(one: StormFault, other: StormFault) -> bool
+    ensures { result ≡ true → one ≡ other }
+{
+    one == other
+}
+
+/// Equal numbers that cores stand on are the same.
+pub(crate) fn standings(one: Standing, other: Standing) -> bool
     ensures { result ≡ true → one ≡ other }
 {
     one == other

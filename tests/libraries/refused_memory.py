@@ -25,6 +25,8 @@ REFUSED = {
         "Book::fold of none": None,
         "Book::fold of one": r"Book::fold of one: Err\(Memory\) events, 1000 in the tail\n",
         "Book::apply": None,
+        "Core::resume": r"a number that no controller holds\nCore::resume: Memory\n",
+        "Book::resume": r"Book::resume: Memory\n",
         "RuledLock::new": r"RuledLock::new: Memory, back: 0 and 0\nand then: count 1, total 5\n",
         "RuledLock::try_take": None,
         "Link::open": r"Link::open: (Book\(Memory\)|Memory)\n",

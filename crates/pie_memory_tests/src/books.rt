@@ -33,7 +33,7 @@ pub(crate) fn packet(tag: u64) -> Packet
 }
 
 /// A packet arrives whose tag is its moment.
-fn arrive(moment: u64) -> Command {
+pub(crate) fn arrive(moment: u64) -> Command {
     Command::Arrive {
         moment,
         packet: packet(moment),

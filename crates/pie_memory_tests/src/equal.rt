@@ -5,7 +5,7 @@
 //! pie_device_tests.
 ghost use Rattle.std.specs.Prelude.{◌≡◌, true};
 
-use pie_book::{Answer, Cause, Command, FoldRefusal, Opening, Refusal, Registers, Stats};
+use pie_book::{Answer, Cause, Command, FoldRefusal, Opening, Refusal, Registers, Standing, Stats};
 use pie_params::RawParams;
 use pie_queue::Waiting;
 use pie_storm::StormFault;
@@ -82,6 +82,13 @@ pub(crate) fn causes(one: Cause, other: Cause) -> bool
 
 /// Equal faults of storms are the same.
 pub(crate) fn storm_faults(one: StormFault, other: StormFault) -> bool
+    ensures { result ≡ true → one ≡ other }
+{
+    one == other
+}
+
+/// Equal numbers that cores stand on are the same.
+pub(crate) fn standings(one: Standing, other: Standing) -> bool
     ensures { result ≡ true → one ≡ other }
 {
     one == other

@@ -9,6 +9,7 @@ mod equal;
 mod links;
 mod locks;
 mod report;
+mod resumed;
 mod rows;
 mod storms;
 
@@ -49,6 +50,7 @@ fn make<R: Threads + Wait + Print + Sync, I: Read + Drop>(
 /// The calls that can want memory.
 fn memory<R: Threads + Wait + Print + Sync>(rt: &R, alloc: Global) -> io::Result<()> {
     books::all(rt, alloc)?;
+    resumed::all(rt, alloc)?;
     locks::all(rt, alloc)?;
     links::all(rt, alloc)?;
     storms::all(rt, alloc)

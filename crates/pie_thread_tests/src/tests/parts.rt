@@ -1,6 +1,9 @@
 //! What no clause says and no program shows: texts, that there is memory for the largest ring, and calls that nothing else makes.
 
-use pie_book::{Book, Choices, FoldRefusal, Limits, Mode, OpenRefusal, Opening, Profile, Refusal};
+use pie_book::{
+    Book, Choices, EndRefusal, FoldRefusal, Limits, Mode, OpenRefusal, Opening, Profile,
+    QueueRefusal, Refusal, ResumeRefusal,
+};
 use pie_fixed::{Accu, Gain, Prob};
 use pie_params::{BadParam, Elements, Field, Params, RawParams};
 use pie_queue::{ByteQueue, Ecn, Memory};
@@ -48,10 +51,30 @@ fn say_why_others_are_refused(alloc: Global) -> bool {
         && says(alloc, &TraceFault::TooLong, "too many records")
 }
 
+/// Those of numbers that no core goes on from, and of their packets.
+fn say_why_none_goes_on(alloc: Global) -> bool {
+    says(
+        alloc,
+        &ResumeRefusal::Count,
+        "more events than the limits allow",
+    ) && says(alloc, &ResumeRefusal::Statistics, "statistics out of range")
+        && says(
+            alloc,
+            &QueueRefusal::Order,
+            "a packet that arrived before its predecessor",
+        )
+        && says(
+            alloc,
+            &EndRefusal::Missing,
+            "fewer packets than were announced",
+        )
+}
+
 #[test]
 fn refusals_in_words(rt: HostRuntime) {
     let alloc = rt.alloc();
-    assert!(rt; say_why_a_command_is_refused(alloc) && say_why_others_are_refused(alloc));
+    let is_said = say_why_a_command_is_refused(alloc) && say_why_others_are_refused(alloc);
+    assert!(rt; is_said && say_why_none_goes_on(alloc));
 }
 
 /// Whether there is memory for a ring of the greatest size.

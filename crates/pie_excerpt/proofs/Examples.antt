@@ -1,0 +1,77 @@
+-- The records on worked examples: each theorem computes. The numbers stand in the order of the record's fields.
+use Rattle.std.proofs.Common.{◌≡◌, [], ◌∷◌, ◌++◌, refl}
+use Rattle.std.specs.Prelude.{Some, codes, true}
+use Rattle.std.specs.Fmt.{digits}
+use Rattle.csv.specs.Writing.{fields_text, is_blank}
+use Rattle.pie_queue.specs.declared.ecn.Ecn.TheVariants.{Ect0}
+use Rattle.pie_params.specs.declared.elements.Delay.TheVariants.{Stamp}
+use Rattle.pie_params.specs.declared.elements.Picking.TheVariants.{Random}
+use Rattle.pie_params.specs.declared.elements.Size.TheVariants.{Scaled}
+use Rattle.pie_params.specs.declared.elements.Step.TheVariants.{Uncapped}
+use Rattle.pie_aqm.specs.declared.profile.Profile.TheVariants.{Two}
+use Rattle.pie_book.specs.declared.opening.Mode.TheVariants.{Rolling}
+use Rattle.pie_record.specs.Text.{text_of}
+use Rattle.pie_excerpt.specs.Rows.{queued_row, resume_row}
+use Rattle.pie_excerpt.specs.declared.resume.Resume.{Resume}
+
+abbrev worked : Resume
+worked = record {
+  mode = Rolling;
+  opened = 1;
+  limits = record { packets = 2; tail = 3; events = 4 };
+  standing = record {
+    count = 14;
+    controller = record {
+      profile = Two;
+      elements = record { delay = Stamp; picking = Random; step = Uncapped; size = Scaled };
+      params = record {
+        target = 5;
+        t_update = 6;
+        max_burst = 7;
+        alpha = 8;
+        beta = 9;
+        mean_pkt = 10;
+        limit_bytes = 11;
+        mark_ecnth = 12;
+        dq_threshold = 13;
+      };
+      moment = 18;
+      active = true;
+      rate = record { average = 24; begun = Some (record { start = 25; count = 26 }) };
+      waited = 27;
+      control = record { prob = 19; old_delay = 20; burst = 22; last = 23 };
+      accu = 21;
+    };
+    packets = 16;
+    bytes = 17;
+    stats = record {
+      arrivals = 28;
+      enqueued = 29;
+      marked = 30;
+      early = 31;
+      over_bytes = 32;
+      over_packets = 33;
+      left = 34;
+      left_bytes = 35;
+      empty = 36;
+      updates = 37;
+      resets = 38;
+      changes = 39;
+      largest_queue = 40;
+      largest_delay = 41;
+      waited = 42;
+    };
+  };
+  set_by = 15;
+}
+
+resume-text : text_of (resume_row worked)
+    ≡ codes "resume,2,stamp,random,uncapped,scaled,rolling,1,2,3,4,5,6,7,8,9,10,11,12,13,14,15,16,17,18,19,20,21,22,23,24,1,25,26,27,1,"
+    ++ (codes "28,29,30,31,32,33,34,35,36,37,38,39,40,41,42" ++ (10 ∷ []))
+unfolding resume_row digits fields_text is_blank
+resume-text = refl
+
+queued-text : text_of (queued_row (record { packet = record { tag = 7; size = 1500; ecn = Ect0 }; since = 5000000 }))
+    ≡ codes "queued,7,1500,ect0,5000000" ++ (10 ∷ [])
+unfolding queued_row digits fields_text is_blank
+queued-text = refl

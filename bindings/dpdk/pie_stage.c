@@ -204,22 +204,29 @@ bool pie_stage_update(struct pie_stage *stage, uint64_t now) {
     return is_made;
 }
 
-/* Looks at a packet that arrives, without the lock. */
-static struct seen look(const struct pie_stage *stage, const struct rte_mbuf *mbuf) {
-    struct seen seen = {.size = rte_pktmbuf_pkt_len(mbuf)};
-    if (!stage->ecn)
-        return seen;
-    seen.packet = stage_packet_look(mbuf);
-    if (seen.packet.ecn != PIE_NOT_ECT) {
-        seen.is_shared = stage_packet_is_shared(mbuf, &seen.packet);
-        seen.ecn = seen.is_shared ? PIE_NOT_ECT : seen.packet.ecn;
+/* Looks at packets that arrive, without the lock. */
+static void look(const struct pie_stage *stage, struct rte_mbuf **mbufs, uint32_t count, struct seen *seen) {
+    for (uint32_t i = 0; i < count; i++) {
+        seen[i].size = rte_pktmbuf_pkt_len(mbufs[i]);
+        seen[i].ecn = PIE_NOT_ECT;
+        seen[i].is_shared = false;
+        if (stage->ecn)
+            rte_prefetch0(rte_pktmbuf_mtod(mbufs[i], const void *));
     }
-    return seen;
+    for (uint32_t i = 0; stage->ecn && i < count; i++) {
+        struct stage_packet packet = stage_packet_look(mbufs[i]);
+        seen[i].packet = packet;
+        if (packet.ecn != PIE_NOT_ECT) {
+            bool is_shared = stage_packet_is_shared(mbufs[i], &packet);
+            seen[i].is_shared = is_shared;
+            seen[i].ecn = is_shared ? PIE_NOT_ECT : packet.ecn;
+        }
+    }
 }
 
-/* Under the lock, the controller's answer to a packet. */
+/* Under the lock, the controller's answer to a packet. At the probability 0 the random word plays no part. */
 static uint32_t decide(struct pie_stage *stage, const struct seen *seen, uint64_t moment) {
-    uint64_t word = stage_word(&stage->words);
+    uint64_t word = stage->pie.prob != 0 ? stage_word(&stage->words) : 0;
     uint32_t room = stage->room - stage->packets;
     stage->arrivals++;
     if (stage->slots == NULL)
@@ -292,8 +299,7 @@ uint32_t pie_stage_enqueue(struct pie_stage *stage, struct rte_mbuf **mbufs, uin
     uint32_t queued = 0;
     for (uint32_t from = 0; from < count; from += BURST) {
         uint32_t part = RTE_MIN(count - from, BURST);
-        for (uint32_t i = 0; i < part; i++)
-            seen[i] = look(stage, mbufs[from + i]);
+        look(stage, mbufs + from, part, seen);
         rte_spinlock_lock(&stage->lock);
         come(stage, moment);
         queued += arrive_burst(stage, mbufs, queued, from, part, seen, moment);

@@ -5,7 +5,7 @@
  *   recorded, with its whole history in the file HISTORY. Status 1 where the stage's mean wait is not within 10 per cent of the target,
  *   15 ms, where the history is not whole, or an mbuf is lost.
  * usage: stage_measure [EAL options] --vdev=net_null0 --vdev=net_null1 -- rate [SECONDS [RUNS]]
- *   Packets a second from one null port to another in bursts of 32: forwarding alone, by rte_pie, by the stage, and by the stage recorded, in turn.
+ *   Packets a second from one null port to another in bursts of 32: forwarding alone, by rte_pie, by the stage without marks, by the stage, and by the stage recorded, in turn.
  *   The last lcore writes the history, to /dev/null. Where one more is left it receives, enqueues, dequeues and sends; of several the main lcore
  *   dequeues and sends, and the others receive and enqueue. 512 packets wait all the time where one lcore does it all. Each line is `name
  *   value unit`, for bench/pie_dpdk.sh; with `lost`, the share of the recorded stage's events that its history lacks.
@@ -39,8 +39,8 @@ static void die(const char *what) {
     exit(1);
 }
 
-enum which { ALONE, PEER, STAGE, RECORDED };
-static const char *const names[] = {"alone", "rte_pie", "stage", "recorded"};
+enum which { ALONE, PEER, DROPPING, STAGE, RECORDED };
+static const char *const names[] = {"alone", "rte_pie", "dropping", "stage", "recorded"};
 
 static struct peer peer;
 static struct pie_stage *stage;
@@ -256,11 +256,12 @@ static double run_rate(enum which which, double seconds, FILE *nowhere) {
     uint64_t hz = rte_get_tsc_hz();
     pie_stage_default_params(&params, UINT64_C(10000000000));
     params.packets = ROOM;
+    params.ecn = which != DROPPING;
     params.events = which == RECORDED ? EVENTS : 0;
     measured = which;
     if (which == PEER && !peer_open(&peer, ROOM))
         die("rte_pie");
-    if (which >= STAGE && (stage = pie_stage_create("stage", &params, SOCKET_ID_ANY)) == NULL)
+    if (which > PEER && (stage = pie_stage_create("stage", &params, SOCKET_ID_ANY)) == NULL)
         die("stage");
     __atomic_store_n(&is_over, 0, __ATOMIC_SEQ_CST);
     rte_eal_mp_remote_launch(work, nowhere, SKIP_MAIN);
@@ -273,7 +274,7 @@ static double run_rate(enum which which, double seconds, FILE *nowhere) {
         peer_close(&peer);
     if (which == RECORDED)
         tell_lost();
-    if (which >= STAGE)
+    if (which > PEER)
         pie_stage_free(stage);
     expect_all_back();
     return (double)packets / took;

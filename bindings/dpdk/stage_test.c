@@ -178,13 +178,14 @@ static void test_shared(void) {
 static void test_words(void) {
     static const uint32_t wanted[16] = {0xe4e7f110, 0x15593bd1, 0x1fdd0f50, 0xc47120a3, 0xc7f4d1c7, 0x0368c033, 0x9aaa2204, 0x4e6cd4c3,
                                         0x466482d2, 0x09aa9f07, 0x05d7c214, 0xa2028bd9, 0xd19c12b5, 0xb94e16de, 0xe883d0cb, 0x4e3c50a2};
-    uint32_t key[8], out[64], next[64];
+    uint32_t key[8];
+    stage_lanes out[16], next[16];
     for (uint32_t i = 0; i < 8; i++)
         key[i] = 0x03020100 + i * 0x04040404;
     stage_blocks(out, key, UINT64_C(0x0900000000000001), 0x4a000000, 20);
-    EXPECT(memcmp(out, wanted, sizeof wanted) == 0);
     stage_blocks(next, key, UINT64_C(0x0900000000000002), 0x4a000000, 20);
-    EXPECT(memcmp(next, out + 16, 48 * sizeof *out) == 0); // the blocks follow one another
+    for (int i = 0; i < 16; i++)
+        EXPECT(out[i][0] == wanted[i] && next[i][0] == out[i][1] && next[i][1] == out[i][2] && next[i][2] == out[i][3]); // one block after another
     struct stage_words one, two;
     EXPECT(stage_words_seed(&one) && stage_words_seed(&two));
     EXPECT(memcmp(one.key, two.key, sizeof one.key) != 0);

@@ -20,7 +20,7 @@ EAL = ["--no-huge", "-m", "256", "--no-pci", "--no-shconf", "--no-telemetry", "-
 RING = ["--vdev=net_null0", "--vdev=net_ring0"]
 PACED = ["--vdev=net_null0,size=1000", "--vdev=net_ring0"]
 NEWLINE = b"\n"
-FIRST = 4 << 20  # bytes of a long history that are audited
+FIRST = 1 << 20  # bytes of a long history that are audited
 LINE = re.compile(r"([\d.]+) Mbit/s, (\d+) packets/s, wait ([\d.]+) ms, probability [\d.]+, \d+ dropped, \d+ marked, \d+ waiting")
 
 
@@ -107,7 +107,7 @@ def full_speed():
     with tempfile.TemporaryDirectory() as work:
         pipe, first = f"{work}/history", Path(work, "first")
         os.mkfifo(pipe)
-        forward = subprocess.Popen(command(RING, "--total-num-mbufs=8192", "--rate", "1gbit", "--for", "3s", "--history", pipe),
+        forward = subprocess.Popen(command(RING, "--total-num-mbufs=8192", "--rate", "1gbit", "--for", "2s", "--history", pipe),
                                    stdout=subprocess.PIPE, text=True)
         lines, gaps, lost, size = 0, 0, 0, 0
         with open(pipe, "rb") as history, first.open("wb") as kept:

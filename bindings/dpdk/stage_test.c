@@ -657,9 +657,9 @@ int main(int count, char **words) {
         test_updates();
         test_record();
         test_pace();
-        test_threads(10000, 0);
+        test_threads(4000, 0);
     }
-    test_threads(2000, 1 << 14);
+    test_threads(1500, 1 << 14);
     rte_mempool_free(pool);
     rte_eal_cleanup();
     return 0;

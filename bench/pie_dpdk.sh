@@ -1,14 +1,58 @@
 #!/usr/bin/env bash
-# Packets a second from one null port of DPDK to another, in bursts of 32: forwarding alone, through DPDK's rte_pie and through the stage of
-# bindings/dpdk, behind the same lock and ring. Prints of each the greatest and the median of five runs in turn, and the ratios. It needs
-# libdpdk (bindings/dpdk/install.sh) and the library, which bindings/c/library.py builds.
-# usage: bench/pie_dpdk.sh [SECONDS [LCORES]]      SECONDS: of each run, 1 where none is given; LCORES: as DPDK's --lcores, 0@0 where none is given;
-#                                                  with several the first dequeues and sends, and the others receive and enqueue
+# Packets a second from one null port of DPDK to another, in bursts of 32: forwarding alone, through DPDK's rte_pie (which makes no marks),
+# through the stage of bindings/dpdk without marks and with, and through the stage recorded, with its history written to /dev/null by one more
+# lcore; all but the first behind the same lock and ring. Once one lcore receives, enqueues, dequeues and sends; once as many as the processors
+# allow receive and enqueue, and one dequeues and sends. Prints the greatest and the median of the runs, which take turns, as the table of
+# docs/PERFORMANCE.md. It needs libdpdk (bindings/dpdk/install.sh) and the library, which bindings/c/library.py builds.
+# usage: bench/pie_dpdk.sh [SECONDS [RUNS]]      SECONDS of each run, 1 where none is given; RUNS of each kind, 9: some 95 seconds in all
 set -eu
 cd "$(dirname "$0")/.."
 work=$(mktemp -d)
 trap 'rm -rf "$work"' EXIT
+cpus=$(nproc --all)
+[ "$cpus" -ge 2 ] || { echo "NOT RUN: bench/pie_dpdk.sh: it takes two processors"; exit 0; }
+[ "$cpus" -le 8 ] || cpus=8
 make -s -C bindings/dpdk out/stage_measure
-bindings/dpdk/out/stage_measure --no-huge -m 512 --no-pci --no-telemetry --log-level=lib.eal:error --lcores "${2:-0@0}" \
-    --vdev=net_null0 --vdev=net_null1 -- rate "${1:-1}" > "$work/lines"
-python3 bench/ratios.py "$work/lines" stage/rte_pie stage/alone rte_pie/alone
+for lcores in 2 "$cpus"; do
+    bindings/dpdk/out/stage_measure --no-huge -m 512 --no-pci --no-shconf --no-telemetry --log-level=lib.eal:error --lcores "0-$((lcores - 1))" \
+        --vdev=net_null0 --vdev=net_null1 -- rate "${1:-1}" "${2:-9}" > "$work/$lcores"
+done
+python3 - "$work/2" "$work/$cpus" <<'END2'
+import statistics
+import sys
+
+sides = []
+for name in sys.argv[1:]:
+    values = {}
+    for line in open(name):
+        kind, value, _ = line.split()
+        values.setdefault(kind, []).append(float(value))
+    sides.append(values)
+several = int(sys.argv[2].rpartition("/")[2]) - 2
+print(f"load {open('/proc/loadavg').read().split()[0]} in the last minute")
+print(f"| million packets a second | one lcore does it all | {several} receive and enqueue, one sends |\n|---|---|---|")
+
+
+def row(what, cell):
+    print(f"| {what} | " + " | ".join(cell(side) for side in sides) + " |")
+
+
+def rate(kind):
+    return lambda side: f"{max(side[kind]) / 1e6:.2f} ({statistics.median(side[kind]) / 1e6:.2f})"
+
+
+def ratio(kind, other):
+    return lambda side: f"{max(side[kind]) / max(side[other]):.2f} ({statistics.median(side[kind]) / statistics.median(side[other]):.2f})"
+
+
+row("forwarding alone", rate("alone"))
+row("with rte_pie", rate("rte_pie"))
+row("with the stage, without marks", rate("dropping"))
+row("with the stage", rate("stage"))
+row("with the stage recorded", rate("recorded"))
+row("the stage without marks, to rte_pie", ratio("dropping", "rte_pie"))
+row("the stage, to rte_pie", ratio("stage", "rte_pie"))
+row("the stage recorded, to rte_pie", ratio("recorded", "rte_pie"))
+row("the stage recorded, to the stage", ratio("recorded", "stage"))
+row("events told as lost, since the text came too late", lambda side: f"{min(side['lost']):.1f} % ({statistics.median(side['lost']):.1f} %)")
+END2

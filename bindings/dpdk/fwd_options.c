@@ -5,6 +5,8 @@
 #include <stdlib.h>
 #include <string.h>
 
+#define EVENTS (1u << 17) /* that may wait for the history: 8 megabytes */
+
 static const char help[] =
     "pie-fwd [EAL OPTIONS] -- [OPTIONS]\n"
     "\n"
@@ -25,13 +27,16 @@ static const char help[] =
     "  --one-way             forward nothing from port 1 to port 0\n"
     "  --open-metrics FILE   the same numbers as OpenMetrics text, replaced each second\n"
     "  --json FILE           the same numbers in the shape of tc -s -j, replaced each second\n"
+    "  --history FILE        every decision, for pie audit and pie explain: some 120 bytes a packet\n"
+    "  --receive 120mbit     receive no more than this from port 0: for a port without end, as a null port is\n"
     "  --total-num-mbufs 8192\n"
     "                        mbufs in the pool, 1024 to 2^24\n"
     "  --for 10s             end after this time\n"
     "\n"
     "An option's value may follow it by `=` too. Times, rates and sizes are read as tc reads them, but never rounded. Without cards:\n"
     "\n"
-    "  pie-fwd --no-huge -m 512 --no-pci --vdev=net_null0 --vdev=net_ring0 --lcores '(0-2)@(0-3)' -- --rate 100mbit --for 5s\n";
+    "  pie-fwd --no-huge -m 512 --no-pci --no-shconf --vdev=net_null0,size=1000 --vdev=net_ring0 --lcores '(0-2)@(0-3)' -- \\\n"
+    "      --rate 100mbit --receive 120mbit --for 5s\n";
 
 typedef uint32_t reader(const char *text, size_t length, uint64_t *value);
 
@@ -65,6 +70,7 @@ static bool read_number(const char *name, const char *text, struct fwd_options *
         uint64_t *value;
     } known[] = {
         {"--rate", pie_read_rate, 0, &options->rate},          {"--for", pie_read_time, 0, &options->lasts},
+        {"--receive", pie_read_rate, 0, &options->received},
         {"--limit", pie_read_size, 0, &values->limit},         {"--packets", pie_read_packets, 0, &values->packets},
         {"--target", pie_read_time, 0, &p->target},            {"--tupdate", pie_read_time, 0, &p->t_update},
         {"--max-burst", pie_read_time, 0, &p->max_burst},      {"--mean-packet", pie_read_size, 0, &p->mean_pkt},
@@ -116,6 +122,8 @@ static bool read_name(const char *name, const char *text, struct fwd_options *op
         options->open_metrics = text;
     else if (strcmp(name, "--json") == 0)
         options->json = text;
+    else if (strcmp(name, "--history") == 0)
+        options->history = text;
     else
         return false;
     return true;
@@ -127,17 +135,22 @@ static const char *fault_of(struct fwd_options *options, const struct values *va
     struct pie_stage_params usual;
     if (options->rate < 1000 || options->rate > UINT64_C(1000000000000))
         return "rate";
+    if (options->received != 0 && (options->received < 1000 || options->received > UINT64_C(1000000000000)))
+        return "receive";
     pie_stage_default_params(&usual, options->rate);
     options->stage.pie.limit_bytes = values->limit != 0 ? values->limit : usual.pie.limit_bytes;
     // a queue that takes all mbufs leaves the card none to receive with, and then the card drops, and not PIE
-    uint64_t packets = options->stage.pie.limit_bytes / 64 + 1;
-    packets = values->packets != 0 ? values->packets : packets < options->mbufs / 2 ? packets : options->mbufs / 2;
+    uint64_t packets = options->stage.pie.limit_bytes / 64 + 1, most = options->mbufs / 2;
+    options->stage.events = options->history != NULL ? EVENTS : 0;
+    if (options->history != NULL && most > 1 << 20)
+        most = 1 << 20; // (a history's queue has room for no more)
+    packets = values->packets != 0 ? values->packets : packets < most ? packets : most;
     uint32_t bad = pie_check_params(&options->stage.pie);
     if (bad != 0)
         return parameters[bad - 1];
     if (options->mbufs < 1024 || options->mbufs > PIE_STAGE_MAX_PACKETS)
         return "total-num-mbufs";
-    if (packets > options->mbufs / 2)
+    if (packets > most)
         return "packets";
     options->stage.packets = (uint32_t)packets;
     if (values->profile != PIE_ALWAYS_ON && values->profile != PIE_ON_AND_OFF)

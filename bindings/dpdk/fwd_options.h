@@ -7,11 +7,13 @@
 struct fwd_options {
     struct pie_stage_params stage;
     uint64_t rate;         /* bits a second */
+    uint64_t received;     /* bits a second that are received at the most, 0: no bound */
     uint64_t lasts;        /* nanoseconds, 0: until a signal */
     uint64_t mbufs;        /* in the pool */
     bool is_one_way;       /* nothing is forwarded from port 1 to port 0 */
     const char *open_metrics; /* files, or NULL */
     const char *json;
+    const char *history;
 };
 
 enum { FWD_READ, FWD_HELP, FWD_WRONG };

@@ -11,9 +11,12 @@ static uint64_t drops_of(const struct pie_stage_stats *stats) {
 void fwd_print_line(const struct pie_stage_stats *before, const struct pie_stage_stats *after, double seconds) {
     uint64_t packets = after->departed - before->departed;
     double wait = packets != 0 ? (double)(after->waited - before->waited) / (double)packets / 1e6 : 0;
-    printf("%.3f Mbit/s, %.0f packets/s, wait %.3f ms, probability %.4f, %" PRIu64 " dropped, %" PRIu64 " marked, %" PRIu64 " waiting\n",
+    printf("%.3f Mbit/s, %.0f packets/s, wait %.3f ms, probability %.4f, %" PRIu64 " dropped, %" PRIu64 " marked, %" PRIu64 " waiting",
            (double)(after->departed_bytes - before->departed_bytes) * 8 / seconds / 1e6, (double)packets / seconds, wait,
            (double)after->prob / 1e12, drops_of(after) - drops_of(before), after->marked - before->marked, after->waiting);
+    if (after->lost != before->lost)
+        printf(", %" PRIu64 " events lost to the history", after->lost - before->lost);
+    printf("\n");
 }
 
 static void write_counter(FILE *file, const char *port, const char *name, const char *what, const char *unit, uint64_t value) {
@@ -36,7 +39,6 @@ static void write_open_metrics(FILE *file, const struct fwd_options *options, co
         uint64_t count;
     } drops[] = {
         {"early", stats->early}, {"bytes", stats->bytes}, {"packets", stats->full}, {"size", stats->oversized}, {"refused", stats->refused}};
-    (void)options;
     write_counter(file, port, "departed_packets", "Packets that left the queue.", "packets", stats->departed);
     write_counter(file, port, "departed_bytes", "Bytes that left the queue.", "bytes", stats->departed_bytes);
     write_counter(file, port, "queued_packets", "Packets that were queued.", "packets", stats->queued);
@@ -52,14 +54,16 @@ static void write_open_metrics(FILE *file, const struct fwd_options *options, co
     write_gauge(file, port, "delay_seconds", "Queueing delay that the last update took.", "seconds", (double)stats->delay / 1e9);
     write_gauge(file, port, "waiting_packets", "Packets in the queue.", "packets", (double)stats->waiting);
     write_gauge(file, port, "waiting_bytes", "Bytes in the queue.", "bytes", (double)stats->waiting_bytes);
+    if (options->history != NULL)
+        write_counter(file, port, "lost_events", "Events that the history lacks.", "events", stats->lost);
     fprintf(file, "# EOF\n");
 }
 
 /* alpha and beta are in sixteenths, times in microseconds, and limit in packets, as tc has them. */
 static void write_json(FILE *file, const struct fwd_options *options, const char *port, const struct pie_stage_stats *stats) {
     const struct pie_stage_params *stage = &options->stage;
-    fprintf(file, "[{\"kind\":\"pie\",\"dev\":\"%s\",\"root\":true,\"options\":{\"limit\":%" PRIu32 ",\"target\":%" PRIu64 ",\"tupdate\":%" PRIu64, port,
-            stage->packets, stage->pie.target / 1000, stage->pie.t_update / 1000);
+    fprintf(file, "[{\"kind\":\"pie\",\"dev\":\"%s\",\"root\":true,\"options\":{\"limit\":%" PRIu32, port, stage->packets);
+    fprintf(file, ",\"target\":%" PRIu64 ",\"tupdate\":%" PRIu64, stage->pie.target / 1000, stage->pie.t_update / 1000);
     fprintf(file, ",\"alpha\":%g,\"beta\":%g", (double)stage->pie.alpha * 0.016, (double)stage->pie.beta * 0.016);
     fprintf(file, "%s%s%s}", stage->ecn ? ",\"ecn\":true" : "", (stage->choices & PIE_SIZE_SCALED) != 0 ? ",\"bytemode\":true" : "",
             (stage->choices & PIE_DELAY_STAMP) == 0 ? ",\"dq_rate_estimator\":true" : "");

@@ -1,5 +1,7 @@
 /* pie-fwd: forwards between two ports through a stage that is shaped to a rate. See `pie-fwd -- --help`. */
+#include "fwd_history.h"
 #include "fwd_options.h"
+#include "fwd_pace.h"
 #include "fwd_report.h"
 #include "pie_stage.h"
 
@@ -12,6 +14,7 @@
 #include <rte_launch.h>
 #include <rte_lcore.h>
 #include <rte_mbuf.h>
+#include <rte_pause.h>
 #include <signal.h>
 #include <stdio.h>
 #include <string.h>
@@ -27,6 +30,7 @@ static struct {
     struct fwd_options options;
     struct rte_mempool *pool;
     struct pie_stage *stage;
+    struct fwd_history history;
     uint16_t receivers; /* lcores that receive, and queues of port 0 */
     uint64_t unsent;    /* packets that a port did not take */
     int is_stopped;
@@ -46,14 +50,31 @@ static bool fail(const char *what, int code) {
     return false;
 }
 
-/* Receives from a queue of port 0. */
+static uint64_t bytes_of(struct rte_mbuf **mbufs, uint32_t count) {
+    uint64_t bytes = 0;
+    for (uint32_t i = 0; i < count; i++)
+        bytes += rte_pktmbuf_pkt_len(mbufs[i]);
+    return bytes;
+}
+
+/* Receives from a queue of port 0; with --receive its share of that, a packet at a time. */
 static int receive(void *argument) {
     uint16_t queue = (uint16_t)(uintptr_t)argument;
     struct rte_mbuf *mbufs[BURST];
+    bool is_bounded = forward.options.received != 0;
+    double rate = (double)(is_bounded ? forward.options.received : 1) / forward.receivers;
+    struct fwd_pace pace = fwd_pace_of(rate, (double)rte_get_tsc_hz(), rte_rdtsc());
     while (!is_stopped()) {
-        uint16_t count = rte_eth_rx_burst(IN, queue, mbufs, BURST);
-        if (count != 0)
-            pie_stage_enqueue(forward.stage, mbufs, count, rte_rdtsc());
+        if (is_bounded && fwd_pace_bytes(&pace, rte_rdtsc()) == 0) {
+            rte_pause();
+            continue;
+        }
+        uint16_t count = rte_eth_rx_burst(IN, queue, mbufs, is_bounded ? 1 : BURST);
+        if (count == 0)
+            continue;
+        if (is_bounded)
+            fwd_pace_move(&pace, bytes_of(mbufs, count));
+        pie_stage_enqueue(forward.stage, mbufs, count, rte_rdtsc());
     }
     return 0;
 }
@@ -66,31 +87,28 @@ static void send_burst(uint16_t port, struct rte_mbuf **mbufs, uint16_t count) {
     }
 }
 
-/* Sends what the rate allows: the link is busy until `busy`, in cycles. A link that was idle does not save up time. */
-static void serve(double cycles_a_byte, double *busy) {
+/* Sends what the rate allows. A link that had nothing to send does not save up time. */
+static void serve(struct fwd_pace *pace) {
     struct rte_mbuf *mbufs[BURST];
-    uint64_t now = rte_rdtsc(), size = 0;
-    if (*busy > (double)now)
+    uint64_t now = rte_rdtsc(), bytes = fwd_pace_bytes(pace, now);
+    if (bytes == 0)
         return;
-    uint64_t bytes = 1 + (uint64_t)(((double)now - *busy) / cycles_a_byte);
     uint32_t count = pie_stage_dequeue_bytes(forward.stage, mbufs, BURST, bytes, now);
     if (count == 0) {
-        *busy = (double)now;
+        fwd_pace_rest(pace, now);
         return;
     }
-    for (uint32_t i = 0; i < count; i++)
-        size += rte_pktmbuf_pkt_len(mbufs[i]);
-    *busy += (double)size * cycles_a_byte;
+    fwd_pace_move(pace, bytes_of(mbufs, count));
     send_burst(OUT, mbufs, (uint16_t)count);
 }
 
 /* Sends on port 1, and forwards the other way. */
 static int send_packets(void *argument) {
     struct rte_mbuf *mbufs[BURST];
-    double cycles_a_byte = (double)rte_get_tsc_hz() * 8 / (double)forward.options.rate, busy = (double)rte_rdtsc();
+    struct fwd_pace pace = fwd_pace_of((double)forward.options.rate, (double)rte_get_tsc_hz(), rte_rdtsc());
     (void)argument;
     while (!is_stopped()) {
-        serve(cycles_a_byte, &busy);
+        serve(&pace);
         pie_stage_update(forward.stage, rte_rdtsc());
         if (forward.options.is_one_way)
             continue;
@@ -133,7 +151,8 @@ static bool open_all(void) {
         return false;
     }
     if (rte_lcore_count() < 3) {
-        fprintf(stderr, "pie-fwd: there are %u lcores, and it takes three; --lcores of the EAL names them, as --lcores '(0-2)@(0-3)'\n", rte_lcore_count());
+        fprintf(stderr, "pie-fwd: there are %u lcores, and it takes three; --lcores of the EAL names them, as --lcores '(0-2)@(0-3)'\n",
+                rte_lcore_count());
         return false;
     }
     forward.receivers = (uint16_t)(rte_lcore_count() - 2);
@@ -143,6 +162,8 @@ static bool open_all(void) {
     forward.stage = pie_stage_create("pie-fwd", &forward.options.stage, SOCKET_ID_ANY);
     if (forward.stage == NULL)
         return fail("the stage", rte_errno);
+    if (!fwd_history_open(&forward.history, forward.options.history))
+        return fail("the file of --history", errno);
     return open_port(IN, forward.receivers) && open_port(OUT, 1);
 }
 
@@ -158,7 +179,7 @@ static void launch(void) {
     }
 }
 
-/* A line a second until the end. */
+/* A line a second, and the history, until the end. */
 static void report(void) {
     char port[RTE_ETH_NAME_MAX_LEN];
     struct pie_stage_stats before = {0}, after;
@@ -178,9 +199,11 @@ static void report(void) {
             before = after;
             told = now;
         }
-        if (is_over)
+        // (who reads the lines may go: then it is over too)
+        if (is_over || ferror(stdout) != 0)
             return;
-        nanosleep(&(struct timespec){.tv_nsec = 10000000}, NULL);
+        if (!fwd_history_write(&forward.history, forward.stage))
+            nanosleep(&(struct timespec){.tv_nsec = forward.options.history != NULL ? 1000000 : 10000000}, NULL);
     }
 }
 
@@ -192,10 +215,11 @@ static void drain(uint16_t port, uint16_t queues) {
             rte_pktmbuf_free_bulk(mbufs, rte_eth_rx_burst(port, queue, mbufs, BURST));
 }
 
-/* Frees everything; false where an mbuf is missing. */
+/* Frees everything; false where an mbuf is missing, or the history is not whole on its file. */
 static bool close_all(void) {
     uint16_t port;
     struct pie_stage_stats stats = {0};
+    bool is_written = fwd_history_close(&forward.history, forward.stage);
     if (forward.stage != NULL)
         pie_stage_read(forward.stage, &stats);
     RTE_ETH_FOREACH_DEV(port) {
@@ -207,13 +231,14 @@ static bool close_all(void) {
     }
     pie_stage_free(forward.stage);
     if (forward.pool == NULL)
-        return true;
+        return is_written;
     unsigned int there = rte_mempool_avail_count(forward.pool), missing = (unsigned int)forward.options.mbufs - there;
     rte_mempool_free(forward.pool);
     printf("pie-fwd: %" PRIu64 " packets queued, %" PRIu64 " marked, %" PRIu64 " dropped early, %" PRIu64 " for want of bytes, %" PRIu64
-           " of room; %" PRIu64 " left, %" PRIu64 " not taken by a port; %" PRIu64 " updates; %u mbufs missing\n",
-           stats.queued, stats.marked, stats.early, stats.bytes, stats.full, stats.departed, forward.unsent, stats.updates, missing);
-    return missing == 0;
+           " of room; %" PRIu64 " left, %" PRIu64 " not taken by a port; %" PRIu64 " updates; %" PRIu64
+           " events lost to the history; %u mbufs missing\n",
+           stats.queued, stats.marked, stats.early, stats.bytes, stats.full, stats.departed, forward.unsent, stats.updates, stats.lost, missing);
+    return is_written && missing == 0;
 }
 
 int main(int count, char **words) {
@@ -230,6 +255,7 @@ int main(int count, char **words) {
     }
     signal(SIGINT, stop);
     signal(SIGTERM, stop);
+    signal(SIGPIPE, SIG_IGN); // (a write fails then, and everything is freed)
     bool is_open = open_all();
     if (is_open) {
         launch();

@@ -19,8 +19,16 @@
  * Packets are Ethernet frames, and a packet's size is its pkt_len, without the frame check sequence. One whose size is outside 1 to 65535
  * bytes, as segmentation offload makes them, is dropped (`oversized`). Marks are set in the outermost IP header, behind up to four VLAN tags.
  *
- * All calls but create and free may be made by any number of threads at once; they take one spin lock, a burst at a time, and
- * nothing that waits or takes memory stands under it. A dequeue with nothing to take, and an update that is not due, take no lock.
+ * All calls but create, free and those for the history may be made by any number of threads at once; they take one spin lock, a burst at a time,
+ * and nothing that waits or takes memory stands under it. A dequeue with nothing to take, and an update that is not due, take no lock.
+ *
+ * With `events` above 0 the stage records each arrival, departure and update in a ring of memory of its own (pie_ring.h), and one more thread
+ * writes the history, which `pie audit` decides again (docs/FORMATS.md):
+ *
+ *   while ((size = pie_stage_history(stage, text, sizeof text)) != 0)            // on one lcore, again and again
+ *       fwrite(text, 1, size, file);
+ *
+ * A packet's tag is its number, in the order of arrivals, and the caller is the lcore (65535 of a thread that is none).
  */
 #ifndef PIE_STAGE_H
 #define PIE_STAGE_H
@@ -28,6 +36,7 @@
 #include "pie.h"
 
 #include <stdbool.h>
+#include <stddef.h>
 #include <stdint.h>
 
 #ifdef __cplusplus
@@ -46,6 +55,8 @@ struct pie_stage_params {
     uint32_t packets;      /* how many packets the queue has room for, 1 to 2^24 */
     bool ecn;              /* mark packets whose ECN field allows it; else they are dropped, as others */
     bool hands_back;       /* dropped mbufs are handed back to whoever enqueued them; else the stage frees them */
+    uint32_t events;       /* how many events may wait for who writes the history, a power of two from 16 to 2^24, each of 64 bytes; 0: none is
+                              recorded. Of a recorded stage `packets` is at most 2^20 */
 };
 
 /* What a stage counted since it was made, and what it holds now. Each packet that was enqueued is counted once as queued (of these some are
@@ -68,6 +79,7 @@ struct pie_stage_stats {
     uint64_t late;           /* of these, updates made more than t_update after they were due */
     uint64_t earlier;        /* calls with packets whose `now` was earlier than one before it */
     uint64_t most;           /* packets, the most that the queue held */
+    uint64_t lost;           /* events that the history lacks, since it was not taken out as fast as they came */
 
     uint64_t waiting;        /* packets in the queue */
     uint64_t waiting_bytes;  /* their bytes */
@@ -103,6 +115,14 @@ bool pie_stage_update(struct pie_stage *stage, uint64_t now);
 
 /* Reads the statistics, all at one moment. */
 void pie_stage_read(struct pie_stage *stage, struct pie_stage_stats *stats);
+
+/* Takes out of a recorded stage what waits for the history, and writes it as text: whole lines, of the history's first record on. Answers how
+ * many bytes there are, 0 where there is nothing now or nothing is recorded. `room` is at least PIE_RECORD_ROOM. One thread at a time; it takes no
+ * lock and holds up no other call. Where it came too late, a line `lost,<count>` stands for so many events, where an audit ends. */
+size_t pie_stage_history(struct pie_stage *stage, unsigned char *text, size_t room);
+
+/* The end of the history: the same, when no other thread calls the stage any more; once it answers 0 the history is whole. */
+size_t pie_stage_history_end(struct pie_stage *stage, unsigned char *text, size_t room);
 
 /* Nanoseconds in so many cycles of the TSC, by the clock of the stage. It rounds down, and is exact to 10^-13. */
 uint64_t pie_stage_nanoseconds(const struct pie_stage *stage, uint64_t cycles);

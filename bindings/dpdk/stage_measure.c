@@ -1,12 +1,14 @@
 /* The stage beside DPDK's rte_pie, behind the same lock and ring.
  *
- * usage: stage_measure [EAL options] -- slow
- *   A link of 20 Mbit/s with 1.2 times its load, for 80 simulated seconds: the mean wait of the last 60, in ms, and the packets dropped. Status 1
- *   where the stage's mean wait is not within 10 per cent of the target, 15 ms, or an mbuf is lost.
- * usage: stage_measure [EAL options] --vdev=net_null0 --vdev=net_null1 -- rate [SECONDS]
- *   Packets a second from one null port to another in bursts of 32: forwarding alone, by rte_pie and by the stage, five times each in turn. With one
- *   lcore it receives, enqueues, dequeues and sends; with more the main lcore dequeues and sends, and the others receive and
- *   enqueue. 512 packets wait all the time where one lcore does it all. Each line is `name value unit`, for bench/ratios.py.
+ * usage: stage_measure [EAL options] -- slow HISTORY
+ *   A link of 20 Mbit/s with 1.2 times its load, for 80 simulated seconds: the mean wait of the last 60, in ms, and the packets dropped. The stage is
+ *   recorded, with its whole history in the file HISTORY. Status 1 where the stage's mean wait is not within 10 per cent of the target,
+ *   15 ms, where the history is not whole, or an mbuf is lost.
+ * usage: stage_measure [EAL options] --vdev=net_null0 --vdev=net_null1 -- rate [SECONDS [RUNS]]
+ *   Packets a second from one null port to another in bursts of 32: forwarding alone, by rte_pie, by the stage without marks, by the stage, and by the stage recorded, in turn.
+ *   The last lcore writes the history, to /dev/null. Where one more is left it receives, enqueues, dequeues and sends; of several the main lcore
+ *   dequeues and sends, and the others receive and enqueue. 512 packets wait all the time where one lcore does it all. Each line is `name
+ *   value unit`, for bench/pie_dpdk.sh; with `lost`, the share of the recorded stage's events that its history lacks.
  */
 #include "peer.h"
 #include "pie_stage.h"
@@ -18,13 +20,15 @@
 #include <rte_ethdev.h>
 #include <rte_launch.h>
 #include <rte_lcore.h>
+#include <rte_pause.h>
+#include <stdbool.h>
 #include <stdio.h>
 #include <stdlib.h>
 #include <string.h>
 
 #define MBUFS 16383u
 #define BURST 32
-#define RUNS 5
+#define EVENTS (1u << 17) /* that wait for the history */
 #define STANDING 512
 #define ROOM 1024u
 
@@ -35,8 +39,8 @@ static void die(const char *what) {
     exit(1);
 }
 
-enum which { ALONE, PEER, STAGE };
-static const char *const names[] = {"alone", "rte_pie", "stage"};
+enum which { ALONE, PEER, DROPPING, STAGE, RECORDED };
+static const char *const names[] = {"alone", "rte_pie", "dropping", "stage", "recorded"};
 
 static struct peer peer;
 static struct pie_stage *stage;
@@ -56,6 +60,15 @@ static void expect_all_back(void) {
     }
 }
 
+/* Writes what the history has now, or to its end; answers whether there was anything. */
+static bool write_history(FILE *file, bool is_end) {
+    static unsigned char text[65536];
+    size_t size = (is_end ? pie_stage_history_end : pie_stage_history)(stage, text, sizeof text);
+    if (fwrite(text, 1, size, file) != size)
+        die("the history");
+    return size != 0;
+}
+
 /* The same load for each: sizes and spaces from a seed. */
 static uint64_t next_random(uint64_t *state) {
     *state ^= *state << 13;
@@ -65,7 +78,7 @@ static uint64_t next_random(uint64_t *state) {
 }
 
 /* The mean wait in milliseconds. */
-static double run_slow(enum which which) {
+static double run_slow(enum which which, FILE *history) {
     uint64_t hz = rte_get_tsc_hz(), start = rte_rdtsc(), seed = 88172645463325252u, dropped = 0, departed = 0, waited = 0;
     double arrival = 0, is_free = 0;
     const double byte = (double)hz * 8 / 20e6, warm = 20.0 * (double)hz;
@@ -98,6 +111,8 @@ static double run_slow(enum which which) {
         }
         uint64_t now = start + (uint64_t)arrival;
         which == PEER ? peer_enqueue(&peer, &mbuf, 1, now) : pie_stage_enqueue(stage, &mbuf, 1, now);
+        if (which == STAGE)
+            write_history(history, false);
     }
     if (which == STAGE)
         pie_stage_read(stage, &stats);
@@ -105,26 +120,38 @@ static double run_slow(enum which which) {
     waited = (which == PEER ? peer.waited : stats.waited) - waited;
     dropped = (which == PEER ? peer.dropped : stats.early + stats.bytes + stats.full) - dropped;
     double nanoseconds = (double)waited / (double)departed * (which == PEER ? 1e9 / (double)hz : 1);
-    printf("%s: mean wait %.2f ms, %" PRIu64 " departed, %" PRIu64 " dropped; %" PRIu64 " dropped early in all\n", names[which], nanoseconds / 1e6, departed, dropped,
-           which == PEER ? peer.early : stats.early);
+    printf("%s: mean wait %.2f ms, %" PRIu64 " departed, %" PRIu64 " dropped; %" PRIu64 " dropped early in all\n", names[which],
+           nanoseconds / 1e6, departed, dropped, which == PEER ? peer.early : stats.early);
     return nanoseconds / 1e6;
 }
 
-static int measure_slow(void) {
+static int measure_slow(const char *path) {
     struct pie_stage_params params;
+    struct pie_stage_stats stats;
+    FILE *history = fopen(path, "w");
+    if (history == NULL)
+        die("the history");
     pie_stage_default_params(&params, 20000000);
     params.packets = ROOM;
+    params.events = EVENTS;
     if (!peer_open(&peer, (uint32_t)(params.pie.limit_bytes / 782)))
         die("rte_pie");
-    run_slow(PEER);
+    run_slow(PEER, NULL);
     peer_close(&peer);
     expect_all_back();
     stage = pie_stage_create("stage", &params, SOCKET_ID_ANY);
     if (stage == NULL)
         die("stage");
-    double wait = run_slow(STAGE);
+    double wait = run_slow(STAGE, history);
+    while (write_history(history, true))
+        continue;
+    pie_stage_read(stage, &stats);
     pie_stage_free(stage);
     expect_all_back();
+    if (fclose(history) != 0 || stats.lost != 0) {
+        fprintf(stderr, "stage_measure: the history is not whole\n");
+        return 1;
+    }
     if (wait < 13.5 || wait > 16.5) {
         fprintf(stderr, "stage_measure: the mean wait of the stage is not within 10 per cent of 15 ms\n");
         return 1;
@@ -159,14 +186,24 @@ static void send_all(struct rte_mbuf **mbufs, uint32_t count) {
     rte_pktmbuf_free_bulk(mbufs + sent, count - sent);
 }
 
-static int receive(void *argument) {
-    uint16_t queue = (uint16_t)rte_lcore_index((int)rte_lcore_id());
+/* The lcores that forward: all but the one that writes the history. */
+static uint32_t forwarders(void) {
+    return rte_lcore_count() - 1;
+}
+
+static int work(void *argument) {
+    uint32_t number = (uint32_t)rte_lcore_index((int)rte_lcore_id());
     struct rte_mbuf *mbufs[BURST];
-    (void)argument;
+    FILE *nowhere = argument;
     while (!__atomic_load_n(&is_over, __ATOMIC_RELAXED)) {
-        uint32_t count = rte_eth_rx_burst(0, queue, mbufs, BURST);
+        if (number == forwarders()) {
+            if (measured != RECORDED || !write_history(nowhere, false))
+                rte_pause();
+            continue;
+        }
+        uint32_t count = rte_eth_rx_burst(0, (uint16_t)number, mbufs, BURST);
         if (measured == ALONE) {
-            count -= rte_eth_tx_burst(1, queue, mbufs, (uint16_t)count);
+            count -= rte_eth_tx_burst(1, (uint16_t)number, mbufs, (uint16_t)count);
             rte_pktmbuf_free_bulk(mbufs, count);
         } else {
             enqueue(measured, mbufs, count);
@@ -199,48 +236,62 @@ static uint64_t forward_by_all(uint64_t end) {
     struct rte_mbuf *mbufs[BURST];
     struct rte_eth_stats before, after;
     rte_eth_stats_get(1, &before);
-    __atomic_store_n(&is_over, 0, __ATOMIC_SEQ_CST);
-    rte_eal_mp_remote_launch(receive, NULL, SKIP_MAIN);
     while (rte_rdtsc() < end)
         if (measured != ALONE)
             send_all(mbufs, dequeue(measured, mbufs, BURST));
     rte_eth_stats_get(1, &after);
-    __atomic_store_n(&is_over, 1, __ATOMIC_SEQ_CST);
-    rte_eal_mp_wait_lcore();
     return after.opackets - before.opackets;
 }
 
-static double run_rate(enum which which, double seconds) {
+/* How much of the history is lost, in per cent. */
+static void tell_lost(void) {
+    struct pie_stage_stats stats;
+    pie_stage_read(stage, &stats);
+    uint64_t events = stats.queued + stats.early + stats.bytes + stats.full + stats.departed + stats.updates;
+    printf("lost %.2f per_cent\n", 100 * (double)stats.lost / (double)events);
+}
+
+static double run_rate(enum which which, double seconds, FILE *nowhere) {
     struct pie_stage_params params;
     uint64_t hz = rte_get_tsc_hz();
     pie_stage_default_params(&params, UINT64_C(10000000000));
     params.packets = ROOM;
+    params.ecn = which != DROPPING;
+    params.events = which == RECORDED ? EVENTS : 0;
     measured = which;
     if (which == PEER && !peer_open(&peer, ROOM))
         die("rte_pie");
-    if (which == STAGE && (stage = pie_stage_create("stage", &params, SOCKET_ID_ANY)) == NULL)
+    if (which > PEER && (stage = pie_stage_create("stage", &params, SOCKET_ID_ANY)) == NULL)
         die("stage");
+    __atomic_store_n(&is_over, 0, __ATOMIC_SEQ_CST);
+    rte_eal_mp_remote_launch(work, nowhere, SKIP_MAIN);
     uint64_t start = rte_rdtsc(), end = start + (uint64_t)(seconds * (double)hz);
-    uint64_t packets = rte_lcore_count() == 1 ? forward_alone(end) : forward_by_all(end);
+    uint64_t packets = forwarders() == 1 ? forward_alone(end) : forward_by_all(end);
     double took = (double)(rte_rdtsc() - start) / (double)hz;
+    __atomic_store_n(&is_over, 1, __ATOMIC_SEQ_CST);
+    rte_eal_mp_wait_lcore();
     if (which == PEER)
         peer_close(&peer);
-    if (which == STAGE)
+    if (which == RECORDED)
+        tell_lost();
+    if (which > PEER)
         pie_stage_free(stage);
     expect_all_back();
     return (double)packets / took;
 }
 
-static int measure_rate(double seconds) {
+static int measure_rate(double seconds, int runs) {
     uint16_t queues = (uint16_t)rte_lcore_count();
-    if (rte_eth_dev_count_avail() < 2)
-        die("two ports are needed: --vdev=net_null0 --vdev=net_null1");
+    FILE *nowhere = fopen("/dev/null", "w");
+    if (rte_eth_dev_count_avail() < 2 || queues < 2 || nowhere == NULL)
+        die("two ports and two lcores are needed: --vdev=net_null0 --vdev=net_null1 --lcores (0-1)@(0-3)");
     rte_mempool_obj_iter(pool, fill, NULL);
     open_port(0, queues);
     open_port(1, queues);
-    for (int run = 0; run < RUNS; run++)
-        for (enum which which = ALONE; which <= STAGE; which++)
-            printf("%s %.0f packets/s\n", names[which], run_rate(which, seconds));
+    for (int run = 0; run < runs; run++)
+        for (enum which which = ALONE; which <= RECORDED; which++)
+            printf("%s %.0f packets/s\n", names[which], run_rate(which, seconds, nowhere));
+    fclose(nowhere);
     for (uint16_t port = 0; port < 2; port++) {
         rte_eth_dev_stop(port);
         rte_eth_dev_close(port);
@@ -259,12 +310,12 @@ int main(int count, char **words) {
     if (pool == NULL)
         die("pool");
     int status = 2;
-    if (count == 2 && strcmp(words[1], "slow") == 0)
-        status = measure_slow();
-    else if ((count == 2 || count == 3) && strcmp(words[1], "rate") == 0)
-        status = measure_rate(count == 3 ? atof(words[2]) : 1);
+    if (count == 3 && strcmp(words[1], "slow") == 0)
+        status = measure_slow(words[2]);
+    else if (count >= 2 && count <= 4 && strcmp(words[1], "rate") == 0)
+        status = measure_rate(count > 2 ? atof(words[2]) : 1, count > 3 ? atoi(words[3]) : 5);
     else
-        fprintf(stderr, "usage: stage_measure [EAL options] -- slow | rate [SECONDS]\n");
+        fprintf(stderr, "usage: stage_measure [EAL options] -- slow HISTORY | rate [SECONDS [RUNS]]\n");
     rte_eal_cleanup();
     return status;
 }

@@ -2,8 +2,9 @@
  * memory, a clock that jumps back, packets of no IP and oversized ones; many threads at once; and no mbuf is lost. `now` is made up, so
  * nothing depends on the time that it takes. Prints a line for each group; ends with status 1 at the first fault.
  *
- * usage: stage_test [EAL options] [-- threads]       threads: the threads alone, for a sanitizer of threads
+ * usage: stage_test [EAL options] -- FOLDER [threads]     FOLDER: histories come to it, for pie audit; threads: the threads alone, for a sanitizer
  */
+#include "fwd_pace.h"
 #include "pie_stage.h"
 #include "stage_packet.h"
 #include "stage_words.h"
@@ -17,6 +18,7 @@
 #include <rte_mbuf.h>
 #include <rte_memory.h>
 #include <rte_spinlock.h>
+#include <sched.h>
 #include <stdio.h>
 #include <stdlib.h>
 
@@ -30,6 +32,7 @@
     } while (0)
 
 static struct rte_mempool *pool;
+static const char *folder;
 
 static struct rte_mbuf *alloc(void) {
     struct rte_mbuf *mbuf = rte_pktmbuf_alloc(pool);
@@ -175,13 +178,14 @@ static void test_shared(void) {
 static void test_words(void) {
     static const uint32_t wanted[16] = {0xe4e7f110, 0x15593bd1, 0x1fdd0f50, 0xc47120a3, 0xc7f4d1c7, 0x0368c033, 0x9aaa2204, 0x4e6cd4c3,
                                         0x466482d2, 0x09aa9f07, 0x05d7c214, 0xa2028bd9, 0xd19c12b5, 0xb94e16de, 0xe883d0cb, 0x4e3c50a2};
-    uint32_t key[8], out[64], next[64];
+    uint32_t key[8];
+    stage_lanes out[16], next[16];
     for (uint32_t i = 0; i < 8; i++)
         key[i] = 0x03020100 + i * 0x04040404;
     stage_blocks(out, key, UINT64_C(0x0900000000000001), 0x4a000000, 20);
-    EXPECT(memcmp(out, wanted, sizeof wanted) == 0);
     stage_blocks(next, key, UINT64_C(0x0900000000000002), 0x4a000000, 20);
-    EXPECT(memcmp(next, out + 16, 48 * sizeof *out) == 0); // the blocks follow one another
+    for (int i = 0; i < 16; i++)
+        EXPECT(out[i][0] == wanted[i] && next[i][0] == out[i][1] && next[i][1] == out[i][2] && next[i][2] == out[i][3]); // one block after another
     struct stage_words one, two;
     EXPECT(stage_words_seed(&one) && stage_words_seed(&two));
     EXPECT(memcmp(one.key, two.key, sizeof one.key) != 0);
@@ -200,6 +204,44 @@ static struct pie_stage *stage_of(struct pie_stage_params *params) {
     struct pie_stage *stage = pie_stage_create("test", params, SOCKET_ID_ANY);
     EXPECT(stage != NULL);
     return stage;
+}
+
+/* What a history has. */
+struct told {
+    uint64_t lines, lost, gaps; /* lines; events that its lines `lost` tell, and these lines */
+};
+
+/* Takes out what the history has now, or to its end, into a file. */
+static void take_history(struct pie_stage *stage, FILE *file, bool is_end, struct told *told) {
+    unsigned char text[4096];
+    size_t size;
+    while ((size = (is_end ? pie_stage_history_end : pie_stage_history)(stage, text, sizeof text)) != 0) {
+        EXPECT(size <= sizeof text && text[size - 1] == '\n' && fwrite(text, 1, size, file) == size);
+        for (unsigned char *line = text; line < text + size; line = (unsigned char *)memchr(line, '\n', size) + 1) {
+            told->lines++;
+            if (memcmp(line, "lost,", 5) == 0) {
+                told->gaps++;
+                told->lost += strtoull((const char *)line + 5, NULL, 10);
+            }
+        }
+    }
+}
+
+static FILE *open_history(const char *name) {
+    char path[4096];
+    snprintf(path, sizeof path, "%s/%s.history", folder, name);
+    FILE *file = fopen(path, "w");
+    EXPECT(file != NULL);
+    return file;
+}
+
+/* Each decision of a recorded stage stands in its history, or is told as lost. */
+static void expect_told(struct pie_stage *stage, const struct told *told) {
+    struct pie_stage_stats stats;
+    pie_stage_read(stage, &stats);
+    uint64_t events = stats.queued + stats.early + stats.bytes + stats.full + stats.departed + stats.updates;
+    EXPECT(stats.refused == 0 && told->lost == stats.lost && (told->lost == 0) == (told->gaps == 0));
+    EXPECT(told->lines == 1 + events - told->lost + told->gaps);
 }
 
 static void test_clock(void) {
@@ -254,6 +296,18 @@ static void test_create(void) {
     memset(name, 'x', sizeof name - 1);
     name[sizeof name - 1] = '\0';
     EXPECT(pie_stage_create(name, &params, SOCKET_ID_ANY) == NULL && rte_errno == ENAMETOOLONG);
+    // those of a history
+    static const uint32_t wrong[] = {1, 8, 24, 1u << 25};
+    for (size_t i = 0; i < sizeof wrong / sizeof wrong[0]; i++) {
+        bad = params, bad.events = wrong[i];
+        EXPECT(pie_stage_create("other", &bad, SOCKET_ID_ANY) == NULL && rte_errno == EINVAL);
+    }
+    bad = params, bad.events = 16, bad.packets = (1 << 20) + 1;
+    EXPECT(pie_stage_create("other", &bad, SOCKET_ID_ANY) == NULL && rte_errno == EINVAL);
+    bad = params, bad.events = 1 << 24; // a gigabyte
+    EXPECT(pie_stage_create("other", &bad, SOCKET_ID_ANY) == NULL && rte_errno == ENOMEM);
+    unsigned char text[PIE_RECORD_ROOM];
+    EXPECT(pie_stage_history(stage, text, sizeof text) == 0 && pie_stage_history_end(stage, text, sizeof text) == 0); // nothing is recorded
     pie_stage_free(stage);
     pie_stage_free(NULL);
     stage = stage_of(&params); // the name is free again
@@ -322,7 +376,10 @@ static void test_decisions(void) {
     params.pie.max_burst = 0;
     params.pie.target = 1000000;
     params.pie.t_update = 1000000;
+    params.events = 1 << 16;
     struct pie_stage *stage = stage_of(&params);
+    struct told told = {0};
+    FILE *file = open_history("decisions");
     uint64_t hz = rte_get_tsc_hz(), start = rte_rdtsc(), marked = 0, in = 0, out = 0, shared = 0;
     for (uint64_t i = 0; i < 12500; i++) { // a packet of 1000 bytes takes the link 80 us
         uint64_t now = start + i * hz / 12500;
@@ -348,11 +405,85 @@ static void test_decisions(void) {
     }
     pie_stage_read(stage, &stats);
     EXPECT(stats.queued + stats.early + stats.bytes + stats.full == in && stats.departed == out && stats.shared == shared);
-    EXPECT(stats.marked > 500 && stats.early > 500 && stats.updates > 900 && stats.updates <= 1000 && stats.prob > 0 && stats.no_ip == 0 && stats.refused == 0);
+    EXPECT(stats.marked > 500 && stats.early > 500 && stats.updates > 900 && stats.updates <= 1000);
+    EXPECT(stats.prob > 0 && stats.no_ip == 0 && stats.refused == 0);
     EXPECT(stats.marked >= marked && stats.marked - marked <= stats.waiting && stats.waiting == stats.queued - out);
+    take_history(stage, file, true, &told);
+    EXPECT(fclose(file) == 0 && told.gaps == 0);
+    expect_told(stage, &told);
     pie_stage_free(stage);
     expect_all_back();
     printf("stage_test: decisions (%" PRIu64 " marked, %" PRIu64 " dropped early)\n", stats.marked, stats.early);
+}
+
+/* What is odd, recorded: packets of no IP, oversized ones, a full queue, a clock that jumps back; then a history that nobody takes out, so that its
+ * ring of 16 events is full, whose gap is told, and one at its end. */
+static void test_record(void) {
+    struct pie_stage_params params;
+    struct pie_stage_stats stats;
+    struct told told = {0};
+    pie_stage_default_params(&params, 100000000);
+    params.packets = 4;
+    params.events = 16;
+    struct pie_stage *stage = stage_of(&params);
+    uint64_t hz = rte_get_tsc_hz(), now = rte_rdtsc() + hz;
+    struct rte_mbuf *mbufs[7], *out[8];
+    FILE *file = open_history("odd");
+    for (int i = 0; i < 7; i++)
+        mbufs[i] = i == 6 ? alloc() : plain(i == 1 ? 20 : 100, PIE_ECT0); // the last has no bytes: nothing is decided of it
+    EXPECT(pie_stage_enqueue(stage, mbufs, 7, now) == 4 && pie_stage_dequeue(stage, out, 2, now - hz) == 2);
+    rte_pktmbuf_free_bulk(out, 2);
+    EXPECT(pie_stage_update(stage, now + hz));
+    take_history(stage, file, true, &told);
+    pie_stage_read(stage, &stats);
+    EXPECT(fclose(file) == 0 && told.lines == 11 && stats.oversized == 1 && stats.earlier == 1 && stats.full == 2);
+    expect_told(stage, &told);
+    pie_stage_free(stage);
+    stage = stage_of(&params);
+    told = (struct told){0};
+    file = open_history("gap");
+    for (int round = 0; round < 3; round++) {
+        for (int i = 0; i < 7; i++)
+            mbufs[i] = plain(100, PIE_NOT_ECT);
+        uint32_t queued = pie_stage_enqueue(stage, mbufs, 7, now + hz);
+        EXPECT(queued <= 4 && pie_stage_dequeue(stage, out, 8, now + hz) == queued);
+        rte_pktmbuf_free_bulk(out, queued);
+    }
+    pie_stage_read(stage, &stats);
+    EXPECT(stats.lost > 0);
+    take_history(stage, file, false, &told); // (the gap is told before the next event, or at the end)
+    EXPECT(told.gaps == 0);
+    EXPECT(pie_stage_update(stage, now + 2 * hz));
+    take_history(stage, file, true, &told);
+    EXPECT(told.gaps == 1);
+    for (int i = 0; i < 20; i++)
+        EXPECT(pie_stage_update(stage, now + (uint64_t)(3 + i) * hz));
+    take_history(stage, file, true, &told);
+    EXPECT(fclose(file) == 0 && told.gaps == 2);
+    expect_told(stage, &told);
+    pie_stage_free(stage);
+    expect_all_back();
+    printf("stage_test: the record, and a full ring of events\n");
+}
+
+/* The pace of pie-fwd: right on the average, and of a pause of a second it makes up for 10 ms. */
+static void test_pace(void) {
+    uint64_t now = 1000, bytes = 0;
+    struct fwd_pace pace = fwd_pace_of(8e6, 1e9, now); // a byte a microsecond
+    for (int i = 0; i < 100000; i++, now += 7000) {
+        uint64_t most = fwd_pace_bytes(&pace, now), moved = most == 0 ? 0 : most + (uint64_t)i % 100; // the last packet exceeds it
+        fwd_pace_move(&pace, moved);
+        bytes += moved;
+    }
+    EXPECT(bytes >= 699800 && bytes <= 700200);
+    now += 1000000000;
+    uint64_t most = fwd_pace_bytes(&pace, now);
+    EXPECT(most >= 9999 && most <= 10001);
+    fwd_pace_move(&pace, most);
+    EXPECT(fwd_pace_bytes(&pace, now) == 0);
+    fwd_pace_rest(&pace, now + 500000);
+    EXPECT(fwd_pace_bytes(&pace, now + 500000) == 1);
+    printf("stage_test: the pace of pie-fwd\n");
 }
 
 /* Updates are made when due, by enqueuing, dequeuing, or a timer. */
@@ -406,6 +537,8 @@ static void *send_bursts(void *argument) {
         sender->count += count - queued;
         sender->handed_back += count - queued;
         rte_spinlock_unlock(&sender->lock);
+        if (round % 16 == 0)
+            sched_yield(); // (so that the others get their turns where processors are few)
     }
     return NULL;
 }
@@ -438,10 +571,24 @@ static void *update_and_read(void *argument) {
     return NULL;
 }
 
-static void test_threads(uint32_t rounds) {
+struct writer {
+    struct pie_stage *stage;
+    FILE *file;
+    struct told told;
+};
+
+static void *write_history(void *argument) {
+    struct writer *writer = argument;
+    while (!__atomic_load_n(&are_done, __ATOMIC_SEQ_CST))
+        take_history(writer->stage, writer->file, false, &writer->told);
+    return NULL;
+}
+
+/* With `events` above 0 one more thread writes the history. */
+static void test_threads(uint32_t rounds, uint32_t events) {
     struct pie_stage_params params;
     struct pie_stage_stats stats;
-    pthread_t taker, updater;
+    pthread_t taker, updater, recorder;
     pie_stage_default_params(&params, 100000000);
     params.packets = 60;
     params.hands_back = true;
@@ -449,7 +596,11 @@ static void test_threads(uint32_t rounds) {
     params.pie.t_update = 10000;
     params.pie.max_burst = 0;
     params.pie.dq_threshold = 1024;
+    params.events = events;
     struct pie_stage *stage = stage_of(&params);
+    struct writer writer = {.stage = stage, .file = events != 0 ? open_history("threads") : NULL};
+    are_done = 0;
+    EXPECT(events == 0 || pthread_create(&recorder, NULL, write_history, &writer) == 0);
     for (uint32_t i = 0; i < SENDERS; i++) {
         senders[i] = (struct sender){.stage = stage, .number = i, .rounds = rounds, .count = OWNED};
         for (uint32_t k = 0; k < OWNED; k++) {
@@ -464,6 +615,12 @@ static void test_threads(uint32_t rounds) {
         EXPECT(pthread_join(senders[i].thread, NULL) == 0);
     __atomic_store_n(&are_done, 1, __ATOMIC_SEQ_CST);
     EXPECT(pthread_join(taker, NULL) == 0 && pthread_join(updater, NULL) == 0);
+    if (events != 0) {
+        EXPECT(pthread_join(recorder, NULL) == 0);
+        take_history(stage, writer.file, true, &writer.told);
+        EXPECT(fclose(writer.file) == 0);
+        expect_told(stage, &writer.told);
+    }
     pie_stage_read(stage, &stats);
     for (uint32_t i = 0; i < SENDERS; i++) {
         EXPECT(senders[i].count == OWNED);
@@ -474,7 +631,7 @@ static void test_threads(uint32_t rounds) {
     EXPECT(stats.early + stats.full + stats.bytes == handed_back && stats.refused == 0);
     pie_stage_free(stage);
     expect_all_back();
-    printf("stage_test: threads (%" PRIu64 " queued, %" PRIu64 " dropped)\n", stats.queued, handed_back);
+    printf("stage_test: threads%s (%" PRIu64 " queued, %" PRIu64 " dropped)\n", events != 0 ? ", recorded" : "", stats.queued, handed_back);
 }
 
 int main(int count, char **words) {
@@ -486,7 +643,9 @@ int main(int count, char **words) {
     setvbuf(stdout, NULL, _IOLBF, 0);
     pool = rte_pktmbuf_pool_create("pool", MBUFS, 0, 0, RTE_MBUF_DEFAULT_BUF_SIZE, SOCKET_ID_ANY);
     EXPECT(pool != NULL);
-    if (count - read < 2 || strcmp(words[read + 1], "threads") != 0) {
+    EXPECT(count - read >= 2);
+    folder = words[read + 1];
+    if (count - read == 2) {
         test_words();
         test_create();
         test_clock();
@@ -496,10 +655,11 @@ int main(int count, char **words) {
         test_full();
         test_decisions();
         test_updates();
-        test_threads(30000);
-    } else {
-        test_threads(2000);
+        test_record();
+        test_pace();
+        test_threads(4000, 0);
     }
+    test_threads(1500, 1 << 14);
     rte_mempool_free(pool);
     rte_eal_cleanup();
     return 0;

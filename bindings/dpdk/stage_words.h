@@ -25,17 +25,31 @@ static inline stage_lanes stage_rotate(stage_lanes value, int bits) {
     return value << bits | value >> (32 - bits);
 }
 
+/* By 16 and by 8 bits whole bytes move, which x86-64 does at once. */
+typedef uint8_t stage_bytes __attribute__((vector_size(16)));
+
+static inline stage_lanes stage_rotate_16(stage_lanes value) {
+    static const stage_bytes order = {2, 3, 0, 1, 6, 7, 4, 5, 10, 11, 8, 9, 14, 15, 12, 13};
+    return __BYTE_ORDER__ == __ORDER_LITTLE_ENDIAN__ ? (stage_lanes)__builtin_shuffle((stage_bytes)value, order) : stage_rotate(value, 16);
+}
+
+static inline stage_lanes stage_rotate_8(stage_lanes value) {
+    static const stage_bytes order = {3, 0, 1, 2, 7, 4, 5, 6, 11, 8, 9, 10, 15, 12, 13, 14};
+    return __BYTE_ORDER__ == __ORDER_LITTLE_ENDIAN__ ? (stage_lanes)__builtin_shuffle((stage_bytes)value, order) : stage_rotate(value, 8);
+}
+
 static inline void stage_quarter(stage_lanes *x, int a, int b, int c, int d) {
-    x[a] += x[b], x[d] = stage_rotate(x[d] ^ x[a], 16);
+    x[a] += x[b], x[d] = stage_rotate_16(x[d] ^ x[a]);
     x[c] += x[d], x[b] = stage_rotate(x[b] ^ x[c], 12);
-    x[a] += x[b], x[d] = stage_rotate(x[d] ^ x[a], 8);
+    x[a] += x[b], x[d] = stage_rotate_8(x[d] ^ x[a]);
     x[c] += x[d], x[b] = stage_rotate(x[b] ^ x[c], 7);
 }
 
-/* Four blocks of the key stream from this counter on (RFC 8439, section 2.3; the counter has 64 bits, and the nonce the other 64). */
-static inline void stage_blocks(uint32_t out[64], const uint32_t key[8], uint64_t counter, uint64_t nonce, int rounds) {
+/* Four blocks of the key stream from this counter on (RFC 8439, section 2.3; the counter has 64 bits, and the nonce the other 64), one in
+ * each lane. */
+static inline void stage_blocks(stage_lanes x[16], const uint32_t key[8], uint64_t counter, uint64_t nonce, int rounds) {
     static const uint32_t constants[4] = {0x61707865, 0x3320646e, 0x79622d32, 0x6b206574};
-    stage_lanes start[16], x[16];
+    stage_lanes start[16];
     for (int i = 0; i < 4; i++)
         start[i] = (stage_lanes){constants[i], constants[i], constants[i], constants[i]};
     for (int i = 0; i < 8; i++)
@@ -46,18 +60,15 @@ static inline void stage_blocks(uint32_t out[64], const uint32_t key[8], uint64_
         start[14][lane] = (uint32_t)nonce;
         start[15][lane] = (uint32_t)(nonce >> 32);
     }
-    memcpy(x, start, sizeof x);
+    memcpy(x, start, sizeof start);
     for (int i = 0; i < rounds; i += 2) {
         for (int column = 0; column < 4; column++)
             stage_quarter(x, column, 4 + column, 8 + column, 12 + column);
         for (int column = 0; column < 4; column++)
             stage_quarter(x, column, 4 + (column + 1) % 4, 8 + (column + 2) % 4, 12 + (column + 3) % 4);
     }
-    for (int i = 0; i < 16; i++) {
+    for (int i = 0; i < 16; i++)
         x[i] += start[i];
-        for (int lane = 0; lane < 4; lane++)
-            out[16 * lane + i] = x[i][lane];
-    }
 }
 
 /* Takes a key from the system; false where it has no random bits. */
@@ -68,7 +79,8 @@ static inline bool stage_words_seed(struct stage_words *words) {
 
 static inline uint64_t stage_word(struct stage_words *words) {
     if (words->left == 0) {
-        uint32_t blocks[64];
+        // (the order in which the stream's bits are handed out plays no part)
+        stage_lanes blocks[16];
         stage_blocks(blocks, words->key, words->counter, 0, STAGE_ROUNDS);
         memcpy(words->words, blocks, sizeof words->words);
         words->counter += 4;

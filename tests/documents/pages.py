@@ -121,7 +121,7 @@ def missing(command, copy, words):
                 done = subprocess.run([folder / "missing.sh"], env=words, capture_output=True, text=True, check=False)
                 if done.returncode:
                     return " ".join(done.stdout.replace("missing: ", "").split())
-    for word in re.findall(r"(?:^|[;&|(])\s*([\w-]+)(?=\s|$)", re.sub(r"#.*", "", command), re.M):
+    for word in re.findall(r"(?:^|[;&|(])\s*([\w-]+)(?=\s|$)", re.sub(r"#.*|\\\n", "", command), re.M):
         if subprocess.run(["bash", "-c", f"type {word}"], env=words, capture_output=True, check=False).returncode:
             return word
     return ""

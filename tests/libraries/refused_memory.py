@@ -45,6 +45,7 @@ REFUSED = {
         "write_history": r"write_history: Memory, other bytes: false\n",
         "Auditor::open": r"Auditor::open: Memory\n",
         "Auditor::feed": None,
+        "Auditor::go_on": None,
         "audit": r"audit: Memory\n",
         "migrate": r"migrate: Memory, other bytes: false\n",
         "explain as CSV": r"explain as CSV: Trace\(Memory\), other bytes: false\n",

@@ -6,7 +6,7 @@ use crate::history::{
     write_to,
 };
 use pie_audit::{Auditor, audit};
-use pie_book::Answer;
+use pie_book::{Answer, Core};
 use pie_explain::{Choice, Form, Which, explain};
 use pie_trace::{HistoryLines, Line, RunEnd, TraceFault, migrate, run_trace, run_trace_within};
 use std::alloc::Global;
@@ -21,6 +21,7 @@ pub(crate) fn all(rt: &impl Print, alloc: Global) -> io::Result<()> {
     write(rt, alloc)?;
     open_auditor(rt, alloc)?;
     feed(rt, alloc)?;
+    go_on(rt, alloc)?;
     audit_text(rt, alloc)?;
     migrate_text(rt, alloc)?;
     explain_as(
@@ -172,6 +173,22 @@ fn feed(rt: &impl Print, alloc: Global) -> io::Result<()> {
     let found = auditor.finish();
     begun?;
     println!(rt; "Auditor::feed: {found:?}")
+}
+
+/// An auditor that goes on from a core, which has decided the arrival, makes no request for memory.
+fn go_on(rt: &impl Print, alloc: Global) -> io::Result<()> {
+    let opening = opening();
+    let Ok(mut core) = Core::open(alloc, opening.limits, opening.params, opening.moment) else {
+        return println!(rt; "Auditor::go_on: there is no core");
+    };
+    let first = arrived();
+    let _ = core.step(first.caller, first.command);
+    begin(rt, "Auditor::go_on")?;
+    let mut auditor = Auditor::go_on(core);
+    auditor.feed(&Line::Made(departed(25, Answer::Left(packet()))));
+    auditor.feed(&Line::Made(departed(30, Answer::Left(packet()))));
+    let found = auditor.finish();
+    println!(rt; "Auditor::go_on: {found:?}")
 }
 
 fn audit_text(rt: &impl Print, alloc: Global) -> io::Result<()> {

@@ -1,11 +1,11 @@
 //! Equality of the public types that tests compare: where `==` says yes, the two values are the same in every field. A `==` that skips a field
 //! would meet every other contract, and blind each test that compares. (That it says yes of a value and itself is a law of `Eq`, which each
 //! derive proves.) These functions are there for their contracts. A type that is compared as a part of another one, as packets, parameters, limits
-//! and choices are, has none of its own: where its `==` skips a field, that of the whole is refused. What texts tell of is compared in
-//! pie_device_tests.
+//! and choices are, has none of its own: where its `==` skips a field, that of the whole is refused. `Standing` has none either: of its `==`, which
+//! is derived, nothing is proved here. What texts tell of is compared in pie_device_tests.
 ghost use Rattle.std.specs.Prelude.{◌≡◌, true};
 
-use pie_book::{Answer, Cause, Command, FoldRefusal, Opening, Refusal, Registers, Standing, Stats};
+use pie_book::{Answer, Cause, Command, FoldRefusal, Opening, Refusal, Registers, Stats};
 use pie_params::RawParams;
 use pie_queue::Waiting;
 use pie_storm::StormFault;
@@ -82,13 +82,6 @@ pub(crate) fn causes(one: Cause, other: Cause) -> bool
 
 /// Equal faults of storms are the same.
 pub(crate) fn storm_faults(one: StormFault, other: StormFault) -> bool
-    ensures { result ≡ true → one ≡ other }
-{
-    one == other
-}
-
-/// Equal numbers that cores stand on are the same.
-pub(crate) fn standings(one: Standing, other: Standing) -> bool
     ensures { result ≡ true → one ≡ other }
 {
     one == other

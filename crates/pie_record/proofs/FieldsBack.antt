@@ -157,8 +157,22 @@ arrival-back row caller moment command long word who when e =
     let n = and_after (ecn_at row 5) _ a.got s.rest in
     let same : Arrive moment (record { tag = t.got; size = s.got; ecn = n.got }) w.got ≡ command = cc in
     subst (λ (c : Command). row ≡ command_fields caller c) same (has-all row 0
-    (codes "arrive" ∷ decimal caller ∷ decimal moment ∷ decimal t.got ∷ decimal s.got ∷ ecn_word n.got ∷ decimal w.got ∷ []) long
-    (word, (who, (when, (number-has row 3 most_u64 t.got (omega arith) t.is, (number-has row 4 most_u32 s.got (omega arith) s.is, (ecn-has row 5 n.got n.is, (number-has row 6 most_u64 w.got (omega arith) w.is, (tt)))))))))
+    (codes "arrive" ∷ decimal caller ∷ decimal moment ∷ decimal t.got ∷ decimal s.got ∷ ecn_word n.got ∷ decimal w.got ∷ []) long (
+      word,
+      (
+        who,
+        (
+          when,
+          (
+            number-has row 3 most_u64 t.got (omega arith) t.is,
+            (
+              number-has row 4 most_u32 s.got (omega arith) s.is,
+              (ecn-has row 5 n.got n.is, (number-has row 6 most_u64 w.got (omega arith) w.is, (tt))),
+            ),
+          ),
+        ),
+      ),
+    ))
 
 got-same : (first second : RawParams) → (let read : Result RawParams Flaw = Ok first in read) ≡ Ok second → first ≡ second
 got-same first second e = cc
@@ -191,8 +205,40 @@ change-back row caller from moment command long word who when e =
     } in
     let same = got-same params read.got j.rest in
     let fields : row ≡ command_fields caller (SetParams moment params) = has-all row 0
-    (codes "params" ∷ decimal caller ∷ decimal moment ∷ map decimal (nine_of params)) long
-    (word, (who, (when, (number-has row 3 most_u64 a.got (omega arith) a.is, (number-has row 4 most_u64 b.got (omega arith) b.is, (number-has row 5 most_u64 c.got (omega arith) c.is, (number-has row 6 most_u64 d.got (omega arith) d.is, (number-has row 7 most_u64 f.got (omega arith) f.is, (number-has row 8 most_u64 g.got (omega arith) g.is, (number-has row 9 most_u64 h.got (omega arith) h.is, (number-has row 10 most_u64 i.got (omega arith) i.is, (number-has row 11 most_u64 j.got (omega arith) j.is, (tt))))))))))))) in
+    (codes "params" ∷ decimal caller ∷ decimal moment ∷ map decimal (nine_of params)) long (
+      word,
+      (
+        who,
+        (
+          when,
+          (
+            number-has row 3 most_u64 a.got (omega arith) a.is,
+            (
+              number-has row 4 most_u64 b.got (omega arith) b.is,
+              (
+                number-has row 5 most_u64 c.got (omega arith) c.is,
+                (
+                  number-has row 6 most_u64 d.got (omega arith) d.is,
+                  (
+                    number-has row 7 most_u64 f.got (omega arith) f.is,
+                    (
+                      number-has row 8 most_u64 g.got (omega arith) g.is,
+                      (
+                        number-has row 9 most_u64 h.got (omega arith) h.is,
+                        (
+                          number-has row 10 most_u64 i.got (omega arith) i.is,
+                          (number-has row 11 most_u64 j.got (omega arith) j.is, (tt)),
+                        ),
+                      ),
+                    ),
+                  ),
+                ),
+              ),
+            ),
+          ),
+        ),
+      ),
+    ) in
     by params read.got same (first_bad read.got) read.rest fields
   where
     by : (written got : RawParams) → written ≡ got → (bad : Option Field) → Is (Ok (change_to from moment got bad)) caller command

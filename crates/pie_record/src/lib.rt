@@ -5,9 +5,9 @@
 //! record of a trace asks and what a record of a history tells, and the text of records. A record of an event is a command's record with its
 //! answer, so both read the command by one reader (`command_at`).
 //!
-//! `Records` reads one record after another from any reader, and `HistoryLines` the opening and the lines of a history. `Rows` writes records that were
-//! read, and texts of others, to any writer, many at a time. Both take memory for one record and one page. A reader never answers `Write`, and a writer never `Read` (clauses
-//! `input` and `device`).
+//! `Records` reads one record after another from any reader, and `HistoryLines` the opening and the lines of a history. `Rows` writes records that
+//! were read, and texts of others, to any writer, many at a time. Both take memory for one record and one page. A reader never answers `Write`, and
+//! a writer never `Read` (clauses `input` and `device`).
 //!
 //! Proofs of crates above cite the laws in `proofs/Laws.antt`, and no other lemma of this crate.
 #![tactic(auto)]

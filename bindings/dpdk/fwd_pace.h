@@ -1,0 +1,39 @@
+/* A pace: no more than so many bytes a second. What was not moved in time is made up for, but of a pause 10 ms at the most: as a link that was
+ * held up, and not as one that saved up time. */
+#ifndef FWD_PACE_H
+#define FWD_PACE_H
+
+#include <stdint.h>
+
+#define FWD_PACE_PAUSES 100 /* of the longest pause that is made up for, in a second */
+
+struct fwd_pace {
+    double cycles_a_byte;
+    double at;   /* up to this moment the time is used up, in cycles of the TSC */
+    double most; /* cycles that are made up for */
+};
+
+static inline struct fwd_pace fwd_pace_of(double bits_a_second, double hz, uint64_t now) {
+    return (struct fwd_pace){.cycles_a_byte = hz * 8 / bits_a_second, .at = (double)now, .most = hz / FWD_PACE_PAUSES};
+}
+
+/* The bytes for which there is time, 0 for none. A packet may have more: then the time after it is used up. */
+static inline uint64_t fwd_pace_bytes(struct fwd_pace *pace, uint64_t now) {
+    if (pace->at > (double)now)
+        return 0;
+    if (pace->at < (double)now - pace->most)
+        pace->at = (double)now - pace->most;
+    return 1 + (uint64_t)(((double)now - pace->at) / pace->cycles_a_byte);
+}
+
+/* So many bytes were moved. */
+static inline void fwd_pace_move(struct fwd_pace *pace, uint64_t bytes) {
+    pace->at += (double)bytes * pace->cycles_a_byte;
+}
+
+/* There was nothing to move: time passes without use. */
+static inline void fwd_pace_rest(struct fwd_pace *pace, uint64_t now) {
+    pace->at = (double)now;
+}
+
+#endif

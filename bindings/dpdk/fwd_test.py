@@ -1,0 +1,193 @@
+#!/usr/bin/env python3
+"""Runs pie-fwd between a null port and a ring, several at once: what it refuses, its end by an interrupt, its files, and its history, at full speed
+and by a device that is full; no mbuf is lost. With --real-time it runs nothing else than one that holds its target in real time, at raised
+priority, for which a processor has to be free.
+
+usage: bindings/dpdk/fwd_test.py PIE_FWD PIE [--real-time]"""
+import json
+import os
+import re
+import signal
+import subprocess
+import sys
+import tempfile
+from concurrent.futures import ThreadPoolExecutor
+from pathlib import Path
+
+PIE_FWD, PIE = sys.argv[1:3]
+CPUS = f"(0-{os.cpu_count() - 1})"
+EAL = ["--no-huge", "-m", "256", "--no-pci", "--no-shconf", "--no-telemetry", "--log-level=lib.eal:error", "--lcores", f"(0-2)@{CPUS}"]
+RING = ["--vdev=net_null0", "--vdev=net_ring0"]
+PACED = ["--vdev=net_null0,size=1000", "--vdev=net_ring0"]
+NEWLINE = b"\n"
+FIRST = 1 << 20  # bytes of a long history that are audited
+LINE = re.compile(r"([\d.]+) Mbit/s, (\d+) packets/s, wait ([\d.]+) ms, probability [\d.]+, \d+ dropped, \d+ marked, \d+ waiting")
+
+
+def command(ports, *words):
+    return [PIE_FWD, *EAL, *ports, "--", *words]
+
+
+def run(ports, *words, **settings):
+    done = subprocess.run(command(ports, *words), capture_output=True, text=True, check=False, timeout=60, **settings)
+    return done.returncode, done.stdout, done.stderr
+
+
+def told(printed):
+    """The numbers of the last line, by their words."""
+    last = printed.splitlines()[-1]
+    assert last.startswith("pie-fwd: ") and last.endswith(" 0 mbufs missing"), printed
+    return {words: int(number) for number, words in re.findall(r"(\d+) ([a-z ]+)", last)}
+
+
+def refused():
+    for ports, words, said in (
+        (RING, ["--rate", "5"], "--rate 5: refused: no number with a unit"),
+        (RING, ["--history", "/nowhere/history"], "the file of --history: No such file"),
+        (RING, ["--history", "/dev/null", "--total-num-mbufs", "4194304", "--packets", "1048577"], "--packets: out of its range"),
+        (RING[:1], [], "there are 1 ports"),
+    ):
+        status, _, errors = run(ports, *words)
+        assert status == 1 and said in errors, (words, status, errors)
+    status, printed, _ = run(RING, "--help")
+    assert status == 0 and "--history FILE" in printed
+    return "refused"
+
+
+def interrupt():
+    """Its files while it runs, and its end."""
+    with tempfile.TemporaryDirectory() as work:
+        words = ["--total-num-mbufs", "8192", "--rate=100mbit", "--open-metrics", f"{work}/metrics", "--json", f"{work}/json"]
+        process = subprocess.Popen(command(RING, *words), stdout=subprocess.PIPE, text=True)
+        lines = [process.stdout.readline(), process.stdout.readline()]
+        process.send_signal(signal.SIGINT)
+        rest = process.communicate(timeout=30)[0]
+        assert process.returncode == 0 and all(LINE.match(line) for line in lines), (process.returncode, lines, rest)
+        told(rest)
+        files(Path(work, "metrics").read_text(), json.loads(Path(work, "json").read_text()))
+        assert sorted(os.listdir(work)) == ["json", "metrics"]
+    return "interrupt"
+
+
+def files(metrics, queues):
+    lines = metrics.splitlines()
+    assert lines[-1] == "# EOF"
+    numbers = {line.rsplit(" ", 1)[0]: float(line.rsplit(" ", 1)[1]) for line in lines if not line.startswith("#")}
+    assert all(re.fullmatch(r'pie_\w+\{port="net_ring0"(,reason="\w+")?\}', name) for name in numbers), numbers
+    family = ""
+    for line in lines[:-1]:  # each number stands under its family, and a counter's name ends with _total
+        if line.startswith("# TYPE"):
+            family, kind = line.split()[2:]
+        elif not line.startswith("#"):
+            ending = line.split("{")[0].removeprefix(family)
+            assert ending in {"counter": ["_total"], "gauge": [""], "summary": ["_count", "_sum"]}[kind], line
+    (queue,) = queues
+    assert queue["kind"] == "pie" and queue["options"]["target"] == 15000 and queue["options"]["alpha"] == 2
+    assert queue["packets"] == numbers['pie_departed_packets_total{port="net_ring0"}'] > 0
+    assert queue["backlog"] == numbers['pie_waiting_bytes{port="net_ring0"}'] and queue["prob"] == numbers['pie_probability_ratio{port="net_ring0"}']
+    drops = sum(count for name, count in numbers.items() if name.startswith("pie_dropped_packets_total"))
+    assert queue["drops"] == drops and queue["pkts_in"] - queue["packets"] == queue["qlen"]
+
+
+def audited(path):
+    """What an audit says of a history: of one with gaps the record of the first of them, which is what it has to say."""
+    text = Path(path).read_bytes()
+    gap = re.search(rb"^lost,", text, re.M)
+    wanted = f"pie: {path}: record {1 + text.count(NEWLINE, 0, gap.start())}: unknown kind\n" if gap else f"{path}: clean,{text.count(NEWLINE) - 1}\n"
+    done = subprocess.run([PIE, "audit", path], stdout=subprocess.PIPE, stderr=subprocess.STDOUT, text=True, check=False)
+    assert done.stdout == wanted, (done.stdout, wanted)
+
+
+def events_of(numbers):
+    return sum(numbers[word] for word in ("packets queued", "dropped early", "for want of bytes", "of room", "left", "updates"))
+
+
+def full_speed():
+    """Null ports at full speed with a history: each event stands in it or is told as lost, and what comes before a gap is clean."""
+    with tempfile.TemporaryDirectory() as work:
+        pipe, first = f"{work}/history", Path(work, "first")
+        os.mkfifo(pipe)
+        forward = subprocess.Popen(command(RING, "--total-num-mbufs=8192", "--rate", "1gbit", "--for", "2s", "--history", pipe),
+                                   stdout=subprocess.PIPE, text=True)
+        lines, gaps, lost, size = 0, 0, 0, 0
+        with open(pipe, "rb") as history, first.open("wb") as kept:
+            for chunk in history_lines(history):
+                lines += chunk.count(NEWLINE)
+                size += len(chunk) if size >= FIRST else kept.write(chunk)
+                if b"lost," in chunk:
+                    found = re.findall(rb"^lost,(\d+)$", chunk, re.M)
+                    gaps += len(found)
+                    lost += sum(map(int, found))
+        printed = forward.communicate(timeout=60)[0]
+        numbers = told(printed)
+        events = events_of(numbers)
+        assert forward.returncode == 0 and numbers["events lost to the history"] == lost, printed
+        assert lines == 1 + events - lost + gaps, (lines, events, lost, gaps)
+        audited(str(first))
+        return f"{events} events at full speed, {lost} of them told as lost"
+
+
+def history_lines(history):
+    """What is read, in whole lines."""
+    rest = b""
+    while chunk := history.read(1 << 20):
+        whole, newline, after = (rest + chunk).rpartition(NEWLINE)
+        if newline:
+            yield whole + newline
+        rest = after
+    assert rest == b""
+
+
+def device_full():
+    """It goes on, says it once, and ends with status 1. One whose lines nobody reads any more ends, with everything freed."""
+    status, printed, errors = run(PACED, "--total-num-mbufs=2048", "--receive", "20mbit", "--for", "1s", "--history", "/dev/full")
+    assert status == 1 and errors.count("--history /dev/full: No space left on device") == 1, (status, errors)
+    told(printed)
+    process = subprocess.Popen(command(PACED, "--total-num-mbufs=2048", "--receive", "20mbit"), stdout=subprocess.PIPE, text=True)
+    process.stdout.close()
+    assert process.wait(timeout=30) == 0
+    return "a device that is full"
+
+
+def paced():
+    """The history of some seconds of real time is whole."""
+    with tempfile.TemporaryDirectory() as work:
+        path = f"{work}/history"
+        status, printed, errors = run(PACED, "--rate", "20mbit", "--receive", "24mbit", "--for", "3s", "--history", path)
+        events = events_of(told(printed))
+        assert status == 0 and Path(path).read_bytes().count(NEWLINE) == events + 1, (status, printed, errors)
+        audited(path)
+        return f"{events} events in real time"
+
+
+def first_of_all():
+    """Raises the priority; where sessions share the processors (autogroup), also that of a session of its own."""
+    os.setsid()
+    os.nice(-20)
+    group = Path("/proc/self/autogroup")
+    if group.exists():
+        group.write_text("-20")
+
+
+def real_time():
+    """100 Mbit/s with 1.2 times its load: from the fifth second on the mean wait is within 10 per cent of 15 ms, and the rate within one."""
+    status, printed, _ = run(PACED, "--rate", "100mbit", "--receive", "120mbit", "--for", "14s", preexec_fn=first_of_all)
+    lines = [[float(it) for it in LINE.match(line).groups()] for line in printed.splitlines()[4:-1]]
+    packets = sum(count for _, count, _ in lines)
+    wait = sum(count * wait for _, count, wait in lines) / packets
+    rate = sum(rate for rate, _, _ in lines) / len(lines)
+    told(printed)
+    waits = [it[2] for it in lines]
+    print(f"mean wait {wait:.3f} ms at {rate:.3f} Mbit/s in {len(lines)} s; of each second {min(waits)} to {max(waits)} ms")
+    assert status == 0 and 13.5 <= wait <= 16.5 and 99 <= rate <= 101, printed
+
+
+def main():
+    if sys.argv[3:] == ["--real-time"]:
+        real_time()
+        return
+    with ThreadPoolExecutor(max_workers=3) as pool:
+        print("; ".join(pool.map(lambda it: it(), (full_speed, interrupt, paced, device_full, refused))))
+
+
+main()

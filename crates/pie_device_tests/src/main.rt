@@ -1,6 +1,6 @@
 //! `pie_device_tests`: makes each call over traces and histories that can want memory, one after another, and says what it answered and
-//! what it left; runs the calls that read or write over devices that fail at each place; and prints a worked row event by event, and
-//! lines of a history without an end. Its argument names what it makes. The functions of `equal` say what `==` of the public types means.
+//! what it left; runs the calls that read or write over devices that fail at each place; and prints a worked row event by event,
+//! lines of a history without an end, and what a text that goes on from a core comes to. Its argument names what it makes. The functions of `equal` say what `==` of the public types means.
 //! `tests/libraries/refused_memory.py` refuses each request for memory of each call in turn. The calls that read no text are those of
 //! `pie_memory_tests`.
 #![tactic(auto)]
@@ -8,6 +8,7 @@
 mod devices;
 mod endless;
 mod equal;
+mod excerpt;
 mod failing;
 mod flushes;
 mod history;
@@ -43,5 +44,6 @@ fn others(rt: &impl Print, alloc: Global) -> io::Result<()> {
     devices::all(rt, alloc)?;
     flushes::all(rt, alloc)?;
     endless::all(rt, alloc)?;
-    steps::all(rt, alloc)
+    steps::all(rt, alloc)?;
+    excerpt::all(rt, alloc)
 }

@@ -58,9 +58,9 @@ fn tell_core(
     core: &mut Core,
     made: Result<Option<Core>, ResumeRefusal>,
 ) -> io::Result<()> {
+    let (stands, answer) = look(core);
     match made {
         Ok(Some(mut resumed)) => {
-            let (stands, answer) = look(core);
             let (stood, answered) = look(&mut resumed);
             let (is_same, is_answered) = (stands == stood, answer == answered);
             println!(rt; "Core::resume: the same: {is_same}, answers the same: {is_answered}")

@@ -83,20 +83,21 @@ if [ "$early" = 0 ] || [ "$("$program" audit < "$work/output" | cut -d, -f1)" !=
     failed=1
 fi
 # In bursts of 32, 4008 packets of a sender are 125 bursts and one of eight. Each stands in the history with nothing of another caller
-# between, and all its packets have the moment of its last. Packets are dropped early, and the caller changes, here too.
+# between, and all its packets have the moment of its last. Packets are dropped, and the caller changes, here too. (Some are dropped early in about
+# one of three such storms: a burst mostly meets the limit in bytes first.)
 for _ in 1 2 3 4 5 6 7 8 9 10; do
-    "$program" storm --senders 8 --packets 4008 --burst 32 --load 120 --changes 3 --folds 2 --count > "$work/output" 2> "$work/errors"
-    early=$(grep -c '^arrive,.*,early$' "$work/output")
+    "$program" storm --senders 8 --packets 4008 --burst 32 --load 120 --count > "$work/output" 2> "$work/errors"
+    dropped=$(grep -c '^arrive,.*,\(early\|bytes\)$' "$work/output")
     read -r _ told _ changes _ < "$work/errors"
-    [ "$early" -gt 0 ] && [ "$changes" -ge 64 ] && break
+    [ "$dropped" -gt 0 ] && [ "$changes" -ge 64 ] && break
 done
 bursts=$(awk -F, '{ print ($1 == "arrive" ? $2 "," $3 : "-") }' "$work/output" | uniq -c | awk '$2 != "-" { print $1 }' | sort -n | uniq -c |
     tr -s ' \n' ' ')
 moments=$(awk -F, '$1 == "arrive" { i = $4 % 4294967296; last = (int(i / 32) + 1) * 32; if ($3 != (last < 4008 ? last : 4008) * 1000000) n++ }
     END { print n + 0 }' "$work/output")
-if [ "$early" = 0 ] || [ "$changes" -lt 64 ] || [ "$bursts" != " 8 8 1000 32 " ] || [ "$moments" != 0 ] ||
+if [ "$dropped" = 0 ] || [ "$changes" -lt 64 ] || [ "$bursts" != " 8 8 1000 32 " ] || [ "$moments" != 0 ] ||
     [ "$("$program" audit < "$work/output")" != "clean,$told" ] || [ "$(wc -l < "$work/errors")" != 1 ]; then
-    echo "$script: a storm in bursts of 32: bursts $bursts, $moments at another moment, $early dropped early, $(cat "$work/errors")"
+    echo "$script: a storm in bursts of 32: bursts $bursts, $moments at another moment, $dropped dropped, $(cat "$work/errors")"
     failed=1
 fi
 # Twenty storms of eight senders with two thousand packets each, in bursts of 1 to 32: every history is audited clean.

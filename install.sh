@@ -49,6 +49,7 @@ library() {
     put 644 crates/pie_c/out/libpie_c.a lib/libpie_c.a
     put 644 include/pie.h include/pie.h
     put 644 include/pie_ring.h include/pie_ring.h
+    put 644 include/pie_flight.h include/pie_flight.h
     # shellcheck disable=SC2016
     printf '%s\n' "prefix=$prefix" 'libdir=${prefix}/lib' 'includedir=${prefix}/include' '' 'Name: pie_c' \
         'Description: PIE (RFC 8033) for a packet queue that its caller owns' "Version: $version" \

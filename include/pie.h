@@ -196,7 +196,48 @@ struct pie_event {
     uint32_t reserved; /* 0 */
 };
 
-#define PIE_RECORD_ROOM 256 /* bytes: more than the longest record of a history has */
+#define PIE_RECORD_ROOM 256  /* bytes: more than the longest record of a history has, but that which resumes */
+#define PIE_RESUME_ROOM 1280 /* bytes: more than that one has */
+
+/* What the event log of an opening does when it is full. */
+enum {
+    PIE_BOUNDED = 0, /* it takes no event more */
+    PIE_ROLLING = 1  /* its oldest event goes */
+};
+
+/* What a history was opened with, for the record that resumes: what pie_open_with took, and the numbers of pie_write_opening. */
+struct pie_opening {
+    struct pie_params params; /* the parameters of the opening */
+    uint64_t moment;          /* of the opening, at most 2^60 - 1 */
+    uint64_t profile;         /* 1 or 2 */
+    uint64_t choices;         /* the flags of the optional elements, at most 15 */
+    uint64_t mode;            /* PIE_BOUNDED or PIE_ROLLING */
+    uint64_t packets;         /* that the queue holds at most, 1 to 2^20 */
+    uint64_t tail;            /* events that the log holds, 1 to 2^20 */
+    uint64_t events;          /* that there may be in all, 1 to 2^47 */
+};
+
+/* The statistics of a history, in the order of its record `tallied`. */
+struct pie_stats {
+    uint64_t arrivals;      /* packets that arrived; by their verdicts: */
+    uint64_t enqueued;      /* PIE_ENQUEUE */
+    uint64_t marked;        /* PIE_MARK */
+    uint64_t early;         /* PIE_EARLY */
+    uint64_t over_bytes;    /* PIE_BYTES */
+    uint64_t over_packets;  /* PIE_PACKETS */
+    uint64_t left;          /* packets that departed */
+    uint64_t left_bytes;    /* their bytes */
+    uint64_t empty;         /* departures that found no packet */
+    uint64_t updates;       /* updates */
+    uint64_t resets;        /* resets */
+    uint64_t changes;       /* changes of the parameters */
+    uint64_t largest_queue; /* the most bytes that waited after an event */
+    uint64_t largest_delay; /* the greatest delay of an update, in ns */
+    uint64_t waited;        /* what the packets that departed had waited, summed, in ns: the low 64 bits */
+    uint64_t waited_high;   /* .. and the high 64 bits */
+};
+
+#define PIE_UNKNOWN UINT64_MAX /* the event that set the probability, where the writer does not know it */
 
 /* Fills in the default parameters: those of RFC 8033 where it has them. */
 void pie_default_params(struct pie_params *params);
@@ -295,6 +336,20 @@ size_t pie_write_opening(const struct pie_params *params, uint64_t moment, uint3
                          uint64_t tail, uint64_t events, unsigned char *out, size_t room);
 size_t pie_write_refused(uint64_t record, uint32_t code, unsigned char *out, size_t room);
 size_t pie_write_lost(uint64_t count, unsigned char *out, size_t room);
+
+/* Write the records with which a text begins that goes on from the middle of a history (docs/FORMATS.md, "A text that resumes"), as the calls
+ * above do: 0, and nothing is written, where there is too little room or the record cannot be.
+ *
+ *   pie_write_resume  what the history stood on after `count` events: the opening, the state, the statistics so far, and the `packets` packets
+ *                     of `bytes` bytes that wait. `set_by` is the number of the last event that set the probability, 0 for the
+ *                     opening, PIE_UNKNOWN where it is not known. PIE_RESUME_ROOM bytes are enough. It cannot be where the opening is none, the
+ *                     state is not sound or has not the opening's profile and choices, or there are more events, packets or
+ *                     bytes than the opening and a queue allow; the statistics are not looked at
+ *   pie_write_queued  a packet that waits, oldest first: its tag, size (1 to 65535), ECN field as it will depart (PIE_CE where it was marked), and
+ *                     state.moment as it was right after its arrival, at most 2^60 - 1 */
+size_t pie_write_resume(const struct pie_opening *opening, const struct pie_state *state, const struct pie_stats *stats, uint64_t count,
+                        uint64_t set_by, uint64_t packets, uint64_t bytes, unsigned char *out, size_t room);
+size_t pie_write_queued(uint64_t tag, uint32_t size, uint32_t ecn, uint64_t since, unsigned char *out, size_t room);
 
 /* Whether a state is sound, for one that comes from elsewhere: PIE_DONE where each field is in its range and the fields fit one
  * another, and else PIE_BAD_STATE. */

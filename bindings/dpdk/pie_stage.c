@@ -14,31 +14,45 @@
 #include <rte_prefetch.h>
 #include <rte_ring.h>
 #include <rte_ring_elem.h>
+#include <rte_ring_peek_zc.h>
 #include <rte_spinlock.h>
 
 #define BURST 32u    /* packets looked at before the lock is taken, and moved at once */
 #define SHIFT 50     /* of the factor of the clock */
 #define SMALLEST 64u /* bytes of an Ethernet frame */
 #define LEAST_EVENTS 16u
+#define AHEAD 12u /* events ahead whose slots are fetched */
 #define RECORDED_PACKETS (1u << 20) /* the most that a history's queue has room for */
 #define RECORDED_EVENTS (UINT64_C(1) << 47)
 #define TAIL 1024 /* events that the book which decides again keeps */
 
-/* A packet that waits. */
+/* A packet that waits, in 24 bytes of the ring. */
 struct waiting {
     struct rte_mbuf *mbuf;
-    uint64_t arrived; /* the controller's moment right after the packet's arrival */
-    uint64_t tag;     /* of the packet in the history */
-    uint32_t size;    /* as it arrived: another holder of the mbuf may change its length */
-    uint32_t ecn;     /* as it leaves, in the history */
+    uint64_t arrived;   /* the controller's moment right after the packet's arrival */
+    uint64_t size : 16; /* as it arrived: another holder of the mbuf may change its length */
+    uint64_t ecn : 2;   /* as it leaves, in the history */
+    uint64_t tag : 46;  /* of the packet in the history */
 };
+
+#define TAG_MASK ((UINT64_C(1) << 46) - 1)
 
 /* What was seen of a packet that arrives. */
 struct seen {
-    struct stage_packet packet;
+    struct stage_packet packet; /* its ECN field as the controller gets it: PIE_NOT_ECT of what cannot be marked */
     uint32_t size;
-    uint8_t ecn; /* as the controller gets it: PIE_NOT_ECT of what cannot be marked */
-    bool is_shared;
+};
+
+/* What was seen of those of a burst that cannot be marked. */
+struct unmarkable {
+    uint32_t no_ip, shared;
+};
+
+/* A turn at the lock. */
+struct turn {
+    uint64_t moment;  /* as it was handed in */
+    uint64_t reached; /* the controller's moment from here on: the greatest so far */
+    uint16_t caller;  /* of a recorded stage */
 };
 
 struct pie_stage {
@@ -53,7 +67,8 @@ struct pie_stage {
     unsigned char opening[PIE_RECORD_ROOM];
     size_t opening_size;
 
-    rte_spinlock_t lock __rte_cache_aligned; /* of all that follows; `due` and `packets` are read without it too */
+    rte_spinlock_t lock __rte_cache_aligned; /* of all that follows; `due`, `packets` and `picks` are read without it too */
+    bool picks;                              /* the probability is above 0 */
     uint64_t due;                            /* the moment from which an update is not too soon */
     uint32_t packets;                        /* in the ring */
     uint64_t bytes;                          /* in the ring */
@@ -157,139 +172,148 @@ void pie_stage_free(struct pie_stage *stage) {
 }
 
 /* Under the lock of a recorded stage, the event that the next call decides on. */
-static struct pie_event *event_at(struct pie_stage *stage, uint64_t moment) {
+static inline struct pie_event *event_at(struct pie_stage *stage, const struct turn *turn) {
     struct pie_event *event = pie_ring_slot(&stage->events);
-    event->moment = moment;
-    event->caller = (uint16_t)rte_lcore_id();
+    // (the slot of a later event: whoever writes the history had its line of memory last)
+    rte_prefetch0_write(&stage->slots[(stage->events.head + AHEAD) & stage->events.mask]);
+    event->moment = turn->moment;
+    event->caller = turn->caller;
     return event;
 }
 
 /* Under the lock, hands the events so far to who writes the history. */
-static void publish(struct pie_stage *stage) {
+static inline void publish(struct pie_stage *stage) {
     if (stage->slots != NULL)
         pie_ring_publish(&stage->events);
 }
 
-/* Under the lock, makes an update where one is due. */
-static bool update(struct pie_stage *stage, uint64_t moment) {
-    if (likely(moment < stage->due))
-        return false;
+/* Under the lock, makes an update that may be due. */
+static __rte_noinline bool update(struct pie_stage *stage, const struct turn *turn) {
     uint64_t due = stage->due, code;
     if (stage->slots == NULL)
-        code = pie_update(&stage->pie, stage->bytes, moment).code;
+        code = pie_update(&stage->pie, stage->bytes, turn->moment).code;
     else
-        code = pie_update_event(&stage->pie, stage->bytes, event_at(stage, moment));
+        code = pie_update_event(&stage->pie, stage->bytes, event_at(stage, turn));
     __atomic_store_n(&stage->due, pie_due(&stage->pie), __ATOMIC_RELAXED);
+    __atomic_store_n(&stage->picks, stage->pie.prob != 0, __ATOMIC_RELAXED);
     if (code != PIE_DONE)
         return false;
     stage->stats.updates++;
-    stage->stats.late += moment - due > stage->pie.params.t_update;
+    stage->stats.late += turn->moment - due > stage->pie.params.t_update;
     return true;
 }
 
-/* Under the lock, what comes before the packets of a call. */
-static void come(struct pie_stage *stage, uint64_t moment) {
-    stage->stats.earlier += moment < stage->pie.moment;
-    update(stage, moment);
+/* Under the lock, begins a turn with packets: an update first, where one is due. */
+static inline struct turn begin(struct pie_stage *stage, uint64_t moment) {
+    struct turn turn = {.moment = moment, .reached = RTE_MAX(stage->pie.moment, moment)};
+    if (stage->slots != NULL)
+        turn.caller = (uint16_t)rte_lcore_id();
+    stage->stats.earlier += moment < turn.reached;
+    if (unlikely(moment >= stage->due))
+        update(stage, &turn);
+    return turn;
 }
 
 bool pie_stage_update(struct pie_stage *stage, uint64_t now) {
-    uint64_t moment = moment_of(stage, now);
-    if (moment < __atomic_load_n(&stage->due, __ATOMIC_RELAXED))
+    struct turn turn = {.moment = moment_of(stage, now), .caller = (uint16_t)rte_lcore_id()};
+    if (turn.moment < __atomic_load_n(&stage->due, __ATOMIC_RELAXED))
         return false;
     rte_spinlock_lock(&stage->lock);
-    bool is_made = update(stage, moment);
+    bool is_made = turn.moment >= stage->due && update(stage, &turn);
     publish(stage);
     rte_spinlock_unlock(&stage->lock);
     return is_made;
 }
 
-/* Looks at packets that arrive, without the lock. */
-static void look(const struct pie_stage *stage, struct rte_mbuf **mbufs, uint32_t count, struct seen *seen) {
+/* Whether headers are looked at before the lock is taken. While the probability is 0 no packet is picked, so there is nothing to mark, and its
+ * header would be read for nothing; but a history has the ECN field of each packet. */
+static inline bool looks_early(const struct pie_stage *stage) {
+    return stage->ecn && (stage->slots != NULL || __atomic_load_n(&stage->picks, __ATOMIC_RELAXED));
+}
+
+static inline void look_at_sizes(struct rte_mbuf **mbufs, uint32_t count, struct seen *seen) {
+    for (uint32_t i = 0; i < count; i++)
+        seen[i] = (struct seen){.packet = {0, 0, PIE_NOT_ECT}, .size = rte_pktmbuf_pkt_len(mbufs[i])};
+}
+
+/* Looks at the headers of packets that arrive. */
+static __rte_noinline struct unmarkable look(struct rte_mbuf **mbufs, uint32_t count, struct seen *seen) {
+    struct unmarkable unmarkable = {0, 0};
+    for (uint32_t i = 0; i < count; i++)
+        rte_prefetch0(rte_pktmbuf_mtod(mbufs[i], const void *));
     for (uint32_t i = 0; i < count; i++) {
-        seen[i].size = rte_pktmbuf_pkt_len(mbufs[i]);
-        seen[i].ecn = PIE_NOT_ECT;
-        seen[i].is_shared = false;
-        if (stage->ecn)
-            rte_prefetch0(rte_pktmbuf_mtod(mbufs[i], const void *));
-    }
-    for (uint32_t i = 0; stage->ecn && i < count; i++) {
         struct stage_packet packet = stage_packet_look(mbufs[i]);
-        seen[i].packet = packet;
-        if (packet.ecn != PIE_NOT_ECT) {
-            bool is_shared = stage_packet_is_shared(mbufs[i], &packet);
-            seen[i].is_shared = is_shared;
-            seen[i].ecn = is_shared ? PIE_NOT_ECT : packet.ecn;
+        unmarkable.no_ip += packet.version == 0;
+        if (packet.ecn != PIE_NOT_ECT && unlikely(stage_packet_is_shared(mbufs[i], &packet))) {
+            unmarkable.shared++;
+            packet.ecn = PIE_NOT_ECT;
         }
+        seen[i] = (struct seen){.packet = packet, .size = rte_pktmbuf_pkt_len(mbufs[i])};
     }
+    return unmarkable;
 }
 
 /* Under the lock, the controller's answer to a packet. At the probability 0 the random word plays no part. */
-static uint32_t decide(struct pie_stage *stage, const struct seen *seen, uint64_t moment) {
+static __rte_always_inline uint32_t decide(struct pie_stage *stage, uint64_t bytes, const struct seen *seen, uint32_t room,
+                                           const struct turn *turn, const bool is_recorded) {
+    if (unlikely(seen->size < 1 || seen->size > PIE_MAX_SIZE))
+        return PIE_BAD_SIZE;
     uint64_t word = stage->pie.prob != 0 ? stage_word(&stage->words) : 0;
-    uint32_t room = stage->room - stage->packets;
-    stage->arrivals++;
-    if (stage->slots == NULL)
-        return pie_arrive(&stage->pie, stage->bytes, seen->size, room, seen->ecn, word, moment);
-    struct pie_event *event = event_at(stage, moment);
-    event->tag = stage->arrivals;
+    if (!is_recorded)
+        return pie_arrive(&stage->pie, bytes, seen->size, room, seen->packet.ecn, word, turn->moment);
+    struct pie_event *event = event_at(stage, turn);
+    event->tag = ++stage->arrivals & TAG_MASK;
     event->word = word;
     event->size = seen->size;
-    event->ecn = seen->ecn;
-    return pie_arrive_event(&stage->pie, stage->bytes, room, event);
+    event->ecn = seen->packet.ecn;
+    return pie_arrive_event(&stage->pie, bytes, room, event);
 }
 
-/* Under the lock, decides on a packet, counts what comes of it, marks it where that is decided, and says whether it is queued. `seen` has
- * then the ECN field that it leaves with. */
-static bool arrive(struct pie_stage *stage, struct rte_mbuf *mbuf, struct seen *seen, uint64_t moment) {
-    struct pie_stage_stats *stats = &stage->stats;
-    stats->no_ip += stage->ecn && seen->packet.version == 0;
-    stats->shared += seen->is_shared;
-    if (unlikely(seen->size < 1 || seen->size > PIE_MAX_SIZE)) {
-        stats->oversized++;
-        return false;
-    }
-    switch (decide(stage, seen, moment)) {
-    case PIE_MARK:
-        stats->marked++;
-        stage_packet_mark(mbuf, &seen->packet);
-        seen->ecn = PIE_CE;
-        return true;
-    case PIE_ENQUEUE:
-        return true;
-    case PIE_EARLY:
-        stats->early++;
-        return false;
-    case PIE_BYTES:
-        stats->bytes++;
-        return false;
-    case PIE_PACKETS:
-        stats->full++;
-        return false;
-    default:
-        stats->refused++;
-        return false;
-    }
+/* Under the lock, counts a packet that is dropped. */
+static __rte_noinline void count_drop(struct pie_stage_stats *stats, uint32_t verdict) {
+    stats->early += verdict == PIE_EARLY;
+    stats->bytes += verdict == PIE_BYTES;
+    stats->full += verdict == PIE_PACKETS;
+    stats->oversized += verdict == PIE_BAD_SIZE;
+    stats->refused += verdict > PIE_PACKETS && verdict != PIE_BAD_SIZE;
 }
 
 /* Under the lock, decides on up to BURST packets from the place `from` on. Those that are queued come to `mbufs + queued`; answers how many. */
-static uint32_t arrive_burst(struct pie_stage *stage, struct rte_mbuf **mbufs, uint32_t queued, uint32_t from, uint32_t count,
-                             struct seen *seen, uint64_t moment) {
-    struct waiting burst[BURST];
-    uint32_t taken = 0;
+static __rte_always_inline uint32_t arrive_burst(struct pie_stage *stage, struct rte_mbuf **mbufs, uint32_t queued, uint32_t from, uint32_t count,
+                                                 const struct seen *seen, const struct turn *turn, const bool is_recorded) {
+    struct rte_ring_zc_data places = {0};
+    uint32_t packets = stage->packets, room = stage->room - packets, taken = 0;
+    uint64_t bytes = stage->bytes;
+    rte_ring_enqueue_zc_burst_elem_start(stage->ring, sizeof(struct waiting), count, &places, NULL);
+    struct waiting *to = places.ptr1, *end = to + places.n1;
     for (uint32_t i = 0; i < count; i++) {
         struct rte_mbuf *mbuf = mbufs[from + i];
-        if (!arrive(stage, mbuf, &seen[i], moment))
+        uint32_t verdict = decide(stage, bytes, &seen[i], room - taken, turn, is_recorded);
+        if (unlikely(verdict > PIE_MARK)) {
+            count_drop(&stage->stats, verdict);
             continue;
-        burst[taken] = (struct waiting){.mbuf = mbuf, .arrived = stage->pie.moment, .tag = stage->arrivals, .size = seen[i].size, .ecn = seen[i].ecn};
-        mbufs[from + i] = mbufs[queued + taken];
-        mbufs[queued + taken++] = mbuf;
-        stage->bytes += seen[i].size;
-        __atomic_store_n(&stage->packets, stage->packets + 1, __ATOMIC_RELAXED);
+        }
+        if (unlikely(verdict == PIE_MARK)) {
+            stage->stats.marked++;
+            stage_packet_mark(mbuf, &seen[i].packet);
+        }
+        if (unlikely(to == end))
+            to = places.ptr2; // (the ring's first place again)
+        *to++ = (struct waiting){.mbuf = mbuf, .arrived = turn->reached, .size = seen[i].size,
+                                 .ecn = verdict == PIE_MARK ? PIE_CE : seen[i].packet.ecn, .tag = is_recorded ? stage->arrivals : 0};
+        if (unlikely(queued + taken != from + i)) {
+            mbufs[from + i] = mbufs[queued + taken];
+            mbufs[queued + taken] = mbuf;
+        }
+        bytes += seen[i].size;
+        taken++;
     }
-    rte_ring_enqueue_bulk_elem(stage->ring, burst, sizeof burst[0], taken, NULL);
+    rte_ring_enqueue_zc_elem_finish(stage->ring, taken);
+    stage->bytes = bytes;
+    packets += taken;
+    __atomic_store_n(&stage->packets, packets, __ATOMIC_RELAXED);
     stage->stats.queued += taken;
-    stage->stats.most = RTE_MAX(stage->stats.most, (uint64_t)stage->packets);
+    stage->stats.most = RTE_MAX(stage->stats.most, (uint64_t)packets);
     return taken;
 }
 
@@ -299,10 +323,23 @@ uint32_t pie_stage_enqueue(struct pie_stage *stage, struct rte_mbuf **mbufs, uin
     uint32_t queued = 0;
     for (uint32_t from = 0; from < count; from += BURST) {
         uint32_t part = RTE_MIN(count - from, BURST);
-        look(stage, mbufs + from, part, seen);
+        struct unmarkable unmarkable = {0, 0};
+        bool is_looked = looks_early(stage);
+        if (is_looked)
+            unmarkable = look(mbufs + from, part, seen);
+        else
+            look_at_sizes(mbufs + from, part, seen);
         rte_spinlock_lock(&stage->lock);
-        come(stage, moment);
-        queued += arrive_burst(stage, mbufs, queued, from, part, seen, moment);
+        struct turn turn = begin(stage, moment);
+        // (an update made the probability positive meanwhile: once in a while)
+        if (unlikely(stage->ecn && !is_looked && stage->pie.prob != 0))
+            unmarkable = look(mbufs + from, part, seen);
+        stage->stats.no_ip += unmarkable.no_ip;
+        stage->stats.shared += unmarkable.shared;
+        if (stage->slots == NULL)
+            queued += arrive_burst(stage, mbufs, queued, from, part, seen, &turn, false);
+        else
+            queued += arrive_burst(stage, mbufs, queued, from, part, seen, &turn, true);
         publish(stage);
         rte_spinlock_unlock(&stage->lock);
     }
@@ -312,47 +349,60 @@ uint32_t pie_stage_enqueue(struct pie_stage *stage, struct rte_mbuf **mbufs, uin
 }
 
 /* Under the lock, a packet leaves. */
-static void depart(struct pie_stage *stage, const struct waiting *oldest, uint64_t moment) {
-    struct pie_stage_stats *stats = &stage->stats;
-    stage->bytes -= oldest->size;
-    __atomic_store_n(&stage->packets, stage->packets - 1, __ATOMIC_RELAXED);
-    if (stage->slots == NULL) {
-        pie_depart_waited(&stage->pie, oldest->size, stage->bytes, oldest->arrived, moment);
-    } else {
-        struct pie_event *event = event_at(stage, moment);
-        event->tag = oldest->tag;
-        event->size = oldest->size;
-        event->ecn = (uint8_t)oldest->ecn;
-        pie_depart_event(&stage->pie, stage->bytes, oldest->arrived, event);
+static __rte_always_inline void depart(struct pie_stage *stage, const struct waiting *oldest, uint64_t left, const struct turn *turn,
+                                       const bool is_recorded) {
+    if (!is_recorded) {
+        pie_depart_waited(&stage->pie, oldest->size, left, oldest->arrived, turn->moment);
+        return;
     }
-    uint64_t waited = stage->pie.moment - oldest->arrived;
-    stats->departed++;
-    stats->departed_bytes += oldest->size;
+    struct pie_event *event = event_at(stage, turn);
+    event->tag = oldest->tag;
+    event->size = oldest->size;
+    event->ecn = oldest->ecn;
+    pie_depart_event(&stage->pie, left, oldest->arrived, event);
+}
+
+/* Under the lock, the `count` oldest packets leave, and no more than bring the sum of their sizes to `bytes`; answers how many. */
+static __rte_always_inline uint32_t depart_burst(struct pie_stage *stage, struct rte_mbuf **mbufs, uint32_t count, uint64_t bytes,
+                                                 const struct turn *turn, const bool is_recorded) {
+    struct rte_ring_zc_data places = {0};
+    struct pie_stage_stats *stats = &stage->stats;
+    uint64_t sent = 0, waited = 0, longest = stats->longest;
+    uint32_t found = rte_ring_dequeue_zc_burst_elem_start(stage->ring, sizeof(struct waiting), count, &places, NULL), taken = 0;
+    const struct waiting *oldest = places.ptr1, *end = oldest + places.n1;
+    while (taken < found && sent < bytes) {
+        if (unlikely(oldest == end))
+            oldest = places.ptr2; // (the ring's first place again)
+        rte_prefetch0(oldest->mbuf);
+        sent += oldest->size;
+        depart(stage, oldest, stage->bytes - sent, turn, is_recorded);
+        uint64_t wait = turn->reached - oldest->arrived;
+        longest = RTE_MAX(longest, wait);
+        waited += wait;
+        mbufs[taken++] = oldest->mbuf;
+        oldest++;
+    }
+    rte_ring_dequeue_zc_elem_finish(stage->ring, taken);
+    __atomic_store_n(&stage->packets, stage->packets - taken, __ATOMIC_RELAXED);
+    stage->bytes -= sent;
+    stats->longest = longest;
+    stats->departed += taken;
+    stats->departed_bytes += sent;
     stats->waited += waited;
-    stats->longest = RTE_MAX(stats->longest, waited);
+    return taken;
 }
 
 uint32_t pie_stage_dequeue_bytes(struct pie_stage *stage, struct rte_mbuf **mbufs, uint32_t count, uint64_t bytes, uint64_t now) {
-    struct waiting oldest[BURST];
-    uint64_t moment = moment_of(stage, now), sent = 0;
-    uint32_t taken = 0, found = 1;
+    uint64_t moment = moment_of(stage, now);
+    uint32_t taken;
     if (__atomic_load_n(&stage->packets, __ATOMIC_RELAXED) == 0)
         return 0;
     rte_spinlock_lock(&stage->lock);
-    come(stage, moment);
-    while (taken < count && sent < bytes && found != 0) {
-        // (no more are copied than are likely to go)
-        uint64_t most = RTE_MIN((uint64_t)RTE_MIN(count - taken, BURST), 1 + (bytes - sent) / SMALLEST);
-        found = rte_ring_dequeue_burst_elem_start(stage->ring, oldest, sizeof oldest[0], (uint32_t)most, NULL);
-        uint32_t gone = 0;
-        while (gone < found && sent < bytes) {
-            depart(stage, &oldest[gone], moment);
-            sent += oldest[gone].size;
-            mbufs[taken++] = oldest[gone++].mbuf;
-        }
-        if (found != 0)
-            rte_ring_dequeue_elem_finish(stage->ring, gone);
-    }
+    struct turn turn = begin(stage, moment);
+    if (stage->slots == NULL)
+        taken = depart_burst(stage, mbufs, count, bytes, &turn, false);
+    else
+        taken = depart_burst(stage, mbufs, count, bytes, &turn, true);
     publish(stage);
     rte_spinlock_unlock(&stage->lock);
     return taken;

@@ -69,8 +69,10 @@ struct pie_stage_stats {
     uint64_t full;           /* dropped since the queue has no room for another packet */
     uint64_t oversized;      /* dropped for a size outside 1 to 65535 bytes */
     uint64_t refused;        /* dropped since the controller refused the arrival: 0 in a sound program */
-    uint64_t no_ip;          /* packets without an IP header where the stage looks for it: they are never marked */
-    uint64_t shared;         /* packets that could be marked but for a header that others hold too (reference count above 1, a clone): never marked */
+    uint64_t no_ip;          /* packets without an IP header where the stage looked for it: they are never marked. It looks at headers while the
+                                probability is above 0, and of a recorded stage always */
+    uint64_t shared;         /* packets that could be marked but for a header that others hold too (reference count above 1, a clone): never marked;
+                                of those whose header it looked at */
     uint64_t departed;       /* packets handed to the sender */
     uint64_t departed_bytes; /* their bytes */
     uint64_t waited;         /* nanoseconds that they waited, all together */

@@ -5,7 +5,8 @@
  *   recorded, with its whole history in the file HISTORY. Status 1 where the stage's mean wait is not within 10 per cent of the target,
  *   15 ms, where the history is not whole, or an mbuf is lost.
  * usage: stage_measure [EAL options] --vdev=net_null0 --vdev=net_null1 -- rate [SECONDS [RUNS]]
- *   Packets a second from one null port to another in bursts of 32: forwarding alone, by rte_pie, by the stage without marks, by the stage, and by the stage recorded, in turn.
+ *   Packets a second from one null port to another in bursts of 32: forwarding alone, by rte_pie, by the stage without marks, by the stage, and by
+ *   the stage recorded, in turn.
  *   The last lcore writes the history, to /dev/null. Where one more is left it receives, enqueues, dequeues and sends; of several the main lcore
  *   dequeues and sends, and the others receive and enqueue. 512 packets wait all the time where one lcore does it all. Each line is `name
  *   value unit`, for bench/pie_dpdk.sh; with `lost`, the share of the recorded stage's events that its history lacks.

@@ -2,10 +2,10 @@
 
 #include "pie.h"
 
-#define ETHERNET 14 /* bytes of the header */
+#define ETHERNET STAGE_ETHERNET
 #define TAG 4
 #define TAGS 4
-#define IPV4 20 /* bytes of the header, without options */
+#define IPV4 STAGE_IPV4
 #define IPV6 40
 #define CHECKSUM 10 /* its place in an IPv4 header */
 #define LOOKED (ETHERNET + TAG * TAGS + IPV4)
@@ -18,8 +18,7 @@ static bool is_tag(uint16_t type) {
     return type == 0x8100 || type == 0x88a8 || type == 0x9100;
 }
 
-/* As stage_packet_look, for any frame. */
-static struct stage_packet look_anywhere(const struct rte_mbuf *mbuf) {
+struct stage_packet stage_packet_look_anywhere(const struct rte_mbuf *mbuf) {
     struct stage_packet packet = {0, 0, PIE_NOT_ECT};
     uint8_t copy[LOOKED];
     uint32_t size = rte_pktmbuf_pkt_len(mbuf), seen = RTE_MIN(size, (uint32_t)LOOKED), at = ETHERNET;
@@ -36,14 +35,6 @@ static struct stage_packet look_anywhere(const struct rte_mbuf *mbuf) {
     else if (type == 0x86dd && at + IPV6 <= size && bytes[at] >> 4 == 6)
         packet = (struct stage_packet){(uint16_t)at, 6, bytes[at + 1] >> 4 & 3};
     return packet;
-}
-
-struct stage_packet stage_packet_look(const struct rte_mbuf *mbuf) {
-    const uint8_t *bytes = rte_pktmbuf_mtod(mbuf, const uint8_t *);
-    // (the usual frame: IPv4 without tags and options)
-    if (likely(rte_pktmbuf_data_len(mbuf) >= ETHERNET + IPV4 && bytes[12] == 8 && bytes[13] == 0 && bytes[14] == 0x45))
-        return (struct stage_packet){ETHERNET, 4, bytes[15] & 3};
-    return look_anywhere(mbuf);
 }
 
 /* The segment that holds this byte of the frame, and where in its data. */
@@ -70,9 +61,7 @@ static bool is_held_by_others(const struct rte_mbuf *mbuf, uint32_t at) {
     return RTE_MBUF_HAS_EXTBUF(segment) && rte_mbuf_ext_refcnt_read(segment->shinfo) > 1;
 }
 
-bool stage_packet_is_shared(const struct rte_mbuf *mbuf, const struct stage_packet *packet) {
-    if (likely(mbuf->nb_segs == 1 && rte_mbuf_refcnt_read(mbuf) == 1 && RTE_MBUF_DIRECT(mbuf)))
-        return false;
+bool stage_packet_is_shared_anywhere(const struct rte_mbuf *mbuf, const struct stage_packet *packet) {
     uint32_t field = packet->header + 1u, checksum = packet->header + (uint32_t)CHECKSUM;
     return is_held_by_others(mbuf, field) ||
            (packet->version == 4 && (is_held_by_others(mbuf, checksum) || is_held_by_others(mbuf, checksum + 1)));

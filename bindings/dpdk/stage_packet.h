@@ -2,6 +2,7 @@
 #ifndef STAGE_PACKET_H
 #define STAGE_PACKET_H
 
+#include <rte_branch_prediction.h>
 #include <rte_mbuf.h>
 #include <stdbool.h>
 #include <stdint.h>
@@ -12,11 +13,28 @@ struct stage_packet {
     uint8_t ecn;     /* the field, PIE_NOT_ECT without a header */
 };
 
+#define STAGE_ETHERNET 14 /* bytes of the Ethernet header */
+#define STAGE_IPV4 20     /* bytes of an IPv4 header without options */
+
+/* stage_packet_look and stage_packet_is_shared of any frame, however it is cut. */
+struct stage_packet stage_packet_look_anywhere(const struct rte_mbuf *mbuf);
+bool stage_packet_is_shared_anywhere(const struct rte_mbuf *mbuf, const struct stage_packet *packet);
+
 /* Looks for the IP header of an Ethernet frame behind up to four VLAN tags, also where it lies across segments. */
-struct stage_packet stage_packet_look(const struct rte_mbuf *mbuf);
+static inline struct stage_packet stage_packet_look(const struct rte_mbuf *mbuf) {
+    const uint8_t *bytes = rte_pktmbuf_mtod(mbuf, const uint8_t *);
+    // (the usual frame: IPv4 without tags and options)
+    if (likely(rte_pktmbuf_data_len(mbuf) >= STAGE_ETHERNET + STAGE_IPV4 && bytes[12] == 8 && bytes[13] == 0 && bytes[14] == 0x45))
+        return (struct stage_packet){STAGE_ETHERNET, 4, bytes[15] & 3};
+    return stage_packet_look_anywhere(mbuf);
+}
 
 /* Whether others hold the bytes that a mark changes. */
-bool stage_packet_is_shared(const struct rte_mbuf *mbuf, const struct stage_packet *packet);
+static inline bool stage_packet_is_shared(const struct rte_mbuf *mbuf, const struct stage_packet *packet) {
+    if (likely(mbuf->nb_segs == 1 && rte_mbuf_refcnt_read(mbuf) == 1 && RTE_MBUF_DIRECT(mbuf)))
+        return false;
+    return stage_packet_is_shared_anywhere(mbuf, packet);
+}
 
 /* Sets the field to CE. Mends the checksum of IPv4, but where the card is asked to compute it (RTE_MBUF_F_TX_IP_CKSUM). */
 void stage_packet_mark(struct rte_mbuf *mbuf, const struct stage_packet *packet);

@@ -77,15 +77,18 @@ static inline bool stage_words_seed(struct stage_words *words) {
     return getrandom(words->key, sizeof words->key, 0) == sizeof words->key;
 }
 
+/* Makes the next words. (The order in which the stream's bits are handed out plays no part.) */
+__attribute__((noinline)) static void stage_words_fill(struct stage_words *words) {
+    stage_lanes blocks[16];
+    stage_blocks(blocks, words->key, words->counter, 0, STAGE_ROUNDS);
+    memcpy(words->words, blocks, sizeof words->words);
+    words->counter += 4;
+    words->left = STAGE_WORDS;
+}
+
 static inline uint64_t stage_word(struct stage_words *words) {
-    if (words->left == 0) {
-        // (the order in which the stream's bits are handed out plays no part)
-        stage_lanes blocks[16];
-        stage_blocks(blocks, words->key, words->counter, 0, STAGE_ROUNDS);
-        memcpy(words->words, blocks, sizeof words->words);
-        words->counter += 4;
-        words->left = STAGE_WORDS;
-    }
+    if (words->left == 0)
+        stage_words_fill(words);
     return words->words[--words->left];
 }
 

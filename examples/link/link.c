@@ -4,6 +4,7 @@
  *
  * Nothing here touches another device: what comes in by the one TUN device goes out by the other. */
 #define _GNU_SOURCE
+#include "flight_file.h"
 #include "history.h"
 #include "options.h"
 #include "packet.h"
@@ -47,16 +48,20 @@ struct bottleneck {
     uint64_t free_at;      /* the moment from which the link is free */
     uint64_t next_update;  /* the moment from which an update is not too soon */
     struct history history;
-    pthread_t writer;      /* of the history */
+    struct flight_file flight;
+    pthread_t writer;      /* of the history, and of the flight recorder's text */
     atomic_bool is_closed; /* whether the writer has to end */
     struct counts counts;
 };
 
 static volatile sig_atomic_t is_stopped;
+static atomic_bool is_asked; /* whether the flight recorder's text is to be written */
 
 static void stop(int number) {
-    (void)number;
-    is_stopped = 1;
+    if (number == SIGUSR1)
+        atomic_store(&is_asked, true);
+    else
+        is_stopped = 1;
 }
 
 static void die(const char *what) {
@@ -149,6 +154,7 @@ static void arrive(struct bottleneck *link, struct packet *packet, uint64_t now)
     uint32_t verdict = pie_arrive_event(&link->pie, link->queue.bytes, room, event);
     if (verdict > PIE_PACKETS)
         die_refused("pie_arrive_event", verdict);
+    keep_event(&link->flight, &link->pie, event);
     packet->arrived = link->pie.moment;
     link->counts.verdicts[verdict]++;
     if (verdict == PIE_MARK) {
@@ -206,6 +212,7 @@ static void serve(struct bottleneck *link, uint64_t now) {
         uint32_t code = pie_depart_event(&link->pie, link->queue.bytes, packet->arrived, event);
         if (code != PIE_DONE)
             die_refused("pie_depart_event", code);
+        keep_event(&link->flight, &link->pie, event);
         link->counts.departures++;
         link->free_at = start + time_on_link(link, packet->size);
         packet->moment = link->free_at;
@@ -218,6 +225,7 @@ static void update(struct bottleneck *link, uint64_t now) {
         return;
     struct pie_event *event = next_event(&link->history, TIMER, now);
     uint32_t code = pie_update_event(&link->pie, link->queue.bytes, event);
+    keep_event(&link->flight, &link->pie, event);
     if (code == PIE_DONE) {
         link->counts.updates++;
         link->counts.late += now - link->next_update > link->options->control.params.t_update;
@@ -258,13 +266,24 @@ static void step(struct bottleneck *link) {
     publish_events(&link->history);
 }
 
-/* The thread that writes the history. */
+/* Writes what the flight recorder holds, where somebody asked for it. */
+static void write_if_asked(const struct flight_file *flight) {
+    if (!atomic_exchange(&is_asked, false) || flight->name == NULL)
+        return;
+    int answer = write_flight(flight);
+    fprintf(stderr, "link: %s.history: %s\n", flight->name, flight_text(answer));
+}
+
+/* The thread that writes the history, and the flight recorder's text. */
 static void *write_history(void *argument) {
     struct bottleneck *link = argument;
     const struct timespec pause = {.tv_nsec = LOOK_TIME};
-    while (!atomic_load(&link->is_closed))
+    while (!atomic_load(&link->is_closed)) {
+        write_if_asked(&link->flight);
         if (!write_events(&link->history))
             nanosleep(&pause, NULL);
+    }
+    write_if_asked(&link->flight);
     return NULL;
 }
 
@@ -276,7 +295,9 @@ static void hold_signals(sigset_t *before) {
     sigemptyset(&held);
     sigaddset(&held, SIGINT);
     sigaddset(&held, SIGTERM);
-    if (sigaction(SIGINT, &action, NULL) != 0 || sigaction(SIGTERM, &action, NULL) != 0 || sigprocmask(SIG_BLOCK, &held, before) != 0)
+    sigaddset(&held, SIGUSR1);
+    if (sigaction(SIGINT, &action, NULL) != 0 || sigaction(SIGTERM, &action, NULL) != 0 || sigaction(SIGUSR1, &action, NULL) != 0 ||
+        sigprocmask(SIG_BLOCK, &held, before) != 0)
         die("signals");
 }
 
@@ -292,6 +313,8 @@ static void open_link(struct bottleneck *link, const struct options *options) {
         die_refused("pie_open_with", code);
     if (!open_history(&link->history, options->history, control, 0))
         die(options->history);
+    if (!open_flight(&link->flight, options->flight, control, 0, &link->pie))
+        die(options->flight);
     if (pthread_create(&link->writer, NULL, write_history, link) != 0)
         die("a thread for the history");
 }

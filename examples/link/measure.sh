@@ -79,6 +79,36 @@ counters() {
             value["Ip:InHdrErrors"] + value["Ip6InHdrErrors"] }'
 }
 
+# kill_in_the_middle FOLDER SECONDS FLOWS [OPTIONS OF THE LINK..]: the same with a flight recorder, but the link's recorder is asked for its text
+# after half of the time (folder/flight.history), and then the link is killed; folder/flight is what it left
+kill_in_the_middle() {
+    local folder=$1 seconds=$2 flows=$3 name link
+    shift 3
+    mkdir -p "$folder"
+    bound=$((seconds + 30))
+    for name in "${names[@]}"; do
+        ip netns add "$name" || return 1
+    done
+    (exec ip netns exec "${names[1]}" "$link_program" --from senders --to receivers --for "${bound}s" --flight "$folder/flight" "$@") \
+        > "$folder/link" 2>&1 &
+    link=$!
+    started+=("$link")
+    wait_for has_device "${names[1]}" senders && wait_for has_device "${names[1]}" receivers || return 1
+    set_up_end "${names[0]}" senders "$near" "$far" && set_up_end "${names[2]}" receivers "$far" "$near" || return 1
+    (within "${names[2]}" iperf3 --server --one-off) > "$folder/server" 2>&1 &
+    started+=($!)
+    wait_for is_listening "${names[2]}" || return 1
+    (within "${names[0]}" iperf3 --client "$far" --parallel "$flows" --time "$seconds" --congestion cubic) > "$folder/tcp" 2>&1 &
+    started+=($!)
+    sleep "$((seconds / 2))"
+    kill -USR1 "$link"
+    wait_for test -s "$folder/flight.history" || return 1
+    sleep 1
+    kill -KILL "$link"
+    wait "$link" 2> /dev/null
+    clean_up
+}
+
 # measure FOLDER SECONDS FLOWS [OPTIONS OF THE LINK..]: leaves history, tcp, ping and link (what each program said), and counters (what the
 # receivers' kernel counted) in FOLDER
 measure() {

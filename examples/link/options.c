@@ -13,6 +13,8 @@ static const char help_of_use[] =
 static const char help_of_link[] =
     "  --delay 20ms         delay of the way back: s, ms, us, ns\n"
     "  --history FILE       write every decision, for pie audit and pie explain\n"
+    "  --flight FILE        keep the last 100000 events at the least in this file, also if the program is killed: flight_text FILE\n"
+    "                       writes them as such a text, and SIGUSR1 has the link write them to FILE.history while it runs\n"
     "  --for 60s            end after this time\n"
     "\n"
     "Times, rates and sizes are read as tc reads them, but never rounded; a time and a rate have a unit, and a size without one is in\n"
@@ -36,6 +38,8 @@ static bool read_own(const char *name, const char *text, struct options *options
         options->to = text;
     else if (strcmp(name, "--history") == 0)
         options->history = text;
+    else if (strcmp(name, "--flight") == 0)
+        options->flight = text;
     else
         return false;
     *fault = *text != '\0' ? NULL : "not a value of this option";

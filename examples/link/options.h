@@ -9,6 +9,7 @@
 struct options {
     const char *from, *to;  /* the names of the two devices */
     const char *history;    /* the file for the history; NULL with none */
+    const char *flight;     /* the file of the flight recorder; NULL with none */
     uint64_t delay;         /* ns on the way back */
     uint64_t lasts;         /* ns until the program ends by itself */
     struct control control; /* the link and its queue */

@@ -4,10 +4,6 @@
 
 #include <string.h>
 
-/* What an opening says of the event log: this many events lie in it at a time, and so many are allowed. */
-#define LOG_EVENTS 1024
-#define MOST_EVENTS (UINT64_C(1) << 40)
-
 bool open_history(struct history *history, const char *name, const struct control *control, uint64_t moment) {
     unsigned char line[PIE_RECORD_ROOM];
     history->file = NULL;

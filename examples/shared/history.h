@@ -13,6 +13,10 @@ enum { SENDER = 1, LINK = 2, TIMER = 3 };
 
 #define HISTORY_SLOTS 65536 /* events that may wait for their text */
 
+/* What an opening says of the event log: this many events lie in it at a time, and so many are allowed. */
+#define LOG_EVENTS 1024
+#define MOST_EVENTS (UINT64_C(1) << 40)
+
 struct history {
     FILE *file;             /* NULL where none is written */
     struct pie_ring ring;

@@ -14,9 +14,10 @@ from fractions import Fraction
 from pathlib import Path
 
 # names in the source and what pie.h calls them
-TYPES = {"PieParams": "pie_params", "PieState": "pie_state", "PieUpdated": "pie_updated", "PieEvent": "pie_event", "usize": "size_t"}
+TYPES = {"PieParams": "pie_params", "PieState": "pie_state", "PieUpdated": "pie_updated", "PieEvent": "pie_event", "PieOpening": "pie_opening",
+         "PieStats": "pie_stats", "usize": "size_t"}
 RUST_TYPES = {"Params": "pie_params", "State": "pie_state", "RawUpdated": "pie_updated", "RawEvent": "pie_event", "usize": "size_t"}
-PARAMETERS = {("pie_arrive", "bits"): "ecn", ("pie_write_refused", "number"): "record"}
+PARAMETERS = {("pie_arrive", "bits"): "ecn", ("pie_write_refused", "number"): "record", ("pie_write_queued", "bits"): "ecn"}
 # a slice is a pointer and a length
 SLICES = {"&[u8]": ("&char", "length"), "&mut [u8]": ("&mut unsigned char", "room")}
 CODES = {"DONE": ["PIE_DONE", "PIE_ENQUEUE"], "OVER_BYTES": ["PIE_BYTES"], "OVER_PACKETS": ["PIE_PACKETS"]}
@@ -170,7 +171,7 @@ def compare_constants(header, source):
     if len(ecn) != 4:
         yield "crates/pie_c/src: no ECN fields were found"
     named |= {"PIE_EVENT_" + kind: int(number) for kind, number in re.findall(r"const ([A-Z]+): u8 = (\d+);", source.text)}
-    own = {"PIE_ALWAYS_ON": 1, "PIE_ON_AND_OFF": 2, "PIE_USUAL": 0}
+    own = {"PIE_ALWAYS_ON": 1, "PIE_ON_AND_OFF": 2, "PIE_USUAL": 0, "PIE_BOUNDED": 0, "PIE_ROLLING": 1}
     own |= {"PIE_DELAY_STAMP": 1, "PIE_PICK_RANDOM": 2, "PIE_STEP_UNCAPPED": 4, "PIE_SIZE_SCALED": 8}
     yield from same("include/pie.h: constants", header.constants, {**named, **ecn, **own})
 
@@ -313,7 +314,7 @@ def differences(root):
     source = Rust(read_source(root / "crates/pie_c/src", "*.rt"), TYPES, r'pub extern "C" ')
     rust_text = read_source(root / "bindings/rust/src", "*.rs")
     rust = Rust(rust_text, RUST_TYPES, r"(?<!pub )")
-    if len(source.functions) < 10 or len(source.structs) != 4:
+    if len(source.functions) < 10 or len(source.structs) != 6:
         yield "crates/pie_c/src: its functions and structs were not found"
     yield from compare_declarations("include/pie.h", header, source, True)
     yield from compare_declarations("bindings/rust", rust, source, False)

@@ -1,6 +1,7 @@
 #!/usr/bin/env bash
 # Real TCP through the link in user space (examples/link), some seconds by tail drop and some by PIE: both histories are clean, and by
-# PIE packets wait less in the mean. Before that the test of its packets: marks in IPv4 and IPv6 headers, and checksums. Where this
+# PIE packets wait less in the mean. Then the link is killed in the middle of a transfer: what its flight recorder wrote
+# when it was asked, and what its file holds, is decided again. Before that the test of its packets: marks in IPv4 and IPv6 headers, and checksums. Where this
 # machine lacks something that it takes, a line that begins with NOT RUN says so.
 # usage: tests/program/link.sh [PROGRAM]      PROGRAM: crates/pie/out/pie where none is given
 # needs: program, library, root, quiet
@@ -65,3 +66,14 @@ if ! awk -v tail="${means[0]}" -v pie="${means[1]}" 'BEGIN { exit !(pie < tail) 
     echo "$script: by PIE packets waited ${means[1]} ms in the mean, by tail drop ${means[0]} ms"
     exit 1
 fi
+
+# killed in the middle of a transfer: the text of what its flight recorder left is clean, and goes on behind that which it wrote when it was asked
+kill_in_the_middle "$work/killed" 4 4 --rate 10mbit --delay 20ms --limit 256kb --ecn || exit 1
+"$link/out/flight_text" "$work/killed/flight" > "$work/killed/text" || exit 1
+asked=$("$program" audit < "$work/killed/flight.history")
+left=$("$program" audit < "$work/killed/text")
+if [[ $asked != clean,* || $left != clean,* || ${asked#clean,} -lt 200 || ${left#clean,} -le ${asked#clean,} ]]; then
+    echo "$script: of a killed link: asked before, $asked; left behind, $left"
+    exit 1
+fi
+echo "$script: killed: the text that was asked for is clean ($asked), and what the killed link left too ($left)"

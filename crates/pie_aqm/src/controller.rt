@@ -83,7 +83,7 @@ impl Controller {
         ensures shows { (opened : Opened) (events : List ControllerEvent) → Shows opened events self.old
             → Shows opened (events ++ shown_by self.old (Arrive arrival moment) ∷ []) self.new }
     {
-        self.raw.arrive(arrival, moment.units())
+        self.raw.arrive_either_way(arrival, moment.units())
     }
 
     /// What it holds, as plain numbers.

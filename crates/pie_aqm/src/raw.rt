@@ -10,7 +10,7 @@ use crate::{Arrival, Cause, Controller, Fate, Profile, Verdict};
 use pie_control::{Control, MAX_DELAY, RawControl};
 use pie_early::{LOW_PROB, NEVER_PICKED, Offered, counted_as, decide};
 use pie_fixed::{ALWAYS_PICKED, Accu, Prob, chosen};
-use pie_params::{Delay, Elements, Params, Picking, RawParams};
+use pie_params::{Delay, Elements, Params, Picking, RawParams, Size};
 use pie_queue::Ecn;
 use pie_rate::{MAX_THRESHOLD, RawRate};
 
@@ -74,7 +74,75 @@ impl RawController {
         ensures fits { is_queued result ≡ true → (arrival.is_full ≡ false) × (arrival.queued + arrival.size ≤ self.old.params.limit_bytes) }
         ensures after { held_by self.new ≡ arrived (held_by self.old) arrival moment }
     {
-        let (verdict, accu) = self.judge(arrival);
+        self.arrive_by(self.elements, arrival, moment)
+    }
+
+    /// The same, where picking by the sum and sizes as they are have a way of their own, compiled with no choice in it, and all else is
+    /// a call.
+    #[inline(always)]
+    pub(crate) fn arrive_either_way(&mut self, arrival: Arrival, moment: u64) -> Verdict
+        requires { arrival.queued ≤ 2 ^ 30 }
+        ensures verdict { result ≡ verdict (held_by self.old) arrival }
+        ensures fits { is_queued result ≡ true → (arrival.is_full ≡ false) × (arrival.queued + arrival.size ≤ self.old.params.limit_bytes) }
+        ensures after { held_by self.new ≡ arrived (held_by self.old) arrival moment }
+    {
+        match (self.elements.picking, self.elements.size) {
+            (Picking::Derandomized, Size::Unscaled) => {
+                let elements = Elements {
+                    picking: Picking::Derandomized,
+                    size: Size::Unscaled,
+                    ..self.elements
+                };
+                self.arrive_by(elements, arrival, moment)
+            }
+            _ => self.arrive_apart(
+                arrival.queued,
+                arrival.is_full,
+                arrival.size,
+                arrival.ecn,
+                arrival.word,
+                moment,
+            ),
+        }
+    }
+
+    /// The same, as a function apart. It takes an arrival's fields, since an arrival that is handed over whole goes through memory.
+    #[inline(never)]
+    fn arrive_apart(
+        &mut self,
+        queued: u64,
+        is_full: bool,
+        size: u32,
+        ecn: Ecn,
+        word: u64,
+        moment: u64,
+    ) -> Verdict
+        requires { queued ≤ 2 ^ 30 }
+        ensures verdict { result ≡ verdict (held_by self.old) (record { queued = queued; is_full = is_full; size = size; ecn = ecn; word = word }) }
+        ensures fits { is_queued result ≡ true → (is_full ≡ false) × (queued + size ≤ self.old.params.limit_bytes) }
+        ensures after { held_by self.new
+            ≡ arrived (held_by self.old) (record { queued = queued; is_full = is_full; size = size; ecn = ecn; word = word }) moment }
+    {
+        let arrival = Arrival {
+            queued,
+            is_full,
+            size,
+            ecn,
+            word,
+        };
+        self.arrive(arrival, moment)
+    }
+
+    /// The same by these elements, which are its own.
+    #[inline(always)]
+    fn arrive_by(&mut self, elements: Elements, arrival: Arrival, moment: u64) -> Verdict
+        requires queued { arrival.queued ≤ 2 ^ 30 }
+        requires own { elements ≡ self.old.elements }
+        ensures verdict { result ≡ verdict (held_by self.old) arrival }
+        ensures fits { is_queued result ≡ true → (arrival.is_full ≡ false) × (arrival.queued + arrival.size ≤ self.old.params.limit_bytes) }
+        ensures after { held_by self.new ≡ arrived (held_by self.old) arrival moment }
+    {
+        let (verdict, accu) = self.judge(elements, arrival);
         self.accu = accu;
         self.pass(moment);
         if wakes(self.active, self.params.limit_bytes, verdict, arrival) {
@@ -88,8 +156,9 @@ impl RawController {
     /// else, and then early drop, while the controller is active (RFC 8033, sections 4.1, 5.1, 5.4 and Appendix A).
     #[inline(always)]
     #[tactic(auto, unfolding(crate::specs::Steps::verdict, crate::specs::Steps::accu_left))]
-    fn judge(&self, arrival: Arrival) -> (Verdict, u64)
-        requires { arrival.queued ≤ 2 ^ 30 }
+    fn judge(&self, elements: Elements, arrival: Arrival) -> (Verdict, u64)
+        requires queued { arrival.queued ≤ 2 ^ 30 }
+        requires own { elements ≡ self.now.elements }
         ensures verdict { result.0 ≡ verdict (held_by self.now) arrival }
         ensures accu { result.1 ≡ accu_left (held_by self.now) arrival }
         ensures fits { is_queued result.0 ≡ true → (arrival.is_full ≡ false) × (arrival.queued + arrival.size ≤ self.now.params.limit_bytes) }
@@ -105,7 +174,7 @@ impl RawController {
         }
         let decision = decide(
             &self.params,
-            self.elements,
+            elements,
             &self.control,
             arrival.offered(),
             self.accu,

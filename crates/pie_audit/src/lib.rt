@@ -18,4 +18,4 @@ pub mod text;
 pub use auditor::{Auditor, Finding};
 pub use law::{clean_is_legal, recorded_calls_are_clean, runs_are_clean};
 pub use migration::migration_keeps_the_finding;
-pub use text::{audit, write_finding};
+pub use text::{audit, audit_either, write_finding};

@@ -18,3 +18,4 @@ pub mod Ranges
 pub mod Step
 pub mod Beside
 pub mod Standing
+pub mod Excerpt

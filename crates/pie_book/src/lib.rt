@@ -15,12 +15,14 @@
 //!
 //! `Core::standing` and `Book::checkpoint_standing` tell the numbers that a core stands on, `Core::resume` begins a core of such numbers, which takes
 //! the packets that waited one by one, and `Book::resume` opens a book that goes on from a core. The core is that of the numbers (`core_of`), so it
-//! shows each history that they stand for. `packets_that_waited_are_taken` and `excerpts_are_legal_after_any_history` are the laws of it.
+//! shows each history that they stand for. `Book::excerpt` hands out the last events with the numbers and packets that they stand on (`Ends`), by
+//! copying alone. `packets_that_waited_are_taken` and `excerpts_are_legal_after_any_history` are the laws of it.
 #![tactic(auto)]
 
 pub mod beside;
 pub mod book;
 mod book_events;
+mod book_excerpt;
 mod book_folds;
 mod book_readers;
 mod book_standing;
@@ -30,6 +32,7 @@ mod core_commands;
 mod core_readers;
 mod core_steps;
 mod deciding_core;
+pub mod excerpt;
 pub mod law;
 pub mod opening;
 pub mod ranges;
@@ -47,11 +50,12 @@ pub use book::Book;
 pub use cause::{Cause, Fate};
 pub use command::{Answer, Command, Event};
 pub use deciding_core::Core;
+pub use excerpt::Excerpt;
 pub use law::{folds_change_no_answer, profile_one_is_always_active, registers_look_back};
 pub use opening::{Choices, Elements, Limits, Mode, Opening, Profile};
 pub use ranges::all_numbers_are_held;
 pub use recorded::Recorded;
-pub use refusal::{FoldRefusal, OpenRefusal, Refusal};
+pub use refusal::{FoldRefusal, OpenRefusal, Refusal, TooSmall};
 pub use registers::Registers;
 pub use resume_refusal::{EndRefusal, QueueRefusal, ResumeRefusal};
 pub use resuming::{Resuming, packets_that_waited_are_taken};

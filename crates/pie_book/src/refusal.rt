@@ -52,3 +52,8 @@ pub enum FoldRefusal {
     #[error("out of memory")]
     Memory,
 }
+
+/// The excerpt has less room than a book may need with its limits (this project's own). Nothing was copied.
+#[derive(Clone, Copy, Debug, PartialEq, Eq, Error)]
+#[error("the excerpt has too little room")]
+pub struct TooSmall;

@@ -3,3 +3,4 @@ pub mod State
 pub mod Calls
 pub mod Reading
 pub mod Events
+pub mod Resuming

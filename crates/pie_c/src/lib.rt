@@ -21,6 +21,7 @@ mod opening;
 mod params;
 mod reading;
 mod recording;
+mod resuming;
 mod state;
 mod updated;
 mod writing;

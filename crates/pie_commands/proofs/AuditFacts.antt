@@ -13,7 +13,7 @@ use Rattle.clap.specs.Words.{Text}
 use Rattle.pie_record.specs.Text.{records_of}
 use Rattle.pie_record.proofs.Laws.{Appends-both, Appends-nothing}
 use Rattle.pie_audit.specs.declared.auditor.Finding.{Finding}
-use Rattle.pie_audit.specs.Text.{text_finding}
+use Rattle.pie_audit.specs.Text.{FindsEither}
 use Rattle.pie_commands.specs.AuditEnds.{AuditsFiles, IsFound, Told, is_different, is_unfound, line_of, told_line}
 use Rattle.pie_files.specs.Files.{ReadsNamed}
 use Rattle.pie_files.proofs.FileFacts.{Stays, reads-given}
@@ -22,11 +22,11 @@ use Rattle.pie_files.proofs.FileFacts.{Stays, reads-given}
 pub found-given : {R : Type 0} (remaining : R → Option (List ℕ)) (first : R) (input : Option R) (files : Text → Option (List ℕ)) (name : Text)
     (told : Option Finding) → Stays first input
     → IfSome told (λ found. (known : Option (List ℕ)) × ReadsNamed remaining input files name known
-    × IfSome known (λ text. text_finding (records_of text) ≡ Ok found))
+    × IfSome known (λ text. FindsEither (records_of text) (Ok found)))
     → IsFound (remaining first) files (name, told)
 found-given remaining first input files name None stays finds = tt
 found-given remaining first input files name (Some found) stays finds =
-    subst (λ (known : Option (List ℕ)). IfSome known (λ text. text_finding (records_of text) ≡ Ok found))
+    subst (λ (known : Option (List ℕ)). IfSome known (λ text. FindsEither (records_of text) (Ok found)))
     (reads-given remaining first input files name finds.0 stays finds.1) finds.2
 
 or-false : (b : Bool) → (b || false) ≡ b

@@ -12,7 +12,7 @@ use Rattle.pie_trace.specs.Migrate.{history_events, history_fault, migrated_text
 use Rattle.pie_record.specs.Text.{records_of}
 use Rattle.pie_audit.specs.declared.auditor.Finding.{Finding}
 use Rattle.pie_audit.specs.declared.auditor.Finding.TheVariants as finding
-use Rattle.pie_audit.specs.Text.{finding_line, text_finding}
+use Rattle.pie_audit.specs.Text.{FindsEither, finding_line}
 use Rattle.pie_commands.specs.declared.end.End.TheVariants.{Done, Differs, Fault, Failed}
 use Rattle.pie_commands.specs.AuditEnds.{EndsAudits}
 use Rattle.pie_commands.specs.Ends.{EndsAudit, EndsMigrate, EndsRun, end_of, run_ends}
@@ -85,30 +85,30 @@ EndsMigrate-told (Some text) given before now ends faults writes =
 
 -- the finding's line was written
 pub EndsAudit-clean : (known : Option (List ℕ)) (events : ℕ) (before now : Option (List ℕ))
-    → IfSome known (λ text. text_finding (records_of text) ≡ Ok (finding.Clean events))
+    → IfSome known (λ text. FindsEither (records_of text) (Ok (finding.Clean events)))
     → Appends before now (finding_line (finding.Clean events)) → IfSome known (λ text. EndsAudit text Done before now)
 EndsAudit-clean None events before now found written = tt
 EndsAudit-clean (Some text) events before now found written = (events, found, written)
 
 pub EndsAudit-differs : (known : Option (List ℕ)) (event : ℕ) (before now : Option (List ℕ))
-    → IfSome known (λ text. text_finding (records_of text) ≡ Ok (finding.Differs event))
+    → IfSome known (λ text. FindsEither (records_of text) (Ok (finding.Differs event)))
     → Appends before now (finding_line (finding.Differs event)) → IfSome known (λ text. EndsAudit text Differs before now)
 EndsAudit-differs None event before now found written = tt
 EndsAudit-differs (Some text) event before now found written = (event, found, written)
 
 -- it could not be written
 pub EndsAudit-unwritten : (known : Option (List ℕ)) (told : Finding) (before now : Option (List ℕ))
-    → IfSome known (λ text. text_finding (records_of text) ≡ Ok told)
+    → IfSome known (λ text. FindsEither (records_of text) (Ok told))
     → IfSome known (λ text. EndsAudit text (Fault trace_fault.Write) before now)
 EndsAudit-unwritten None told before now found = tt
 EndsAudit-unwritten (Some text) told before now found = (λ told_so. cc, inr (told, found, refl))
 
 -- there is a fault
 pub EndsAudit-faulted : (known : Option (List ℕ)) (why : TraceFault) (before : Option (List ℕ))
-    → IfSome known (λ text. is_device why ≡ false → text_finding (records_of text) ≡ Err why)
+    → IfSome known (λ text. FindsEither (records_of text) (Err why))
     → IfSome known (λ text. EndsAudit text (Fault why) before before)
 EndsAudit-faulted None why before faults = tt
-EndsAudit-faulted (Some text) why before faults = (faults, inl refl)
+EndsAudit-faulted (Some text) why before faults = (λ told. faults, inl refl)
 
 -- ---- of files
 

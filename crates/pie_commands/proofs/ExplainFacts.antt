@@ -31,6 +31,7 @@ explained-so : (text : List ℕ) (status : ℕ) (before now : Option (List ℕ))
 explained-so text status before now (Ok explained) told is answers writes = inr (is ∙ ap answer_status (answers tt), writes tt)
 explained-so text status before now (Err (fault.Trace why)) told is answers writes = inl is
 explained-so text status before now (Err (fault.Differs event)) told is answers writes = inr (is ∙ ap answer_status (answers tt), writes tt)
+explained-so text status before now (Err (fault.Earlier event first)) told is answers writes = inl is
 explained-so text status before now (Err (fault.NoEvent event events)) told is answers writes = inl is
 explained-so text status before now (Err (fault.NoTag tag)) told is answers writes = inl is
 explained-so text status before now (Err fault.NoneWithin) told is answers writes = inl is

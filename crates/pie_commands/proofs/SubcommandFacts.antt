@@ -5,7 +5,7 @@ use Rattle.std.specs.Str.{bytes_eq}
 use Rattle.std.proofs.lemmas.List.Elements.{All-weaker}
 use Rattle.clap.specs.Words.{Row, Text}
 use Rattle.pie_record.specs.Text.{records_of}
-use Rattle.pie_audit.specs.Text.{text_finding}
+use Rattle.pie_audit.specs.Text.{FindsEither}
 use Rattle.pie_audit.specs.declared.auditor.Finding.{Finding}
 use Rattle.pie_commands.specs.declared.end.End.{End}
 use Rattle.pie_commands.specs.declared.end.End.TheVariants.{Failed}
@@ -59,7 +59,7 @@ found-kept : (input : Option (List ℕ)) (old new : Held) → Keeps old new → 
     → IsFound input old (name, found)
 found-kept input old new keeps name None is = tt
 found-kept input old new keeps name (Some found) is =
-    text-kept input old new (Some name) (λ text. text_finding (records_of text) ≡ Ok found) keeps is
+    text-kept input old new (Some name) (λ text. FindsEither (records_of text) (Ok found)) keeps is
 
 all-kept : (input : Option (List ℕ)) (old new : Held) → Keeps old new → (told : List Told) → All (IsFound input new) told → All (IsFound input old) told
 all-kept input old new keeps told all =

@@ -8,7 +8,7 @@ use Rattle.pie_record.specs.declared.fault.TraceFault.TheVariants as trace_fault
 use Rattle.pie_record.specs.Text.{records_of}
 use Rattle.pie_audit.specs.declared.auditor.Finding.{Finding}
 use Rattle.pie_audit.specs.declared.auditor.Finding.TheVariants as finding
-use Rattle.pie_audit.specs.Text.{text_finding}
+use Rattle.pie_audit.specs.Text.{FindsEither}
 use Rattle.pie_commands.specs.declared.end.End.{End}
 use Rattle.pie_commands.specs.declared.end.End.TheVariants.{Done, Differs, Fault, Failed}
 use Rattle.pie_commands.specs.Ends.{EndsAudit}
@@ -20,7 +20,7 @@ Told = Text × Option Finding
 
 -- such a finding is that of the file's text
 abbrev pub IsFound : Option (List ℕ) → (Text → Option (List ℕ)) → Told → Type 0
-IsFound input files told = IfSome told.1 (λ found. IfSome (text_given input files (Some told.0)) (λ text. text_finding (records_of text) ≡ Ok found))
+IsFound input files told = IfSome told.1 (λ found. IfSome (text_given input files (Some told.0)) (λ text. FindsEither (records_of text) (Ok found)))
 
 -- the line of a finding, behind the name of its file
 abbrev pub named_line : Text → Finding → List ℕ

@@ -11,7 +11,7 @@ use Rattle.pie_trace.specs.Migrate.{history_fault, migrated_text}
 use Rattle.pie_record.specs.Text.{records_of}
 use Rattle.pie_audit.specs.declared.auditor.Finding.{Finding}
 use Rattle.pie_audit.specs.declared.auditor.Finding.TheVariants as finding
-use Rattle.pie_audit.specs.Text.{finding_line, text_finding}
+use Rattle.pie_audit.specs.Text.{FindsEither, finding_line}
 use Rattle.pie_commands.specs.declared.end.End.{End}
 use Rattle.pie_commands.specs.declared.end.End.TheVariants.{Done, Differs, Fault, Failed}
 
@@ -57,18 +57,18 @@ counts_line end = codes "pie: " ++ (decimal end.events ++ (codes " events, " ++ 
 
 -- ---- `pie audit`
 
--- a history is found to be so, and the line of that is written; or it has a fault, and nothing is written. Or the reader or memory failed,
+-- a text is found to be so, and the line of that is written; or it has a fault, and nothing is written. Or the reader or memory failed,
 -- and nothing is written; or the line could not be written
-abbrev pub audit_ends : Result Finding TraceFault → End → Option (List ℕ) → Option (List ℕ) → Type 0
-audit_ends found Done before now = (events : ℕ) × (found ≡ Ok (finding.Clean events)) × Appends before now (finding_line (finding.Clean events))
-audit_ends found Differs before now = (event : ℕ) × (found ≡ Ok (finding.Differs event)) × Appends before now (finding_line (finding.Differs event))
-audit_ends found (Fault why) before now =
-    (is_device why ≡ false → found ≡ Err why) × ((now ≡ before) ⊎ ((told : Finding) × (found ≡ Ok told) × (why ≡ trace_fault.Write)))
-audit_ends found Failed before now = now ≡ before
+abbrev pub audit_ends : (Result Finding TraceFault → Type 0) → End → Option (List ℕ) → Option (List ℕ) → Type 0
+audit_ends finds Done before now = (events : ℕ) × finds (Ok (finding.Clean events)) × Appends before now (finding_line (finding.Clean events))
+audit_ends finds Differs before now = (event : ℕ) × finds (Ok (finding.Differs event)) × Appends before now (finding_line (finding.Differs event))
+audit_ends finds (Fault why) before now =
+    (is_device why ≡ false → finds (Err why)) × ((now ≡ before) ⊎ ((told : Finding) × finds (Ok told) × (why ≡ trace_fault.Write)))
+audit_ends finds Failed before now = now ≡ before
 
--- .. the history being this input
+-- .. the text being this input: a history, or one that goes on from the middle of a history
 abbrev pub EndsAudit : List ℕ → End → Option (List ℕ) → Option (List ℕ) → Type 0
-EndsAudit input = audit_ends (text_finding (records_of input))
+EndsAudit input = audit_ends (FindsEither (records_of input))
 
 -- ---- `pie migrate`
 

@@ -20,6 +20,7 @@ abbrev pub answer_status : Result ℕ ExplainFault → ℕ
 answer_status (Ok explained) = 0
 answer_status (Err (fault.Trace why)) = 1
 answer_status (Err (fault.Differs event)) = 2
+answer_status (Err (fault.Earlier event before)) = 1
 answer_status (Err (fault.NoEvent event events)) = 1
 answer_status (Err (fault.NoTag tag)) = 1
 answer_status (Err fault.NoneWithin) = 1

@@ -3,7 +3,7 @@ ghost use Rattle.std.specs.Prelude.{◌≡◌, ◌<◌, ◌⊎◌, ◌||◌, ℕ
 ghost use Rattle.std.specs.Io.KnownBytes.{Appends};
 ghost use Rattle.clap.specs.Words.{found_of, rows_of};
 ghost use Rattle.pie_record.specs.Text.{records_of};
-ghost use Rattle.pie_audit.specs.Text.{text_finding};
+ghost use Rattle.pie_audit.specs.Text.{FindsEither};
 ghost use Rattle.pie_commands.specs.AuditEnds.{EndsAudits, EndsFiles, is_different, is_unfound, line_of, named_line, worst};
 ghost use Rattle.pie_commands.specs.Ends.{EndsAudit};
 ghost use Rattle.pie_files.specs.Files.{ReadsNamed};
@@ -34,7 +34,7 @@ fn audit_input<H: Clock, R: Read + Drop, W: Write, E: Write>(
     ensures audits { IfSome (R.remaining input) (λ text. EndsAudit text result (W.contents output.old) (W.contents output.new)) }
 {
     let watched = Watched::new(input, &mut *errors, rt, is_shown);
-    let found = match pie_audit::audit(alloc, watched) {
+    let found = match pie_audit::audit_either(alloc, watched) {
         Ok(found) => found,
         Err(why) => return faulted(errors, why),
     };
@@ -56,10 +56,10 @@ fn finding_of<H: Clock, R: Read + Drop, E: Write>(
     name: &str,
     errors: &mut E,
 ) -> Option<Finding>
-    ensures { IfSome result (λ found. IfSome (R.remaining reader) (λ text. text_finding (records_of text) ≡ Ok found)) }
+    ensures { IfSome result (λ found. IfSome (R.remaining reader) (λ text. FindsEither (records_of text) (Ok found))) }
 {
     let watched = Watched::new(reader, &mut *errors, rt, is_shown);
-    match pie_audit::audit(alloc, watched) {
+    match pie_audit::audit_either(alloc, watched) {
         Ok(found) => Some(found),
         Err(why) => {
             named_fault(errors, name, why);
@@ -78,7 +78,7 @@ fn finding_named<H: NamedFiles + Clock, R: Read + Drop, E: Write>(
     errors: &mut E,
 ) -> Option<Finding>
     ensures finds { IfSome result (λ found. (known : Option (List ℕ)) × ReadsNamed R.remaining input.old (H.holds rt.now) name.now known
-        × IfSome known (λ text. text_finding (records_of text) ≡ Ok found)) }
+        × IfSome known (λ text. FindsEither (records_of text) (Ok found))) }
     ensures input { (input.new ≡ input.old) ⊎ (input.new ≡ None) }
 {
     match reader_named(rt, name, input, errors) {
@@ -109,7 +109,7 @@ fn audit_named<H: NamedFiles + Clock, R: Read + Drop, W: Write, E: Write>(
     errors: &mut E,
 ) -> io::Result<Option<Finding>>
     ensures finds { IfOk result (λ told. IfSome told (λ found. (known : Option (List ℕ))
-        × ReadsNamed R.remaining input.old (H.holds rt.now) name.now known × IfSome known (λ text. text_finding (records_of text) ≡ Ok found))) }
+        × ReadsNamed R.remaining input.old (H.holds rt.now) name.now known × IfSome known (λ text. FindsEither (records_of text) (Ok found)))) }
     ensures written { IfOk result (λ told. Appends (W.contents output.old) (W.contents output.new) (line_of name.now told)) }
     ensures input { (input.new ≡ input.old) ⊎ (input.new ≡ None) }
 {

@@ -217,6 +217,7 @@ fn fault_status(why: ExplainFault) -> u8
     match why {
         ExplainFault::Differs { .. } => DIFFERS,
         ExplainFault::Trace(_)
+        | ExplainFault::Earlier { .. }
         | ExplainFault::NoEvent { .. }
         | ExplainFault::NoTag { .. }
         | ExplainFault::NoneWithin => FAULT,

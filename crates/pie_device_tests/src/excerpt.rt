@@ -48,8 +48,9 @@ pub(crate) fn all(rt: &impl Print, alloc: Global) -> io::Result<()> {
         mode: opening.choices.mode,
         opened: opening.moment,
         limits: opening.limits,
+        params: opening.params.raw(),
         standing: core.standing(),
-        set_by: 0,
+        set_by: Some(0),
     };
     records_are_read_back();
     let Ok(page) = written(alloc, &resume, &core) else {

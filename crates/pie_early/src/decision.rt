@@ -82,7 +82,7 @@ fn is_considered(params: &RawParams, control: &RawControl, bytes: u64) -> bool
 {
     control.burst == 0
         && params.mean_pkt < half(bytes)
-        && !(control.old_delay < half(params.target) && control.prob < LOW_PROB)
+        && (control.old_delay >= half(params.target) || control.prob >= LOW_PROB)
 }
 
 /// Half of a number, rounded up: what is below it is below that number when doubled, and nothing here overflows.

@@ -1,6 +1,6 @@
 -- The records on worked examples: each theorem computes. The numbers stand in the order of the record's fields.
 use Rattle.std.proofs.Common.{◌≡◌, [], ◌∷◌, ◌++◌, refl}
-use Rattle.std.specs.Prelude.{Some, codes, true}
+use Rattle.std.specs.Prelude.{Some, None, codes, true}
 use Rattle.std.specs.Fmt.{digits}
 use Rattle.csv.specs.Writing.{fields_text, is_blank}
 use Rattle.pie_queue.specs.declared.ecn.Ecn.TheVariants.{Ect0}
@@ -19,6 +19,17 @@ worked = record {
   mode = Rolling;
   opened = 1;
   limits = record { packets = 2; tail = 3; events = 4 };
+  params = record {
+    target = 65;
+    t_update = 66;
+    max_burst = 67;
+    alpha = 68;
+    beta = 69;
+    mean_pkt = 70;
+    limit_bytes = 71;
+    mark_ecnth = 72;
+    dq_threshold = 73;
+  };
   standing = record {
     count = 14;
     controller = record {
@@ -62,14 +73,21 @@ worked = record {
       waited = 42;
     };
   };
-  set_by = 15;
+  set_by = Some 15;
 }
 
 resume-text : text_of (resume_row worked)
-    ≡ codes "resume,2,stamp,random,uncapped,scaled,rolling,1,2,3,4,5,6,7,8,9,10,11,12,13,14,15,16,17,18,19,20,21,22,23,24,1,25,26,27,1,"
+    ≡ codes "resume,2,stamp,random,uncapped,scaled,rolling,1,2,3,4,65,66,67,68,69,70,71,72,73,5,6,7,8,9,10,11,12,13,14,15,16,17,18,19,20,21,22,23,24,1,25,26,27,1,"
     ++ (codes "28,29,30,31,32,33,34,35,36,37,38,39,40,41,42" ++ (10 ∷ []))
 unfolding resume_row digits fields_text is_blank
 resume-text = refl
+
+-- .. and where the event that set the probability is not known
+unknown-text : text_of (resume_row (record worked { set_by = None }))
+    ≡ codes "resume,2,stamp,random,uncapped,scaled,rolling,1,2,3,4,65,66,67,68,69,70,71,72,73,5,6,7,8,9,10,11,12,13,14,,16,17,18,19,20,21,22,"
+    ++ (codes "23,24,1,25,26,27,1,28,29,30,31,32,33,34,35,36,37,38,39,40,41,42" ++ (10 ∷ []))
+unfolding resume_row digits fields_text is_blank
+unknown-text = refl
 
 queued-text : text_of (queued_row (record { packet = record { tag = 7; size = 1500; ecn = Ect0 }; since = 5000000 }))
     ≡ codes "queued,7,1500,ect0,5000000" ++ (10 ∷ [])

@@ -1,3 +1,5 @@
 pub mod RowFacts
 pub mod BackFacts
+pub mod WrittenFacts
 mod Examples
+pub mod BeginningFacts

@@ -1,15 +1,21 @@
 //! The records with which a text begins that goes on from the middle of a history: what a core stands on, and the packets that wait.
 //!
-//! What they mean is pie_book's (`Standing`, `Core::resume`); here they are written (`put_resume`, `put_queued`) and
-//! read (`read_resume`, `read_queued`).
+//! What they mean is pie_book's (`Standing`, `Core::resume`); here they are written (`put_resume`, `put_queued`, and a whole excerpt by
+//! `write_excerpt`) and read (`read_resume`, `read_queued`, and a whole beginning by `begin_resumed`).
 #![tactic(auto)]
 
+pub mod beginning;
 pub mod law;
+mod line;
 pub mod reading;
 pub mod resume;
 mod writing;
+mod written;
 
+pub use beginning::{Begun, begin_resumed, is_resume};
 pub use law::records_are_read_back;
+pub use line::Line;
 pub use reading::{read_queued, read_resume};
 pub use resume::Resume;
-pub use writing::{put_queued, put_resume};
+pub use writing::{make_resume, put_queued, put_resume};
+pub use written::write_excerpt;

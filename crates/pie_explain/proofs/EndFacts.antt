@@ -1,17 +1,17 @@
 -- How explaining a history ends, and what it has written.
-use Rattle.std.proofs.Common.{◌≡◌, ◌==◌, ℕ, List, ◌++◌, length, Bool, true, false, inl, inr, refl, sym, ap, ◌∙◌, subst, append_assoc}
-use Rattle.std.specs.Prelude.{Option, Some, None, Result, Ok, Err, IfSome, IfErr, OnOk, if◌then◌else◌}
+use Rattle.std.proofs.Common.{◌≡◌, ◌==◌, ℕ, List, [], ◌++◌, length, Bool, true, false, inl, inr, refl, sym, ap, ◌∙◌, subst, append_assoc}
+use Rattle.std.specs.Prelude.{Option, Some, None, Result, Ok, Err, IfSome, IfErr, OnOk, ◌&&◌, nat_le, nat_lt, if◌then◌else◌}
 use Rattle.std.specs.Io.KnownBytes.{Appends, append_known}
 use Rattle.pie_book.specs.declared.opening.Opening.{Opening}
 use Rattle.pie_record.specs.declared.fault.TraceFault.{TraceFault}
 use Rattle.pie_record.specs.declared.history_record.Line.{Line}
 use Rattle.pie_record.specs.Fault.{IsWrite, is_device, closed}
 use Rattle.pie_record.specs.HistoryLines.{Coming, coming_after, history_lines, history_opening, later_fault}
-use Rattle.pie_record.specs.Text.{Row, records_of}
+use Rattle.pie_record.specs.Text.{records_of}
 use Rattle.pie_audit.specs.declared.auditor.Finding.{Finding}
 use Rattle.pie_audit.specs.declared.auditor.Finding.TheVariants.{Clean, Differs}
 use Rattle.pie_audit.specs.Auditor.{Audits, AuditorView}
-use Rattle.pie_audit.specs.Text.{finding_after, judged, text_finding}
+use Rattle.pie_audit.specs.Text.{judged, text_finding}
 use Rattle.pie_record.specs.HistoryLines.{event_count}
 use Rattle.pie_audit.specs.Finding.{finding, finding_by, first_difference}
 use Rattle.pie_explain.specs.declared.explanation.Explained.{Explained}
@@ -21,12 +21,13 @@ use Rattle.pie_explain.specs.declared.fault.ExplainFault.TheVariants.{Trace}
 use Rattle.pie_explain.specs.declared.choice.Choice.{Choice}
 use Rattle.pie_explain.specs.declared.which.Which.{Which}
 use Rattle.pie_explain.specs.declared.which.Which.TheVariants.{Number, Tag, Lost, Marked, All}
-use Rattle.pie_explain.specs.Answer.{Follows, Heard, IsAsAudited, IsTold, answer, answer_after, answer_by, answered, none_picked}
+use Rattle.pie_explain.specs.declared.setter.Setter.{Setter}
+use Rattle.pie_explain.specs.Answer.{Follows, Heard, IsAsAudited, IsTold, Told, answer, answer_by, answer_since, answered, none_picked}
 use Rattle.pie_explain.specs.Choice.{is_whole}
-use Rattle.pie_explain.specs.Explanation.{explanations}
 use Rattle.pie_explain.specs.Output.{output}
 use Rattle.pie_explain.specs.Report.{Grows}
-use Rattle.pie_explain.proofs.ExplainFacts.{appends-nothing}
+use Rattle.pie_explain.specs.Start.{Start, TellsSetter, explanations_since, from_opening}
+use Rattle.pie_explain.proofs.LineFacts.{setter-none, since-opening}
 
 -- what waits on the page is ended, and written out
 appends-ended : (old mid now : Option (List ℕ)) (page ended text more : List ℕ) → Appends old (append_known mid page) text → ended ≡ page ++ more
@@ -46,23 +47,24 @@ appends-whole old mid now page ended tale whole h grows w =
     subst (λ (l : List ℕ). Appends old now l) (sym grows.turned) (appends-ended old mid now page ended tale grows.more h grows.grown w)
 
 -- how many were explained counts only where none differs
-answered-same : (opening : Opening) (choice : Choice) (lines : List Line) (auditor : AuditorView) (set_by : Option ℕ) (explained : ℕ)
-    → Follows opening choice lines auditor set_by explained
-    → answered choice explained (finding opening lines) ≡ answered choice (length (explanations opening choice lines)) (finding opening lines)
+answered-same : (start : Start) (opening : Opening) (choice : Choice) (lines : List Line) (auditor : AuditorView) (set_by : Setter)
+    (explained : ℕ) → Follows start opening choice lines auditor set_by explained
+    → answered choice start.events explained (finding opening lines)
+    ≡ answered choice start.events (length (explanations_since start opening choice lines)) (finding opening lines)
 unfolding finding
-answered-same opening choice lines auditor set_by explained follows = by (first_difference opening lines)
+answered-same start opening choice lines auditor set_by explained follows = by (first_difference opening lines)
     (λ none. follows.counted (follows.audits.differs ∙ none))
   where
-    by : (o : Option ℕ) → (o ≡ None → explained ≡ length (explanations opening choice lines))
-        → answered choice explained (finding_by o (event_count lines))
-        ≡ answered choice (length (explanations opening choice lines)) (finding_by o (event_count lines))
+    by : (o : Option ℕ) → (o ≡ None → explained ≡ length (explanations_since start opening choice lines))
+        → answered choice start.events explained (finding_by o (event_count lines))
+        ≡ answered choice start.events (length (explanations_since start opening choice lines)) (finding_by o (event_count lines))
     by (Some event) counted = refl
-    by None counted = ap (λ (n : ℕ). answered choice n (finding_by None (event_count lines))) (counted refl)
+    by None counted = ap (λ (n : ℕ). answered choice start.events n (finding_by None (event_count lines))) (counted refl)
 
--- the same choice and the same number give the same answer
-pub same-answered : (choice choice' : Choice) (explained explained' : ℕ) (found : Finding) → choice ≡ choice' → explained ≡ explained'
-    → answered choice explained found ≡ answered choice' explained' found
-same-answered choice choice' explained explained' found w x = λ i. answered (w i) (x i) found
+-- the same choice and the same numbers give the same answer
+pub same-answered : (choice choice' : Choice) (before before' explained explained' : ℕ) (found : Finding) → choice ≡ choice' → before ≡ before'
+    → explained ≡ explained' → answered choice before explained found ≡ answered choice' before' explained' found
+same-answered choice choice' before before' explained explained' found w b x = λ i. answered (w i) (b i) (x i) found
 
 -- ---- what failed first
 
@@ -98,181 +100,198 @@ closed-told (Err first) (Err last) why e told device = absurd (by (is_device fir
         let same : last ≡ why = cc in
         let wrong : is_device why ≡ true = subst (λ (f : TraceFault). is_device f ≡ true) same (is-device last device) in cc
 
--- ---- the whole text
+-- ---- what comes of a text
 
--- what a call of `explain` promises of a text, where neither the reader, the writer nor memory failed
-pub record Told (choice : Choice) (whole : List Explained → List ℕ) (text : List ℕ) (result : Result ℕ ExplainFault)
-    (old now : Option (List ℕ)) : Type 0 where
-  pub answers : result ≡ answer choice (records_of text)
-  pub writes : Appends old now (output whole choice (records_of text))
+-- all lines were read
+coming-heard : (start : Start) (opening : Opening) (choice : Choice) (tale whole : List Explained → List ℕ) (shows : List Explained → Type 0)
+    (first : List Line) (all : Coming) (auditor : AuditorView) (set_by : Setter) (explained : ℕ)
+    (outcome written : Result (Unit {0}) TraceFault) (result : Result ℕ ExplainFault) (old mid now : Option (List ℕ)) (page : List ℕ)
+    → Heard start opening choice tale shows first all outcome auditor set_by explained old (append_known mid page)
+    → ((shown : List Explained) → shows shown → OnOk written ((ended : List ℕ) × Grows (tale shown) (whole shown) page ended
+    × Appends mid now ended)) → closed outcome written ≡ Ok tt
+    → ((lines : List Line) → Audits opening auditor lines → result ≡ answered choice start.events explained (finding opening lines))
+    → Told start opening choice whole first all result old now
+coming-heard start opening choice tale whole shows first all auditor set_by explained outcome written result old mid now page heard wrote closed-is
+    ends =
+    let both = closed-ok outcome written closed-is in
+    let done : Heard start opening choice tale shows first all (Ok tt) auditor set_by explained old (append_known mid page) =
+    rw both.0 at heard in
+    let lines : List Line = first ++ all.lines in
+    let shown = explanations_since start opening choice lines in
+    let last : (ended : List ℕ) × Grows (tale shown) (whole shown) page ended × Appends mid now ended = rw both.1 at (wrote shown done.0.shown) in
+    record {
+      answers = rw done.1 (ends lines done.0.follows.audits
+          ∙ answered-same start opening choice lines auditor set_by explained done.0.follows);
+      writes = appends-whole old mid now page last.0 (tale shown) (whole shown) done.0.written last.1 last.2;
+    }
+
+-- a fault was met
+coming-fault : (start : Start) (opening : Opening) (choice : Choice) (tale whole : List Explained → List ℕ) (shows : List Explained → Type 0)
+    (first : List Line) (all : Coming) (auditor : AuditorView) (set_by : Setter) (explained : ℕ)
+    (outcome written : Result (Unit {0}) TraceFault) (why : TraceFault) (old mid now : Option (List ℕ)) (page : List ℕ)
+    → Heard start opening choice tale shows first all outcome auditor set_by explained old (append_known mid page)
+    → ((shown : List Explained) → shows shown → OnOk written ((ended : List ℕ) × Grows (tale shown) (whole shown) page ended
+    × Appends mid now ended)) → IfErr written IsWrite → closed outcome written ≡ Err why → is_device why ≡ false
+    → Told start opening choice whole first all (Err (Trace why)) old now
+coming-fault start opening choice tale whole shows first all auditor set_by explained outcome written why old mid now page heard wrote device
+    closed-is told =
+    let both = closed-told outcome written why closed-is told device in
+    let met : Heard start opening choice tale shows first all (Err why) auditor set_by explained old (append_known mid page) =
+    rw both.0 at heard in
+    let shown = explanations_since start opening choice (first ++ all.lines) in
+    let so = met told in
+    let last : (ended : List ℕ) × Grows (tale shown) (whole shown) page ended × Appends mid now ended = rw both.1 at (wrote shown so.1) in
+    record {
+      answers = rw so.0 refl;
+      writes = appends-whole old mid now page last.0 (tale shown) (whole shown) so.2 last.1 last.2;
+    }
+
+-- ---- as its audit
+
+-- an answer by the finding says what the audit says
+none-audited : (audited : Result Finding TraceFault) (whole : Bool) (which : Which) (before events : ℕ) → audited ≡ Ok (Clean events)
+    → IsAsAudited audited (none_picked whole which before events)
+none-audited audited true (Number event) before events is = by (nat_lt 0 event && nat_le event before)
+  where
+    by : (b : Bool) → IsAsAudited audited (Err (if b then fault.Earlier event before else fault.NoEvent event events))
+    by true = (events, is)
+    by false = is
+none-audited audited true (Tag tag) before events is = (events, is)
+none-audited audited true Lost before events is = (events, is)
+none-audited audited true Marked before events is = (events, is)
+none-audited audited true All before events is = (events, is)
+none-audited audited false (Number event) before events is = (events, is)
+none-audited audited false (Tag tag) before events is = (events, is)
+none-audited audited false Lost before events is = (events, is)
+none-audited audited false Marked before events is = (events, is)
+none-audited audited false All before events is = (events, is)
+
+as-audited : (audited : Result Finding TraceFault) (choice : Choice) (before explained : ℕ) (found : Finding) → audited ≡ Ok found
+    → IsAsAudited audited (answered choice before explained found)
+as-audited audited choice before explained (Differs event) is = is
+as-audited audited choice before explained (Clean events) is = by (explained == 0)
+  where
+    by : (none : Bool) → IsAsAudited audited (if none then none_picked (is_whole choice) choice.which before events else Ok explained)
+    by true = none-audited audited (is_whole choice) choice.which before events is
+    by false = (events, is)
+
+since-audited : (start : Start) (opening : Opening) (choice : Choice) (lines : List Line) (fault : Option TraceFault)
+    → IsAsAudited (judged opening lines fault) (answer_since start choice opening lines fault)
+since-audited start opening choice lines (Some why) = λ _. refl
+since-audited start opening choice lines None = as-audited (Ok (finding opening lines)) choice start.events
+    (length (explanations_since start opening choice lines)) (finding opening lines) refl
+
+-- what was told says what the audit says
+told-audited : (start : Start) (opening : Opening) (choice : Choice) (whole : List Explained → List ℕ) (first : List Line) (all : Coming)
+    (result : Result ℕ ExplainFault) (old now : Option (List ℕ))
+    → (IsTold result → Told start opening choice whole first all result old now)
+    → IsAsAudited (judged opening (first ++ all.lines) all.fault) result
+told-audited start opening choice whole first all result old now p = by result (λ told. (p told).answers)
+  where
+    same : (given : Result ℕ ExplainFault) → given ≡ answer_since start choice opening (first ++ all.lines) all.fault
+        → IsAsAudited (judged opening (first ++ all.lines) all.fault) given
+    same given is = subst (λ (r : Result ℕ ExplainFault). IsAsAudited (judged opening (first ++ all.lines) all.fault) r) (sym is)
+        (since-audited start opening choice (first ++ all.lines) all.fault)
+
+    by : (given : Result ℕ ExplainFault) → (IsTold given → given ≡ answer_since start choice opening (first ++ all.lines) all.fault)
+        → IsAsAudited (judged opening (first ++ all.lines) all.fault) given
+    by (Ok explained) is = same (Ok explained) (is tt)
+    by (Err (Trace why)) is = λ told. (same (Err (Trace why)) (is told)) told
+    by (Err (fault.Differs event)) is = same (Err (fault.Differs event)) (is tt)
+    by (Err (fault.Earlier event before)) is = same (Err (fault.Earlier event before)) (is tt)
+    by (Err (fault.NoEvent event events)) is = same (Err (fault.NoEvent event events)) (is tt)
+    by (Err (fault.NoTag tag)) is = same (Err (fault.NoTag tag)) (is tt)
+    by (Err fault.NoneWithin) is = same (Err fault.NoneWithin) (is tt)
+
+-- ---- where what comes is known
+
+-- what is promised of the lines that come, if they are known
+abbrev pub Promises : Start → Opening → Choice → (List Explained → List ℕ) → List Line → Option Coming → Result ℕ ExplainFault → Option (List ℕ)
+    → Option (List ℕ) → Type 0
+Promises start opening choice whole first coming result old now =
+    IfSome coming (λ all. IsTold result → Told start opening choice whole first all result old now)
+
+pub promises-audited : (start : Start) (opening : Opening) (choice : Choice) (whole : List Explained → List ℕ) (first : List Line)
+    (coming : Option Coming) (result : Result ℕ ExplainFault) (old now : Option (List ℕ))
+    → Promises start opening choice whole first coming result old now
+    → IfSome coming (λ all. IsAsAudited (judged opening (first ++ all.lines) all.fault) result)
+promises-audited start opening choice whole first None result old now p = tt
+promises-audited start opening choice whole first (Some all) result old now p =
+    told-audited start opening choice whole first all result old now p
+
+pub heard-promises : (start : Start) (opening : Opening) (choice : Choice) (tale whole : List Explained → List ℕ)
+    (shows : List Explained → Type 0) (first : List Line) (coming : Option Coming) (auditor : AuditorView) (set_by : Setter) (explained : ℕ)
+    (outcome written : Result (Unit {0}) TraceFault) (result : Result ℕ ExplainFault) (old mid now : Option (List ℕ)) (page : List ℕ)
+    → IfSome coming (λ all. Heard start opening choice tale shows first all outcome auditor set_by explained old (append_known mid page))
+    → ((shown : List Explained) → shows shown → OnOk written ((ended : List ℕ) × Grows (tale shown) (whole shown) page ended
+    × Appends mid now ended)) → closed outcome written ≡ Ok tt
+    → ((lines : List Line) → Audits opening auditor lines → result ≡ answered choice start.events explained (finding opening lines))
+    → Promises start opening choice whole first coming result old now
+heard-promises start opening choice tale whole shows first None auditor set_by explained outcome written result old mid now page heard wrote
+    closed-is ends = tt
+heard-promises start opening choice tale whole shows first (Some all) auditor set_by explained outcome written result old mid now page heard wrote
+    closed-is ends = λ told.
+    coming-heard start opening choice tale whole shows first all auditor set_by explained outcome written result old mid now page heard wrote
+    closed-is ends
+
+pub fault-promises : (start : Start) (opening : Opening) (choice : Choice) (tale whole : List Explained → List ℕ)
+    (shows : List Explained → Type 0) (first : List Line) (coming : Option Coming) (auditor : AuditorView) (set_by : Setter) (explained : ℕ)
+    (outcome written : Result (Unit {0}) TraceFault) (why : TraceFault) (old mid now : Option (List ℕ)) (page : List ℕ)
+    → IfSome coming (λ all. Heard start opening choice tale shows first all outcome auditor set_by explained old (append_known mid page))
+    → ((shown : List Explained) → shows shown → OnOk written ((ended : List ℕ) × Grows (tale shown) (whole shown) page ended
+    × Appends mid now ended)) → IfErr written IsWrite → closed outcome written ≡ Err why
+    → Promises start opening choice whole first coming (Err (Trace why)) old now
+fault-promises start opening choice tale whole shows first None auditor set_by explained outcome written why old mid now page heard wrote device
+    closed-is = tt
+fault-promises start opening choice tale whole shows first (Some all) auditor set_by explained outcome written why old mid now page heard wrote
+    device closed-is = λ told.
+    coming-fault start opening choice tale whole shows first all auditor set_by explained outcome written why old mid now page heard wrote device
+    closed-is told
+
+-- ---- of a text that opens
 
 -- how a text was opened
 abbrev pub Opens : Opening → Option Coming → List ℕ → Type 0
 Opens opening coming text = (history_opening (records_of text) ≡ Ok opening) × (coming ≡ Some (coming_after 4294967296 (records_of text)))
 
--- all lines were read
-text-heard : (opening : Opening) (choice : Choice) (tale whole : List Explained → List ℕ) (shows : List Explained → Type 0) (text : List ℕ)
-    (coming : Option Coming) (auditor : AuditorView) (set_by : Option ℕ) (explained : ℕ) (outcome written : Result (Unit {0}) TraceFault)
-    (result : Result ℕ ExplainFault) (old mid now : Option (List ℕ)) (page : List ℕ) → Opens opening coming text
-    → IfSome coming (λ all. Heard opening choice tale shows all outcome auditor set_by explained old (append_known mid page))
-    → ((shown : List Explained) → shows shown → OnOk written ((ended : List ℕ) × Grows (tale shown) (whole shown) page ended
-    × Appends mid now ended)) → closed outcome written ≡ Ok tt
-    → ((lines : List Line) → Audits opening auditor lines → result ≡ answered choice explained (finding opening lines))
-    → Told choice whole text result old now
-text-heard opening choice tale whole shows text coming auditor set_by explained outcome written result old mid now page opens heard wrote closed-is
-    ends =
-    let all : Coming = coming_after 4294967296 (records_of text) in
-    let both = closed-ok outcome written closed-is in
-    let done : Heard opening choice tale shows all (Ok tt) auditor set_by explained old (append_known mid page) = rw (opens.1, both.0) at heard in
-    let shown = explanations opening choice all.lines in
-    let last : (ended : List ℕ) × Grows (tale shown) (whole shown) page ended × Appends mid now ended = rw both.1 at (wrote shown done.0.shown) in
-    record {
-      answers = rw (opens.0, done.1) (ends all.lines done.0.follows.audits
-          ∙ answered-same opening choice all.lines auditor set_by explained done.0.follows);
-      writes = rw opens.0 (appends-whole old mid now page last.0 (tale shown) (whole shown) done.0.written last.1 last.2);
-    }
+-- of a text that opens, each event is one of the text
+answer-opening : (opening : Opening) (choice : Choice) (lines : List Line) (fault : Option TraceFault)
+    → answer_since from_opening choice opening lines fault ≡ answer_by choice opening lines fault
+answer-opening opening choice lines (Some why) = refl
+answer-opening opening choice lines None = rw (since-opening opening choice lines) refl
 
--- a fault was met
-text-fault : (opening : Opening) (choice : Choice) (tale whole : List Explained → List ℕ) (shows : List Explained → Type 0) (text : List ℕ)
-    (coming : Option Coming) (auditor : AuditorView) (set_by : Option ℕ) (explained : ℕ) (outcome written : Result (Unit {0}) TraceFault)
-    (why : TraceFault) (old mid now : Option (List ℕ)) (page : List ℕ) → Opens opening coming text
-    → IfSome coming (λ all. Heard opening choice tale shows all outcome auditor set_by explained old (append_known mid page))
-    → ((shown : List Explained) → shows shown → OnOk written ((ended : List ℕ) × Grows (tale shown) (whole shown) page ended
-    × Appends mid now ended)) → IfErr written IsWrite → closed outcome written ≡ Err why → is_device why ≡ false
-    → Told choice whole text (Err (Trace why)) old now
-text-fault opening choice tale whole shows text coming auditor set_by explained outcome written why old mid now page opens heard wrote device
-    closed-is told =
-    let all : Coming = coming_after 4294967296 (records_of text) in
-    let both = closed-told outcome written why closed-is told device in
-    let met : Heard opening choice tale shows all (Err why) auditor set_by explained old (append_known mid page) = rw (opens.1, both.0) at heard in
-    let shown = explanations opening choice all.lines in
-    let so = met told in
-    let last : (ended : List ℕ) × Grows (tale shown) (whole shown) page ended × Appends mid now ended = rw both.1 at (wrote shown so.1) in
-    record {
-      answers = rw (opens.0, so.0) refl;
-      writes = rw opens.0 (appends-whole old mid now page last.0 (tale shown) (whole shown) so.2 last.1 last.2);
-    }
+-- before it nothing set the probability
+pub tells-opening : (opening : Opening) → TellsSetter (Some 0) opening []
+tells-opening opening = rw (setter-none opening) refl
 
--- a text whose opening has a fault
-text-unopened : (choice : Choice) (whole : List Explained → List ℕ) (text : List ℕ) (why : TraceFault) (old : Option (List ℕ))
-    → history_opening (records_of text) ≡ Err why → Told choice whole text (Err (Trace why)) old old
-text-unopened choice whole text why old is = record { answers = rw is refl; writes = rw is (appends-nothing old) }
-
--- ---- as its audit
-
--- an answer by the finding says what the audit says
-none-audited : (audited : Result Finding TraceFault) (whole : Bool) (which : Which) (events : ℕ) → audited ≡ Ok (Clean events)
-    → IsAsAudited audited (none_picked whole which events)
-none-audited audited true (Number event) events is = is
-none-audited audited true (Tag tag) events is = (events, is)
-none-audited audited true Lost events is = (events, is)
-none-audited audited true Marked events is = (events, is)
-none-audited audited true All events is = (events, is)
-none-audited audited false (Number event) events is = (events, is)
-none-audited audited false (Tag tag) events is = (events, is)
-none-audited audited false Lost events is = (events, is)
-none-audited audited false Marked events is = (events, is)
-none-audited audited false All events is = (events, is)
-
-as-audited : (audited : Result Finding TraceFault) (choice : Choice) (explained : ℕ) (found : Finding) → audited ≡ Ok found
-    → IsAsAudited audited (answered choice explained found)
-as-audited audited choice explained (Differs event) is = is
-as-audited audited choice explained (Clean events) is = by (explained == 0)
-  where
-    by : (none : Bool) → IsAsAudited audited (if none then none_picked (is_whole choice) choice.which events else Ok explained)
-    by true = none-audited audited (is_whole choice) choice.which events is
-    by false = (events, is)
-
-answer-audited : (choice : Choice) (rows : List Row) → IsAsAudited (text_finding rows) (answer choice rows)
-answer-audited choice rows = by (history_opening rows)
-  where
-    found : (opening : Opening) (fault : Option TraceFault)
-        → IsAsAudited (judged opening (history_lines 4294967296 rows) fault) (answer_by choice opening (history_lines 4294967296 rows) fault)
-    found opening (Some why) = λ _. refl
-    found opening None = as-audited (Ok (finding opening (history_lines 4294967296 rows))) choice
-        (length (explanations opening choice (history_lines 4294967296 rows))) (finding opening (history_lines 4294967296 rows)) refl
-
-    by : (opened : Result Opening TraceFault) → IsAsAudited (finding_after opened rows) (answer_after choice rows opened)
-    by (Err why) = λ _. refl
-    by (Ok opening) = found opening (later_fault 4294967296 rows)
-
-audited-as : (choice : Choice) (rows : List Row) (result : Result ℕ ExplainFault) → result ≡ answer choice rows
-    → IsAsAudited (text_finding rows) result
-audited-as choice rows result is = subst (λ (r : Result ℕ ExplainFault). IsAsAudited (text_finding rows) r) (sym is) (answer-audited choice rows)
-
-told-audited : (choice : Choice) (whole : List Explained → List ℕ) (text : List ℕ) (result : Result ℕ ExplainFault) (old now : Option (List ℕ))
-    → (IsTold result → Told choice whole text result old now)
-    → IsAsAudited (text_finding (records_of text)) result
-told-audited choice whole text (Ok explained) old now p = audited-as choice (records_of text) (Ok explained) (p tt).answers
-told-audited choice whole text (Err (Trace why)) old now p = λ told. (audited-as choice (records_of text) (Err (Trace why)) (p told).answers) told
-told-audited choice whole text (Err (fault.Differs event)) old now p = audited-as choice (records_of text) (Err (fault.Differs event)) (p tt).answers
-told-audited choice whole text (Err (fault.NoEvent event events)) old now p = audited-as choice (records_of text) (Err (fault.NoEvent event events))
-    (p tt).answers
-told-audited choice whole text (Err (fault.NoTag tag)) old now p = audited-as choice (records_of text) (Err (fault.NoTag tag)) (p tt).answers
-told-audited choice whole text (Err fault.NoneWithin) old now p = audited-as choice (records_of text) (Err fault.NoneWithin) (p tt).answers
-
--- ---- where the text is known
-
--- what is promised of a text, if it is known
-abbrev pub Promises : Choice → (List Explained → List ℕ) → Option (List ℕ) → Result ℕ ExplainFault → Option (List ℕ) → Option (List ℕ) → Type 0
-Promises choice whole known result old now = IfSome known (λ text. IsTold result → Told choice whole text result old now)
-
-pub promises-answers : (choice : Choice) (whole : List Explained → List ℕ) (known : Option (List ℕ)) (result : Result ℕ ExplainFault)
-    (old now : Option (List ℕ)) → Promises choice whole known result old now
+-- what a call of `explain` promises of a text that opens: that of the lines that come
+pub opened-answers : (opening : Opening) (choice : Choice) (whole : List Explained → List ℕ) (known : Option (List ℕ)) (coming : Option Coming)
+    (result : Result ℕ ExplainFault) (old now : Option (List ℕ))
+    → IfSome known (λ text. Opens opening coming text) → Promises from_opening opening choice whole [] coming result old now
     → IfSome known (λ text. IsTold result → result ≡ answer choice (records_of text))
-promises-answers choice whole None result old now p = tt
-promises-answers choice whole (Some text) result old now p = λ told. (p told).answers
+opened-answers opening choice whole None coming result old now opens p = tt
+opened-answers opening choice whole (Some text) coming result old now opens p = λ told.
+    let promised : Promises from_opening opening choice whole [] (Some (coming_after 4294967296 (records_of text))) result old now =
+    rw opens.1 at p in
+    rw opens.0 ((promised told).answers
+    ∙ answer-opening opening choice (history_lines 4294967296 (records_of text)) (later_fault 4294967296 (records_of text)))
 
-pub promises-writes : (choice : Choice) (whole : List Explained → List ℕ) (known : Option (List ℕ)) (result : Result ℕ ExplainFault)
-    (old now : Option (List ℕ)) → Promises choice whole known result old now
+pub opened-writes : (opening : Opening) (choice : Choice) (whole : List Explained → List ℕ) (known : Option (List ℕ)) (coming : Option Coming)
+    (result : Result ℕ ExplainFault) (old now : Option (List ℕ))
+    → IfSome known (λ text. Opens opening coming text) → Promises from_opening opening choice whole [] coming result old now
     → IfSome known (λ text. IsTold result → Appends old now (output whole choice (records_of text)))
-promises-writes choice whole None result old now p = tt
-promises-writes choice whole (Some text) result old now p = λ told. (p told).writes
+opened-writes opening choice whole None coming result old now opens p = tt
+opened-writes opening choice whole (Some text) coming result old now opens p = λ told.
+    let promised : Promises from_opening opening choice whole [] (Some (coming_after 4294967296 (records_of text))) result old now =
+    rw opens.1 at p in
+    let lines : List Line = history_lines 4294967296 (records_of text) in
+    rw opens.0 (subst (λ (all : List Explained). Appends old now (whole all)) (since-opening opening choice lines) (promised told).writes)
 
-pub promises-audited : (choice : Choice) (whole : List Explained → List ℕ) (known : Option (List ℕ)) (result : Result ℕ ExplainFault)
-    (old now : Option (List ℕ)) → Promises choice whole known result old now
+pub opened-audited : (opening : Opening) (known : Option (List ℕ)) (coming : Option Coming) (result : Result ℕ ExplainFault)
+    → IfSome known (λ text. Opens opening coming text) → IfSome coming (λ all. IsAsAudited (judged opening all.lines all.fault) result)
     → IfSome known (λ text. IsAsAudited (text_finding (records_of text)) result)
-promises-audited choice whole None result old now p = tt
-promises-audited choice whole (Some text) result old now p = told-audited choice whole text result old now p
-
-pub heard-promises : (opening : Opening) (choice : Choice) (tale whole : List Explained → List ℕ) (shows : List Explained → Type 0)
-    (known : Option (List ℕ)) (coming : Option Coming) (auditor : AuditorView) (set_by : Option ℕ) (explained : ℕ)
-    (outcome written : Result (Unit {0}) TraceFault)
-    (result : Result ℕ ExplainFault) (old mid now : Option (List ℕ)) (page : List ℕ) → IfSome known (λ text. Opens opening coming text)
-    → IfSome coming (λ all. Heard opening choice tale shows all outcome auditor set_by explained old (append_known mid page))
-    → ((shown : List Explained) → shows shown → OnOk written ((ended : List ℕ) × Grows (tale shown) (whole shown) page ended
-    × Appends mid now ended)) → closed outcome written ≡ Ok tt
-    → ((lines : List Line) → Audits opening auditor lines → result ≡ answered choice explained (finding opening lines))
-    → Promises choice whole known result old now
-heard-promises opening choice tale whole shows None coming auditor set_by explained outcome written result old mid now page opens heard wrote
-    closed-is ends = tt
-heard-promises opening choice tale whole shows (Some text) coming auditor set_by explained outcome written result old mid now page opens heard wrote
-    closed-is ends = λ told.
-    text-heard opening choice tale whole shows text coming auditor set_by explained outcome written result old mid now page opens heard wrote
-    closed-is ends
-
-pub fault-promises : (opening : Opening) (choice : Choice) (tale whole : List Explained → List ℕ) (shows : List Explained → Type 0)
-    (known : Option (List ℕ)) (coming : Option Coming) (auditor : AuditorView) (set_by : Option ℕ) (explained : ℕ)
-    (outcome written : Result (Unit {0}) TraceFault)
-    (why : TraceFault) (old mid now : Option (List ℕ)) (page : List ℕ) → IfSome known (λ text. Opens opening coming text)
-    → IfSome coming (λ all. Heard opening choice tale shows all outcome auditor set_by explained old (append_known mid page))
-    → ((shown : List Explained) → shows shown → OnOk written ((ended : List ℕ) × Grows (tale shown) (whole shown) page ended
-    × Appends mid now ended)) → IfErr written IsWrite → closed outcome written ≡ Err why
-    → Promises choice whole known (Err (Trace why)) old now
-fault-promises opening choice tale whole shows None coming auditor set_by explained outcome written why old mid now page opens heard wrote device
-    closed-is = tt
-fault-promises opening choice tale whole shows (Some text) coming auditor set_by explained outcome written why old mid now page opens heard wrote
-    device closed-is = λ told.
-    text-fault opening choice tale whole shows text coming auditor set_by explained outcome written why old mid now page opens heard wrote device
-    closed-is told
-
-pub unopened-promises : (choice : Choice) (whole : List Explained → List ℕ) (known : Option (List ℕ)) (why : TraceFault) (old : Option (List ℕ))
-    → IfSome known (λ text. is_device why ≡ false → history_opening (records_of text) ≡ Err why)
-    → Promises choice whole known (Err (Trace why)) old old
-unopened-promises choice whole None why old faults = tt
-unopened-promises choice whole (Some text) why old faults = λ told. text-unopened choice whole text why old (faults told)
-
-pub device-promises : (choice : Choice) (whole : List Explained → List ℕ) (known : Option (List ℕ)) (why : TraceFault) (old now : Option (List ℕ))
-    → is_device why ≡ true → Promises choice whole known (Err (Trace why)) old now
-device-promises choice whole None why old now is = tt
-device-promises choice whole (Some text) why old now is = λ told. cc
+opened-audited opening None coming result opens p = tt
+opened-audited opening (Some text) coming result opens p =
+    let all : Coming = coming_after 4294967296 (records_of text) in
+    let said : IsAsAudited (judged opening all.lines all.fault) result = rw opens.1 at p in
+    rw opens.0 said

@@ -1,5 +1,5 @@
 -- The parts of an explanation make it.
-use Rattle.std.proofs.Common.{◌≡◌, ℕ, List, refl, ◌∙◌}
+use Rattle.std.proofs.Common.{◌≡◌, ℕ, List, ap, length, refl, ◌∙◌}
 use Rattle.std.specs.Prelude.{Option, max}
 use Rattle.pie_book.specs.declared.opening.Opening.{Opening}
 use Rattle.pie_aqm.specs.declared.cause.Cause.{Cause}
@@ -12,10 +12,11 @@ use Rattle.pie_book.specs.History.{effective_moment, waiting_after}
 use Rattle.pie_book.specs.Registers.{registers_after}
 use Rattle.pie_book.specs.Statistics.{count_of, stats_after, wait_of}
 use Rattle.pie_explain.specs.declared.explanation.Explanation.{Explanation}
+use Rattle.pie_explain.specs.declared.setter.Setter.{Setter}
 use Rattle.pie_explain.specs.Explanation.{explanation, moment_of}
 
 -- an explanation of these parts
-abbrev pub the_explanation : ℕ → Event → ℕ → Registers → ℕ → Option Cause → ℕ → Option ℕ → ℕ → Explanation
+abbrev pub the_explanation : ℕ → Event → ℕ → Registers → ℕ → Option Cause → ℕ → Setter → ℕ → Explanation
 the_explanation number event now before delay cause waited set_by updates = record {
   number = number;
   event = event;
@@ -40,13 +41,19 @@ pub active-registers : (opening : Opening) (history : List Event) → (registers
 unfolding registers_after
 active-registers opening history = refl
 
+-- how many events there were, from the registers
+pub counted-registers : (opening : Opening) (history : List Event) (shown : Registers) → shown ≡ registers_after opening history
+    → shown.count ≡ length history
+unfolding registers_after
+counted-registers opening history shown is = ap (λ (r : Registers). r.count) is
+
 -- the effective moment, from the registers
 pub moment-is : (opening : Opening) (history : List Event) (event : Event) (before : Registers) (now : ℕ) → before ≡ registers_after opening history
     → now ≡ max before.moment (handed_in event.command) → now ≡ moment_of opening history event
 moment-is opening history event before now before-is now-is = now-is ∙ rw (before-is, moment-registers opening history) refl
 
 -- the parts of an explanation make it
-pub explanation-is : (opening : Opening) (history : List Event) (number : ℕ) (event : Event) (set_by : Option ℕ) (now : ℕ) (before : Registers)
+pub explanation-is : (opening : Opening) (history : List Event) (number : ℕ) (event : Event) (set_by : Setter) (now : ℕ) (before : Registers)
     (delay : ℕ) (cause : Option Cause) (waited updates : ℕ)
     → before ≡ registers_after opening history → delay ≡ delay_after opening history → cause ≡ cause_after opening history event.command
     → now ≡ moment_of opening history event → waited ≡ wait_of (deed_of event) now (waiting_after opening history)

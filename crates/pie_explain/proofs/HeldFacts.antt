@@ -1,7 +1,7 @@
 -- The text of numbers that stay as they are is kept where others change.
-use Rattle.std.proofs.Common.{◌≡◌, ◌+◌, ◌-◌, ◌<◌, ◌≤◌, ◌^◌, ◌∙◌, ℕ, List, [], ◌++◌, ap, arith, drop, length, length-append, sym}
+use Rattle.std.proofs.Common.{◌≡◌, ◌+◌, ◌-◌, ◌≤◌, ◌∙◌, ℕ, List, [], ◌++◌, ap, arith, drop, length, length-append, sym}
 use Rattle.std.proofs.lemmas.List.{drop_at}
-use Rattle.pie_explain.specs.Record.{onto, steady_fields}
+use Rattle.pie_explain.specs.Record.{onto}
 use Rattle.pie_explain.proofs.RecordFacts.{onto-append}
 
 -- the end of a text, after these fields

@@ -1,3 +1,4 @@
+mod Examples
 pub mod EndFacts
 pub mod ExplainFacts
 pub mod ExplanationFacts

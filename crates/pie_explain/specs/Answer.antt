@@ -1,5 +1,7 @@
 -- How explaining a history ends: as its audit would, or with nothing to explain.
-use Rattle.std.specs.Prelude.{ℕ, ◌≡◌, ◌^◌, ◌==◌, ◌≤◌, List, ◌++◌, length, Bool, true, false, Option, Some, None, Result, Ok, Err, ⊤, if◌then◌else◌}
+use Rattle.std.specs.Prelude.{ℕ, ◌≡◌, ◌^◌, ◌==◌, ◌≤◌, nat_lt, nat_le, ◌&&◌, List, ◌++◌}
+use Rattle.std.specs.Prelude.{length, Bool, true, false, Option, Some, None, Result, Ok, Err, ⊤}
+use Rattle.std.specs.Prelude.{if◌then◌else◌}
 use Rattle.std.specs.Io.KnownBytes.{Appends}
 use Rattle.pie_book.specs.declared.opening.Opening.{Opening}
 use Rattle.pie_record.specs.declared.fault.TraceFault.{TraceFault}
@@ -15,32 +17,44 @@ use Rattle.pie_record.specs.HistoryLines.{event_count}
 use Rattle.pie_audit.specs.Finding.{finding as finding_of}
 use Rattle.pie_explain.specs.declared.explanation.Explained.{Explained}
 use Rattle.pie_explain.specs.declared.fault.ExplainFault.{ExplainFault}
-use Rattle.pie_explain.specs.declared.fault.ExplainFault.TheVariants.{Trace, Differs, NoEvent, NoTag, NoneWithin}
+use Rattle.pie_explain.specs.declared.fault.ExplainFault.TheVariants.{Trace, Differs, Earlier, NoEvent, NoTag, NoneWithin}
+use Rattle.pie_explain.specs.declared.setter.Setter.{Setter}
 use Rattle.pie_explain.specs.declared.choice.Choice.{Choice}
 use Rattle.pie_explain.specs.declared.which.Which.{Which}
 use Rattle.pie_explain.specs.declared.which.Which.TheVariants.{Number, Tag, Lost, Marked, All}
 use Rattle.pie_explain.specs.Choice.{is_whole}
-use Rattle.pie_explain.specs.Explanation.{explanations, setter_after}
+use Rattle.pie_explain.specs.Explanation.{explanations, setter_after, setter_by}
+use Rattle.pie_explain.specs.Start.{Start, explanations_since, setter_told}
 
--- the answer where nothing was explained of a history of so many events, of which every moment was asked for or not
-abbrev pub none_picked : Bool → Which → ℕ → Result ℕ ExplainFault
-none_picked true (Number event) events = Err (NoEvent event events)
-none_picked true (Tag tag) events = Err (NoTag tag)
-none_picked false (Number event) events = Err NoneWithin
-none_picked false (Tag tag) events = Err NoneWithin
-none_picked whole Lost events = Ok 0
-none_picked whole Marked events = Ok 0
-none_picked whole All events = Ok 0
+-- why an event is not explained that is none of those of a text: so many were before it, and so many are up to its end
+abbrev pub no_event : ℕ → ℕ → ℕ → ExplainFault
+no_event before event events = if nat_lt 0 event && nat_le event before then Earlier event before else NoEvent event events
 
--- the answer where this many events were explained, and the audit of the history finds this
-abbrev pub answered : Choice → ℕ → Finding → Result ℕ ExplainFault
-answered choice explained (finding.Differs event) = Err (Differs event)
-answered choice explained (Clean events) = if explained == 0 then none_picked (is_whole choice) choice.which events else Ok explained
+-- the answer where nothing was explained of the events after the first so many, up to this one, of which every moment was asked for or not
+abbrev pub none_picked : Bool → Which → ℕ → ℕ → Result ℕ ExplainFault
+none_picked true (Number event) before events = Err (no_event before event events)
+none_picked true (Tag tag) before events = Err (NoTag tag)
+none_picked false (Number event) before events = Err NoneWithin
+none_picked false (Tag tag) before events = Err NoneWithin
+none_picked whole Lost before events = Ok 0
+none_picked whole Marked before events = Ok 0
+none_picked whole All before events = Ok 0
+
+-- the answer where so many events were before a text, this many of its own were explained, and the audit of the history finds this
+abbrev pub answered : Choice → ℕ → ℕ → Finding → Result ℕ ExplainFault
+answered choice before explained (finding.Differs event) = Err (Differs event)
+answered choice before explained (Clean events) = if explained == 0 then none_picked (is_whole choice) choice.which before events else Ok explained
 
 -- the answer to a history of these lines, and the fault after them
 abbrev pub answer_by : Choice → Opening → List Line → Option TraceFault → Result ℕ ExplainFault
 answer_by choice opening lines (Some why) = Err (Trace why)
-answer_by choice opening lines None = answered choice (length (explanations opening choice lines)) (finding_of opening lines)
+answer_by choice opening lines None = answered choice 0 (length (explanations opening choice lines)) (finding_of opening lines)
+
+-- .. of which a text has those after its beginning
+abbrev pub answer_since : Start → Choice → Opening → List Line → Option TraceFault → Result ℕ ExplainFault
+answer_since start choice opening lines (Some why) = Err (Trace why)
+answer_since start choice opening lines None =
+    answered choice start.events (length (explanations_since start opening choice lines)) (finding_of opening lines)
 
 abbrev pub answer_after : Choice → List Row → Result Opening TraceFault → Result ℕ ExplainFault
 answer_after choice rows (Err why) = Err (Trace why)
@@ -55,6 +69,7 @@ abbrev pub IsTold : Result ℕ ExplainFault → Type 0
 IsTold (Ok explained) = ⊤
 IsTold (Err (Trace why)) = is_device why ≡ false
 IsTold (Err (Differs event)) = ⊤
+IsTold (Err (Earlier event before)) = ⊤
 IsTold (Err (NoEvent event events)) = ⊤
 IsTold (Err (NoTag tag)) = ⊤
 IsTold (Err NoneWithin) = ⊤
@@ -64,41 +79,54 @@ abbrev pub IsAsAudited : Result Finding TraceFault → Result ℕ ExplainFault �
 IsAsAudited audited (Ok explained) = (events : ℕ) × (audited ≡ Ok (Clean events))
 IsAsAudited audited (Err (Trace why)) = is_device why ≡ false → audited ≡ Err why
 IsAsAudited audited (Err (Differs event)) = audited ≡ Ok (finding.Differs event)
+IsAsAudited audited (Err (Earlier event before)) = (events : ℕ) × (audited ≡ Ok (Clean events))
 IsAsAudited audited (Err (NoEvent event events)) = audited ≡ Ok (Clean events)
 IsAsAudited audited (Err (NoTag tag)) = (events : ℕ) × (audited ≡ Ok (Clean events))
 IsAsAudited audited (Err NoneWithin) = (events : ℕ) × (audited ≡ Ok (Clean events))
 
 -- ---- how far explaining has come
 
--- these lines were looked at: where none differs, what set the probability is known, and how many events were explained
-pub record Follows (opening : Opening) (choice : Choice) (lines : List Line) (auditor : AuditorView) (set_by : Option ℕ)
+-- these lines were looked at, of which a text has those after its beginning: where none differs, what set the probability is known, and how
+-- many events were explained
+pub record Follows (start : Start) (opening : Opening) (choice : Choice) (lines : List Line) (auditor : AuditorView) (set_by : Setter)
     (explained : ℕ) : Type 0 where
   pub audits : Audits opening auditor lines
-  pub setter : auditor.differs ≡ None → set_by ≡ setter_after opening lines
-  pub counted : auditor.differs ≡ None → explained ≡ length (explanations opening choice lines)
+  pub since : start.events ≤ event_count lines
+  pub setter : auditor.differs ≡ None → set_by ≡ setter_told start (setter_by (setter_after opening lines))
+  pub counted : auditor.differs ≡ None → explained ≡ length (explanations_since start opening choice lines)
   pub few : auditor.differs ≡ None → explained ≤ event_count lines
 
 -- .. and these were shown their chosen events, of which the tale joined what was there before
-pub record Explains (opening : Opening) (choice : Choice) (tale : List Explained → List ℕ) (shows : List Explained → Type 0) (lines : List Line)
-    (auditor : AuditorView) (set_by : Option ℕ) (explained : ℕ) (before now : Option (List ℕ)) : Type 0 where
-  pub follows : Follows opening choice lines auditor set_by explained
-  pub shown : shows (explanations opening choice lines)
-  pub written : Appends before now (tale (explanations opening choice lines))
+pub record Explains (start : Start) (opening : Opening) (choice : Choice) (tale : List Explained → List ℕ) (shows : List Explained → Type 0)
+    (lines : List Line) (auditor : AuditorView) (set_by : Setter) (explained : ℕ) (before now : Option (List ℕ)) : Type 0 where
+  pub follows : Follows start opening choice lines auditor set_by explained
+  pub shown : shows (explanations_since start opening choice lines)
+  pub written : Appends before now (tale (explanations_since start opening choice lines))
 
--- all these lines were explained, and no fault is after them; or the fault after them was met, unless a device or memory failed
-abbrev pub Heard : Opening → Choice → (List Explained → List ℕ) → (List Explained → Type 0) → Coming → Result (Unit {0}) TraceFault → AuditorView
-    → Option ℕ → ℕ → Option (List ℕ) → Option (List ℕ) → Type 0
-Heard opening choice tale shows coming (Ok done) auditor set_by explained before now = Explains opening choice tale shows coming.lines auditor set_by
-    explained before now × (coming.fault ≡ None)
-Heard opening choice tale shows coming (Err why) auditor set_by explained before now =
-    is_device why ≡ false → (coming.fault ≡ Some why) × shows (explanations opening choice coming.lines)
-    × Appends before now (tale (explanations opening choice coming.lines))
+-- all lines that came were explained, after the first ones, and no fault is after them; or the fault after them was met, unless a device or
+-- memory failed
+abbrev pub Heard : Start → Opening → Choice → (List Explained → List ℕ) → (List Explained → Type 0) → List Line → Coming
+    → Result (Unit {0}) TraceFault → AuditorView → Setter → ℕ → Option (List ℕ) → Option (List ℕ) → Type 0
+Heard start opening choice tale shows first coming (Ok done) auditor set_by explained before now =
+    Explains start opening choice tale shows (first ++ coming.lines) auditor set_by explained before now × (coming.fault ≡ None)
+Heard start opening choice tale shows first coming (Err why) auditor set_by explained before now =
+    is_device why ≡ false → (coming.fault ≡ Some why) × shows (explanations_since start opening choice (first ++ coming.lines))
+    × Appends before now (tale (explanations_since start opening choice (first ++ coming.lines)))
 
--- where explaining stands among all lines: some are left, and the others were explained
-pub record ExplainAt (opening : Opening) (choice : Choice) (tale : List Explained → List ℕ) (shows : List Explained → Type 0) (all : Coming)
-    (lines : LinesView) (auditor : AuditorView) (set_by : Option ℕ) (explained : ℕ) (before now : Option (List ℕ)) : Type 0 where
+-- where explaining stands among all lines that come after the first: some are left, and the others were explained
+pub record ExplainAt (start : Start) (opening : Opening) (choice : Choice) (tale : List Explained → List ℕ) (shows : List Explained → Type 0)
+    (first : List Line) (all : Coming) (lines : LinesView) (auditor : AuditorView) (set_by : Setter) (explained : ℕ)
+    (before now : Option (List ℕ)) : Type 0 where
   pub seen : List Line
   pub left : List Line
   pub split : all.lines ≡ seen ++ left
   pub remain : lines.coming ≡ Some (record { lines = left; fault = all.fault })
-  pub explains : Explains opening choice tale shows seen auditor set_by explained before now
+  pub explains : Explains start opening choice tale shows (first ++ seen) auditor set_by explained before now
+
+-- ---- how it ends
+
+-- what was answered and written of the lines that came after the first, where neither the reader, the writer nor memory failed
+pub record Told (start : Start) (opening : Opening) (choice : Choice) (whole : List Explained → List ℕ) (first : List Line) (coming : Coming)
+    (result : Result ℕ ExplainFault) (old now : Option (List ℕ)) : Type 0 where
+  pub answers : result ≡ answer_since start choice opening (first ++ coming.lines) coming.fault
+  pub writes : Appends old now (whole (explanations_since start opening choice (first ++ coming.lines)))

@@ -18,6 +18,8 @@ use Rattle.pie_audit.specs.Finding.{LinePlace, events_of, first_difference, line
 use Rattle.pie_explain.specs.declared.explanation.Explained.{Explained}
 use Rattle.pie_explain.specs.declared.explanation.Explanation.{Explanation}
 use Rattle.pie_explain.specs.declared.choice.Choice.{Choice}
+use Rattle.pie_explain.specs.declared.setter.Setter.{Setter}
+use Rattle.pie_explain.specs.declared.setter.Setter.TheVariants as setter
 use Rattle.pie_explain.specs.Choice.{picks}
 
 -- the effective moment of an event after a history
@@ -25,7 +27,7 @@ abbrev pub moment_of : Opening → List Event → Event → ℕ
 moment_of opening history event = max (effective_moment opening history) (handed_in event.command)
 
 -- the event with this number after this history, all numbers being those of before it
-unfoldable pub explanation : Opening → List Event → ℕ → Event → Option ℕ → Explanation
+unfoldable pub explanation : Opening → List Event → ℕ → Event → Setter → Explanation
 explanation opening history number event set_by = record {
   number = number;
   event = event;
@@ -79,9 +81,14 @@ setter_at opening place = if sets_after opening place.before place.line then Som
 unfoldable pub setter_after : Opening → List Line → Option ℕ
 setter_after opening lines = last_or None (filter_map (setter_at opening) (line_places lines))
 
--- .. with this line, where these events were counted with it
-abbrev pub setter_with : Bool → Line → Bool → ℕ → Option ℕ → Option ℕ
-setter_with was line is events before = if sets_probability was line is then Some events else before
+-- .. which is none where the probability is still the opening's
+abbrev pub setter_by : Option ℕ → Setter
+setter_by None = setter.Opening
+setter_by (Some number) = setter.Event number
+
+-- what set it, with this line, where these events were counted with it
+abbrev pub setter_with : Bool → Line → Bool → ℕ → Setter → Setter
+setter_with was line is events before = if sets_probability was line is then setter.Event events else before
 
 -- ---- of the lines of a history
 
@@ -91,7 +98,7 @@ told_if true told = Some told
 told_if false told = None
 
 -- what there is to say of a line after these lines: it tells an event, which has the next number and is chosen
-abbrev pub told_after : Opening → Choice → List Line → Option ℕ → Line → Option Explanation
+abbrev pub told_after : Opening → Choice → List Line → Setter → Line → Option Explanation
 told_after opening choice lines set_by (Made event) =
     told_if (picks choice (event_count lines + 1) (moment_of opening (events_of lines) event) event)
     (explanation opening (events_of lines) (event_count lines + 1) event set_by)
@@ -111,7 +118,7 @@ abbrev pub told_at : Opening → Choice → LinePlace → Option Explained
 told_at opening choice place =
     option_map (with_after opening (events_of (place.before ++ place.line ∷ [])))
     (told_unless_differs opening (place.before ++ place.line ∷ [])
-    (told_after opening choice place.before (setter_after opening place.before) place.line))
+    (told_after opening choice place.before (setter_by (setter_after opening place.before)) place.line))
 
 -- what there is to say of the chosen events of these lines, in their order
 unfoldable pub explanations : Opening → Choice → List Line → List Explained

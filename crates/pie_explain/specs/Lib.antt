@@ -1,6 +1,7 @@
 pub mod Which
 pub mod Choice
 pub mod Explanation
+pub mod Start
 pub mod Record
 pub mod Words
 pub mod Report

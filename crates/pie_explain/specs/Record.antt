@@ -16,6 +16,8 @@ use Rattle.pie_record.specs.declared.words.Said.TheVariants as said
 use Rattle.pie_record.specs.Words.{ecn_word, word_of_kind, word_said}
 use Rattle.pie_explain.specs.declared.explanation.Explained.{Explained}
 use Rattle.pie_explain.specs.declared.explanation.Explanation.{Explanation}
+use Rattle.pie_explain.specs.declared.setter.Setter.{Setter}
+use Rattle.pie_explain.specs.declared.setter.Setter.TheVariants as setter
 use Rattle.pie_explain.specs.Which.{packet_of}
 
 -- ---- words
@@ -74,6 +76,12 @@ word_of (Update moment) = None
 word_of (Reset moment) = None
 word_of (SetParams moment params) = None
 
+-- the event that set the probability, where it is known and there is one
+abbrev pub setter_number : Setter → Option ℕ
+setter_number setter.Opening = None
+setter_number (setter.Event number) = Some number
+setter_number setter.Untold = None
+
 -- how long the packet had waited that left
 abbrev pub wait_where : Answer → ℕ → Option ℕ
 wait_where (Left packet) waited = Some waited
@@ -99,7 +107,7 @@ met_fields told =
 abbrev pub more_fields : Explanation → List (List ℕ)
 more_fields told =
     ecn_field (packet_of told.event) ∷ number_field (word_of told.event.command) ∷ number_field (wait_where told.event.answer told.waited)
-    ∷ active_field told.before.active ∷ number_field told.set_by ∷ []
+    ∷ active_field told.before.active ∷ number_field (setter_number told.set_by) ∷ []
 
 -- the numbers after it
 abbrev pub after_fields : Explained → List (List ℕ)

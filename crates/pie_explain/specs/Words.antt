@@ -17,6 +17,8 @@ use Rattle.pie_book.specs.declared.command.Answer.TheVariants.{Enqueued, Marked,
 use Rattle.pie_book.specs.declared.registers.Registers.{Registers}
 use Rattle.pie_explain.specs.declared.explanation.Explained.{Explained}
 use Rattle.pie_explain.specs.declared.explanation.Explanation.{Explanation}
+use Rattle.pie_explain.specs.declared.setter.Setter.{Setter}
+use Rattle.pie_explain.specs.declared.setter.Setter.TheVariants as setter
 
 -- these texts, one after the other
 abbrev pub joined : List (List ℕ) → List ℕ
@@ -183,9 +185,11 @@ turned_words false false = codes ""
 unfoldable pub last_words : ℕ → ℕ → List ℕ
 last_words updates last = if updates == 0 then codes " no update so far;" else joined (codes " last update at " ∷ millis last ∷ codes ";" ∷ [])
 
-unfoldable pub setter_words : Option ℕ → Registers → List ℕ
-setter_words None before = joined (codes "  probability " ∷ per_cent before.prob ∷ codes ", as at the opening;" ∷ [])
-setter_words (Some event) before = joined (codes "  probability " ∷ per_cent before.prob ∷ codes ", set by event " ∷ decimal event ∷ codes ";" ∷ [])
+unfoldable pub setter_words : Setter → Registers → List ℕ
+setter_words setter.Opening before = joined (codes "  probability " ∷ per_cent before.prob ∷ codes ", as at the opening;" ∷ [])
+setter_words (setter.Event event) before =
+    joined (codes "  probability " ∷ per_cent before.prob ∷ codes ", set by event " ∷ decimal event ∷ codes ";" ∷ [])
+setter_words setter.Untold before = joined (codes "  probability " ∷ per_cent before.prob ∷ codes ", set before this text begins;" ∷ [])
 
 unfoldable pub queue_words : ℕ → ℕ → ℕ → List ℕ
 queue_words packets bytes delay =

@@ -8,6 +8,7 @@ ghost use Rattle.pie_book.specs.History.{waiting_after};
 ghost use Rattle.pie_book.specs.Statistics.{count_of, wait_of};
 ghost use Rattle.pie_explain.specs.Explanation.{moment_of};
 
+use crate::setter::Setter;
 use pie_book::{Answer, Cause, Command, Core, Event, Registers};
 
 /// One event and the numbers that it met: all are those of before the event. Times are in nanoseconds, probabilities in units
@@ -28,9 +29,9 @@ pub struct Explanation {
     pub cause: Option<Cause>,
     /// How long the packet had waited that left, and 0 for any other event.
     pub waited: u64,
-    /// The number of the last event before it that set the probability: an update while the controller was active, a reset, or an
-    /// arrival that turned it on; none where it still is the opening's.
-    pub set_by: Option<u64>,
+    /// The last event before it that set the probability: an update while the controller was active, a reset, or an arrival that turned
+    /// it on.
+    pub set_by: Setter,
     /// How many updates there were before it.
     pub updates: u64,
 }
@@ -82,10 +83,10 @@ pub(crate) fn moment_of(core: &Core, event: &Event) -> u64
 impl Explanation {
     ghost use Rattle.pie_explain.specs.Explanation.{explanation};
 
-    /// What there is to say of an event with this number that a core is about to decide, where `set_by` is the number of the event that
-    /// last set the probability. The core is as it was.
+    /// What there is to say of an event with this number that a core is about to decide, where `set_by` is what last set the
+    /// probability. The core is as it was.
     #[inline(always)]
-    pub fn of(core: &Core, number: u64, event: &Event, set_by: Option<u64>) -> Explanation
+    pub fn of(core: &Core, number: u64, event: &Event, set_by: Setter) -> Explanation
         ensures { (opening : Opening) (history : List Event) → Shows opening core.now history
             → result ≡ explanation opening history number event.now set_by }
     {
@@ -113,7 +114,7 @@ impl Explained {
     /// What there is to say of an event that a core is about to decide, as `Explanation::of` says it, made where it stays: as long as
     /// the core has not decided it, what it held before stands in the place of what it holds after.
     #[inline(always)]
-    pub fn begin(core: &Core, number: u64, event: &Event, set_by: Option<u64>) -> Explained
+    pub fn begin(core: &Core, number: u64, event: &Event, set_by: Setter) -> Explained
         ensures told { (opening : Opening) (history : List Event) → Shows opening core.now history
             → result.told ≡ explanation opening history number event.now set_by }
         ensures held { (opening : Opening) (history : List Event) → Shows opening core.now history

@@ -15,12 +15,20 @@ pub enum ExplainFault {
         /// The number of the event, counted from 1.
         event: u64,
     },
+    /// The event with this number was before the text, which goes on from the middle of its history.
+    #[error("event {event} is not in this text, which goes on after event {before}")]
+    Earlier {
+        /// The number that was asked for.
+        event: u64,
+        /// How many events were before the text.
+        before: u64,
+    },
     /// There is no event with this number.
     #[error("there is no event {event}: the history has {events} events")]
     NoEvent {
         /// The number that was asked for.
         event: u64,
-        /// How many events there are.
+        /// How many events there are, with those before the text.
         events: u64,
     },
     /// No event is about a packet with this tag.

@@ -6,6 +6,7 @@ ghost use Rattle.pie_explain.specs.Words.{ecn_name, last_words, verdict_text, pa
 ghost use Rattle.pie_explain.specs.Words.{sum_words, turned_words, update_words, when_words, words};
 
 use crate::explanation::{Explained, Explanation};
+use crate::setter::Setter;
 use crate::units::{Millis, PerCent, Word};
 use pie_book::{Answer, Cause, Command, Fate, Registers};
 use pie_queue::{Ecn, Packet};
@@ -315,15 +316,16 @@ fn push_reason(page: &mut String, prob: u64, cause: Option<Cause>) -> Result<(),
     }
 }
 
-/// The probability before the event, and which event set it.
+/// The probability before the event, and what set it.
 #[tactic(auto, unfolding(crate::specs::Words::setter_words))]
-fn push_setter(page: &mut String, set_by: Option<u64>, before: &Registers) -> Result<(), AllocError>
+fn push_setter(page: &mut String, set_by: Setter, before: &Registers) -> Result<(), AllocError>
     ensures { OnOk result (string_bytes page.new ≡ string_bytes page.old ++ setter_words set_by before.now) }
 {
     let prob = PerCent(before.prob);
     match set_by {
-        Some(event) => write!(page, "  probability {prob}, set by event {event};"),
-        None => write!(page, "  probability {prob}, as at the opening;"),
+        Setter::Opening => write!(page, "  probability {prob}, as at the opening;"),
+        Setter::Event(event) => write!(page, "  probability {prob}, set by event {event};"),
+        Setter::Untold => write!(page, "  probability {prob}, set before this text begins;"),
     }
 }
 

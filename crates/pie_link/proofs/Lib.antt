@@ -3,6 +3,7 @@ pub mod KeptFacts
 pub mod Outcomes
 pub mod Headline
 pub mod Folding
+pub mod Excerpting
 pub mod Bursting
 pub mod Examples
 pub mod ExamplesBursts

@@ -8,4 +8,5 @@ pub mod Commands
 pub mod Bursts
 pub mod Folds
 pub mod Readings
+pub mod Excerpts
 pub mod Headline

@@ -10,7 +10,7 @@
 //! comes exactly where the tail of a bounded link is full. A fold of n events is Ok only where the tail holds n, and hands out the
 //! oldest; `TooMany` names how many there are. The caller has then been shown that history, with its event or fold.
 //! `arrive_all`, `try_arrive_all` and `depart_all` make a burst of such calls after one history, with nothing of another caller between.
-//! `registers` and `stats` are the look-back over such a history. `Busy` is not answered to a caller with all numbers. `Link::open` and
+//! `registers` and `stats` are the look-back over such a history, and an `excerpt` is its end, with what that stands on. `Busy` is not answered to a caller with all numbers. `Link::open` and
 //! `open_with` promise the headline (clause `headline`, `specs/Headline.antt`): whenever the lock is free there is one
 //! history of one thread that begins with everything any caller has been shown, contains each caller's calls once and in its
 //! order, and ends with the stored tail, and looking back over it gives all that the book holds. In a bounded link no event is
@@ -26,6 +26,8 @@ mod burst_turn;
 pub mod caller;
 mod calls;
 pub mod entry;
+mod excerpt_calls;
+mod excerpt_turn;
 mod fold_count;
 mod kept_book;
 mod kept_bursts;

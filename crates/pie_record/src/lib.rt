@@ -27,7 +27,7 @@ pub mod trace_record;
 pub mod version;
 pub mod words;
 
-pub use fault::{Flaw, OpenFault, TraceFault};
+pub use fault::{ExcerptFault, Flaw, OpenFault, TraceFault};
 pub use history_reader::HistoryLines;
 pub use history_record::Line;
 pub use version::Version;

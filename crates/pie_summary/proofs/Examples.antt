@@ -16,6 +16,7 @@ use Rattle.pie_book.specs.declared.command.Answer.TheVariants.{Done}
 use Rattle.pie_book.specs.declared.command.Command.{Command}
 use Rattle.pie_book.specs.declared.command.Command.TheVariants.{Arrive, Depart, Update, Reset}
 use Rattle.pie_book.specs.declared.registers.Registers.{Registers}
+use Rattle.pie_explain.specs.declared.setter.Setter.TheVariants as setter
 use Rattle.pie_explain.specs.declared.explainer.Form.TheVariants.{Text, Csv}
 use Rattle.pie_explain.specs.declared.explanation.Explained.{Explained}
 use Rattle.pie_explain.specs.Words.{millis, per_cent, share}
@@ -156,7 +157,7 @@ event command answer moment cause waited before after = record {
     delay = 0;
     cause = cause;
     waited = waited;
-    set_by = None;
+    set_by = setter.Opening;
     updates = 0;
   };
   after = after;

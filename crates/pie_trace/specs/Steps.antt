@@ -5,7 +5,7 @@ use Rattle.std.specs.Io.KnownBytes.{Appends}
 use Rattle.pie_book.specs.declared.opening.Opening.{Opening}
 use Rattle.pie_book.specs.Book.{BookView, Tells}
 use Rattle.pie_book.specs.Opening.{opening_refusal}
-use Rattle.pie_book.specs.Run.{Progress, start, progress_after}
+use Rattle.pie_book.specs.Run.{Progress, progress_after}
 use Rattle.pie_record.specs.declared.fault.TraceFault.{TraceFault}
 use Rattle.pie_record.specs.declared.trace_record.Request.{Request}
 use Rattle.pie_trace.specs.declared.run.RunEnd.{RunEnd}
@@ -13,7 +13,7 @@ use Rattle.pie_record.specs.declared.version.Version.{Version}
 use Rattle.pie_record.specs.Fault.{is_device}
 use Rattle.pie_record.specs.Text.{Row, text_of}
 use Rattle.pie_record.specs.TraceRecord.{request_of}
-use Rattle.pie_trace.specs.History.{end_of, fault_of, first_fault, history_text, progress_at_end, refused_count, replies, requests_of, steps_of}
+use Rattle.pie_trace.specs.History.{end_of, fault_of, first_fault, history_text, refused_count, replies, requests_of, steps_of}
 use Rattle.pie_trace.specs.History.{text_left}
 use Rattle.pie_trace.specs.Reply.{Reply, after, history_row, is_refused, reply}
 
@@ -24,14 +24,13 @@ pub record IsAt (book : BookView) (opening : Opening) (progress : Progress) : Ty
   pub tells : Tells book progress.history
   pub held : length book.tail ≡ progress.held
 
--- of the records after the first in a text of this version, `rows` are left, the first of them with this number; `text` is the history text so
--- far, and `refused` were refused
-pub record HasCome (version : Version) (most : ℕ) (opening : Opening) (all : List Row) (number : ℕ) (progress : Progress) (rows : List Row)
-    (text : List ℕ) (refused : ℕ) : Type 0 where
-  pub fault : first_fault most 2 all ≡ first_fault most number rows
-  pub written : text_left version most opening 2 start all ≡ text ++ text_left version most opening number progress rows
-  pub ended : progress_at_end opening (requests_of all) ≡ progress_after opening progress (steps_of (requests_of rows))
-  pub refusals : refused_count (replies opening start (requests_of all)) ≡ refused + refused_count (replies opening progress (requests_of rows))
+-- a run that stood at `from` before the record with the number `first` came to `progress`: of the records from that one on, in a text of this
+-- version, `rows` are left, the first of them with this number; `text` is the history text so far, and `refused` were refused
+pub record HasCome (version : Version) (most : ℕ) (opening : Opening) (all : List Row) (first : ℕ) (from : Progress) (number : ℕ)
+    (progress : Progress) (rows : List Row) (text : List ℕ) (refused : ℕ) : Type 0 where
+  pub written : text_left version most opening first from all ≡ text ++ text_left version most opening number progress rows
+  pub ended : progress_after opening from (steps_of (requests_of all)) ≡ progress_after opening progress (steps_of (requests_of rows))
+  pub refusals : refused_count (replies opening from (requests_of all)) ≡ refused + refused_count (replies opening progress (requests_of rows))
 
 -- how many refusals a reply is
 abbrev pub refusals_in : Reply → ℕ
@@ -58,30 +57,42 @@ pub record IsAnswered (version : Version) (number : ℕ) (row : Row) (request : 
   pub refusals : refused_then ≡ refused + refusals_in (reply opening progress request)
   pub written : text_then ≡ text ++ text_of (history_row version number row (reply opening progress request))
 
--- where a run stands among all records after the first: some are left, and the text of the others was written
-pub record Stands (version : Version) (most : ℕ) (opening : Opening) (all : List Row) (number : ℕ) (book : BookView) (refused : ℕ)
-    (left : Option (List Row)) (before now : Option (List ℕ)) : Type 0 where
-  pub rows : List Row
+-- how a run that stood at `from` has come so far, where these records are left
+pub record Goes (version : Version) (most : ℕ) (opening : Opening) (all : List Row) (first : ℕ) (from : Progress) (number : ℕ) (book : BookView)
+    (refused : ℕ) (rows : List Row) (before now : Option (List ℕ)) : Type 0 where
   pub progress : Progress
   pub text : List ℕ
-  pub remain : left ≡ Some rows
   pub stands : IsAt book opening progress
-  pub come : HasCome version most opening all number progress rows text refused
+  pub come : HasCome version most opening all first from number progress rows text refused
   pub written : Appends before now text
 
+-- where a run stands among the records from `first` on, which began with the book `old`: some are left, and the text of the others was written,
+-- wherever the book stood
+pub record Stands (version : Version) (most : ℕ) (opening : Opening) (all : List Row) (first : ℕ) (old : BookView) (number : ℕ) (book : BookView)
+    (refused : ℕ) (left : Option (List Row)) (before now : Option (List ℕ)) : Type 0 where
+  pub rows : List Row
+  pub remain : left ≡ Some rows
+  pub fault : first_fault most first all ≡ first_fault most number rows
+  pub goes : (from : Progress) → IsAt old opening from → Goes version most opening all first from number book refused rows before now
+
+-- what a run that stood at `from` has done, once all records are answered
+pub record HasRun (version : Version) (most : ℕ) (opening : Opening) (all : List Row) (first : ℕ) (from : Progress) (book : BookView)
+    (refused : ℕ) (before now : Option (List ℕ)) : Type 0 where
+  pub stands : IsAt book opening (progress_after opening from (steps_of (requests_of all)))
+  pub refusals : refused ≡ refused_count (replies opening from (requests_of all))
+  pub written : Appends before now (text_left version most opening first from all)
+
 -- the steps of a trace ended with their last record, with no fault
-pub record AreDone (version : Version) (most : ℕ) (opening : Opening) (all : List Row) (book : BookView) (refused : ℕ)
+pub record AreDone (version : Version) (most : ℕ) (opening : Opening) (all : List Row) (first : ℕ) (old book : BookView) (refused : ℕ)
     (before now : Option (List ℕ)) : Type 0 where
-  pub sound : first_fault most 2 all ≡ None
-  pub stands : IsAt book opening (progress_at_end opening (requests_of all))
-  pub refusals : refused ≡ refused_count (replies opening start (requests_of all))
-  pub written : Appends before now (text_left version most opening 2 start all)
+  pub sound : first_fault most first all ≡ None
+  pub ran : (from : Progress) → IsAt old opening from → HasRun version most opening all first from book refused before now
 
 -- they ended at the first fault
-pub record AreStopped (version : Version) (most : ℕ) (opening : Opening) (all : List Row) (why : TraceFault) (before now : Option (List ℕ)) : Type 0
-  where
-    pub first : first_fault most 2 all ≡ Some why
-    pub written : Appends before now (text_left version most opening 2 start all)
+pub record AreStopped (version : Version) (most : ℕ) (opening : Opening) (all : List Row) (first : ℕ) (old : BookView) (why : TraceFault)
+    (before now : Option (List ℕ)) : Type 0 where
+  pub fault : first_fault most first all ≡ Some why
+  pub written : (from : Progress) → IsAt old opening from → Appends before now (text_left version most opening first from all)
 
 -- how a run of a whole trace ends, where neither the reader, the writer nor memory failed
 abbrev pub Ends : ℕ → List Row → Result RunEnd TraceFault → Option (List ℕ) → Option (List ℕ) → Type 0

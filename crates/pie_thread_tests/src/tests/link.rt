@@ -3,6 +3,7 @@
 ghost use Rattle.std.specs.Prelude.{◌≡◌, IfOk};
 
 mod bursts;
+mod dumps;
 mod one_thread;
 mod storms;
 

@@ -1,0 +1,37 @@
+-- Texts that go on from the middle of a history: what they tell, worked out by hand.
+use Rattle.std.specs.Prelude.{ℕ, ◌≡◌, ◌&&◌, nat_le, nat_lt, Bool, true, false, Some, None, refl}
+use Rattle.std.proofs.Common.{arith, ◌∙◌}
+use Rattle.std.proofs.lemmas.Bool.Decides.{nat_tests}
+use Rattle.pie_explain.specs.declared.fault.ExplainFault.TheVariants.{Earlier, NoEvent}
+use Rattle.pie_explain.specs.declared.setter.Setter.TheVariants.{Event, Opening, Untold}
+use Rattle.pie_explain.specs.Answer.{no_event}
+use Rattle.pie_explain.specs.Record.{setter_number}
+use Rattle.pie_explain.specs.Start.{Start, from_opening, setter_from, setter_told}
+
+-- a text of the events from 101 on, which tells what set the probability before them or not
+abbrev after_100 : Bool → Start
+after_100 tells = record { events = 100; tells = tells }
+
+-- event 97 set the probability, or nothing did: told or not; event 101 is one of the text
+told : (setter_told (after_100 true) (Event 97) ≡ Event 97) × (setter_told (after_100 true) Opening ≡ Opening)
+    × (setter_told (after_100 false) (Event 97) ≡ Untold) × (setter_told (after_100 false) (Event 100) ≡ Untold)
+    × (setter_told (after_100 false) Opening ≡ Untold) × (setter_told (after_100 false) (Event 101) ≡ Event 101)
+    × (setter_told from_opening Opening ≡ Opening) × (setter_told from_opening (Event 3) ≡ Event 3)
+told = (refl, refl, refl, refl, refl, refl, refl, refl)
+
+-- .. by the number in its first record
+numbers : (setter_from None ≡ Untold) × (setter_from (Some 0) ≡ Opening) × (setter_from (Some 97) ≡ Event 97)
+    × (setter_number Untold ≡ None) × (setter_number Opening ≡ None) × (setter_number (Event 97) ≡ Some 97)
+numbers = (refl, refl, refl, refl, refl, refl)
+
+-- of events 101 to 200: event 5 and event 100 were before, event 0 and event 201 are none
+no-events : (no_event 100 5 200 ≡ Earlier 5 100) × (no_event 100 100 200 ≡ Earlier 100 100) × (no_event 100 0 200 ≡ NoEvent 0 200)
+    × (no_event 100 201 200 ≡ NoEvent 201 200)
+no-events = (refl, refl, refl, refl)
+
+-- of a text that opens no event was before
+opened : (event events : ℕ) → no_event 0 event events ≡ NoEvent event events
+opened event events = rw never refl
+  where
+    never : nat_lt 0 event && nat_le event 0 ≡ false
+    never = grind (arith, nat_tests)

@@ -1,0 +1,22 @@
+//! How the explanations of an excerpt are those of the whole history.
+ghost use Rattle.std.specs.Prelude.{◌≡◌, ◌++◌, List, length, map, true, false};
+ghost use Rattle.pie_book.specs.declared.command.Event.{Event};
+ghost use Rattle.pie_book.specs.declared.opening.Opening.{Opening};
+ghost use Rattle.pie_record.specs.declared.history_record.Line.{Line};
+ghost use Rattle.pie_record.specs.declared.history_record.Line.TheVariants.{Made};
+ghost use Rattle.pie_explain.specs.declared.choice.Choice.{Choice};
+ghost use Rattle.pie_explain.specs.Explanation.{explanations};
+ghost use Rattle.pie_explain.specs.Start.{as_told, explanations_since};
+
+/// The law of excerpts. A text that goes on after some events of a history, and tells what set the probability before it, gives exactly the
+/// explanations that the whole history gives after those of these events (`rest`). One that doesn't tell it gives the same, but for what set
+/// the probability as long as no event of the text did (`untold`). It does nothing: its contract is the law.
+pub fn excerpts_are_explained_as_the_whole()
+    ensures rest { (opening : Opening) (choice : Choice) (past : List Event) (lines : List Line)
+        → explanations opening choice (map Made past ++ lines) ≡ explanations opening choice (map Made past)
+        ++ explanations_since (record { events = length past; tells = true }) opening choice (map Made past ++ lines) }
+    ensures untold { (opening : Opening) (choice : Choice) (past : List Event) (lines : List Line)
+        → explanations_since (record { events = length past; tells = false }) opening choice (map Made past ++ lines)
+        ≡ map (as_told (record { events = length past; tells = false }))
+        (explanations_since (record { events = length past; tells = true }) opening choice (map Made past ++ lines)) }
+{}

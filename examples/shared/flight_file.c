@@ -1,0 +1,98 @@
+#define _POSIX_C_SOURCE 200809L
+#include "flight_file.h"
+
+#include <errno.h>
+#include <fcntl.h>
+#include <stdlib.h>
+#include <string.h>
+#include <sys/mman.h>
+#include <sys/stat.h>
+#include <unistd.h>
+
+#define LONGEST_NAME 4096
+
+/* A file of so many bytes in memory; NULL where that cannot be. */
+static void *new_file(const char *name, size_t bytes) {
+    char before[LONGEST_NAME];
+    if (snprintf(before, sizeof before, "%s.before", name) >= (int)sizeof before || (rename(name, before) != 0 && errno != ENOENT))
+        return NULL;
+    int file = open(name, O_RDWR | O_CREAT | O_EXCL | O_CLOEXEC, 0600);
+    if (file < 0)
+        return NULL;
+    /* (its blocks are taken now: a full disk is found here, and not by a signal in the middle of the run) */
+    void *memory = MAP_FAILED;
+    if (posix_fallocate(file, 0, (off_t)bytes) == 0)
+        memory = mmap(NULL, bytes, PROT_READ | PROT_WRITE, MAP_SHARED, file, 0);
+    close(file);
+    return memory != MAP_FAILED ? memory : NULL;
+}
+
+bool open_flight(struct flight_file *file, const char *name, const struct control *control, uint64_t moment, const struct pie_state *state) {
+    const struct pie_opening opening = {
+        .params = control->params,
+        .moment = moment,
+        .profile = control->profile,
+        .choices = control->choices,
+        .mode = PIE_ROLLING,
+        .packets = control->packets,
+        .tail = LOG_EVENTS,
+        .events = MOST_EVENTS,
+    };
+    file->name = NULL;
+    if (name == NULL)
+        return true;
+    file->bytes = pie_flight_bytes(FLIGHT_EVENTS, control->packets);
+    file->memory = new_file(name, file->bytes);
+    file->scratch = aligned_alloc(64, (file->bytes + 63) / 64 * 64);
+    if (file->memory == NULL || file->scratch == NULL ||
+        !pie_flight_open(&file->flight, file->memory, file->bytes, FLIGHT_EVENTS, &opening, state))
+        return false;
+    file->name = name;
+    return true;
+}
+
+static int write_to(void *user, const unsigned char *bytes, size_t count) {
+    return fwrite(bytes, 1, count, (FILE *)user) == count ? 0 : 1;
+}
+
+int write_flight(const struct flight_file *file) {
+    char name[LONGEST_NAME];
+    if (snprintf(name, sizeof name, "%s.history", file->name) >= (int)sizeof name)
+        return PIE_FLIGHT_STOPPED;
+    FILE *to = fopen(name, "w");
+    if (to == NULL)
+        return PIE_FLIGHT_STOPPED;
+    int answer = pie_flight_dump(file->memory, file->bytes, file->scratch, write_to, to);
+    return fclose(to) == 0 ? answer : PIE_FLIGHT_STOPPED;
+}
+
+int write_flight_of(const char *name, FILE *to) {
+    struct stat status;
+    int file = open(name, O_RDONLY | O_CLOEXEC), answer = PIE_FLIGHT_NONE;
+    if (file < 0)
+        return answer;
+    if (fstat(file, &status) == 0 && status.st_size > 0) {
+        void *memory = mmap(NULL, (size_t)status.st_size, PROT_READ, MAP_SHARED, file, 0);
+        if (memory != MAP_FAILED) {
+            answer = pie_flight_dump(memory, (size_t)status.st_size, NULL, write_to, to);
+            munmap(memory, (size_t)status.st_size);
+        }
+    }
+    close(file);
+    return answer;
+}
+
+const char *flight_text(int answer) {
+    switch (answer) {
+    case PIE_FLIGHT_DONE:
+        return "written";
+    case PIE_FLIGHT_NONE:
+        return "this is no flight recorder's memory, or not all of it";
+    case PIE_FLIGHT_GONE:
+        return "all of it was overwritten while it was copied";
+    case PIE_FLIGHT_BROKEN:
+        return "a record cannot be; the text says where";
+    default:
+        return "the text cannot be written";
+    }
+}

@@ -1,0 +1,41 @@
+/* A flight recorder (include/pie_flight.h) in a file under mmap, so that what it holds outlives the process, and its text. */
+#ifndef SHARED_FLIGHT_FILE_H
+#define SHARED_FLIGHT_FILE_H
+
+#include "control.h"
+#include "history.h"
+#include "pie_flight.h"
+
+#include <stdbool.h>
+
+#define FLIGHT_EVENTS 100000 /* that it keeps at the least */
+
+struct flight_file {
+    const char *name; /* NULL where none is kept */
+    struct pie_flight flight;
+    void *memory;
+    void *scratch;    /* for a dump while the recorder goes on */
+    size_t bytes;
+};
+
+/* Opens a recorder in a file of this name (NULL: none), right after the state was opened at this moment. A file that is there already is what
+ * an earlier run left: it goes to NAME.before. False where that cannot be done. */
+bool open_flight(struct flight_file *file, const char *name, const struct control *control, uint64_t moment, const struct pie_state *state);
+
+/* Keeps an event, after its call. */
+static inline void keep_event(struct flight_file *file, const struct pie_state *state, const struct pie_event *event) {
+    if (file->name != NULL)
+        pie_flight_keep(&file->flight, state, event);
+}
+
+/* Writes the recorder's text to NAME.history, while other threads may keep events; one thread at a time. Answers as pie_flight_dump. */
+int write_flight(const struct flight_file *file);
+
+/* Writes the text of a file that an earlier run left, to this stream. Answers as pie_flight_dump, and PIE_FLIGHT_NONE where the file cannot be
+ * read. */
+int write_flight_of(const char *name, FILE *to);
+
+/* What an answer of pie_flight_dump means, for a log. */
+const char *flight_text(int answer);
+
+#endif

@@ -1,0 +1,662 @@
+/* Tries include/pie_flight.h: random events through the library's calls, with dumps at random places, each of which is decided again by the
+ * same calls; a dumping thread beside a writer; a process that is killed; damaged memory. Built as C and as C++, and with sanitizers.
+ * usage: flight SEED EVENTS          all of these, with so many events each
+ *        flight texts SEED FOLDER    writes twenty texts there, for an audit: N.history, and N.changed where an answer differs
+ *        flight decide FILE          decides a text again, and prints `clean,` and the number of its last event, or `differs` */
+#define _DEFAULT_SOURCE
+#include "pie_flight.h"
+
+#include <inttypes.h>
+#include <pthread.h>
+#include <signal.h>
+#include <stdio.h>
+#include <stdlib.h>
+#include <sys/mman.h>
+#include <sys/wait.h>
+#include <time.h>
+#include <unistd.h>
+
+#define MOST_WAITING 512
+#define MOST_TEXT (1 << 26)
+
+static void expect(int is_so, const char *what, uint64_t found) {
+    if (!is_so) {
+        fprintf(stderr, "flight: %s (%" PRIu64 ")\n", what, found);
+        exit(1);
+    }
+}
+
+static uint64_t word_of(uint64_t *seed) {
+    uint64_t it = *seed += UINT64_C(0x9e3779b97f4a7c15);
+    it = (it ^ (it >> 30)) * UINT64_C(0xbf58476d1ce4e5b9);
+    it = (it ^ (it >> 27)) * UINT64_C(0x94d049bb133111eb);
+    return it ^ (it >> 31);
+}
+
+static uint64_t below(uint64_t *seed, uint64_t most) {
+    return word_of(seed) % most;
+}
+
+/* ---- a queue, and its controller */
+
+struct packet {
+    uint64_t tag, since;
+    uint32_t size, ecn;
+};
+
+struct queue {
+    struct pie_opening opening;
+    struct pie_state pie;
+    struct packet packets[MOST_WAITING];
+    uint64_t first, count, bytes, moment, tag, seed, marked, dropped, refused, changed;
+};
+
+static void open_queue(struct queue *queue, uint64_t seed) {
+    struct pie_opening *opening = &queue->opening;
+    memset(queue, 0, sizeof *queue);
+    queue->seed = seed;
+    pie_default_params(&opening->params);
+    opening->params.target = 1000000 + below(&queue->seed, 1000000);
+    opening->params.t_update = 200000;
+    opening->params.max_burst = below(&queue->seed, 2) * 1000000;
+    opening->params.alpha = 2000;
+    opening->params.beta = 20000;
+    opening->params.limit_bytes = 100000 + below(&queue->seed, 200000);
+    opening->params.dq_threshold = UINT64_C(1024) << below(&queue->seed, 4);
+    opening->moment = below(&queue->seed, 1000);
+    opening->profile = 1 + below(&queue->seed, 2);
+    opening->choices = below(&queue->seed, 16);
+    opening->mode = below(&queue->seed, 2);
+    opening->packets = 1 + below(&queue->seed, MOST_WAITING);
+    opening->tail = 1024;
+    opening->events = UINT64_C(1) << 40;
+    queue->moment = opening->moment;
+    expect(pie_open_with(&queue->pie, &opening->params, opening->moment, (uint32_t)opening->profile, (uint32_t)opening->choices) == 0, "opened", 0);
+}
+
+static uint32_t arrive(struct queue *queue, struct pie_event *event) {
+    uint64_t place = (queue->first + queue->count) % MOST_WAITING;
+    uint32_t answer;
+    event->tag = ++queue->tag;
+    event->size = (uint32_t)(40 + below(&queue->seed, 1461));
+    event->ecn = (uint8_t)below(&queue->seed, 4);
+    event->word = word_of(&queue->seed);
+    if (below(&queue->seed, 50) == 0)
+        event->size = below(&queue->seed, 2) == 0 ? 0 : 70000;
+    answer = pie_arrive_event(&queue->pie, queue->bytes, (uint32_t)(queue->opening.packets - queue->count), event);
+    if (answer == PIE_ENQUEUE || answer == PIE_MARK) {
+        struct packet *packet = &queue->packets[place];
+        packet->tag = event->tag;
+        packet->since = queue->pie.moment;
+        packet->size = event->size;
+        packet->ecn = answer == PIE_MARK ? 3 : event->ecn;
+        queue->count++;
+        queue->bytes += packet->size;
+    }
+    queue->marked += answer == PIE_MARK;
+    queue->dropped += answer == PIE_EARLY;
+    return answer;
+}
+
+static uint32_t depart(struct queue *queue, struct pie_event *event) {
+    struct packet *packet = &queue->packets[queue->first];
+    if (queue->count == 0)
+        return pie_empty_event(&queue->pie, event);
+    event->tag = packet->tag;
+    event->size = packet->size;
+    event->ecn = (uint8_t)packet->ecn;
+    queue->first = (queue->first + 1) % MOST_WAITING;
+    queue->count--;
+    queue->bytes -= packet->size;
+    return pie_depart_event(&queue->pie, queue->bytes, packet->since, event);
+}
+
+static uint32_t change(struct queue *queue, struct pie_event *event) {
+    struct pie_params params = queue->pie.params;
+    params.target = 1000000 + below(&queue->seed, 1000000);
+    params.beta = below(&queue->seed, 1000001);
+    params.dq_threshold = UINT64_C(1024) << below(&queue->seed, 7);
+    params.mark_ecnth = below(&queue->seed, 2) * PIE_ONE;
+    params.alpha = below(&queue->seed, 20) == 0 ? 1000001 : 2000;
+    queue->changed++;
+    return pie_set_params_event(&queue->pie, &params, event);
+}
+
+/* One call, and what it was asked and answered. */
+static void step(struct queue *queue, struct pie_event *event) {
+    uint64_t kind = below(&queue->seed, 1000), burst = queue->moment / 40000000 % 2;
+    uint32_t answer;
+    memset(event, 0xa5, sizeof *event);
+    queue->moment += below(&queue->seed, 60000);
+    event->moment = below(&queue->seed, 100) == 0 ? queue->moment - below(&queue->seed, queue->moment + 1) : queue->moment;
+    if (below(&queue->seed, 200) == 0)
+        event->moment = PIE_MAX_MOMENT + 1;
+    event->caller = (uint16_t)word_of(&queue->seed);
+    if (queue->moment >= pie_due(&queue->pie) || kind == 0)
+        answer = pie_update_event(&queue->pie, queue->bytes, event);
+    else if (kind == 1)
+        answer = pie_reset_event(&queue->pie, event);
+    else if (kind < 5)
+        answer = change(queue, event);
+    else if (kind < (burst ? 700u : 350u))
+        answer = arrive(queue, event);
+    else if (event->moment <= PIE_MAX_MOMENT)
+        answer = depart(queue, event);
+    else
+        answer = pie_empty_event(&queue->pie, event);
+    queue->refused += answer > 100;
+}
+
+/* ---- a text, decided again */
+
+struct text {
+    char *bytes;
+    size_t count;
+    int stop_at; /* writes until it answers that it cannot go on */
+};
+
+static int take(void *user, const unsigned char *bytes, size_t count) {
+    struct text *text = (struct text *)user;
+    if (text->stop_at != 0 && --text->stop_at == 0)
+        return 1;
+    expect(text->count + count <= MOST_TEXT, "a text too long for this test", count);
+    memcpy(text->bytes + text->count, bytes, count);
+    text->count += count;
+    return 0;
+}
+
+#define FIELDS 64
+
+struct row {
+    const char *fields[FIELDS];
+    uint64_t count;
+};
+
+/* Takes the next line apart, in place: the bytes of its fields end in 0. Answers where the next begins. */
+static char *next_row(char *at, char *end, struct row *row) {
+    row->count = 0;
+    row->fields[row->count++] = at;
+    for (; at < end && *at != '\n'; at++)
+        if (*at == ',') {
+            *at = 0;
+            if (row->count < FIELDS)
+                row->fields[row->count++] = at + 1;
+        }
+    if (at == end)
+        return NULL;
+    *at = 0;
+    return at + 1;
+}
+
+static uint64_t number(const struct row *row, uint64_t field) {
+    return field < row->count ? strtoull(row->fields[field], NULL, 10) : 0;
+}
+
+static int is_word(const struct row *row, uint64_t field, const char *word) {
+    return field < row->count && strcmp(row->fields[field], word) == 0;
+}
+
+static uint32_t ecn_of(const struct row *row, uint64_t field) {
+    return is_word(row, field, "ect1") ? 1 : is_word(row, field, "ect0") ? 2 : is_word(row, field, "ce") ? 3 : 0;
+}
+
+static void nine(const struct row *row, uint64_t field, struct pie_params *params) {
+    params->target = number(row, field);
+    params->t_update = number(row, field + 1);
+    params->max_burst = number(row, field + 2);
+    params->alpha = number(row, field + 3);
+    params->beta = number(row, field + 4);
+    params->mean_pkt = number(row, field + 5);
+    params->limit_bytes = number(row, field + 6);
+    params->mark_ecnth = number(row, field + 7);
+    params->dq_threshold = number(row, field + 8);
+}
+
+struct again {
+    struct pie_state pie;
+    struct pie_stats stats;
+    struct packet *packets;
+    uint64_t first, count, bytes, limit, events;
+};
+
+/* The state of a record that resumes. */
+static int resume(const struct row *row, struct again *again) {
+    struct pie_state *pie = &again->pie;
+    memset(again, 0, sizeof *again);
+    if (!is_word(row, 0, "resume") || row->count != 60)
+        return 0;
+    nine(row, 20, &pie->params);
+    pie->profile = number(row, 1);
+    pie->choices = (is_word(row, 2, "stamp") ? 1u : 0u) + (is_word(row, 3, "random") ? 2u : 0u) + (is_word(row, 4, "uncapped") ? 4u : 0u) +
+                   (is_word(row, 5, "scaled") ? 8u : 0u);
+    again->limit = number(row, 8);
+    again->events = number(row, 29);
+    again->count = number(row, 31);
+    again->bytes = number(row, 32);
+    pie->moment = number(row, 33);
+    pie->prob = number(row, 34);
+    pie->old_delay = number(row, 35);
+    pie->accu = number(row, 36);
+    pie->burst = number(row, 37);
+    pie->last = number(row, 38);
+    pie->average = number(row, 39);
+    pie->measuring = number(row, 40);
+    pie->cycle_start = number(row, 41);
+    pie->cycle_count = number(row, 42);
+    pie->waited = number(row, 43);
+    pie->active = number(row, 44);
+    again->stats.arrivals = number(row, 45);
+    again->stats.left = number(row, 51);
+    return pie_check_state(pie) == PIE_DONE && is_word(row, 30, "");
+}
+
+/* Makes the call of a record, and compares what the library then writes with the line. */
+static int is_next(struct again *again, const struct row *row, const char *line) {
+    struct pie_event event;
+    struct pie_params params;
+    unsigned char bytes[PIE_RECORD_ROOM];
+    size_t count;
+    uint32_t answer;
+    memset(&event, 0, sizeof event);
+    event.caller = (uint16_t)number(row, 1);
+    event.moment = number(row, 2);
+    if (is_word(row, 0, "arrive")) {
+        event.tag = number(row, 3);
+        event.size = (uint32_t)number(row, 4);
+        event.ecn = (uint8_t)ecn_of(row, 5);
+        event.word = number(row, 6);
+        answer = pie_arrive_event(&again->pie, again->bytes, (uint32_t)(again->limit - again->count), &event);
+        if (answer == PIE_ENQUEUE || answer == PIE_MARK) {
+            struct packet *packet = &again->packets[again->first + again->count++];
+            packet->tag = event.tag;
+            packet->since = again->pie.moment;
+            packet->size = event.size;
+            packet->ecn = answer == PIE_MARK ? 3 : event.ecn;
+            again->bytes += event.size;
+        }
+    } else if (is_word(row, 0, "depart") && again->count == 0) {
+        answer = pie_empty_event(&again->pie, &event);
+    } else if (is_word(row, 0, "depart")) {
+        struct packet *packet = &again->packets[again->first++];
+        again->count--;
+        again->bytes -= packet->size;
+        event.tag = packet->tag;
+        event.size = packet->size;
+        event.ecn = (uint8_t)packet->ecn;
+        answer = pie_depart_event(&again->pie, again->bytes, packet->since, &event);
+    } else if (is_word(row, 0, "update")) {
+        answer = pie_update_event(&again->pie, again->bytes, &event);
+    } else if (is_word(row, 0, "reset")) {
+        answer = pie_reset_event(&again->pie, &event);
+    } else if (is_word(row, 0, "params")) {
+        nine(row, 3, &params);
+        answer = pie_set_params_event(&again->pie, &params, &event);
+    } else {
+        return 0;
+    }
+    count = event.kind == PIE_EVENT_PARAMS ? pie_write_params(&event, &params, bytes, sizeof bytes) : pie_write_event(&event, bytes, sizeof bytes);
+    again->events++;
+    return answer <= 100 && count != 0 && memcmp(bytes, line, count) == 0;
+}
+
+/* Decides a text again: answers the number of the last event, and 0 where an event differs or the text is none; `first` is the number of events
+ * before it. */
+static uint64_t decide_again(const struct text *text, uint64_t *first) {
+    char *copy = (char *)malloc(text->count + 1), *at, *end = copy + text->count;
+    struct again again;
+    struct row row;
+    uint64_t i, bytes = 0, found = 0;
+    memcpy(copy, text->bytes, text->count);
+    at = next_row(copy, end, &row);
+    again.packets = NULL;
+    if (at == NULL || !resume(&row, &again))
+        goto done;
+    *first = again.events;
+    again.packets = (struct packet *)calloc(text->count / 8 + again.count + 1, sizeof *again.packets);
+    for (i = 0; i < again.count; i++) {
+        at = next_row(at, end, &row);
+        if (at == NULL || !is_word(&row, 0, "queued") || row.count != 5)
+            goto done;
+        again.packets[i].tag = number(&row, 1);
+        again.packets[i].size = (uint32_t)number(&row, 2);
+        again.packets[i].ecn = ecn_of(&row, 3);
+        again.packets[i].since = number(&row, 4);
+        bytes += again.packets[i].size;
+    }
+    if (bytes != again.bytes)
+        goto done;
+    while (at < end) {
+        const char *line = text->bytes + (at - copy);
+        at = next_row(at, end, &row);
+        if (at == NULL || !is_next(&again, &row, line))
+            goto done;
+    }
+    found = again.events;
+done:
+    free(again.packets);
+    free(copy);
+    return found;
+}
+
+/* ---- random events, and dumps at random places */
+
+static struct text text;
+static uint64_t dumps, changes; /* that were tried */
+
+/* Dumps, decides again, and answers the number of the last event. */
+static uint64_t dump(const void *memory, size_t bytes, void *scratch, uint64_t *first) {
+    uint64_t last;
+    int answer;
+    text.count = 0;
+    text.stop_at = 0;
+    answer = pie_flight_dump(memory, bytes, scratch, take, &text);
+    expect(answer == PIE_FLIGHT_DONE, "a dump answers", (uint64_t)answer);
+    last = decide_again(&text, first);
+    if (last == 0 && text.count > 0 && *first == 0 && memchr(text.bytes, '\n', text.count) == text.bytes + text.count - 1)
+        return 0;
+    if (last == 0) {
+        FILE *file = fopen("flight.text", "w");
+        fwrite(text.bytes, 1, text.count, file);
+        fclose(file);
+    }
+    expect(last != 0, "a text differs; it is in flight.text", dumps);
+    dumps++;
+    return last;
+}
+
+static void *aligned(size_t bytes) {
+    void *memory = NULL;
+    expect(posix_memalign(&memory, 64, bytes) == 0, "no memory", bytes);
+    memset(memory, 0x5a, bytes);
+    return memory;
+}
+
+/* A text differs where the last byte of an event's record is changed, which is of what was answered. */
+static void change_a_byte(uint64_t *seed) {
+    uint64_t at = below(seed, text.count), start, first;
+    char was;
+    while (at + 1 < text.count && text.bytes[at + 1] != '\n')
+        at++;
+    for (start = at; start > 0 && text.bytes[start - 1] != '\n'; start--)
+        ;
+    was = text.bytes[at];
+    if (at + 1 >= text.count || was == '\n' || start == 0 || text.bytes[start] == 'q')
+        return;
+    text.bytes[at] = (char)(was == '9' || was == 'z' ? was - 1 : was + 1);
+    expect(decide_again(&text, &first) == 0, "a changed answer isn't found", at);
+    text.bytes[at] = was;
+    changes++;
+}
+
+static void random_events(uint64_t seed, uint64_t events) {
+    struct queue queue;
+    struct pie_flight flight;
+    struct pie_event event;
+    uint64_t wanted = 1 + below(&seed, below(&seed, 2) == 0 ? 40 : 3000), number_of_events = 0, first = 0, last, i;
+    size_t bytes;
+    void *memory, *scratch;
+    open_queue(&queue, word_of(&seed));
+    bytes = pie_flight_bytes(wanted, queue.opening.packets);
+    memory = aligned(bytes);
+    scratch = aligned(bytes);
+    expect(pie_flight_open(&flight, memory, bytes, wanted, &queue.opening, &queue.pie), "a recorder opens", bytes);
+    for (i = 0; i < events; i++) {
+        step(&queue, &event);
+        pie_flight_keep(&flight, &queue.pie, &event);
+        number_of_events += event.answer <= 100;
+        expect(flight.count == number_of_events && flight.packets == queue.count && flight.bytes == queue.bytes, "counted otherwise", i);
+        if (below(&seed, 400) == 0) {
+            last = dump(memory, bytes, below(&seed, 2) == 0 ? scratch : NULL, &first);
+            expect(last == number_of_events || (last == 0 && number_of_events == 0), "not the last event", last);
+            expect(first == 0 || last - first >= wanted, "fewer events than wanted", last - first);
+            expect(last - first <= wanted + 2 * (wanted / 8 + 1), "more events than there is room for", last - first);
+            if (last != 0)
+                change_a_byte(&seed);
+        }
+    }
+    expect(events < 20000 || (queue.refused > 0 && queue.changed > 0), "no refusals, and no parameters", queue.refused);
+    free(memory);
+    free(scratch);
+}
+
+/* What is refused, and what a writer answers that stops. */
+static void refusals(void) {
+    struct queue queue;
+    struct pie_flight flight;
+    struct pie_opening other;
+    size_t bytes = pie_flight_bytes(100, 50);
+    unsigned char *memory = (unsigned char *)aligned(bytes + 8);
+    uint64_t i;
+    open_queue(&queue, 1);
+    queue.opening.packets = 50;
+    expect(pie_flight_bytes(0, 50) == 0 && pie_flight_bytes(100, 0) == 0 && pie_flight_bytes(100, (1 << 20) + 1) == 0, "sizes out of range", 0);
+    expect(!pie_flight_open(&flight, memory, bytes - 8, 100, &queue.opening, &queue.pie), "opened with too little memory", 0);
+    expect(!pie_flight_open(&flight, memory + 4, bytes, 100, &queue.opening, &queue.pie), "opened where it isn't aligned", 0);
+    other = queue.opening;
+    other.events = 0;
+    expect(!pie_flight_open(&flight, memory, bytes, 100, &other, &queue.pie), "opened with limits out of range", 0);
+    other = queue.opening;
+    other.profile = 3 - other.profile;
+    expect(!pie_flight_open(&flight, memory, bytes, 100, &other, &queue.pie), "opened with another profile than the state's", 0);
+    expect(memory[0] == 0x5a && memory[bytes - 1] == 0x5a, "a refused opening writes", memory[0]);
+    expect(pie_flight_dump(memory, bytes, NULL, take, &text) == PIE_FLIGHT_NONE, "dumped what is no recorder's", 0);
+    expect(pie_flight_open(&flight, memory, bytes, 100, &queue.opening, &queue.pie), "a recorder opens", bytes);
+    for (i = 0; i < 1000; i++) {
+        struct pie_event event;
+        step(&queue, &event);
+        pie_flight_keep(&flight, &queue.pie, &event);
+    }
+    expect(pie_flight_dump(memory, bytes - 8, NULL, take, &text) == PIE_FLIGHT_NONE, "dumped what is cut short", 0);
+    text.count = 0;
+    text.stop_at = 2;
+    expect(pie_flight_dump(memory, bytes, NULL, take, &text) == PIE_FLIGHT_STOPPED, "a writer that stops", text.count);
+    free(memory);
+}
+
+/* Memory that is damaged: whatever is in it, a dump ends and touches nothing else. */
+static void damaged(uint64_t seed, uint64_t rounds) {
+    struct queue queue;
+    struct pie_flight flight;
+    struct pie_event event;
+    size_t bytes = pie_flight_bytes(60, 40);
+    uint64_t *memory = (uint64_t *)aligned(bytes), *copy = (uint64_t *)aligned(bytes), i, counts[5] = {0, 0, 0, 0, 0};
+    open_queue(&queue, seed);
+    queue.opening.packets = 40;
+    expect(pie_flight_open(&flight, memory, bytes, 60, &queue.opening, &queue.pie), "a recorder opens", bytes);
+    for (i = 0; i < 500; i++) {
+        step(&queue, &event);
+        pie_flight_keep(&flight, &queue.pie, &event);
+    }
+    for (i = 0; i < rounds; i++) {
+        uint64_t words = 1 + below(&seed, 4), at;
+        memcpy(copy, memory, bytes);
+        for (; words != 0; words--) {
+            at = below(&seed, below(&seed, 2) == 0 ? (uint64_t)PIE_FLIGHT_HEAD : bytes / 8);
+            copy[at] = below(&seed, 2) == 0 ? word_of(&seed) >> below(&seed, 64) : copy[at] ^ (UINT64_C(1) << below(&seed, 64));
+        }
+        text.count = 0;
+        text.stop_at = 2000;
+        counts[pie_flight_dump(copy, bytes, NULL, take, &text)]++;
+    }
+    expect(counts[PIE_FLIGHT_DONE] > 0 && counts[PIE_FLIGHT_NONE] > 0 && counts[PIE_FLIGHT_BROKEN] > 0, "damage of each kind", counts[0]);
+    free(memory);
+    free(copy);
+}
+
+/* ---- a writer and a thread that dumps */
+
+static struct queue shared_queue;
+static struct pie_flight shared_flight;
+static PIE_RING_WORD is_over, is_enough; /* the writer has ended; it may end */
+static uint64_t shared_events;
+
+static void *write_all(void *unused) {
+    struct pie_event event;
+    uint64_t i;
+    (void)unused;
+    for (i = 0; i < shared_events || PIE_RING_LOAD(is_enough) == 0; i++) {
+        step(&shared_queue, &event);
+        pie_flight_keep(&shared_flight, &shared_queue.pie, &event);
+    }
+    PIE_RING_STORE(is_over, 1);
+    return NULL;
+}
+
+static void threads(uint64_t seed, uint64_t events) {
+    pthread_t writer;
+    uint64_t first = 0, last, before = 0, tries = 0, gone = 0, wanted = 20000;
+    size_t bytes;
+    void *memory, *scratch;
+    open_queue(&shared_queue, seed);
+    bytes = pie_flight_bytes(wanted, shared_queue.opening.packets);
+    memory = aligned(bytes);
+    scratch = aligned(bytes);
+    expect(pie_flight_open(&shared_flight, memory, bytes, wanted, &shared_queue.opening, &shared_queue.pie), "a recorder opens", bytes);
+    shared_events = events;
+    PIE_RING_STORE(is_over, 0);
+    PIE_RING_STORE(is_enough, 0);
+    expect(pthread_create(&writer, NULL, write_all, NULL) == 0, "no thread", 0);
+    while (!PIE_RING_LOAD(is_over)) {
+        int answer;
+        text.count = 0;
+        text.stop_at = 0;
+        answer = pie_flight_dump(memory, bytes, scratch, take, &text);
+        tries++;
+        if (answer == PIE_FLIGHT_GONE) {
+            gone++;
+            continue;
+        }
+        PIE_RING_STORE(is_enough, tries - gone >= 5);
+        expect(answer == PIE_FLIGHT_DONE, "a dump beside the writer answers", (uint64_t)answer);
+        last = decide_again(&text, &first);
+        expect(last >= before || last == 0, "a dump is older than the one before", last);
+        expect(last != 0 || before == 0, "a text beside the writer differs", tries);
+        before = last;
+    }
+    pthread_join(writer, NULL);
+    last = dump(memory, bytes, NULL, &first);
+    expect(tries - gone > 3, "too few dumps beside the writer", tries - gone);
+    events = shared_flight.count;
+    printf("flight: %" PRIu64 " dumps beside a writer of %" PRIu64 " events, %" PRIu64 " of them too late\n", tries, events, gone);
+    free(memory);
+    free(scratch);
+}
+
+/* ---- a process that is killed */
+
+static void killed(uint64_t seed, uint64_t rounds) {
+    uint64_t first = 0, last, sum = 0, round;
+    for (round = 0; round < rounds; round++) {
+        struct timespec pause = {0, (long)below(&seed, 20000000)};
+        uint64_t wanted = 1 + below(&seed, 2000);
+        size_t bytes = pie_flight_bytes(wanted, MOST_WAITING);
+        void *memory = mmap(NULL, bytes, PROT_READ | PROT_WRITE, MAP_SHARED | MAP_ANONYMOUS, -1, 0);
+        pid_t child;
+        int status;
+        open_queue(&shared_queue, word_of(&seed));
+        expect(pie_flight_open(&shared_flight, memory, bytes, wanted, &shared_queue.opening, &shared_queue.pie), "a recorder opens", bytes);
+        child = fork();
+        if (child == 0) {
+            shared_events = UINT64_MAX;
+            write_all(NULL);
+            _exit(0);
+        }
+        nanosleep(&pause, NULL);
+        kill(child, SIGKILL);
+        waitpid(child, &status, 0);
+        last = dump(memory, bytes, NULL, &first);
+        expect(first == 0 || last - first >= wanted, "fewer events than wanted of a killed process", last - first);
+        sum += last;
+        munmap(memory, bytes);
+    }
+    expect(sum > 1000, "the killed processes kept nothing", sum);
+    printf("flight: %" PRIu64 " processes killed after %" PRIu64 " events in all, each text is whole\n", rounds, sum);
+}
+
+/* ---- texts for an audit */
+
+static void write_file(const char *folder, uint64_t round, const char *ending) {
+    char name[4096];
+    FILE *file;
+    snprintf(name, sizeof name, "%s/%" PRIu64 ".%s", folder, round, ending);
+    file = fopen(name, "w");
+    expect(file != NULL && fwrite(text.bytes, 1, text.count, file) == text.count && fclose(file) == 0, "not written", round);
+}
+
+/* Changes the verdict of the last arrival. */
+static int change_a_verdict(void) {
+    size_t at = text.count - 1;
+    while (at > 0 && (text.bytes[at] != '\n' || strncmp(text.bytes + at + 1, "arrive,", 7) != 0 || at + 8 >= text.count))
+        at--;
+    if (at == 0)
+        return 0;
+    for (at++; text.bytes[at] != '\n'; at++)
+        ;
+    if (text.bytes[at - 1] == 'e') /* enqueue */
+        memcpy(text.bytes + at - 5, "ckets", 5), memcpy(text.bytes + at - 7, "pa", 2);
+    else
+        return 0;
+    return 1;
+}
+
+static void texts(uint64_t seed, const char *folder) {
+    uint64_t round, first, last, events;
+    for (round = 0; round < 20; round++) {
+        struct queue queue;
+        struct pie_flight flight;
+        struct pie_event event;
+        uint64_t wanted = 1 + below(&seed, 500);
+        size_t bytes;
+        void *memory;
+        open_queue(&queue, word_of(&seed));
+        bytes = pie_flight_bytes(wanted, queue.opening.packets);
+        memory = aligned(bytes);
+        expect(pie_flight_open(&flight, memory, bytes, wanted, &queue.opening, &queue.pie), "a recorder opens", bytes);
+        for (events = 200 + below(&seed, 5000); events != 0; events--) {
+            step(&queue, &event);
+            pie_flight_keep(&flight, &queue.pie, &event);
+        }
+        last = dump(memory, bytes, NULL, &first);
+        write_file(folder, round, "history");
+        if (change_a_verdict())
+            write_file(folder, round, "changed");
+        printf("%" PRIu64 " %" PRIu64 "\n", round, last);
+        free(memory);
+    }
+}
+
+/* Decides the text of a file again. */
+static int decide(const char *name) {
+    FILE *file = fopen(name, "r");
+    uint64_t first, last;
+    expect(file != NULL, "no such file", 0);
+    text.count = fread(text.bytes, 1, MOST_TEXT, file);
+    fclose(file);
+    last = decide_again(&text, &first);
+    if (last == 0)
+        printf("differs\n");
+    else
+        printf("clean,%" PRIu64 "\n", last);
+    return last == 0;
+}
+
+int main(int count, char **words) {
+    uint64_t seed = count >= 3 ? strtoull(words[count == 4 ? 2 : 1], NULL, 10) : 1, events = count == 3 ? strtoull(words[2], NULL, 10) : 100000, i;
+    text.bytes = (char *)malloc(MOST_TEXT);
+    if (count == 3 && strcmp(words[1], "decide") == 0)
+        return decide(words[2]);
+    if (count == 4) {
+        texts(seed, words[3]);
+        return 0;
+    }
+    refusals();
+    for (i = 0; i < 20; i++)
+        random_events(seed * 1000 + i, events / 10);
+    damaged(seed, events / 100);
+    killed(seed, 20);
+    threads(seed, events * 10);
+    printf("flight: %" PRIu64 " dumps, each decided again, and %" PRIu64 " with an answer changed\n", dumps, changes);
+    expect(changes > dumps / 4, "too few changes", changes);
+    free(text.bytes);
+    return 0;
+}

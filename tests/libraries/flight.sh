@@ -1,0 +1,91 @@
+#!/usr/bin/env bash
+# Builds the test of include/pie_flight.h (flight.c beside this) as C11, C++11 and C++17 with warnings as errors, and with the thread sanitizer and
+# the address and undefined behaviour sanitizers, and runs it: random events through the library's calls with dumps at random places, each of
+# which is decided again; dumps beside a writer; processes that are killed; damaged memory. Then six wrong recorders, each of which is found.
+# What cannot be tried here is told on a line that begins with NOT RUN.
+#
+# usage: tests/libraries/flight.sh [EVENTS]      EVENTS: 100000 where none are given
+# needs: library
+set -u
+cd "$(dirname "$0")/../.."
+script=tests/libraries/flight.sh
+events=${1:-100000}
+cc=${CC:-cc}
+cxx=${CXX:-c++}
+lib=$PWD/crates/pie_c/out/libpie_c.a
+warnings="-Wall -Wextra -Wconversion -Wshadow -pedantic -Werror"
+work=$(mktemp -d)
+trap 'rm -rf "$work"' EXIT
+failed=0
+if ! command -v "$cc" > /dev/null; then
+    echo "NOT RUN: $script: no C compiler ($cc) here"
+    exit 0
+fi
+
+# try NAME CMD..: builds an object by this command, links and runs it
+try() {
+    local name=$1
+    shift
+    if ! "$@" -c -o "$work/flight.o" tests/libraries/flight.c || ! "$@" -o "$work/flight" -x none "$work/flight.o" "$lib" -pthread; then
+        echo "$script: $name: not built"
+        failed=1
+    elif ! (cd "$work" && ./flight 1 "$events") > "$work/said" 2>&1; then
+        echo "$script: $name:"
+        head -n 20 "$work/said"
+        failed=1
+    else
+        sed "s/\$/ ($name)/" "$work/said"
+    fi
+}
+
+# has FLAGS: whether this compiler has these
+has() {
+    echo 'int main(void) { return 0; }' > "$work/empty.c"
+    # shellcheck disable=SC2086
+    "$cc" $1 -o "$work/empty" "$work/empty.c" > /dev/null 2>&1 && "$work/empty"
+}
+
+# shellcheck disable=SC2086
+try "C11" "$cc" -std=c11 -O2 $warnings -Iinclude
+if command -v "$cxx" > /dev/null; then
+    for standard in c++11 c++17; do
+        # shellcheck disable=SC2086
+        try "$standard" "$cxx" -x c++ -std=$standard -O2 $warnings -Iinclude
+    done
+else
+    echo "NOT RUN: $script: no C++ compiler ($cxx) here"
+fi
+if has "-fsanitize=address,undefined"; then
+    try "address and undefined behaviour sanitizers" "$cc" -std=c11 -O1 -g -fsanitize=address,undefined -fno-sanitize-recover=all -Iinclude
+else
+    echo "NOT RUN: $script: this compiler has no address sanitizer"
+fi
+if has "-fsanitize=thread"; then
+    try "thread sanitizer" "$cc" -std=c11 -O1 -g -fsanitize=thread -Iinclude
+else
+    echo "NOT RUN: $script: this compiler has no thread sanitizer"
+fi
+
+# wrong NAME OLD NEW: a header with this change is found
+wrong() {
+    cp include/pie.h include/pie_ring.h "$work"
+    python3 - "$2" "$3" "$work/pie_flight.h" <<'END' || exit 1
+import sys
+old, new, to = sys.argv[1:]
+text = open("include/pie_flight.h").read()
+assert old in text, old
+open(to, "w").write(text.replace(old, new, 1))
+END
+    "$cc" -std=c11 -O2 -I"$work" -o "$work/wrong" tests/libraries/flight.c "$lib" -pthread || exit 1
+    if (cd "$work" && timeout 120 ./wrong 1 50000) > "$work/said" 2>&1; then
+        echo "$script: not found: $1"
+        failed=1
+    fi
+}
+wrong "a snapshot one event late" "if (flight->count == flight->next)" "if (flight->count == flight->next + 1)"
+wrong "an arrival's moment as it was handed in" "pie_flight_came(flight, event, state->moment, event->ecn)" "pie_flight_came(flight, event, event->moment, event->ecn)"
+wrong "a marked packet that is queued as it came" "pie_flight_came(flight, event, state->moment, PIE_CE)" "pie_flight_came(flight, event, state->moment, event->ecn)"
+wrong "packets that are overwritten too soon" "layout->queued = layout->events + packets;" "layout->queued = 1 + packets;"
+wrong "a snapshot of the newest alone" "count >= oldest)" "count <= oldest && found != NULL)"
+wrong "the numbers begun anew" "PIE_RING_LOAD(snapshot[PIE_FLIGHT_COUNT]), PIE_UNKNOWN" "UINT64_C(0), PIE_UNKNOWN"
+exit $failed

@@ -1,0 +1,84 @@
+#!/usr/bin/env python3
+"""Audits texts that go on from the middle of a history: random histories, in each choice of the optional elements, resumed at places all over
+them by tests/shared/reference_resumed.py, which has the numbers from look-backs over the whole. Each is clean, with the number of the whole's last
+event. Then the same texts with a byte changed, a line left out, or two exchanged: what `pie audit` finds, and the fault that it tells, are those of
+the reference, which decides the events from the numbers alone.
+
+usage: tests/program/resumed.py [PROGRAM [FIRST_SEED [RUNS]]]      PROGRAM: crates/pie/out/pie where none is given
+needs: program
+"""
+import random
+import subprocess
+import sys
+import tempfile
+from pathlib import Path
+
+sys.path.insert(0, str(Path(__file__).resolve().parents[1] / "shared"))
+import reference_resumed  # noqa: E402
+from checks import check, finish  # noqa: E402
+from running import PROGRAM  # noqa: E402
+
+FIRST, RUNS = ([int(word) for word in sys.argv[2:4]] + [1, 16][len(sys.argv[2:4]) :])[:2]
+# How many events a history has at most, and how many places lie between two at which it is resumed.
+EVENTS, STEP = 60, 7
+
+
+def changed(text, chance):
+    """The text with one change, which leaves it a text of records or not."""
+    lines = text.splitlines(keepends=True)
+    kind, place = chance.randrange(4), chance.randrange(len(lines))
+    if kind == 0:
+        at = chance.randrange(len(text))
+        return text[:at] + chance.choice("0123456789,x") + text[at + 1 :]
+    if kind == 1:
+        return "".join(lines[:place] + lines[place + 1 :])
+    if kind == 2:
+        other = chance.randrange(len(lines))
+        lines[place], lines[other] = lines[other], lines[place]
+        return "".join(lines)
+    fields = lines[0].rstrip("\n").split(",")
+    at = chance.randrange(1, len(fields))
+    fields[at] = chance.choice(["0", "1", "65536", str(2**64 - 1), str(2**64), "", str(chance.randrange(2**20))])
+    return "".join([",".join(fields) + "\n", *lines[1:]])
+
+
+def audited(texts):
+    """What one run of `pie audit` over files finds of each of these texts, and what it tells of it on standard error."""
+    with tempfile.TemporaryDirectory() as folder:
+        for place, text in enumerate(texts):
+            (Path(folder) / str(place)).write_bytes(text.encode())
+        ran = subprocess.run([PROGRAM, "audit", *map(str, range(len(texts)))], cwd=folder, capture_output=True, text=True, check=False)
+        found = dict(line.split(": ", 1) for line in ran.stdout.splitlines())
+        told = dict(line.removeprefix("pie: ").split(": ", 1) for line in ran.stderr.splitlines())
+        return ran.returncode, [(found.get(str(place), ""), told.get(str(place), "")) for place in range(len(texts))]
+
+
+def wanted(text):
+    """The same by the reference."""
+    _, output, error = reference_resumed.audit(text)
+    return output.strip(), error.strip().removeprefix("pie: ")
+
+
+def main():
+    texts, damaged, tried = 0, 0, {"clean": 0, "differs": 0, "": 0}
+    for seed in range(FIRST, FIRST + RUNS):
+        book = reference_resumed.random_book(seed, EVENTS)
+        places = range(seed % STEP, len(book.events) + 1, STEP)
+        whole = [reference_resumed.excerpt(book, n, n % 2 == 0) for n in places]
+        status, found = audited(whole)
+        check(status == 0, f"seed {seed}: status {status} of texts that are clean")
+        for n, got in zip(places, found):
+            check(got == (f"clean,{len(book.events)}", ""), f"seed {seed}, resumed after event {n}: {got}")
+        chance = random.Random(seed)
+        wrong = [changed(text, chance) for text in whole for _ in range(4)]
+        for text, got in zip(wrong, audited(wrong)[1]):
+            want = wanted(text)
+            check(got == want, f"seed {seed}: {got} of a text of which the reference says {want}:\n{text[:600]}")
+            tried[want[0].split(",")[0]] += 1
+        texts, damaged = texts + len(whole), damaged + len(wrong)
+    check(tried["differs"] > 0 and tried[""] > 0, f"the changes showed too little: {tried}")
+    print(f"{texts} texts that go on, {damaged} with a change: {tried['clean']} of these clean, {tried['differs']} differ, {tried['']} with a fault")
+    finish()
+
+
+main()

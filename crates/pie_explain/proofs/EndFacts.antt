@@ -255,7 +255,7 @@ abbrev pub Opens : Opening → Option Coming → List ℕ → Type 0
 Opens opening coming text = (history_opening (records_of text) ≡ Ok opening) × (coming ≡ Some (coming_after 4294967296 (records_of text)))
 
 -- of a text that opens, each event is one of the text
-answer-opening : (opening : Opening) (choice : Choice) (lines : List Line) (fault : Option TraceFault)
+pub answer-opening : (opening : Opening) (choice : Choice) (lines : List Line) (fault : Option TraceFault)
     → answer_since from_opening choice opening lines fault ≡ answer_by choice opening lines fault
 answer-opening opening choice lines (Some why) = refl
 answer-opening opening choice lines None = rw (since-opening opening choice lines) refl

@@ -1,5 +1,6 @@
 mod Examples
 pub mod EndFacts
+pub mod EitherFacts
 pub mod ExplainFacts
 pub mod ExplanationFacts
 pub mod HeldFacts

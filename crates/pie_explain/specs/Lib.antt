@@ -7,3 +7,4 @@ pub mod Words
 pub mod Report
 pub mod Output
 pub mod Answer
+pub mod Either

@@ -8,6 +8,7 @@
 #![tactic(auto)]
 
 pub mod choice;
+mod either;
 pub mod explainer;
 pub mod explanation;
 pub mod fault;
@@ -21,6 +22,7 @@ pub mod units;
 pub mod which;
 
 pub use choice::Choice;
+pub use either::explain_either;
 pub use explainer::{Form, explain, explain_after};
 pub use explanation::{Explained, Explanation};
 pub use fault::ExplainFault;

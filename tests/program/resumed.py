@@ -2,7 +2,8 @@
 """Audits texts that go on from the middle of a history: random histories, in each choice of the optional elements, resumed at places all over
 them by tests/shared/reference_resumed.py, which has the numbers from look-backs over the whole. Each is clean, with the number of the whole's last
 event. Then the same texts with a byte changed, a line left out, or two exchanged: what `pie audit` finds, and the fault that it tells, are those of
-the reference, which decides the events from the numbers alone.
+the reference, which decides the events from the numbers alone. Each text is explained too, as CSV and summed up: its records are those of the whole
+history's explanations, number for number, after the event that it goes on from; one that doesn't tell what set the probability says so.
 
 usage: tests/program/resumed.py [PROGRAM [FIRST_SEED [RUNS]]]      PROGRAM: crates/pie/out/pie where none is given
 needs: program
@@ -53,6 +54,43 @@ def audited(texts):
         return ran.returncode, [(found.get(str(place), ""), told.get(str(place), "")) for place in range(len(texts))]
 
 
+def explained(text, *words):
+    """The records of what `pie explain` writes of a text, and its status."""
+    ran = subprocess.run([PROGRAM, "explain", *words, "--csv"], input=text, capture_output=True, text=True, check=False)
+    return ran.returncode, [line.split(",") for line in ran.stdout.splitlines()]
+
+
+def whole_text(book):
+    """The history that a book tells, from its opening."""
+    (_, *opening), *_ = reference_resumed.resumed_at(book, 0)
+    return "".join(reference_resumed.text_of(row) for row in [["open3", *opening[:19]], *reference_resumed.history_rows(book, 0)])
+
+
+def check_explanations(seed, book, n, text, is_known, whole):
+    """Whether a text that goes on after n events is explained as the whole history, of which these are the records."""
+    header, *records = whole
+    setter = header.index("set_by")
+    wanted_rows = [header]
+    for record in records:
+        if int(record[0]) > n:
+            is_told = is_known or record[setter] and int(record[setter]) > n
+            wanted_rows.append(record if is_told else [*record[:setter], "", *record[setter + 1 :]])
+    got = explained(text, "--all")
+    check(got == (0, wanted_rows), f"seed {seed}, resumed after event {n}: explained otherwise than the whole")
+    if n:
+        status, rows = explained(text, "--event", str(n))
+        check((status, rows) == (1, [header]), f"seed {seed}, resumed after event {n}: --event {n} ended with {status}")
+    if len(book.events) > n:
+        at = str(n + 1)
+        check(explained(text, "--event", at) == (0, wanted_rows[:2]), f"seed {seed}, resumed after event {n}: --event {at}")
+        moment = records[n][header.index("effective_moment")]
+        same = explained(whole_text(book), "--summary", "--from", f"{moment}ns")
+        first = next(place for place, record in enumerate(records) if int(record[header.index("effective_moment")]) >= int(moment))
+        if first == n:
+            check(explained(text, "--summary", "--from", f"{moment}ns") == same, f"seed {seed}, resumed after event {n}: summed up otherwise")
+    return len(wanted_rows) - 1
+
+
 def wanted(text):
     """The same by the reference."""
     _, output, error = reference_resumed.audit(text)
@@ -60,7 +98,7 @@ def wanted(text):
 
 
 def main():
-    texts, damaged, tried = 0, 0, {"clean": 0, "differs": 0, "": 0}
+    texts, damaged, told, tried = 0, 0, 0, {"clean": 0, "differs": 0, "": 0}
     for seed in range(FIRST, FIRST + RUNS):
         book = reference_resumed.random_book(seed, EVENTS)
         places = range(seed % STEP, len(book.events) + 1, STEP)
@@ -69,6 +107,8 @@ def main():
         check(status == 0, f"seed {seed}: status {status} of texts that are clean")
         for n, got in zip(places, found):
             check(got == (f"clean,{len(book.events)}", ""), f"seed {seed}, resumed after event {n}: {got}")
+        records = explained(whole_text(book), "--all")[1]
+        told += sum(check_explanations(seed, book, n, text, n % 2 == 0, records) for n, text in zip(places, whole))
         chance = random.Random(seed)
         wrong = [changed(text, chance) for text in whole for _ in range(4)]
         for text, got in zip(wrong, audited(wrong)[1]):
@@ -77,7 +117,7 @@ def main():
             tried[want[0].split(",")[0]] += 1
         texts, damaged = texts + len(whole), damaged + len(wrong)
     check(tried["differs"] > 0 and tried[""] > 0, f"the changes showed too little: {tried}")
-    print(f"{texts} texts that go on, {damaged} with a change: {tried['clean']} of these clean, {tried['differs']} differ, {tried['']} with a fault")
+    print(f"{texts} texts that go on, {told} events of them explained; {damaged} with a change: {tried['clean']} of these clean, {tried['differs']} differ, {tried['']} with a fault")
     finish()
 
 

@@ -1,10 +1,8 @@
 //! `pie explain`: which events the words choose, and how explaining them ends.
 ghost use Rattle.std.specs.Prelude.{◌≡◌, ◌≤◌, Err, IfSome};
 ghost use Rattle.clap.specs.Words.{found_of, rows_of};
-ghost use Rattle.std.specs.Io.KnownBytes.{Appends};
 ghost use Rattle.pie_record.specs.Text.{records_of};
-ghost use Rattle.pie_explain.specs.Answer.{IsTold, answer};
-ghost use Rattle.pie_explain.specs.Output.{output as output_of};
+ghost use Rattle.pie_explain.specs.Either.{ExplainsEither};
 ghost use Rattle.pie_files.specs.Files.{text_given};
 ghost use Rattle.pie_options.specs.Words.{file_in};
 ghost use Rattle.pie_commands.specs.Ends.{status_of};
@@ -14,7 +12,7 @@ ghost use Rattle.pie_commands.specs.ExplainEnds.{EndsExplain, answer_status};
 use crate::end::{DIFFERS, DONE, End, FAULT, fault};
 use crate::screen::{Screen, shows_progress};
 use clap::ArgMatches;
-use pie_explain::{Choice, ExplainFault, Form, Which};
+use pie_explain::{Choice, ExplainFault, Form, Which, explain_either};
 use pie_files::{NamedFiles, reader_of};
 use pie_options::{file, flag, number};
 use pie_progress::Watched;
@@ -196,17 +194,16 @@ fn tell<R: Read + Drop, W: Write>(
     every: Option<u64>,
     form: Form,
 ) -> Result<u64, ExplainFault>
-    ensures answers { IfSome (R.remaining input) (λ text. IsTold result → result ≡ answer choice (records_of text)) }
-    ensures writes { IfSome (R.remaining input) (λ text. IsTold result
-        → Appends (W.contents output.old) (W.contents output.new) (output_of (tale_by summary digest every form) choice (records_of text))) }
+    ensures { IfSome (R.remaining input) (λ text. ExplainsEither choice (tale_by summary digest every form) (records_of text) result
+        (W.contents output.old) (W.contents output.new)) }
 {
     let summaries = Summary { form, every };
     match (summary, digest) {
         (true, true) => {
-            pie_explain::explain(alloc, input, output, choice, Digest { summary: summaries })
+            explain_either(alloc, input, output, choice, Digest { summary: summaries })
         }
-        (true, false) => pie_explain::explain(alloc, input, output, choice, summaries),
-        (false, _) => pie_explain::explain(alloc, input, output, choice, form),
+        (true, false) => explain_either(alloc, input, output, choice, summaries),
+        (false, _) => explain_either(alloc, input, output, choice, form),
     }
 }
 
@@ -237,7 +234,7 @@ fn ended<E: Write>(errors: &mut E, given: Result<u64, ExplainFault>) -> u8
     }
 }
 
-/// `pie explain`: writes what there is to say of the chosen events of a history, up to its first fault and the first event that
+/// `pie explain`: writes what there is to say of the chosen events of a history, or of a text that goes on from the middle of one, up to its first fault and the first event that
 /// differs. Ends with 2 where an event differs, and with 1 where the history has a fault, where the options choose no events, where
 /// no event is the chosen one, and where the reader, the writer or memory fails: each is told on `errors`. So is progress, where it `is_shown`.
 fn explain_input<H: Clock, R: Read + Drop, W: Write, E: Write>(

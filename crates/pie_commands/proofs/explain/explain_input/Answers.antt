@@ -22,5 +22,4 @@ returns-clause-explains g c =
     (subst (λ (choice : Option Choice). IfSome known (λ text. explain_ends choice (tale_of (rows_of (found_of c.args.options.now))) text
     c.ended.result before now)) c.in-Some.ensures
     (subst (λ (told : List Explained → List ℕ). IfSome known (λ text. explain_ends (Some c.in-Some.choice) told text c.ended.result before now)) same
-    (EndsExplain-told c.in-Some.choice tale known c.ended.result before now c.tell-given.result c.ended.ensures c.tell-given.ensures.answers
-    c.tell-given.ensures.writes)))
+    (EndsExplain-told c.in-Some.choice tale known c.ended.result before now c.tell-given.result c.ended.ensures c.tell-given.ensures)))

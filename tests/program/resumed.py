@@ -117,7 +117,8 @@ def main():
             tried[want[0].split(",")[0]] += 1
         texts, damaged = texts + len(whole), damaged + len(wrong)
     check(tried["differs"] > 0 and tried[""] > 0, f"the changes showed too little: {tried}")
-    print(f"{texts} texts that go on, {told} events of them explained; {damaged} with a change: {tried['clean']} of these clean, {tried['differs']} differ, {tried['']} with a fault")
+    print(f"{texts} texts that go on, {told} events of them explained")
+    print(f"{damaged} with a change: {tried['clean']} of these clean, {tried['differs']} differ, {tried['']} with a fault")
     finish()
 
 

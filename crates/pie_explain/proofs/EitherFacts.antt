@@ -93,10 +93,10 @@ excerpt-tells choice whole rows begun result old now e accepted audited told_of 
       (audited opening past (took opening past goes) (goes-on-shows rows begun opening past e goes).1 (tells-same opening past goes tells));
   answers = λ opening past goes tells told.
       rw (same-beginning (resumed_of rows) goes.beginning begun goes.resumed e, excerpt-lines-are rows begun e, excerpt-fault-is rows begun e)
-      (told_of opening past (took opening past goes) (goes-on-shows rows begun opening past e goes).1 (tells-same opening past goes tells) told).answers;
+      (told_so opening past goes tells told).answers;
   writes = λ opening past goes tells told.
       rw (same-beginning (resumed_of rows) goes.beginning begun goes.resumed e, excerpt-lines-are rows begun e)
-      (told_of opening past (took opening past goes) (goes-on-shows rows begun opening past e goes).1 (tells-same opening past goes tells) told).writes;
+      (told_so opening past goes tells told).writes;
 }
   where
     took : (opening : Opening) (past : List Event) → GoesOn rows opening past → opening_refusal opening.limits opening.moment ≡ None
@@ -105,6 +105,12 @@ excerpt-tells choice whole rows begun result old now e accepted audited told_of 
     tells-same : (opening : Opening) (past : List Event) (goes : GoesOn rows opening past) → TellsSetter goes.beginning.set_by opening past
         → TellsSetter begun.set_by opening past
     tells-same opening past goes tells = rw (same-beginning (resumed_of rows) goes.beginning begun goes.resumed e) at tells
+
+    told_so : (opening : Opening) (past : List Event) (goes : GoesOn rows opening past) → TellsSetter goes.beginning.set_by opening past
+        → IsTold result → Told (start_after begun.set_by past) opening choice whole (map Made past)
+        (coming_from Three 4294967296 (begun.read + 1) begun.left) result old now
+    told_so opening past goes tells =
+        told_of opening past (took opening past goes) (goes-on-shows rows begun opening past e goes).1 (tells-same opening past goes tells)
 
 pub resumed-tells : (choice : Choice) (whole : List Explained → List ℕ) (rows : List Row) (begun : Beginning) (left : Option (List Row))
     (coming : Option Coming) (result : Result ℕ ExplainFault) (old now : Option (List ℕ)) → left ≡ Some begun.left

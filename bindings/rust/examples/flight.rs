@@ -1,7 +1,8 @@
 //! A queue with PIE in front of it that keeps its last events in a file, for when it is killed; and their text, which `pie audit` takes as a
 //! history:
 //!
-//!     flight keep FILE    works until it is killed. Another thread writes the text to FILE.history ten times a second
+//!     flight keep FILE    works until it is killed. Another thread writes the text to FILE.history ten times a second. A file that is there
+//!                         already is what an earlier run left: it goes to FILE.before
 //!     flight text FILE    writes the text of what a killed one left
 //!
 //! Its clock and its entropy are made up: 16 Mbit/s into a link of 10 Mbit/s, a third of it with ECN.
@@ -30,21 +31,24 @@ const CALLERS: [u16; 3] = [1, 2, 3]; // the sender, the link, the timer
 fn main() -> Result<(), Box<dyn Error>> {
     let words: Vec<String> = env::args().skip(1).collect();
     match words.iter().map(String::as_str).collect::<Vec<_>>()[..] {
-        ["keep", file] => match keep(Path::new(file))? {},
+        ["keep", file] => match keep(file)? {},
         ["text", file] => Ok(flight::dump_left(&fs::read(file)?, io::stdout().lock())?),
         _ => Err("usage: flight keep FILE, or flight text FILE".into()),
     }
 }
 
 /// Works until it is killed.
-fn keep(file: &Path) -> Result<Infallible, Box<dyn Error>> {
+fn keep(file: &str) -> Result<Infallible, Box<dyn Error>> {
     let params = Params { max_burst: 50_000_000, mark_ecnth: 300_000_000_000, ..Params::default() };
     let limits = Limits { packets: u64::from(RING), tail: 1024, events: 1 << 47 };
     let opening = Opening { params, moment: 0, profile: Profile::One, choices: Choices::default(), mode: Mode::Rolling, limits };
     let mut pie = State::open_with(&params, 0, opening.profile, opening.choices)?;
-    let memory = mapped::new_file(file, flight::words(KEPT, limits.packets).ok_or("out of range")?)?;
+    if Path::new(file).exists() {
+        fs::rename(file, format!("{file}.before"))?;
+    }
+    let memory = mapped::new_file(Path::new(file), flight::words(KEPT, limits.packets).ok_or("out of range")?)?;
     let mut recorder = Flight::open(memory, KEPT, &opening, &pie)?;
-    let history = file.with_extension("history");
+    let history = format!("{file}.history");
     thread::spawn(move || write_now_and_then(memory, &history));
 
     let [sender, link, timer] = CALLERS;
@@ -82,8 +86,8 @@ fn keep(file: &Path) -> Result<Infallible, Box<dyn Error>> {
 }
 
 /// Writes the text of what is kept while the queue works. A text that is there is whole.
-fn write_now_and_then(memory: &[AtomicU64], history: &Path) {
-    let (mut scratch, new) = (Vec::new(), history.with_extension("new"));
+fn write_now_and_then(memory: &[AtomicU64], history: &str) {
+    let (mut scratch, new) = (Vec::new(), format!("{history}.new"));
     loop {
         thread::sleep(Duration::from_millis(100));
         let written = File::create(&new)
@@ -91,7 +95,7 @@ fn write_now_and_then(memory: &[AtomicU64], history: &Path) {
             .and_then(|out| flight::dump(memory, &mut scratch, out))
             .and_then(|()| Ok(fs::rename(&new, history)?));
         if let Err(why) = written {
-            eprintln!("flight: {}: {why}", history.display());
+            eprintln!("flight: {history}: {why}");
         }
     }
 }

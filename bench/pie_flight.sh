@@ -30,14 +30,13 @@ for name, value, unit in (line.split() for line in open(sys.argv[1])):
     values.setdefault(int(packets), {}).setdefault(kind, []).append((float(value), unit))
 load = " ".join(open("/proc/loadavg").read().split()[:2])
 runs = len(values[16]["kept"])
-print(f"load {load} (the last minute, the last five) on {os.cpu_count()} processors; {runs} runs, the least and in brackets the median")
+print(f"load {load} (the last minute, the last five) on {os.cpu_count()} processors; {runs} runs, the least and in brackets the median\n")
 print("| packets that wait | " + " | ".join(title for _, title in COLUMNS) + " |")
 print("|---" * (len(COLUMNS) + 1) + "|")
 for packets, kinds in sorted(values.items()):
-    cells = []
-    for kind, _ in COLUMNS:
-        numbers, unit = [number for number, _ in kinds[kind]], kinds[kind][0][1]
-        cells.append(f"{min(numbers):.1f} {unit} ({statistics.median(numbers):.1f})")
+    found = {kind: (min(runs)[0], statistics.median(number for number, _ in runs), runs[0][1]) for kind, runs in kinds.items()}
+    found["more"] = (found["kept"][0] - found["alone"][0], found["kept"][1] - found["alone"][1], "ns")
+    cells = [f"{least:.1f} {unit} ({median:.1f})" for least, median, unit in (found[kind] for kind, _ in COLUMNS)]
     print(f"| {packets} | " + " | ".join(cells) + " |")
 END_OF_TABLE
 if ! command -v valgrind > /dev/null; then

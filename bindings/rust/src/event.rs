@@ -84,10 +84,12 @@ impl Event {
     }
 
     /// The code that the call answered, where it was refused.
+    #[inline]
     pub(crate) fn refused(&self) -> Option<u32> {
         (self.0.answer > 100).then_some(self.0.answer)
     }
 
+    #[inline]
     pub(crate) fn raw(&self) -> &RawEvent {
         &self.0
     }
@@ -122,6 +124,7 @@ impl ParamsEvent {
 
 impl RawEvent {
     /// Its words in a recorder's memory.
+    #[inline]
     pub(crate) fn words(&self) -> [u64; 8] {
         let RawEvent { moment, tag, word, delay, prob, burst, size, answer, caller, kind, ecn, reserved } = *self;
         let last = u64::from(caller) | u64::from(kind) << 16 | u64::from(ecn) << 24 | u64::from(reserved) << 32;

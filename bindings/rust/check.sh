@@ -1,7 +1,8 @@
 #!/usr/bin/env bash
-# Builds the static library and runs the worked rows, the documentation's examples, the events and the example queue in Rust over it, with no
-# network; and audits the history that the recorded queue writes. Where cargo (1.82 or later) or a C compiler to link by isn't there, a
-# line that begins with NOT RUN says so.
+# Builds the static library and runs the worked rows, the documentation's examples, the events, the flight recorder and the example queues in Rust
+# over it, with no network; and audits the history that the recorded queue writes, and the texts of a queue with a flight recorder: while it works,
+# and after it was killed, when the recorder in C writes the same. Where cargo (1.82 or later) or a C compiler to link by isn't there, a line that
+# begins with NOT RUN says so.
 # needs: library, program
 set -eu
 cd "$(dirname "$0")/../.."
@@ -13,10 +14,12 @@ bindings/c/library.py > /dev/null
 program=$PWD/crates/pie/out/pie
 cd bindings/rust
 cargo test --offline --locked --quiet
-cargo test --offline --locked --quiet --features std
+cargo test --offline --locked --quiet --features std -- --include-ignored
 cargo run --offline --locked --quiet --example queue | tail -n 1
-history=$(mktemp)
-trap 'rm -f "$history"' EXIT
+work=$(mktemp -d)
+working=
+trap '[ -z "$working" ] || kill -KILL "$working" 2> /dev/null || true; rm -rf "$work"' EXIT
+history=$work/history
 cargo run --offline --locked --quiet --features std --example recorded > "$history"
 events=$(grep -c -E '^(arrive|depart|update|reset|params),' "$history")
 found=$("$program" audit < "$history")
@@ -25,3 +28,50 @@ if [ "$found" != "clean,$events" ]; then
     exit 1
 fi
 echo "bindings/rust: the audit finds the recorded queue's history clean ($events events)"
+
+# clean TEXT: audits a text that resumes, and sets found to the number of its last event
+clean() {
+    found=$("$program" audit < "$1")
+    case $found in
+        clean,*) found=${found#clean,} ;;
+        *) echo "bindings/rust/check.sh: a text of the flight recorder is not clean: $found" && exit 1 ;;
+    esac
+}
+
+# is_there FILE: waits for it, half a minute at most
+is_there() {
+    local tries
+    for tries in {1..300}; do
+        [ ! -e "$1" ] || return 0
+        sleep 0.1
+    done
+    echo "bindings/rust/check.sh: the queue with a flight recorder wrote no $1 in $((tries / 10)) seconds"
+    exit 1
+}
+cargo build --offline --locked --quiet --features std --example flight
+example=$(cargo metadata --offline --locked --no-deps --format-version 1 | sed 's/.*"target_directory":"\([^"]*\)".*/\1/')/debug/examples/flight
+"$example" keep "$work/flight" &
+working=$!
+texts=0
+for tries in 1 2 3; do
+    is_there "$work/flight.history"
+    mv "$work/flight.history" "$work/text"
+    clean "$work/text"
+    texts=$((texts + 1))
+done
+kill -KILL "$working"
+wait "$working" 2> /dev/null || true
+working=
+"$example" text "$work/flight" > "$work/text"
+before=$found
+clean "$work/text"
+if [ "$found" -lt "$before" ]; then
+    echo "bindings/rust/check.sh: the killed queue left event $found, and wrote event $before before"
+    exit 1
+fi
+cd ../..
+shared=examples/shared
+"${CC:-cc}" -O1 -std=c11 -Iinclude -I$shared -o "$work/flight_text" $shared/flight_text.c $shared/flight_file.c $shared/history.c $shared/control.c \
+    crates/pie_c/out/libpie_c.a -pthread -lm
+"$work/flight_text" "$work/flight" | cmp - "$work/text"
+echo "bindings/rust: $texts texts of a working queue are clean, and what it left when it was killed is too ($found events), as C writes it as well"

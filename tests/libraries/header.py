@@ -2,7 +2,7 @@
 """Holds include/pie.h and the Rust declarations (bindings/rust/src) to the source of the library (crates/pie_c/src): structs with the
 order, names and widths of their fields; functions with the order, names and widths of their parameters; codes, ECN fields, the version.
 The ranges, defaults and tables of rates that comments tell are compared with one another, docs/FORMATS.md and docs/PARAMETERS.md, the orders in which
-calls refuse with the source. Exit status 1 where something differs.
+calls refuse with the source; the words of a flight recorder's memory are those of include/pie_flight.h. Exit status 1 where something differs.
 
 usage: tests/libraries/header.py [ROOT]           compares, in this repository or in another folder
        tests/libraries/header.py --probes [ROOT]  writes a program in C that asks the library for each number of the header's comments
@@ -16,7 +16,8 @@ from pathlib import Path
 # names in the source and what pie.h calls them
 TYPES = {"PieParams": "pie_params", "PieState": "pie_state", "PieUpdated": "pie_updated", "PieEvent": "pie_event", "PieOpening": "pie_opening",
          "PieStats": "pie_stats", "usize": "size_t"}
-RUST_TYPES = {"Params": "pie_params", "State": "pie_state", "RawUpdated": "pie_updated", "RawEvent": "pie_event", "usize": "size_t"}
+RUST_TYPES = {"Params": "pie_params", "State": "pie_state", "RawUpdated": "pie_updated", "RawEvent": "pie_event", "RawOpening": "pie_opening",
+              "Stats": "pie_stats", "usize": "size_t"}
 PARAMETERS = {("pie_arrive", "bits"): "ecn", ("pie_write_refused", "number"): "record", ("pie_write_queued", "bits"): "ecn"}
 # a slice is a pointer and a length
 SLICES = {"&[u8]": ("&char", "length"), "&mut [u8]": ("&mut unsigned char", "room")}
@@ -26,6 +27,7 @@ REFUSALS = {"Moment": "PIE_BAD_MOMENT", "Size": "PIE_BAD_SIZE", "TooSoon": "PIE_
             "State": "PIE_BAD_STATE", "Queue": "PIE_BAD_QUEUE", "Arrived": "PIE_BAD_ARRIVED", "NotWaited": "PIE_NOT_WAITED"}
 VERDICTS = {"Enqueue": "PIE_ENQUEUE", "Mark": "PIE_MARK", "Early": "PIE_EARLY", "Bytes": "PIE_BYTES", "Packets": "PIE_PACKETS"}
 PROFILES = {"One": "PIE_ALWAYS_ON", "Two": "PIE_ON_AND_OFF"}
+MODES = {"Bounded": "PIE_BOUNDED", "Rolling": "PIE_ROLLING"}
 
 NUMBER = r"\d+(?:\.\d+)?(?:\^\d+)?(?: \* \d+\^\d+)?(?: - \d+)?"
 
@@ -122,7 +124,7 @@ class Rust:
         self.text = text
         self.structs, self.docs = {}, {}
         for name, body in re.findall(r"#\[repr\(C\)\]\s*(?:#\[[^\]]*\]\s*)*(?:pub(?:\(crate\))? )?struct (\w+) \{(.*?)\n\}", text, re.S):
-            fields = re.findall(r"((?:\s*///[^\n]*\n)*)\s*(?:pub )?(\w+): (\w+),", body)
+            fields = re.findall(r"((?:\s*///[^\n]*\n)*)\s*(?:pub(?:\(crate\))? )?(\w+): (\w+),", body)
             self.structs[names.get(name, name)] = [(plain_rust(kind, names), field) for _, field, kind in fields]
             self.docs[names.get(name, name)] = {field: one_line(doc.replace("///", "")) for doc, field, _ in fields}
         self.functions = {}
@@ -177,7 +179,7 @@ def compare_constants(header, source):
 
 
 def compare_rust_enums(rust, header):
-    for name, meanings in (("Ecn", ECN), ("Profile", PROFILES)):
+    for name, meanings in (("Ecn", ECN), ("Profile", PROFILES), ("Mode", MODES)):
         body = re.search(rf"enum {name} \{{(.*?)\n\}}", rust, re.S)
         found = {meanings.get(variant): int(number) for variant, number in re.findall(r"(\w+) = (\d+),", body[1] if body else "")}
         yield from same(f"bindings/rust: {name}", found, {it: header.constants.get(it) for it in meanings.values()}, "in include/pie.h")
@@ -272,6 +274,19 @@ def compare_numbers(header, source):
     yield from same("include/pie.h: the order of the parameters", [name for _, name in header.structs.get("pie_params", [])], list(numbered))
 
 
+def compare_flight(header, rust):
+    """The words of a flight recorder's memory, and its bounds."""
+    bare = re.sub(r"/\*.*?\*/", "", header, flags=re.S)
+    answers = {"DONE", "NONE", "GONE", "BROKEN", "STOPPED"}
+    told = [it for it in re.findall(r"PIE_FLIGHT_(\w+) = (\d+)()", bare) if it[0] not in answers]
+    told += re.findall(r"#define PIE_FLIGHT_(\w+) \(?(?:UINT64_C\()?(\w+)\)*(?: << (\d+)\))?", bare)
+    found = re.findall(r"const (\w+): (?:usize|u64) = (\w+)(?: << (\d+))?;", rust)
+    here, there = ({name: int(number, 0) << int(shift or 0) for name, number, shift in it} for it in (found, told))
+    if len(there) < 20:
+        yield "include/pie_flight.h: its words were not found"
+    yield from same("bindings/rust: a flight recorder's words", {it: here.get(it) for it in there}, there, "in include/pie_flight.h")
+
+
 def compare_rates(header, sizes):
     """The tables of rates, and from which rate on a default holds less than the default target."""
     limit, most = (int(it) for it in (default(header.comments["pie_params"]["limit_bytes"]), bound(header.comments["pie_params"]["limit_bytes"])[1]))
@@ -327,6 +342,7 @@ def differences(root):
     yield from compare_refusals(header, rust_text, source)
     yield from compare_numbers(header, source)
     yield from compare_limits(header)
+    yield from compare_flight((root / "include/pie_flight.h").read_text(), (root / "bindings/rust/src/flight.rs").read_text())
     yield from compare_versions(header, root)
 
 

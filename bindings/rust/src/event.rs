@@ -9,7 +9,7 @@ use crate::library::{
 use crate::refusal::{done, done_with, refusal};
 use crate::{Ecn, Params, Refusal, State, Updated, Verdict};
 
-/// The bytes that the longest record takes.
+/// The bytes that the longest record takes, but that which resumes.
 const ROOM: usize = 256;
 
 /// The code that a departure answers where there was no packet.
@@ -39,23 +39,37 @@ pub struct ParamsEvent {
     params: Params,
 }
 
-/// A record's bytes.
-pub(crate) struct Text {
-    bytes: [u8; ROOM],
+/// A record's bytes, of which there is room for so many.
+pub(crate) struct Text<const BYTES: usize = ROOM> {
+    bytes: [u8; BYTES],
     count: usize,
 }
 
-impl Text {
+impl<const BYTES: usize> Text<BYTES> {
     /// What the library writes; none where it writes nothing.
-    pub(crate) fn of(write: impl FnOnce(*mut u8, usize) -> usize) -> Option<Text> {
-        let mut bytes = [0; ROOM];
-        let count = write(bytes.as_mut_ptr(), ROOM);
-        (1..=ROOM).contains(&count).then_some(Text { bytes, count })
+    pub(crate) fn of(write: impl FnOnce(*mut u8, usize) -> usize) -> Option<Text<BYTES>> {
+        let mut bytes = [0; BYTES];
+        let count = write(bytes.as_mut_ptr(), BYTES);
+        (1..=BYTES).contains(&count).then_some(Text { bytes, count })
     }
 
     /// The record, with its line feed.
     pub(crate) fn bytes(&self) -> &[u8] {
         &self.bytes[..self.count]
+    }
+}
+
+impl Text {
+    /// An event's record; none where it cannot be, and of new parameters.
+    pub(crate) fn event(event: &RawEvent) -> Option<Text> {
+        // SAFETY: as `library` says, and `out` has `room` bytes.
+        Text::of(|out, room| unsafe { pie_write_event(event, out, room) })
+    }
+
+    /// The record of new parameters; none of another event.
+    pub(crate) fn params(event: &RawEvent, params: &Params) -> Option<Text> {
+        // SAFETY: as `library` says, and `out` has `room` bytes.
+        Text::of(|out, room| unsafe { pie_write_params(event, params, out, room) })
     }
 }
 
@@ -70,13 +84,18 @@ impl Event {
     }
 
     /// The code that the call answered, where it was refused.
+    #[inline]
     pub(crate) fn refused(&self) -> Option<u32> {
         (self.0.answer > 100).then_some(self.0.answer)
     }
 
+    #[inline]
+    pub(crate) fn raw(&self) -> &RawEvent {
+        &self.0
+    }
+
     pub(crate) fn text(&self) -> Option<Text> {
-        // SAFETY: as `library` says, and `out` has `room` bytes.
-        Text::of(|out, room| unsafe { pie_write_event(&self.0, out, room) })
+        Text::event(&self.0)
     }
 
     /// What the call answered that has no more to say.
@@ -86,14 +105,50 @@ impl Event {
 }
 
 impl ParamsEvent {
-    #[cfg(feature = "std")]
     pub(crate) fn refused(&self) -> Option<u32> {
         self.event.refused()
     }
 
+    pub(crate) fn raw(&self) -> &RawEvent {
+        self.event.raw()
+    }
+
+    pub(crate) fn params(&self) -> &Params {
+        &self.params
+    }
+
     pub(crate) fn text(&self) -> Option<Text> {
-        // SAFETY: as `library` says, and `out` has `room` bytes.
-        Text::of(|out, room| unsafe { pie_write_params(&self.event.0, &self.params, out, room) })
+        Text::params(&self.event.0, &self.params)
+    }
+}
+
+impl RawEvent {
+    /// Its words in a recorder's memory.
+    #[inline]
+    pub(crate) fn words(&self) -> [u64; 8] {
+        let RawEvent { moment, tag, word, delay, prob, burst, size, answer, caller, kind, ecn, reserved } = *self;
+        let last = u64::from(caller) | u64::from(kind) << 16 | u64::from(ecn) << 24 | u64::from(reserved) << 32;
+        [moment, tag, word, delay, prob, burst, u64::from(size) | u64::from(answer) << 32, last]
+    }
+
+    /// The event with these words.
+    #[cfg(feature = "std")]
+    pub(crate) fn of_words(words: [u64; 8]) -> RawEvent {
+        let [moment, tag, word, delay, prob, burst, of_packet, last] = words;
+        RawEvent {
+            moment,
+            tag,
+            word,
+            delay,
+            prob,
+            burst,
+            size: of_packet as u32,
+            answer: (of_packet >> 32) as u32,
+            caller: last as u16,
+            kind: (last >> 16) as u8,
+            ecn: (last >> 24) as u8,
+            reserved: (last >> 32) as u32,
+        }
     }
 }
 

@@ -26,7 +26,8 @@
 //! is the calls alone.
 //!
 //! Each call has a form that leaves an [`Event`] beside its answer, whose text is a record of a history. With the feature `std` a `Recorder`
-//! writes a history, which `pie audit` decides again and `pie explain` explains.
+//! writes a history, which `pie audit` decides again and `pie explain` explains. What runs for a month keeps its last events alone, in a
+//! [`Flight`] recorder.
 #![no_std]
 #![deny(missing_docs)]
 #![deny(unsafe_op_in_unsafe_fn)]
@@ -35,19 +36,29 @@
 extern crate std;
 
 mod event;
+pub mod flight;
+#[cfg(feature = "std")]
+mod flight_text;
 mod library;
+mod opening;
 mod params;
 #[cfg(feature = "std")]
 mod recorder;
 mod refusal;
 mod state;
+mod stats;
 
 pub use event::{Event, Packet, ParamsEvent};
+#[cfg(feature = "std")]
+pub use flight::DumpFault;
+pub use flight::{Flight, FlightRefusal};
+pub use opening::{Limits, Mode, Opening};
 pub use params::{Parameter, Params};
 #[cfg(feature = "std")]
-pub use recorder::{Limits, Recorder};
+pub use recorder::Recorder;
 pub use refusal::Refusal;
 pub use state::{Choices, Ecn, Profile, State, Updated, Verdict};
+pub use stats::Stats;
 
 /// The version of this crate and of the library.
 pub const VERSION: &str = env!("CARGO_PKG_VERSION");

@@ -2,7 +2,7 @@
 
 use core::mem::{align_of, offset_of, size_of};
 
-use crate::{Params, State};
+use crate::{Params, State, Stats};
 
 /// What `pie_update` answers.
 #[repr(C)]
@@ -30,6 +30,28 @@ pub(crate) struct RawEvent {
     pub(crate) kind: u8,
     pub(crate) ecn: u8,
     pub(crate) reserved: u32,
+}
+
+/// What a history was opened with, as the record that resumes has it.
+#[repr(C)]
+#[derive(Clone, Copy, Debug, PartialEq, Eq)]
+pub(crate) struct RawOpening {
+    /// The parameters of the opening.
+    pub(crate) params: Params,
+    /// Its moment, at most 2^60 - 1.
+    pub(crate) moment: u64,
+    /// The number of the profile.
+    pub(crate) profile: u64,
+    /// The flags of the optional elements, at most 15.
+    pub(crate) choices: u64,
+    /// The number of the mode.
+    pub(crate) mode: u64,
+    /// The packets that the queue holds, 1 to 2^20.
+    pub(crate) packets: u64,
+    /// The events that the log holds, 1 to 2^20.
+    pub(crate) tail: u64,
+    /// The events in all, 1 to 2^47.
+    pub(crate) events: u64,
 }
 
 // SAFETY, of each call of these: the declarations are the library's, the references live for the call, and none overlaps another.
@@ -78,15 +100,61 @@ unsafe extern "C" {
     #[cfg(feature = "std")]
     pub(crate) fn pie_write_lost(count: u64, out: *mut u8, room: usize) -> usize;
     pub(crate) fn pie_check_state(state: &State) -> u32;
+    pub(crate) fn pie_write_resume(
+        opening: &RawOpening,
+        state: &State,
+        stats: &Stats,
+        count: u64,
+        set_by: u64,
+        packets: u64,
+        bytes: u64,
+        out: *mut u8,
+        room: usize,
+    ) -> usize;
+    #[cfg(feature = "std")]
+    pub(crate) fn pie_write_queued(tag: u64, size: u32, ecn: u32, since: u64, out: *mut u8, room: usize) -> usize;
 }
 
-/// Whether this field is the word with this number of a struct.
+/// What is made of words of 64 bits alone.
+pub(crate) trait Words: Sized {
+    /// Puts its words at the beginning of these.
+    fn put(&self, to: &mut [u64]);
+
+    /// The one that has the words at the beginning of these.
+    #[cfg(feature = "std")]
+    fn take(from: &[u64]) -> Self;
+}
+
+impl Words for u64 {
+    fn put(&self, to: &mut [u64]) {
+        to[0] = *self;
+    }
+
+    #[cfg(feature = "std")]
+    fn take(from: &[u64]) -> u64 {
+        from[0]
+    }
+}
+
+/// Whether each field of a struct begins at the word with this number; and the words.
 macro_rules! words {
-    ($kind:ty, $count:expr, $($field:ident = $number:expr),+) => {
+    ($kind:ident, $count:expr, $($field:ident = $number:expr),+) => {
         const _: () = {
             assert!(size_of::<$kind>() == 8 * $count && align_of::<$kind>() == 8);
             $(assert!(offset_of!($kind, $field) == 8 * $number);)+
         };
+
+        impl Words for $kind {
+            #[inline]
+            fn put(&self, to: &mut [u64]) {
+                $(self.$field.put(&mut to[$number..]);)+
+            }
+
+            #[cfg(feature = "std")]
+            fn take(from: &[u64]) -> $kind {
+                $kind { $($field: Words::take(&from[$number..])),+ }
+            }
+        }
     };
 }
 
@@ -97,6 +165,11 @@ words!(
 words!(
     State, 23, params = 0, moment = 9, prob = 10, old_delay = 11, burst = 12, last = 13, accu = 14, average = 15, measuring = 16,
     cycle_start = 17, cycle_count = 18, profile = 19, active = 20, choices = 21, waited = 22
+);
+words!(RawOpening, 16, params = 0, moment = 9, profile = 10, choices = 11, mode = 12, packets = 13, tail = 14, events = 15);
+words!(
+    Stats, 16, arrivals = 0, enqueued = 1, marked = 2, early = 3, over_bytes = 4, over_packets = 5, left = 6, left_bytes = 7, empty = 8,
+    updates = 9, resets = 10, changes = 11, largest_queue = 12, largest_delay = 13, waited = 14, waited_high = 15
 );
 words!(RawUpdated, 5, code = 0, due = 1, delay = 2, prob = 3, burst = 4);
 const _: () = {

@@ -4,18 +4,7 @@ use std::io::{self, Write};
 
 use crate::event::Text;
 use crate::library::{pie_write_lost, pie_write_opening, pie_write_refused};
-use crate::{Choices, Event, Params, ParamsEvent, Profile};
-
-/// What the opening of a history allows to whoever decides it again, beside the parameters.
-#[derive(Clone, Copy, Debug, PartialEq, Eq, Hash)]
-pub struct Limits {
-    /// How many packets the queue has room for, 1 to 2^20.
-    pub packets: u64,
-    /// How many events lie in the event log at a time, 1 to 2^20.
-    pub tail: u64,
-    /// How many events there may be, 1 to 2^47.
-    pub events: u64,
-}
+use crate::{Choices, Event, Limits, Params, ParamsEvent, Profile};
 
 impl Text {
     /// The opening of a history.
@@ -34,7 +23,7 @@ impl Text {
     }
 
     /// That so many events are missing.
-    fn lost(count: u64) -> Option<Text> {
+    pub(crate) fn lost(count: u64) -> Option<Text> {
         // SAFETY: as `library` says, and `out` has `room` bytes.
         Text::of(|out, room| unsafe { pie_write_lost(count, out, room) })
     }

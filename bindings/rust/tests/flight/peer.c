@@ -1,0 +1,47 @@
+/* The recorder in C (include/pie_flight.h) beside that in Rust: what it keeps of the same events, and the text that it writes of memory.
+ * usage: peer keep EVENTS    reads a struct pie_opening and a struct pie_state, and then of each event the state that it left and the event;
+ *                            writes the memory of a recorder that keeps at least so many
+ *        peer text           reads memory, and writes its text; the status is what pie_flight_dump answers */
+#include "pie_flight.h"
+
+#include <stdio.h>
+#include <stdlib.h>
+
+static int keep(uint64_t events) {
+    struct pie_opening opening;
+    struct pie_state state;
+    struct pie_event event;
+    struct pie_flight flight;
+    if (fread(&opening, sizeof opening, 1, stdin) != 1 || fread(&state, sizeof state, 1, stdin) != 1)
+        return 100;
+    size_t bytes = pie_flight_bytes(events, opening.packets);
+    void *memory = calloc(1, bytes + 1);
+    if (memory == NULL || !pie_flight_open(&flight, memory, bytes, events, &opening, &state))
+        return 101;
+    while (fread(&state, sizeof state, 1, stdin) == 1 && fread(&event, sizeof event, 1, stdin) == 1)
+        pie_flight_keep(&flight, &state, &event);
+    return fwrite(memory, 1, bytes, stdout) == bytes ? 0 : 102;
+}
+
+static int write_out(void *unused, const unsigned char *bytes, size_t count) {
+    (void)unused;
+    return fwrite(bytes, 1, count, stdout) == count ? 0 : 1;
+}
+
+static int text(void) {
+    size_t most = (size_t)1 << 30, count;
+    void *memory = aligned_alloc(64, most); /* (touched as far as it is used) */
+    if (memory == NULL)
+        return 103;
+    count = fread(memory, 1, most, stdin);
+    return pie_flight_dump(memory, count, NULL, write_out, NULL);
+}
+
+int main(int count, char **words) {
+    int answer = 104;
+    if (count == 3 && strcmp(words[1], "keep") == 0)
+        answer = keep(strtoull(words[2], NULL, 10));
+    else if (count == 2 && strcmp(words[1], "text") == 0)
+        answer = text();
+    return fflush(stdout) == 0 ? answer : 105;
+}

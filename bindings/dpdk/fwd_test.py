@@ -202,14 +202,14 @@ def segments():
     """A history in segments, of which the last ones are kept: each stands alone, and begins where the one before ends."""
     with tempfile.TemporaryDirectory() as work:
         path = Path(work, "history")
-        status, printed, errors = run(PACED, "--rate", "20mbit", "--receive", "24mbit", "--for", "3s", "--history", str(path), "--rotate", "100kb",
-                                      "--segments", "5")
+        status, printed, errors = run(PACED, "--rate", "20mbit", "--receive", "24mbit", "--for", "3s", "--history", str(path), "--rotate", "64kb",
+                                      "--segments", "3")
         events = events_of(told(printed))
         names = sorted(os.listdir(work), key=lambda name: int(name.rpartition(".")[2]))
-        assert status == 0 and len(names) == 5 and names[0] != "history.1", (names, printed, errors)
+        assert status == 0 and len(names) == 3 and names[0] != "history.1", (names, printed, errors)
         ends = [audited(str(path.with_name(name))) for name in names]
         assert all(one[1] == other[0] for one, other in zip(ends, ends[1:])) and ends[-1][1] == events, (ends, events)
-        assert all(100 << 10 <= path.with_name(name).stat().st_size < 400 << 10 for name in names[:-1])
+        assert all(64 << 10 <= path.with_name(name).stat().st_size for name in names[:-1])
         return f"{names[-1].rpartition('.')[2]} segments"
 
 

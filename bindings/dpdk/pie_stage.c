@@ -284,6 +284,11 @@ static __rte_noinline void take_snapshot(struct pie_stage *stage) {
     pie_flight_snapshot(&stage->flight, &stage->pie);
 }
 
+/* Under the lock, a burst of events for the flight recorder, of none where there is no recorder. */
+static __rte_always_inline struct pie_flight_burst begin_burst(const struct pie_stage *stage, const enum record record) {
+    return record != NOTHING ? pie_flight_begin(&stage->flight) : (struct pie_flight_burst){0};
+}
+
 /* Under the lock, keeps the events of a burst, whose packets are counted already. */
 static inline void keep(struct pie_stage *stage, const struct pie_flight_burst *burst) {
     if (burst->event == NULL)
@@ -402,7 +407,7 @@ static __rte_noinline void count_drop(struct pie_stage_stats *stats, uint32_t ve
 static __rte_always_inline uint32_t arrive_burst(struct pie_stage *stage, struct rte_mbuf **mbufs, uint32_t queued, uint32_t from, uint32_t count,
                                                  const struct seen *seen, const struct turn *turn, const enum record record) {
     struct rte_ring_zc_data places = {0};
-    struct pie_flight_burst burst = pie_flight_begin(&stage->flight);
+    struct pie_flight_burst burst = begin_burst(stage, record);
     uint32_t packets = stage->packets, room = stage->room - packets, taken = 0;
     uint64_t bytes = stage->bytes;
     rte_ring_enqueue_zc_burst_elem_start(stage->ring, sizeof(struct waiting), count, &places, NULL);
@@ -498,7 +503,7 @@ static __rte_always_inline void depart(struct pie_stage *stage, const struct wai
 static __rte_always_inline uint32_t depart_burst(struct pie_stage *stage, struct rte_mbuf **mbufs, uint32_t count, uint64_t *bytes,
                                                  const struct turn *turn, const enum record record) {
     struct rte_ring_zc_data places = {0};
-    struct pie_flight_burst burst = pie_flight_begin(&stage->flight);
+    struct pie_flight_burst burst = begin_burst(stage, record);
     struct pie_stage_stats *stats = &stage->stats;
     uint64_t sent = 0, waited = 0, longest = 0, most = *bytes;
     uint32_t found = rte_ring_dequeue_zc_burst_elem_start(stage->ring, sizeof(struct waiting), count, &places, NULL), taken = 0;

@@ -1,5 +1,6 @@
 """pie-fleet: audits and sums up the histories of many links, and writes one table of them."""
 import argparse
+import gc
 import os
 import subprocess
 import sys
@@ -75,31 +76,22 @@ def known_of(row):
     return None
 
 
-def batches_of(files, sizes, threads):
-    """The files in batches, those of one host together: for each thread some twenty, and none of more than 64 files or 256 megabytes. A batch costs
-    some milliseconds beside its histories, and the fewer histories it has the closer together the workers end."""
-    from .cluster import Batch
-    most = min(64, max(1, len(files) // (20 * threads)))
-    batches, last, held = [], None, 0
-    for each in files:
-        link, _, host, _ = each
-        size = sizes.get(link, 2 ** 20)
-        if last is None or last.host != host or len(last.files) == most or held + size > 2 ** 28:
-            last, held = Batch(host, []), 0
-            batches.append(last)
-        last.files.append(each)
-        held += size
-    return batches
+def client_of(scheduler):
+    """A client of the scheduler. The reading of Dask's modules is most of what a run takes to begin: no garbage is looked for meanwhile, and what
+    they made is not looked through later, nor at the end."""
+    gc.disable()
+    from distributed import Client
+    gc.freeze()
+    gc.enable()
+    return Client(scheduler)
 
 
 def gather(asked, rows, add):
     """Finds the histories and has their rows made; answers the links in order."""
     client = workers = None
     if asked.scheduler:
-        from distributed import Client
-
+        client = client_of(asked.scheduler)
         from . import cluster
-        client = Client(asked.scheduler)
         workers = cluster.Workers(client, asked.pie, tell)
         if workers.wanted is None:
             raise SystemExit(f"pie-fleet: no worker has {asked.pie}")
@@ -121,7 +113,7 @@ def gather(asked, rows, add):
         bar.add(len(made))
 
     if client:
-        cluster.run(client, workers, batches_of(files, sizes, sum(workers.threads.values())), done, asked.patience)
+        cluster.run(client, workers, files, sizes, done, asked.patience)
         client.close()
     else:
         for each in files:

@@ -1,6 +1,5 @@
 """The work on a Dask cluster: batches of histories go to workers that have the right `pie`, and their rows come back as they are made."""
 import queue
-import socket
 import time
 from collections import Counter, defaultdict, namedtuple
 
@@ -14,6 +13,8 @@ cloudpickle.register_pickle_by_value(work)
 # Some histories for one task: `host` is the machine that they lie on, or None where every worker sees them.
 Batch = namedtuple("Batch", "host files")
 TRIES = 3
+# What a batch has at most: it costs some milliseconds beside its histories, and its rows come together.
+MOST_FILES, MOST_BYTES = 64, 2 ** 25
 
 
 class Workers:
@@ -34,13 +35,10 @@ class Workers:
         self.names = {at: names for at, names in self.names.items() if at in live}
         new = [at for at in live if at not in self.names]
         if new:
-            versions = self.client.run(work.version_of, self.pie, workers=new, on_error="ignore")
-            hosts = self.client.run(socket.gethostname, workers=new, on_error="ignore")
-            for at in new:
-                if at in hosts:
-                    name = str(live[at].get("name", at))
-                    self.names[at] = {name, hosts[at], at.split("://")[-1].rsplit(":", 1)[0]}
-                    self.versions[at] = versions.get(at)
+            for at, (host, version) in self.client.run(work.host_and_version, self.pie, workers=new, on_error="ignore").items():
+                name = str(live[at].get("name", at))
+                self.names[at] = {name, host, at.split("://")[-1].rsplit(":", 1)[0]}
+                self.versions[at] = version
 
     def look_again(self):
         """Looks at all workers anew: one has another `pie` than it had."""
@@ -60,23 +58,24 @@ class Workers:
         return [at for at, names in self.names.items() if self.versions.get(at) == self.wanted and (host is None or host in names)]
 
 
-def run(client, workers, batches, add, patience):
-    """Makes the rows of all batches, and hands each batch's rows to `add`. Of a batch whose machine has no fit worker for `patience` seconds, and of
-    one whose workers died, the rows say so."""
-    Run(client, workers, add, patience).make(batches)
+def run(client, workers, files, sizes, add, patience):
+    """Makes the rows of all files, and hands each batch's rows to `add`. `sizes` has the bytes of those links whose are known. Of a file whose
+    machine has no fit worker for `patience` seconds, and of one whose workers died, the row says so."""
+    Run(client, workers, sizes, add, patience).make(files)
 
 
 class Run:
-    """Of each host (None: of any) the batches that wait and how many workers have; and how often a history was tried."""
+    """Of each host (None: of any) the files that wait, the first of them last, and how many batches workers have; how often a history was tried by
+    itself, and which have to be."""
 
-    def __init__(self, client, workers, add, patience):
-        self.client, self.workers, self.add, self.patience = client, workers, add, patience
+    def __init__(self, client, workers, sizes, add, patience):
+        self.client, self.workers, self.sizes, self.add, self.patience = client, workers, sizes, add, patience
         self.waiting, self.under_way, self.ended = defaultdict(list), {}, queue.Queue()
-        self.busy, self.unreached, self.tries = Counter(), Counter(), Counter()
+        self.busy, self.unreached, self.tries, self.alone = Counter(), Counter(), Counter(), set()
 
-    def make(self, batches):
-        for batch in reversed(batches):
-            self.waiting[batch.host].append(batch)
+    def make(self, files):
+        for each in reversed(files):
+            self.waiting[each[2]].append(each)
         looked = time.monotonic()
         self.submit()
         while self.under_way or any(self.waiting.values()):
@@ -93,14 +92,28 @@ class Run:
         """Hands out batches, so many that each thread of a host has one behind its own."""
         for host, waiting in self.waiting.items():
             fit = self.workers.fit(host)
-            room = 2 * sum(self.workers.threads[at] for at in fit)
-            while fit and waiting and self.busy[host] < room:
-                batch = waiting.pop()
+            threads = sum(self.workers.threads[at] for at in fit)
+            while threads and waiting and self.busy[host] < 2 * threads:
+                batch = Batch(host, self.cut(waiting, threads))
                 words = (batch.files, self.workers.pie, self.workers.wanted)
                 future = self.client.submit(work.rows_of, *words, workers=fit, allow_other_workers=False, pure=False)
                 self.under_way[future.key] = future, batch, fit
                 self.busy[host] += 1
                 future.add_done_callback(self.ended.put)
+
+    def cut(self, waiting, threads):
+        """Takes the files of the next batch: a quarter of a thread's share of those that wait, so that batches get smaller and the workers end
+        together; or one that has to be tried by itself."""
+        most, files, held = min(MOST_FILES, max(1, len(waiting) // (4 * threads))), [], 0
+        while waiting and len(files) < most:
+            link = waiting[-1][0]
+            held += self.sizes.get(link, 2 ** 20)
+            if files and (held > MOST_BYTES or link in self.alone):
+                break
+            files.append(waiting.pop())
+            if link in self.alone:
+                break
+        return files
 
     def take(self, future):
         """Takes what came of a batch."""
@@ -123,13 +136,14 @@ class Run:
         link = batch.files[0][0]
         self.tries[link] += len(batch.files) == 1
         if self.tries[link] < TRIES:
-            self.waiting[batch.host].extend(Batch(batch.host, [each]) for each in batch.files)
+            self.alone.update(each[0] for each in batch.files)
+            self.waiting[batch.host].extend(reversed(batch.files))
         else:
-            self.give_up(batch, why)
+            self.give_up(batch.files, why)
 
-    def give_up(self, batch, note):
+    def give_up(self, files, note):
         self.add([{**dict.fromkeys(work.KNOWN, ""), "link": link, "path": path, "host": host, "status": 1, "finding": "unreached", "note": note}
-                  for link, path, host, _ in batch.files])
+                  for link, path, host, _ in files])
 
     def look(self):
         """Looks which workers there are. What workers had that are gone is handed out anew, and what no worker fits for long is given up."""
@@ -140,8 +154,9 @@ class Run:
                 del self.under_way[key]
                 self.busy[batch.host] -= 1
                 future.cancel()
-                self.waiting[batch.host].append(batch)
+                self.waiting[batch.host].extend(reversed(batch.files))
         for host, waiting in self.waiting.items():
             self.unreached[host] = 0 if self.workers.fit(host) else self.unreached[host] + 1
-            while waiting and self.unreached[host] >= self.patience:
-                self.give_up(waiting.pop(), f"no worker that fits on {host}" if host else "no worker that fits")
+            if waiting and self.unreached[host] >= self.patience:
+                self.give_up(waiting[::-1], f"no worker that fits on {host}" if host else "no worker that fits")
+                waiting.clear()

@@ -21,6 +21,11 @@ def version_of(pie):
     return told.stdout.strip() if told.returncode == 0 else None
 
 
+def host_and_version(pie):
+    """This machine's name, and the version that `pie` has here."""
+    return socket.gethostname(), version_of(pie)
+
+
 def _stamp(path):
     known = os.stat(path)
     return known.st_size, known.st_mtime_ns

@@ -18,11 +18,14 @@ import subprocess
 import sys
 import tempfile
 import time
+import traceback
 
 HERE = os.path.dirname(os.path.abspath(__file__))
 TOP = os.path.dirname(os.path.dirname(HERE))
 PROGRAM = os.path.abspath(sys.argv[1]) if len(sys.argv) > 1 else f"{TOP}/crates/pie/out/pie"
 MANY = int(sys.argv[2]) if len(sys.argv) > 2 else 300
+# How many seconds anything may take: on a busy machine all of it takes long.
+PATIENCE = 900
 failures = []
 
 
@@ -40,20 +43,32 @@ PYTHON = python_with_dask()
 def check(what, holds, told=""):
     if not holds:
         failures.append(what)
-        print(f"tests/fleet/fleet.py: {what}: {told}")
+        print(f"tests/fleet/fleet.py: FAILED: {what}: {told}", flush=True)
 
 
 def storm(seed, packets, load):
-    """The history of a storm. Its threads wait for one another, so on a busy machine it takes seconds, and only some are made."""
+    """The history of a storm. Its threads wait for one another, so on a busy machine it takes seconds, and only some are made. What it lost is the
+    machine's choice too: where senders take turns no packet is dropped."""
     words = [PROGRAM, "storm", "--senders", "2", "--seed", str(seed), "--packets", str(packets), "--load", str(load)]
-    return subprocess.run(words, capture_output=True, text=True, check=True).stdout
+    ended = subprocess.run(words, capture_output=True, text=True)
+    check(f"{' '.join(words)}: status", ended.returncode == 0, f"{ended.returncode}: {ended.stderr}")
+    return ended.stdout
+
+
+def all_examples():
+    """The histories of the examples, by name."""
+    texts = {}
+    for name in sorted(os.listdir(f"{TOP}/examples")):
+        if name.endswith(".history"):
+            with open(f"{TOP}/examples/{name}") as text:
+                texts[name] = text.read()
+    return texts
 
 
 def make_histories(folder):
     """Histories of storms and of examples, most cut at a length of their own, a few of them long; each tenth is damaged, one of three ways."""
     chance = random.Random(8033)
-    names = []
-    examples = [open(f"{TOP}/examples/{name}").read() for name in sorted(os.listdir(f"{TOP}/examples")) if name.endswith(".history")]
+    names, examples = [], list(all_examples().values())
     storms, long = [storm(seed, 250, load) for seed, load in enumerate((100, 120, 50, 80, 150), 1)], storm(6, 3000, 100)
     for number in range(MANY):
         name = f"{folder}/link{number:03}.history"
@@ -92,6 +107,9 @@ def find(name):
     summary = subprocess.run([PROGRAM, "explain", "--summary", "--csv"], stdin=open(name), capture_output=True, text=True).stdout.split("\n")
     finding, _, event = audit.stdout.strip().partition(",")
     row = dict(zip(summary[0].split(","), summary[1].split(","))) if len(summary) > 1 else {}
+    for share, verdicts in {"loss_percent": ("early", "bytes", "packets"), "marks_percent": ("mark",)}.items():
+        arrivals = int(row.get("arrivals") or 0)
+        row[share] = f"{100 * sum(int(row[verdict]) for verdict in verdicts) / arrivals:.4f}" if arrivals else ""
     return {**row, "status": str(audit.returncode), "finding": finding or "fault", "event": event,
             "note": audit.stderr.strip().removeprefix("pie: ")}
 
@@ -125,44 +143,74 @@ def address_in(place):
         return None
 
 
+def made_script(path, *lines):
+    with open(path, "w") as out:
+        out.write("\n".join(["#!/bin/sh", *lines, ""]))
+    os.chmod(path, 0o755)
+    return path
+
+
 class Cluster:
-    """A scheduler and workers on this machine, each worker with one thread and a folder of its own on its path."""
+    """A scheduler and workers on this machine, with the settings of fleet/dask.yaml; each worker has one thread and a folder of its own on its path.
+    There `pie` waits at a history whose name, and `.hold` behind it, is a file, and says so in the folder's file `held`."""
 
     def __init__(self, folder):
         self.folder, self.processes, self.workers = folder, [], {}
         place = f"{folder}/scheduler.json"
         self.begin([PYTHON, "-m", "distributed.cli.dask_scheduler", "--host", "127.0.0.1", "--port", "0", "--no-dashboard",
                     "--scheduler-file", place])
-        self.address = self.wait_for("the scheduler", lambda: address_in(place))
+        self.address = self.wait_for("the scheduler's address", lambda: address_in(place))
+
+    def log(self, number):
+        with open(f"{self.folder}/log{number}", errors="replace") as text:
+            return text.read()
 
     def begin(self, words, **more):
-        log = open(f"{self.folder}/log{len(self.processes)}", "w")
-        more = {**more, "stdout": log, "stderr": log, "stdin": subprocess.DEVNULL}
-        self.processes.append(subprocess.Popen(words, cwd=self.folder, start_new_session=True, **more))
+        with open(f"{self.folder}/log{len(self.processes)}", "w") as log:
+            env = {**os.environ, "DASK_CONFIG": f"{TOP}/fleet/dask.yaml"}
+            more = {"cwd": self.folder, "env": env, **more, "stdout": log, "stderr": log, "stdin": subprocess.DEVNULL}
+            self.processes.append(subprocess.Popen(words, start_new_session=True, **more))
         return self.processes[-1]
 
     def wait_for(self, what, look):
-        """Waits, on a busy machine for minutes, until there is what `look` answers."""
-        for _ in range(1800):
+        """Waits until there is what `look` answers, on a busy machine for minutes."""
+        begun = time.monotonic()
+        while time.monotonic() < begun + PATIENCE:
             found = look()
             if found:
                 return found
             time.sleep(0.1)
-        sys.exit(f"tests/fleet/fleet.py: {what} did not come: {open(f'{self.folder}/log0').read()[-2000:]}")
+        raise TimeoutError(f"no {what} after {PATIENCE} s")
 
     def worker(self, name, program=PROGRAM, nanny=True):
         bin_folder = f"{self.folder}/{name}"
         os.makedirs(bin_folder, exist_ok=True)
         if program:
-            os.symlink(program, f"{bin_folder}/pie")
+            made_script(f"{bin_folder}/pie", "for last; do :; done",
+                        f'while [ -e "$last.hold" ]; do : > "{bin_folder}/held"; sleep 0.1; done', f'exec "{program}" "$@"')
         path = f"{bin_folder}:{os.path.dirname(shutil.which('env'))}"
         words = [shutil.which(PYTHON), "-m", "distributed.cli.dask_worker", self.address, "--name", name, "--nthreads", "1", "--no-dashboard",
                  "--host", "127.0.0.1", "--nanny" if nanny else "--no-nanny", "--local-directory", bin_folder]
-        self.workers[name] = self.begin(words, env={**os.environ, "PATH": path})
+        self.workers[name] = self.begin(words, env={**os.environ, "PATH": path, "DASK_CONFIG": f"{TOP}/fleet/dask.yaml"})
 
-    def count(self, wanted):
-        """Waits until the scheduler has told of so many workers that came."""
-        self.wait_for(f"{wanted} workers", lambda: open(f"{self.folder}/log0").read().count("Register worker") >= wanted)
+    def wait_for_workers(self, *names):
+        """Waits until the scheduler has told of each of these workers that it came."""
+        for name in names:
+            self.wait_for(f"worker {name}", lambda: any(f"name: {name}," in line for line in self.log(0).splitlines() if "Register worker" in line))
+
+    def fleet(self, *words):
+        """Begins pie-fleet; answers its process, and the number of its log."""
+        return self.begin([PYTHON, "-m", "pie_fleet", *words], cwd=f"{TOP}/fleet", env=os.environ), len(self.processes) - 1
+
+    def wait_for_row(self, begun, log, journal):
+        """Waits until a run that goes on has written a row, and looks that it goes on still: it has to, where a history is held."""
+        self.wait_for(f"row in {journal}", lambda: begun.poll() is not None or os.path.exists(journal) and os.path.getsize(journal))
+        check(f"{journal}: the run goes on", begun.poll() is None, f"{begun.returncode}: {self.log(log)[-2000:]}")
+
+    def tell(self):
+        """What scheduler, workers and runs said last."""
+        for number, process in enumerate(self.processes):
+            print(f"tests/fleet/fleet.py: {' '.join(process.args)} ({process.poll()}):\n{self.log(number)[-3000:]}", flush=True)
 
     def end(self):
         for process in reversed(self.processes):
@@ -178,14 +226,25 @@ def stage(told):
     print(f"{time.strftime('%H:%M:%S')} {told}", file=sys.stderr, flush=True)
 
 
-def fleet(*words, status, errors=None, environment=None):
+def fleet(*words, status, errors=None):
     """Runs pie-fleet, and looks at its status; answers what it printed."""
     ended = subprocess.run([PYTHON, "-m", "pie_fleet", *words], cwd=f"{TOP}/fleet", capture_output=True, text=True, stdin=subprocess.DEVNULL,
-                           env={**os.environ, **(environment or {})}, timeout=300)
+                           timeout=PATIENCE)
     check(f"pie-fleet {' '.join(words)}: status", ended.returncode == status, f"{ended.returncode} and not {status}: {ended.stderr[-2000:]}")
     if errors is not None:
         check(f"pie-fleet {' '.join(words)}: {errors}", errors in ended.stderr, ended.stderr[-2000:])
     return ended.stdout
+
+
+def hold(names):
+    for name in names:
+        with open(f"{name}.hold", "w"):
+            pass
+
+
+def release(names):
+    for name in names:
+        os.unlink(f"{name}.hold")
 
 
 def main():
@@ -203,11 +262,16 @@ def main():
         run_cluster(cluster, work, names)
         stage("over SSH")
         run_ssh(work, names)
+    except Exception as fault:
+        traceback.print_exc(file=sys.stdout)
+        check(f"{type(fault).__name__}", False, fault)
     finally:
+        if cluster and failures:
+            cluster.tell()
         if cluster:
             cluster.end()
         shutil.rmtree(work, ignore_errors=True)
-    print(f"tests/fleet/fleet.py: {MANY} histories, {len(failures)} failures")
+    print(f"tests/fleet/fleet.py: {MANY} histories, {len(failures)} failures", flush=True)
     return 1 if failures else 0
 
 
@@ -224,46 +288,45 @@ def run_cluster(cluster, work, names):
     cluster.worker("one")
     for name in ("two", "three"):
         cluster.worker(name, nanny=False)
-    cluster.count(3)
-    # The third worker is killed as soon as a row has come, and has no nanny to start it again.
-    begun = subprocess.Popen([PYTHON, "-m", "pie_fleet", pattern, *where, "-o", f"{work}/table.csv"], cwd=f"{TOP}/fleet", stderr=subprocess.PIPE,
-                             stdout=subprocess.PIPE, text=True)
-    while begun.poll() is None and not (os.path.exists(f"{work}/table.csv.journal") and os.path.getsize(f"{work}/table.csv.journal")):
-        time.sleep(0.02)
-    check("the third worker was killed in the middle", begun.poll() is None)
+    cluster.wait_for_workers("one", "two", "three")
+    # Each worker comes to a history that is held, for there are more of these than two workers have at once. So the third one is killed with a
+    # history in its hands, behind others that were made; it has no nanny to start it again.
+    held = names[MANY // 3:]
+    hold(held)
+    begun, log = cluster.fleet(pattern, *where, "-o", f"{work}/table.csv")
+    cluster.wait_for_row(begun, log, f"{work}/table.csv.journal")
+    cluster.wait_for("history in the third worker's hands", lambda: begun.poll() is not None or os.path.exists(f"{work}/three/held"))
+    check("the third worker was killed in the middle", begun.poll() is None and os.path.exists(f"{work}/three/held"))
     os.killpg(cluster.workers["three"].pid, signal.SIGKILL)
-    _, errors = begun.communicate(timeout=300)
-    check("a worker killed in the middle: status", begun.returncode == 1, errors[-2000:])
+    release(held)
+    begun.wait(timeout=PATIENCE)
+    check("a worker killed in the middle: status", begun.returncode == 1, f"{begun.returncode}: {cluster.log(log)[-2000:]}")
     same("a worker killed in the middle", f"{work}/table.csv", names)
     check("the journal is gone", not os.path.exists(f"{work}/table.csv.journal"))
     stage("ten files changed")
     run_changed(work, names, where)
     stage("a run that is stopped")
-    run_stopped(work, names, where)
+    run_stopped(cluster, work, names, where)
     stage("files of hosts")
     run_hosts(cluster, work, names, where)
 
 
-def change_ten(work, clean, lost):
-    """Ten of these files change: the first differs at the event that is answered, the second becomes one that lost far more, one goes."""
-    # (the second is the one that lost least, and becomes the one that lost most: what storms lose is not known beforehand)
-    order = sorted(range(1, len(clean)), key=lambda place: float(lost[clean[place]]["loss_percent"] or 0))
-    worse = f"{work}/worse"
-    shutil.copy(clean[order[-1]], worse)
-    clean[1], clean[order[0]] = clean[order[0]], clean[1]
+def change_ten(clean, quiet):
+    """Ten files change: the first of these that were clean differs at the event that is answered, `quiet` becomes one that lost far more, seven
+    become others, and the last goes."""
     with open(clean[0]) as text:
         lines = text.readlines()
     arrival = next(place for place, line in enumerate(lines) if line.endswith(",enqueue\n"))
     lines[arrival] = lines[arrival].replace(",enqueue\n", ",early\n")
     with open(clean[0], "w") as out:
         out.writelines(lines)
-    shutil.copy(worse, clean[1])
-    for number, name in enumerate(clean[2:9]):
-        with open(f"{TOP}/examples/reset.history") as text:
-            lines = text.readlines()
+    with open(quiet, "w") as out:
+        out.write(all_examples()["overload.history"])
+    lines = all_examples()["reset.history"].splitlines(keepends=True)
+    for number, name in enumerate(clean[1:8]):
         with open(name, "w") as out:
             out.writelines(lines[: 500 + number])
-    os.unlink(clean[9])
+    os.unlink(clean[8])
     return arrival
 
 
@@ -279,22 +342,38 @@ def with_notes(work):
         to.writerows(rows)
 
 
+def rises(before, names):
+    """The lines that tell which of these lost more than before, by more than one of a hundred packets."""
+    lines = []
+    for name in names:
+        was, now = before.get(name, {}).get("loss_percent"), expected(name)["loss_percent"]
+        if was and now and float(now) > float(was) + 1:
+            lines.append(f"{name}: loss_percent rose from {was} to {now}, by more than 1")
+    return lines
+
+
 def run_changed(work, names, where):
     """Ten files change: one that was clean differs, one becomes worse, one goes, one comes; the others are not read again."""
     clean = [name for number, name in enumerate(names) if number % 10 != 4 and number % 7 != 0]
-    arrival = change_ten(work, clean, table(f"{work}/table.csv"))
-    left = [name for name in names if name != clean[9]]
+    # (what storms lose is not known beforehand: this is an example, a burst that lost nothing)
+    quiet = names[0]
+    arrival = change_ten(clean, quiet)
+    changed, left = [*clean[:8], quiet], [name for name in names if name != clean[8]]
     new = f"{work}/histories/new.history"
-    shutil.copy(clean[10], new)
+    shutil.copy(clean[9], new)
     with_notes(work)
     told = fleet(f"{work}/histories/*.history", *where, "-o", f"{work}/second.csv", "--since", f"{work}/first.csv", "--worse", "loss_percent=1",
                  "--worst", "greatest_wait", status=1)
-    check("ten files changed: differs", f"{clean[0]}: differs for the first time, at event {arrival}\n" in told, told)
-    check("ten files changed: worse", f"{clean[1]}: loss_percent rose from " in told, told)
+    lines = told.splitlines()
+    differ = [line for line in lines if ": differs for the first time" in line]
+    check("ten files changed: differs", differ == [f"{clean[0]}: differs for the first time, at event {arrival}"], told)
+    worse = rises(table(f"{work}/table.csv"), [*left, new])
+    check("ten files changed: one becomes worse", any(line.startswith(f"{quiet}: ") for line in worse), worse)
+    check("ten files changed: worse", sorted(line for line in lines if " rose from " in line) == sorted(worse), (told, worse))
     worst = [float(line.split()[0]) for line in told.split("the greatest greatest_wait:\n")[1].splitlines()]
     check("the ten worst", len(worst) == 10 and worst == sorted(worst, reverse=True), told)
     again = {link for link, row in table(f"{work}/second.csv").items() if row["note"] != "of the first run" and row["finding"] != "fault"}
-    check("ten files changed: only these are read again", again == {*clean[:9], new}, sorted(again ^ {*clean[:9], new}))
+    check("ten files changed: only these are read again", again == {*changed, new}, sorted(again ^ {*changed, new}))
     with open(f"{work}/second.csv") as text:
         kept = text.read().replace("of the first run", "")
     with open(f"{work}/second.csv", "w") as out:
@@ -303,16 +382,17 @@ def run_changed(work, names, where):
     names[:] = [*left, new]
 
 
-def run_stopped(work, names, where):
+def run_stopped(cluster, work, names, where):
     """A run of a hundred that is stopped leaves its journal, and the same command goes on; a line of the journal that was cut is made again."""
     some = [name for name in names if "/link0" in name]
     words = [f"{work}/histories/link0*.history", *where, "-o", f"{work}/third.csv"]
-    begun = subprocess.Popen([PYTHON, "-m", "pie_fleet", *words], cwd=f"{TOP}/fleet", stderr=subprocess.DEVNULL, stdout=subprocess.DEVNULL)
-    journal = f"{work}/third.csv.journal"
-    while begun.poll() is None and not (os.path.exists(journal) and os.path.getsize(journal)):
-        time.sleep(0.02)
+    held, journal = some[len(some) // 2:], f"{work}/third.csv.journal"
+    hold(held)
+    begun, log = cluster.fleet(*words)
+    cluster.wait_for_row(begun, log, journal)
     begun.kill()
     begun.wait()
+    release(held)
     check("a run that was stopped: no table", not os.path.exists(f"{work}/third.csv"))
     with open(journal) as text:
         rows = text.readlines()
@@ -325,13 +405,10 @@ def run_stopped(work, names, where):
 
 def run_hosts(cluster, work, names, where):
     """Files that lie on machines of their own; a host without a worker; a worker without `pie`, and one with another."""
-    other = f"{work}/other"
-    with open(other, "w") as out:
-        out.write("#!/bin/sh\necho pie 0.0.1\n")
-    os.chmod(other, 0o755)
+    other = made_script(f"{work}/other", "echo pie 0.0.1")
     cluster.worker("four", program=None, nanny=False)
     cluster.worker("five", program=other, nanny=False)
-    cluster.count(5)
+    cluster.wait_for_workers("four", "five")
     listed = [f"{host}: {name}" for host, name in zip(["one", "two"] * 10, names)]
     with open(f"{work}/list", "w") as out:
         out.write("\n".join([*listed, f"nowhere: {names[0]}", f"one: {work}/gone.history", f"four: {names[1]}"]) + "\n")
@@ -358,13 +435,14 @@ def free_port(host):
 
 
 def wait_for_server(host, port):
-    for _ in range(300):
+    begun = time.monotonic()
+    while time.monotonic() < begun + PATIENCE:
         try:
             socket.create_connection((host, port), timeout=10).close()
             return
         except OSError:
             time.sleep(0.1)
-    sys.exit(f"tests/fleet/fleet.py: no server came on {host}")
+    raise TimeoutError(f"no server came on {host}")
 
 
 def start_servers(ssh, hosts):
@@ -413,7 +491,7 @@ def run_ssh(work, names):
 def by_parallel(what, work, hosts, words, names):
     """Whether a command of GNU parallel finds of some histories what one process finds, and each host had a part."""
     alone = subprocess.run([PROGRAM, "audit", *names], capture_output=True, text=True, cwd=work)
-    ended = subprocess.run([*words, ":::", *names], capture_output=True, text=True, cwd=work, stdin=subprocess.DEVNULL, timeout=600)
+    ended = subprocess.run([*words, ":::", *names], capture_output=True, text=True, cwd=work, stdin=subprocess.DEVNULL, timeout=PATIENCE)
     check(f"{what}: the findings", sorted(ended.stdout.splitlines()) == sorted(alone.stdout.splitlines()), ended.stderr[-2000:])
     told = [line for line in ended.stderr.splitlines() if line.startswith("pie: ")]
     check(f"{what}: the faults", sorted(told) == sorted(alone.stderr.splitlines()), ended.stderr[-2000:])

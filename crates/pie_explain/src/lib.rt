@@ -21,8 +21,8 @@ pub mod units;
 pub mod which;
 
 pub use choice::Choice;
-pub use explainer::{Form, explain, explain_after};
-pub use explanation::{Explained, Explanation};
+pub use explainer::{Form, explain, explain_after, sets_probability};
+pub use explanation::{Explained, Explanation, moment_of};
 pub use fault::ExplainFault;
 pub use law::excerpts_are_explained_as_the_whole;
 pub use report::{Report, push_words};

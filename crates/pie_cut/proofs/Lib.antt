@@ -1,0 +1,3 @@
+mod PlaceFacts
+mod FollowFacts
+mod PartFacts

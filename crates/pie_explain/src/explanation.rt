@@ -72,7 +72,7 @@ fn updates(core: &Core) -> u64
 }
 
 /// The effective moment of an event that a core is about to decide.
-pub(crate) fn moment_of(core: &Core, event: &Event) -> u64
+pub fn moment_of(core: &Core, event: &Event) -> u64
     ensures { (opening : Opening) (history : List Event) → Shows opening core.now history → result ≡ moment_of opening history event.now }
 {
     let before = core.registers();

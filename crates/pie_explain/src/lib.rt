@@ -25,6 +25,8 @@ pub use choice::Choice;
 pub use either::explain_either;
 pub use explainer::{Form, explain, explain_after};
 pub use explanation::{Explained, Explanation};
+pub use explainer::{Form, explain, explain_after, sets_probability};
+pub use explanation::{Explained, Explanation, moment_of};
 pub use fault::ExplainFault;
 pub use law::excerpts_are_explained_as_the_whole;
 pub use report::{Report, push_words};

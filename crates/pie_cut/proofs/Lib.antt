@@ -1,0 +1,5 @@
+mod PlaceFacts
+mod FollowFacts
+mod PartFacts
+mod CutFacts
+mod EndFacts

@@ -1,0 +1,3 @@
+pub mod Span
+pub mod Excerpt
+pub mod Answer

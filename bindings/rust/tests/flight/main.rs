@@ -16,7 +16,7 @@ use std::sync::atomic::{AtomicBool, AtomicU64, Ordering};
 use std::thread;
 use std::time::Duration;
 
-use juniperbowls::{DumpFault, Flight, FlightRefusal, Limits, MAX_MOMENT, Opening, Params, Profile, Stats, flight};
+use juniperbowls::{DumpFault, Ecn, Flight, FlightRefusal, Limits, MAX_MOMENT, Opening, Packet, Params, Profile, Stats, flight};
 
 use crate::peers::{Told, audited, text_of_c};
 use crate::queue::{Queue, Random};
@@ -88,6 +88,28 @@ fn refused_openings() {
     let (mut scratch, mut text) = (Vec::new(), Vec::new());
     assert!(matches!(flight::dump(&memory, &mut scratch, &mut text), Err(DumpFault::NoRecorder)));
     assert!(text.is_empty());
+}
+
+/// What packets waited takes more than 64 bits.
+#[test]
+fn long_waits() {
+    let Queue { opening, mut pie, .. } = Queue::open(2);
+    let opening = Opening { limits: Limits { packets: 50, ..opening.limits }, ..opening };
+    let mut recorder = Flight::open(zeros(flight::words(100, 50).unwrap()), 100, &opening, &pie).unwrap();
+    let packet = |tag| Packet { tag, size: 1, ecn: Ecn::NotEct };
+    let arrived = pie.moment;
+    for tag in 0..40 {
+        let (event, _) = pie.arrive_event(tag, 50 - tag as u32, packet(tag), u64::MAX, 1, arrived);
+        recorder.keep(&pie, &event);
+    }
+    assert_eq!((recorder.packets(), recorder.bytes()), (40, 40));
+    for tag in 0..40 {
+        let (event, _) = pie.depart_event(39 - tag, arrived, packet(tag), 2, MAX_MOMENT);
+        recorder.keep(&pie, &event);
+    }
+    let Stats { left, waited, waited_high, .. } = *recorder.stats();
+    assert_eq!((left, u128::from(waited_high) << 64 | u128::from(waited)), (40, 40 * u128::from(MAX_MOMENT - arrived)));
+    assert!(waited_high > 0);
 }
 
 /// A writer that takes so many bytes.
@@ -246,6 +268,15 @@ fn an_audit_finds_a_changed_answer() {
     assert_eq!(audited(changed.as_bytes()), format!("differs,{}", first + (at - begin) as u64 + 1));
 }
 
+/// Says that it is enough when it goes, also where a test fails: the writer that waits for it ends then.
+struct Enough<'a>(&'a AtomicBool);
+
+impl Drop for Enough<'_> {
+    fn drop(&mut self) {
+        self.0.store(true, Ordering::Release);
+    }
+}
+
 #[test]
 #[ignore = "takes crates/pie/out/pie"]
 fn dumps_while_it_works_are_clean() {
@@ -262,6 +293,7 @@ fn dumps_while_it_works_are_clean() {
             }
             recorder.count()
         });
+        let enough = Enough(&is_enough);
         let (mut scratch, mut before, mut dumps, mut gone) = (Vec::new(), 0, 0, 0);
         while dumps < DUMPS {
             let mut text = Vec::new();
@@ -278,7 +310,7 @@ fn dumps_while_it_works_are_clean() {
                 }
             }
         }
-        is_enough.store(true, Ordering::Release);
+        drop(enough);
         (writer.join().unwrap(), dumps, gone)
     });
     let (dumped, text) = left(&bytes_of(&memory));

@@ -23,8 +23,8 @@ pub mod which;
 
 pub use choice::Choice;
 pub use either::explain_either;
-pub use explainer::{Form, Form, explain, explain, explain_after, explain_after, sets_probability};
-pub use explanation::{Explained, Explained, Explanation, Explanation, moment_of};
+pub use explainer::{Form, explain, explain_after, sets_probability};
+pub use explanation::{Explained, Explanation, moment_of};
 pub use fault::ExplainFault;
 pub use law::excerpts_are_explained_as_the_whole;
 pub use report::{Report, push_words};

@@ -48,12 +48,12 @@ mkdir "$work/plain" "$work/address" "$work/thread"
 step test timeout 120 out/stage_test "${eal[@]}" --lcores "0@$cpus" -- "$work/plain"
 step test-address timeout 120 out/address/stage_test "${eal[@]}" --lcores "0@$cpus" -- "$work/address"
 step test-thread timeout 120 out/thread/stage_test "${eal[@]}" --lcores "0@$cpus" -- "$work/thread" threads
-step slow timeout 120 out/stage_measure "${eal[@]}" --lcores "0@$cpus" -- slow "$work/plain"
-step null timeout 60 out/stage_measure "${eal[@]}" --lcores "(0-1)@$cpus" --vdev=net_null0 --vdev=net_null1 -- rate 1 1 "$work/plain/null.history"
+step slow timeout 120 out/stage_measure "${eal[@]}" --lcores "0@$cpus" -- slow "$work/plain/slow.history"
 for history in "$work"/*/*.history; do
     step audit audited "$history"
 done
 [ "$(grep -L '^lost,' "$work"/plain/*.history | wc -l)" -ge 100 ] || { echo "bindings/dpdk/check.sh: gaps in histories that have none"; exit 1; }
+step null timeout 60 out/stage_measure "${eal[@]}" --lcores "(0-1)@$cpus" --vdev=net_null0 --vdev=net_null1 -- rate 0.2 2
 step address timeout 60 out/address/pie-fwd "${eal[@]}" --vdev=net_null0 --vdev=net_ring0 --lcores "(0-2)@$cpus" -- \
     --total-num-mbufs=8192 --rate 50mbit --for 2s --history /dev/null
 step pie-fwd timeout 120 ./fwd_test.py out/pie-fwd "$pie"

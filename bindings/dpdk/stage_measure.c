@@ -40,8 +40,8 @@ static void die(const char *what) {
     exit(1);
 }
 
-enum which { ALONE, PEER, DROPPING, STAGE, LAST, RECORDED };
-static const char *const names[] = {"alone", "rte_pie", "dropping", "stage", "flight", "recorded"};
+enum which { ALONE, PEER, DROPPING, STAGE, RECORDED };
+static const char *const names[] = {"alone", "rte_pie", "dropping", "stage", "recorded"};
 
 static struct peer peer;
 static struct pie_stage *stage;
@@ -258,7 +258,6 @@ static double run_rate(enum which which, double seconds, FILE *nowhere) {
     pie_stage_default_params(&params, UINT64_C(10000000000));
     params.packets = ROOM;
     params.ecn = which != DROPPING;
-    params.flight = which == LAST ? PIE_STAGE_FLIGHT : 0;
     params.events = which == RECORDED ? EVENTS : 0;
     measured = which;
     if (which == PEER && !peer_open(&peer, ROOM))

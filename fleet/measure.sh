@@ -10,8 +10,7 @@ python=python3
 work=$(mktemp -d)
 trap 'kill $(jobs -p) 2>/dev/null; wait 2>/dev/null; rm -rf "$work"' EXIT
 export PATH="$(dirname "$program"):$PATH"
-# (Dask's look at what its workers do, a hundred times a second, as docs/FLEET.md has it)
-export DASK_DISTRIBUTED__WORKER__PROFILE__ENABLED=False
+export DASK_CONFIG=$here/dask.yaml
 
 # four histories, under as many names as a count of workers takes
 mkdir "$work/made"

@@ -19,6 +19,7 @@ import reference_resumed  # noqa: E402
 from checks import check, finish  # noqa: E402
 from running import PROGRAM  # noqa: E402
 
+summed = []
 FIRST, RUNS = ([int(word) for word in sys.argv[2:4]] + [1, 16][len(sys.argv[2:4]) :])[:2]
 # How many events a history has at most, and how many places lie between two at which it is resumed.
 EVENTS, STEP = 60, 7
@@ -87,6 +88,7 @@ def check_explanations(seed, book, n, text, is_known, whole):
         same = explained(whole_text(book), "--summary", "--from", f"{moment}ns")
         first = next(place for place, record in enumerate(records) if int(record[header.index("effective_moment")]) >= int(moment))
         if first == n:
+            summed.append(n)
             check(explained(text, "--summary", "--from", f"{moment}ns") == same, f"seed {seed}, resumed after event {n}: summed up otherwise")
     return len(wanted_rows) - 1
 
@@ -116,8 +118,9 @@ def main():
             check(got == want, f"seed {seed}: {got} of a text of which the reference says {want}:\n{text[:600]}")
             tried[want[0].split(",")[0]] += 1
         texts, damaged = texts + len(whole), damaged + len(wrong)
+    check(told > 0 and summed, "nothing was explained, or nothing summed up")
     check(tried["differs"] > 0 and tried[""] > 0, f"the changes showed too little: {tried}")
-    print(f"{texts} texts that go on, {told} events of them explained")
+    print(f"{texts} texts that go on, {told} events of them explained, {len(summed)} summed up")
     print(f"{damaged} with a change: {tried['clean']} of these clean, {tried['differs']} differ, {tried['']} with a fault")
     finish()
 

@@ -1,5 +1,6 @@
 -- A state says what a controller holds, and is sound where that is.
-use Rattle.std.proofs.Common.{◌≡◌, ℕ, ◌<◌, ◌≤◌, ◌^◌, ◌==◌, if◌then◌else◌, Bool, true, false, Option, Some, None, is_none, arith, refl, sym, ap, ◌∙◌}
+use Rattle.std.proofs.Common.{◌≡◌, ℕ, ◌<◌, ◌≤◌, ◌^◌, ◌==◌, ◌&&◌, nat_lt, nat_le, if◌then◌else◌, Bool, true, false, Option, Some, None, is_none}
+use Rattle.std.proofs.Common.{arith, refl, sym, ap, ◌∙◌}
 use Rattle.std.proofs.lemmas.Bool.Decides.{nat_tests}
 use Rattle.pie_params.specs.declared.raw.RawParams.{RawParams}
 use Rattle.pie_params.specs.declared.elements.Elements.{Elements}
@@ -92,6 +93,27 @@ choice-from s h = record { known = grind (arith, nat_tests); waited = grind (ari
 choice-to : (s : PieState) → s.choices ≤ 15 → s.waited ≤ 2 ^ 40 → is_choice_sound s ≡ true
 unfolding is_choice_sound
 choice-to s k w = grind (arith, nat_tests)
+
+-- the choices may be looked at first
+with-true : (x : Bool) → (x && true) ≡ x
+with-true true = refl
+with-true false = refl
+
+with-false : (x : Bool) → (x && false) ≡ false
+with-false true = refl
+with-false false = refl
+
+turned : (a b c d e f g : Bool) → (a && b && c && d && e && f && g) ≡ (g && a && b && c && d && e && f)
+turned a b c d e f true = with-true (a && b && c && d && e && f)
+turned a b c d e f false = with-false (a && b && c && d && e && f)
+
+pub choice_first : (s : PieState) → is_sound s
+    ≡ (is_choice_sound s && are_in_range s.params && nat_le s.moment last_moment && is_control_sound s && nat_lt s.accu 8_500_000_000_000
+    && is_rate_sound s && is_activity_sound s)
+unfolding is_sound
+choice_first s =
+    turned (are_in_range s.params) (nat_le s.moment last_moment) (is_control_sound s) (nat_lt s.accu 8_500_000_000_000) (is_rate_sound s)
+    (is_activity_sound s) (is_choice_sound s)
 
 sound-by : (s : PieState) → are_in_range s.params ≡ true → s.moment ≤ last_moment → is_control_sound s ≡ true → s.accu < 8_500_000_000_000
     → is_rate_sound s ≡ true → is_activity_sound s ≡ true → is_choice_sound s ≡ true → is_sound s ≡ true

@@ -121,14 +121,17 @@ class Run:
             return
         _, batch, _ = self.under_way.pop(future.key)
         self.busy[batch.host] -= 1
-        made = future.result() if future.status == "finished" else None
+        try:
+            made = future.result() if future.status == "finished" else None
+            fault = future.exception() if future.status == "error" else future.status
+        except Exception as lost:  # a result can go with its worker
+            made, fault = None, lost
         if isinstance(made, list):
             self.add(made)
         elif made:
             self.workers.look_again()
             self.again(batch, f"{made}, and not {self.workers.wanted}")
         else:
-            fault = future.exception() if future.status == "error" else future.status
             self.again(batch, f"its worker died, or failed: {type(fault).__name__}: {fault}".split("\n")[0])
 
     def again(self, batch, why):

@@ -19,10 +19,11 @@ import reference_resumed  # noqa: E402
 from checks import check, finish  # noqa: E402
 from running import PROGRAM  # noqa: E402
 
-summed = []
 FIRST, RUNS = ([int(word) for word in sys.argv[2:4]] + [1, 16][len(sys.argv[2:4]) :])[:2]
 # How many events a history has at most, and how many places lie between two at which it is resumed.
 EVENTS, STEP = 60, 7
+# The places from which a text was summed up as the whole is.
+summed = []
 
 
 def changed(text, chance):

@@ -1,10 +1,10 @@
 #!/usr/bin/env python3
 """Runs traces that go on from the middle of a history: random histories, in each choice of the optional elements, resumed at places all over them by
 tests/shared/reference_resumed.py, and behind that the commands from there, without their answers. What `pie run` writes is the beginning as it was
-read, and then line for line what it writes of the whole trace from there on, with the whole's registers, statistics and number of events. Then other
-commands in place of those, parameters that are changed from there on, folds, and requests that are refused, in bounded and rolling books whose tail or
-whose limit of events is nearly full: each line is that of the look-backs of reference.py, over the history and what came after it, where the tail
-begins empty. And with a change in the text: its fault, and how far the history text goes.
+read, and then line for line what it writes of the whole trace from there on, with the whole's registers, statistics and number of events. Then
+other commands in place of those, parameters that are changed from there on, folds, and requests that are refused, in bounded and rolling books whose
+tail or whose limit of events is nearly full: each line is that of the look-backs of reference.py, over the history and what came after it, where the
+tail begins empty. What was written is found clean. And with a change in the text: its fault, and how far the history text goes.
 
 usage: tests/program/resumed_runs.py [PROGRAM [FIRST_SEED [RUNS]]]      PROGRAM: crates/pie/out/pie where none is given
 needs: program
@@ -35,6 +35,12 @@ def ran(rows):
     return done.returncode, done.stdout, done.stderr
 
 
+def check_clean(seed, n, text, events):
+    """Whether what a run wrote is found clean, with the number of the whole's last event."""
+    done = subprocess.run([PROGRAM, "audit"], input=text, capture_output=True, text=True, check=False)
+    check(done.stdout == f"clean,{events}\n", f"seed {seed}, resumed after event {n}: the audit of what was run says {done.stdout}{done.stderr}")
+
+
 def gone_on(whole, n, tail, most, is_rolling):
     """A book after the first n events of another one, with an empty tail and limits of its own."""
     book = Book(whole.packets, tail, most, list(whole.opened.values()), whole.start, is_rolling, whole.profile, whole.elements)
@@ -53,6 +59,7 @@ def check_same(seed, whole, n, of_whole):
     later = of_whole[len(of_whole) - len(rows) + len(beginning) :]
     want = 0, "".join([*map(text_of, beginning), *later]), counted(whole, 0)
     check(ran(rows) == want, f"seed {seed}, resumed after event {n}: run otherwise than the whole")
+    check_clean(seed, n, want[1], len(whole.events))
     return len(later)
 
 
@@ -93,6 +100,7 @@ def check_other(seed, whole, n, chance):
     want = 0, "".join(map(text_of, [*beginning, *wanted])), counted(book, refusals)
     got = ran(rows)
     check(got == want, f"seed {seed}, resumed after event {n}: {got} of other commands, where the look-backs say {want}")
+    check_clean(seed, n, got[1], len(book.events))
     return rows, len(beginning)
 
 
@@ -120,7 +128,8 @@ def check_changed(seed, n, rows):
     except Fault as fault:
         faults["beginning"] += 1
         want = 1, "", error_of(fault)
-        check((status, output, error) == want, f"seed {seed}, after event {n}: {status}, {output}, {error} of a beginning with a fault; wanted {want}")
+        got = status, output, error
+        check(got == want, f"seed {seed}, after event {n}: {got} of a beginning with a fault; wanted {want}")
         return
     good, fault = up_to_fault(rows[read - 1 :], lambda number, row: request(number + read - 1, row))
     faults["later" if fault else "none"] += 1

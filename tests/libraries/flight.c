@@ -1,5 +1,5 @@
-/* Tries include/pie_flight.h: random events through the library's calls, with dumps at random places, each of which is decided again by the
- * same calls; a dumping thread beside a writer; a process that is killed; damaged memory. Built as C and as C++, and with sanitizers.
+/* Tries include/pie_flight.h: random events through the library's calls, one at a time and in bursts, with dumps at random places, each of which is
+ * decided again by the same calls; a dumping thread beside a writer; a process that is killed; damaged memory. Built as C and as C++, and with sanitizers.
  * usage: flight SEED EVENTS          all of these, with so many events each
  *        flight texts SEED FOLDER    writes twenty texts there, for an audit: N.history, and N.changed where an answer differs
  *        flight decide FILE          decides a text again, and prints `clean,` and the number of its last event, or `differs` */
@@ -299,6 +299,10 @@ static int is_next(struct again *again, const struct row *row, const char *line)
     return answer <= 100 && count != 0 && memcmp(bytes, line, count) == 0;
 }
 
+/* The packets that wait at the end of the text that was decided last. */
+static struct packet ended[MOST_WAITING];
+static uint64_t ended_count;
+
 /* Decides a text again: answers the number of the last event, and 0 where an event differs or the text is none; `first` is the number of events
  * before it. */
 static uint64_t decide_again(const struct text *text, uint64_t *first) {
@@ -332,6 +336,9 @@ static uint64_t decide_again(const struct text *text, uint64_t *first) {
             goto done;
     }
     found = again.events;
+    ended_count = again.count;
+    if (again.count <= MOST_WAITING && again.count != 0)
+        memcpy(ended, again.packets + again.first, again.count * sizeof *ended);
 done:
     free(again.packets);
     free(copy);
@@ -343,13 +350,31 @@ done:
 static struct text text;
 static uint64_t dumps, changes; /* that were tried */
 
+/* Who has the packets that wait, of a recorder of bursts: so many left so far. */
+struct owner {
+    const struct queue *queue;
+    uint64_t left;
+};
+
+static void hand_over(void *user, PIE_RING_WORD *queued, uint64_t places) {
+    const struct owner *owner = (const struct owner *)user;
+    uint64_t i;
+    for (i = 0; i < owner->queue->count; i++) {
+        const struct packet *it = &owner->queue->packets[(owner->queue->first + i) % MOST_WAITING];
+        pie_flight_waits(queued, places, owner->left + i, it->tag, it->size, it->ecn, it->since);
+    }
+}
+
 /* Dumps, decides again, and answers the number of the last event. */
-static uint64_t dump(const void *memory, size_t bytes, void *scratch, uint64_t *first) {
+static uint64_t dump(const void *memory, size_t bytes, void *scratch, struct owner *owner, uint64_t *first) {
     uint64_t last;
     int answer;
     text.count = 0;
     text.stop_at = 0;
-    answer = pie_flight_dump(memory, bytes, scratch, take, &text);
+    if (owner != NULL)
+        answer = pie_flight_dump_of(memory, bytes, scratch, hand_over, owner, take, &text);
+    else
+        answer = pie_flight_dump(memory, bytes, scratch, take, &text);
     expect(answer == PIE_FLIGHT_DONE, "a dump answers", (uint64_t)answer);
     last = decide_again(&text, first);
     if (last == 0 && text.count > 0 && *first == 0 && memchr(text.bytes, '\n', text.count) == text.bytes + text.count - 1)
@@ -362,6 +387,17 @@ static uint64_t dump(const void *memory, size_t bytes, void *scratch, uint64_t *
     expect(last != 0, "a text differs; it is in flight.text", dumps);
     dumps++;
     return last;
+}
+
+/* The text tells the packets that wait at its end as they are. */
+static void expect_ended(const struct queue *queue) {
+    uint64_t i;
+    expect(ended_count == queue->count, "as many packets that wait", ended_count);
+    for (i = 0; i < ended_count; i++) {
+        const struct packet *it = &queue->packets[(queue->first + i) % MOST_WAITING];
+        expect(ended[i].tag == it->tag && ended[i].since == it->since && ended[i].size == it->size && ended[i].ecn == it->ecn,
+               "a packet that waits is told otherwise", i);
+    }
 }
 
 static void *aligned(size_t bytes) {
@@ -406,15 +442,75 @@ static void random_events(uint64_t seed, uint64_t events) {
         number_of_events += event.answer <= 100;
         expect(flight.count == number_of_events && flight.packets == queue.count && flight.bytes == queue.bytes, "counted otherwise", i);
         if (below(&seed, 400) == 0) {
-            last = dump(memory, bytes, below(&seed, 2) == 0 ? scratch : NULL, &first);
+            last = dump(memory, bytes, below(&seed, 2) == 0 ? scratch : NULL, NULL, &first);
             expect(last == number_of_events || (last == 0 && number_of_events == 0), "not the last event", last);
             expect(first == 0 || last - first >= wanted, "fewer events than wanted", last - first);
             expect(last - first <= wanted + 2 * (wanted / 8 + 1), "more events than there is room for", last - first);
-            if (last != 0)
+            if (last != 0) {
+                expect_ended(&queue);
                 change_a_byte(&seed);
+            }
         }
     }
     expect(events < 20000 || (queue.refused > 0 && queue.changed > 0), "no refusals, and no parameters", queue.refused);
+    free(memory);
+    free(scratch);
+}
+
+/* Puts an event that was not refused, as who decides bursts does. */
+static void put(struct pie_flight_burst *burst, const struct queue *queue, const struct pie_event *event, struct owner *owner, uint64_t since) {
+    if (event->kind == PIE_EVENT_ARRIVE) {
+        pie_flight_arrive(burst, event->moment, event->tag, event->word, event->size, event->ecn, event->answer, event->caller);
+    } else if (event->kind == PIE_EVENT_DEPART && event->answer != PIE_NONE) {
+        pie_flight_depart(burst, event->moment, event->tag, since, event->size, event->ecn, event->caller);
+        owner->left++;
+    } else {
+        pie_flight_other(burst, &queue->pie, event);
+    }
+}
+
+/* The same in bursts of up to so many events, of a queue of its owner's. */
+static void random_bursts(uint64_t seed, uint64_t events) {
+    struct queue queue;
+    struct owner owner;
+    struct pie_flight flight;
+    struct pie_event event;
+    uint64_t wanted = 1 + below(&seed, below(&seed, 2) == 0 ? 40 : 3000), longest = 1 + below(&seed, 50), first = 0, last, i, rest;
+    size_t bytes;
+    void *memory, *scratch;
+    open_queue(&queue, word_of(&seed));
+    owner.queue = &queue;
+    owner.left = 0;
+    bytes = pie_flight_bulk_bytes(wanted, queue.opening.packets, longest);
+    memory = aligned(bytes);
+    scratch = aligned(bytes);
+    expect(pie_flight_open_bulk(&flight, memory, bytes, wanted, longest, &queue.opening, &queue.pie), "a recorder of bursts opens", bytes);
+    for (i = 0; i < events;) {
+        struct pie_flight_burst burst = pie_flight_begin(&flight);
+        for (rest = 1 + below(&seed, longest); rest != 0; rest--, i++) {
+            uint64_t since = queue.packets[queue.first].since;
+            step(&queue, &event);
+            if (event.answer <= 100)
+                put(&burst, &queue, &event, &owner, since);
+        }
+        pie_flight_end(&flight, &burst);
+        if (pie_flight_is_due(&flight)) {
+            flight.came_so_far = owner.left + queue.count;
+            flight.packets = queue.count;
+            flight.bytes = queue.bytes;
+            pie_flight_snapshot(&flight, &queue.pie);
+        }
+        if (below(&seed, 100) == 0) {
+            last = dump(memory, bytes, below(&seed, 2) == 0 ? scratch : NULL, &owner, &first);
+            expect(last == flight.count || (last == 0 && flight.count == 0), "not the last event of a burst", last);
+            expect(first == 0 || last - first >= wanted, "fewer events than wanted of bursts", last - first);
+            expect(last - first <= wanted + 2 * (wanted / 8 + longest), "more events than there is room for in bursts", last - first);
+            if (last != 0) {
+                expect_ended(&queue);
+                change_a_byte(&seed);
+            }
+        }
+    }
     free(memory);
     free(scratch);
 }
@@ -429,6 +525,7 @@ static void refusals(void) {
     uint64_t i;
     open_queue(&queue, 1);
     queue.opening.packets = 50;
+    expect(pie_flight_bulk_bytes(100, 50, 0) == 0 && pie_flight_bulk_bytes(100, 50, 65537) == 0, "bursts out of range", 0);
     expect(pie_flight_bytes(0, 50) == 0 && pie_flight_bytes(100, 0) == 0 && pie_flight_bytes(100, (1 << 20) + 1) == 0, "sizes out of range", 0);
     expect(!pie_flight_open(&flight, memory, bytes - 8, 100, &queue.opening, &queue.pie), "opened with too little memory", 0);
     expect(!pie_flight_open(&flight, memory + 4, bytes, 100, &queue.opening, &queue.pie), "opened where it isn't aligned", 0);
@@ -534,7 +631,7 @@ static void threads(uint64_t seed, uint64_t events) {
         before = last;
     }
     pthread_join(writer, NULL);
-    last = dump(memory, bytes, NULL, &first);
+    last = dump(memory, bytes, NULL, NULL, &first);
     expect(tries - gone > 3, "too few dumps beside the writer", tries - gone);
     events = shared_flight.count;
     printf("flight: %" PRIu64 " dumps beside a writer of %" PRIu64 " events, %" PRIu64 " of them too late\n", tries, events, gone);
@@ -564,7 +661,7 @@ static void killed(uint64_t seed, uint64_t rounds) {
         nanosleep(&pause, NULL);
         kill(child, SIGKILL);
         waitpid(child, &status, 0);
-        last = dump(memory, bytes, NULL, &first);
+        last = dump(memory, bytes, NULL, NULL, &first);
         expect(first == 0 || last - first >= wanted, "fewer events than wanted of a killed process", last - first);
         sum += last;
         munmap(memory, bytes);
@@ -616,7 +713,7 @@ static void texts(uint64_t seed, const char *folder) {
             step(&queue, &event);
             pie_flight_keep(&flight, &queue.pie, &event);
         }
-        last = dump(memory, bytes, NULL, &first);
+        last = dump(memory, bytes, NULL, NULL, &first);
         write_file(folder, round, "history");
         if (change_a_verdict())
             write_file(folder, round, "changed");
@@ -652,6 +749,8 @@ int main(int count, char **words) {
     refusals();
     for (i = 0; i < 20; i++)
         random_events(seed * 1000 + i, events / 10);
+    for (i = 0; i < 20; i++)
+        random_bursts(seed * 1000 + i, events / 20);
     damaged(seed, events / 100);
     killed(seed, 20);
     threads(seed, events * 10);

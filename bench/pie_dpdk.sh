@@ -1,9 +1,9 @@
 #!/usr/bin/env bash
 # Packets a second from one null port of DPDK to another, in bursts of 32: forwarding alone, through DPDK's rte_pie (which makes no marks),
-# through the stage of bindings/dpdk without marks and with, through the stage with its flight recorder of the last 65536 events, and through the
-# stage with its whole history, written to /dev/null by one more lcore; all but the first behind the same lock and ring. Once one lcore receives, enqueues, dequeues and sends; once as many as the processors
-# allow receive and enqueue, and one dequeues and sends. Prints the greatest and the median of the runs, which take turns, as the table of
-# docs/PERFORMANCE.md. It needs libdpdk (bindings/dpdk/install.sh) and the library, which bindings/c/library.py builds.
+# through the stage of bindings/dpdk without marks and with, through the stage with its flight recorder of the last 16384 events, and through the
+# stage with its whole history, written to /dev/null by one more lcore; all but the first behind the same lock and ring. Once one lcore receives,
+# enqueues, dequeues and sends; once as many as the processors allow receive and enqueue, and one dequeues and sends. Prints the greatest and the
+# median of the runs, which take turns, as the table of docs/PERFORMANCE.md. It needs libdpdk (bindings/dpdk/install.sh) and the library, which bindings/c/library.py builds.
 # usage: bench/pie_dpdk.sh [SECONDS [RUNS]]      SECONDS of each run, 1 where none is given; RUNS of each kind, 9: some 115 seconds in all
 set -eu
 cd "$(dirname "$0")/.."

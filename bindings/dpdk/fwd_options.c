@@ -30,7 +30,7 @@ static const char help[] =
     "  --json FILE           the same numbers in the shape of tc -s -j, replaced each second\n"
     "  --flight FILE         the last decisions, for pie audit and pie explain, written at SIGUSR1 (pie-fwd.flight)\n"
     "  --flight-wait 100ms   also where a packet waited longer than this, once a second at the most\n"
-    "  --flight-events 65536 how many decisions are kept at the least, up to 2^24; 0: none\n"
+    "  --flight-events 16384 how many decisions are kept at the least, up to 2^24; 0: none\n"
     "  --history FILE        every decision: some 120 bytes a packet\n"
     "  --rotate 64mb         the history in segments of this size, FILE.1, FILE.2 and so on, each of which stands alone\n"
     "  --segments 8          keep the last of them, and remove those before (all are kept)\n"

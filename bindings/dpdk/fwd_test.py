@@ -1,7 +1,7 @@
 #!/usr/bin/env python3
 """Runs pie-fwd between a null port and a ring, several at once: what it refuses, its end by an interrupt, its files, and its history, at full speed
-and by a device that is full, in segments, and of the last events alone; no mbuf is lost. With --real-time it runs nothing else than one that holds its target in real time, at raised
-priority, for which a processor has to be free.
+and by a device that is full, in segments, and of the last events alone; no mbuf is lost. With --real-time it runs nothing else than one that holds
+its target in real time, at raised priority, for which a processor has to be free.
 
 usage: bindings/dpdk/fwd_test.py PIE_FWD PIE [--real-time]"""
 import json

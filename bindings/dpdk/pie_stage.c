@@ -498,8 +498,8 @@ static __rte_always_inline void depart(struct pie_stage *stage, const struct wai
     }
 }
 
-/* Under the lock, the `count` oldest packets leave, BURST of them at the most, and no more than bring the sum of their sizes to `bytes`, which is less
- * by that sum then; answers how many. */
+/* Under the lock, the `count` oldest packets leave, BURST of them at the most, and no more than bring the sum of their sizes to `bytes`, which is
+ * less by that sum then; answers how many. */
 static __rte_always_inline uint32_t depart_burst(struct pie_stage *stage, struct rte_mbuf **mbufs, uint32_t count, uint64_t *bytes,
                                                  const struct turn *turn, const enum record record) {
     struct rte_ring_zc_data places = {0};
@@ -674,7 +674,7 @@ static void hand_over(void *owner, PIE_RING_WORD *queued, uint64_t places) {
         uint32_t found = rte_ring_dequeue_zc_burst_elem_start(stage->ring, sizeof(struct waiting), stage->packets, &data, NULL);
         for (uint32_t part = 0; part < HANDED_OVER && next < end && next - first < found; part++, next++) {
             uint64_t place = next - first;
-            const struct waiting *it = place < data.n1 ? (const struct waiting *)data.ptr1 + place : (const struct waiting *)data.ptr2 + (place - data.n1);
+            const struct waiting *one = data.ptr1, *two = data.ptr2, *it = place < data.n1 ? one + place : two + (place - data.n1);
             pie_flight_waits(queued, places, next, it->tag, it->size, it->ecn, it->arrived);
         }
         rte_ring_dequeue_zc_elem_finish(stage->ring, 0);

@@ -53,7 +53,7 @@ struct pie_stage;
 
 #define PIE_STAGE_MAX_PACKETS (1u << 24) /* the greatest room */
 #define PIE_STAGE_MAX_FLIGHT (1u << 24)  /* the most events of the flight recorder */
-#define PIE_STAGE_FLIGHT (1u << 16)      /* .. and those of the default parameters */
+#define PIE_STAGE_FLIGHT (1u << 14)      /* .. and those of the default parameters */
 
 struct pie_stage_params {
     struct pie_params pie; /* the controller's parameters */
@@ -145,10 +145,10 @@ size_t pie_stage_history(struct pie_stage *stage, unsigned char *text, size_t ro
 /* The end of the history: the same, when no other thread calls the stage any more; once it answers 0 the history is whole. */
 size_t pie_stage_history_end(struct pie_stage *stage, unsigned char *text, size_t room);
 
-/* Cuts the history here: pie_stage_history writes the text up to this moment, answers 0 once where it is whole, and from then on writes a new text, which
- * resumes (docs/FORMATS.md) and stands alone. A gap stays in the text before the cut. By the thread that writes the history. Answers false, and
- * cuts nothing, where nothing is recorded, nothing was written yet, or the text before the last cut is not yet whole. The lock is held while the
- * packets that wait are copied, 24 bytes each. */
+/* Cuts the history here: pie_stage_history writes the text up to this moment, answers 0 once where it is whole, and from then on writes a new
+ * text, which resumes (docs/FORMATS.md) and stands alone. A gap stays in the text before the cut. By the thread that writes the history. Answers
+ * false, and cuts nothing, where nothing is recorded, nothing was written yet, or the text before the last cut is not yet whole. The lock is held
+ * while the packets that wait are copied, 24 bytes each. */
 bool pie_stage_history_cut(struct pie_stage *stage);
 
 /* Nanoseconds in so many cycles of the TSC, by the clock of the stage. It rounds down, and is exact to 10^-13. */

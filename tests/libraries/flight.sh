@@ -34,11 +34,14 @@ wrong "a snapshot an event late, of a burst's packets" "    pie_flight_end(fligh
         pie_flight_snapshot(flight, state);" "    if (pie_flight_is_due(flight))
         pie_flight_snapshot(flight, state);
     pie_flight_end(flight, &burst);"
-wrong "an arrival's moment as it was handed in" "pie_flight_came(flight, event, state->moment, event->ecn)" "pie_flight_came(flight, event, event->moment, event->ecn)"
-wrong "a marked packet that is queued as it came" "pie_flight_came(flight, event, state->moment, PIE_CE)" "pie_flight_came(flight, event, state->moment, event->ecn)"
+wrong "an arrival's moment as it was handed in" \
+    "pie_flight_came(flight, event, state->moment, event->ecn)" "pie_flight_came(flight, event, event->moment, event->ecn)"
+wrong "a marked packet that is queued as it came" \
+    "pie_flight_came(flight, event, state->moment, PIE_CE)" "pie_flight_came(flight, event, state->moment, event->ecn)"
 wrong "packets that are overwritten too soon" "layout->queued = packets;" "layout->queued = packets / 2 + 1;"
 wrong "packets that departed since, not told by their departures" "number != kept && left != came &&" "number != kept && left + 1 < came &&"
-wrong "a packet that waits, told by its neighbour's place" "words + layout->queued_at + left % layout->queued" "words + layout->queued_at + (left + 1) % layout->queued"
+wrong "a packet that waits, told by its neighbour's place" \
+    "words + layout->queued_at + left % layout->queued" "words + layout->queued_at + (left + 1) % layout->queued"
 wrong "parameters a bit too narrow" "{34, 34, 40, 20, 20, 16, 31, 40, 5}" "{34, 34, 40, 20, 19, 16, 31, 40, 5}"
 wrong "a snapshot of the newest alone" "count >= oldest)" "count <= oldest && found != NULL)"
 wrong "the numbers begun anew" "PIE_RING_LOAD(snapshot[PIE_FLIGHT_COUNT]), PIE_UNKNOWN" "UINT64_C(0), PIE_UNKNOWN"

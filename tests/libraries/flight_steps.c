@@ -61,11 +61,13 @@ static void keep_one(void) {
     pie_flight_keep(&writer.flight, &writer.queue.pie, &event);
 }
 
-/* Keeps so many events, or refused calls, from where the writer was stopped on. (What it had stored of an event it stores again, the same.) */
+/* Ends the event in which the writer was stopped, and keeps so many more events, or refused calls. (What it had stored it stores again, the same.) */
 static void keep_events(uint64_t events) {
     uint64_t kept;
-    if (is_within)
+    if (is_within) {
         writer = before;
+        events++;
+    }
     is_within = 0;
     kept = writer.flight.count;
     for (; events != 0; events--)

@@ -5,7 +5,7 @@ use Rattle.std.proofs.lemmas.Bool.{le-ltb}
 use Rattle.pie_book.specs.declared.opening.Opening.{Opening}
 use Rattle.pie_book.specs.Run.{Progress, progress_after, start}
 use Rattle.pie_record.specs.declared.trace_record.Request.{Request}
-use Rattle.pie_record.specs.declared.trace_record.Request.TheVariants.{Ask, BadParams, Fold, Show, Tally}
+use Rattle.pie_record.specs.declared.trace_record.Request.TheVariants.{Ask, Fold}
 use Rattle.pie_trace.specs.History.{progress_at_end, replies, steps_of}
 use Rattle.pie_trace.specs.Reply.{Reply, after, let_go, reply}
 use Rattle.pie_trace.specs.Resumed.{going_on}
@@ -17,24 +17,15 @@ replies-append opening from [] ys = refl
 replies-append opening from (Ask caller command ∷ xs) ys =
     ap (λ (given : List Reply). reply opening from (Ask caller command) ∷ given)
     (replies-append opening (after opening from (Ask caller command)) xs ys)
-replies-append opening from (BadParams ∷ xs) ys =
-    ap (λ (given : List Reply). reply opening from BadParams ∷ given) (replies-append opening from xs ys)
-replies-append opening from (Fold n ∷ xs) ys =
-    ap (λ (given : List Reply). reply opening from (Fold n) ∷ given) (replies-append opening (after opening from (Fold n)) xs ys)
-replies-append opening from (Show ∷ xs) ys =
-    ap (λ (given : List Reply). reply opening from Show ∷ given) (replies-append opening from xs ys)
-replies-append opening from (Tally ∷ xs) ys =
-    ap (λ (given : List Reply). reply opening from Tally ∷ given) (replies-append opening from xs ys)
+replies-append opening from (request ∷ xs) ys =
+    ap (λ (given : List Reply). reply opening from request ∷ given) (replies-append opening (after opening from request) xs ys)
 
 progress-append : (opening : Opening) (from : Progress) (xs ys : List Request)
     → progress_after opening from (steps_of (xs ++ ys)) ≡ progress_after opening (progress_after opening from (steps_of xs)) (steps_of ys)
 unfolding steps_of progress_after
 progress-append opening from [] ys = refl
 progress-append opening from (Ask caller command ∷ xs) ys = progress-append opening (after opening from (Ask caller command)) xs ys
-progress-append opening from (BadParams ∷ xs) ys = progress-append opening from xs ys
-progress-append opening from (Fold n ∷ xs) ys = progress-append opening (after opening from (Fold n)) xs ys
-progress-append opening from (Show ∷ xs) ys = progress-append opening from xs ys
-progress-append opening from (Tally ∷ xs) ys = progress-append opening from xs ys
+progress-append opening from (request ∷ xs) ys = progress-append opening (after opening from request) xs ys
 
 -- a fold of all that the tail holds
 folds-all : (opening : Opening) (at : Progress) → after opening at (Fold at.held) ≡ going_on at.history

@@ -20,6 +20,7 @@ use Rattle.pie_record.specs.declared.command.CommandKind.TheVariants as kind
 use Rattle.pie_record.specs.declared.fault.Flaw.{Flaw}
 use Rattle.pie_record.specs.declared.fault.Flaw.TheVariants as flaw
 use Rattle.pie_record.specs.declared.trace_record.Request.TheVariants as request
+use Rattle.pie_record.specs.declared.version.Version.{Version}
 use Rattle.pie_record.specs.Command.{arrival_at, asked_at, change_at, change_to, command_at, command_kind, command_length}
 use Rattle.pie_record.specs.Field.{ecn_at, ecn_of, is_kind, is_word, most_u16, most_u32, most_u64, number_at, packet_at, params_at}
 use Rattle.pie_record.specs.Number.{number}
@@ -34,11 +35,11 @@ use Rattle.pie_record.proofs.NumberFacts.{number-some}
 -- ---- fields at their places
 
 -- this field stands at a place
-abbrev Has : Row → ℕ → List ℕ → Type 0
+abbrev pub Has : Row → ℕ → List ℕ → Type 0
 Has row place field = field_at row place ≡ Some field
 
 -- these stand from a place on
-abbrev HasAll : Row → ℕ → Row → Type 0
+abbrev pub HasAll : Row → ℕ → Row → Type 0
 HasAll row place [] = ⊤
 HasAll row place (field ∷ fields) = Has row place field × HasAll row (place + 1) fields
 
@@ -48,7 +49,7 @@ drop-has [] place field e = cc
 drop-has (first ∷ rest) zero field e = let same : first ≡ field = cc in ap (λ (f : List ℕ). f ∷ rest) same
 drop-has (first ∷ rest) (suc place) field e = drop-has rest place field e
 
-has-all : (row : Row) (place : ℕ) (fields : Row) → length row ≡ place + length fields → HasAll row place fields → drop place row ≡ fields
+pub has-all : (row : Row) (place : ℕ) (fields : Row) → length row ≡ place + length fields → HasAll row place fields → drop place row ≡ fields
 has-all row place [] long has = drop_all place row (omega arith)
 has-all row place (field ∷ fields) long has =
     drop-has row place field has.0
@@ -56,7 +57,7 @@ has-all row place (field ∷ fields) long has =
 
 -- ---- what was read stands there as it is written
 
-number-has : (row : Row) (place most n : ℕ) → most < 2 ^ 64 → number_at row place most ≡ Ok n → Has row place (decimal n)
+pub number-has : (row : Row) (place most n : ℕ) → most < 2 ^ 64 → number_at row place most ≡ Ok n → Has row place (decimal n)
 number-has row place most n small e = by (field_at row place) e
   where
     inner : (field : List ℕ) (o : Option ℕ) → number most field ≡ o → ok_or o flaw.Number ≡ Ok n
@@ -103,7 +104,7 @@ ecn-has row place e is = by (field_at row place) is
     by None is = cc
     by (Some field) is = inner field (ecn_of field) refl is
 
-word-has : (row : Row) (word : List ℕ) → is_kind row word ≡ true → Has row 0 word
+pub word-has : (row : Row) (word : List ℕ) → is_kind row word ≡ true → Has row 0 word
 word-has row word e = by (field_at row 0) e
   where
     by : (field : Option (List ℕ)) → is_word word field ≡ true → field ≡ Some word
@@ -294,7 +295,7 @@ command-back row k caller command known long e =
         change-back row caller from moment command long word (subst (λ (n : ℕ). Has row 1 (decimal n)) who_is who) when e
 
 -- a record of a trace that asks a command has the fields of that command
-pub asked-fields : (row : Row) (caller : ℕ) (command : Command) → request_of row ≡ Ok (request.Ask caller command)
+pub asked-fields : (version : Version) (row : Row) (caller : ℕ) (command : Command) → request_of version row ≡ Ok (request.Ask caller command)
     → row ≡ command_fields caller command
-asked-fields row caller command e =
-    let asks = asks-command row caller command e in command-back row asks.kind caller command asks.is asks.long asks.reads
+asked-fields version row caller command e =
+    let asks = asks-command version row caller command e in command-back row asks.kind caller command asks.is asks.long asks.reads

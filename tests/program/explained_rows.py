@@ -33,7 +33,7 @@ def opened(fields):
 
 
 def step_of(fields):
-    """The caller and the step of a record of a trace; none of a `show` or a `tally`."""
+    """The caller and the step of a record of a trace; none of a `show`, a `tally` or a `clock`."""
     kind, *rest = fields
     if kind == "arrive":
         caller, moment, tag, size, ecn, word = rest
@@ -42,7 +42,7 @@ def step_of(fields):
         return int(rest[0]), ("set", int(rest[1]), tuple(map(int, rest[2:])))
     if kind == "fold":
         return 0, ("fold", int(rest[0]))
-    return None if kind in ("show", "tally") else (int(rest[0]), (kind, int(rest[1])))
+    return None if kind in ("show", "tally", "clock") else (int(rest[0]), (kind, int(rest[1])))
 
 
 def state(book, n):

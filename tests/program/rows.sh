@@ -26,7 +26,7 @@ for trace in "$rows"/*.in "$rows"/choices/*.in; do
     fi
     tried=$((tried + 1))
     [ "$want" = 0 ] || continue
-    events=$(grep -cvE '^(open|open2|open3|rolling|refused|folded|shown|tallied),' "$history")
+    events=$(grep -cvE '^(open|open2|open3|rolling|refused|folded|shown|tallied|clock),' "$history")
     found=$("$program" audit < "$history")
     if [ "$found" != "clean,$events" ]; then
         echo "$script: $name: its audit is $found, and not clean,$events"
@@ -42,8 +42,8 @@ for history in "$rows"/*.history; do
         failed=1
     fi
 done
-if [ "$tried" -lt 52 ]; then
-    echo "$script: $tried rows, where 52 or more are wanted"
+if [ "$tried" -lt 53 ]; then
+    echo "$script: $tried rows, where 53 or more are wanted"
     failed=1
 fi
 exit "$failed"

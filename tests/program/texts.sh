@@ -79,6 +79,35 @@ for it in fold,-1 fold,18446744073709551616 update,1,1.5 reset,65536,1 params,1,
     record "$number" "$it"
 done
 record "$word" arrive,1,10,7,1500,ECT0,0
+# the time of day is told in version three alone, where it is written as it was read
+record "$kind" clock,1,2
+record "$kind" clock
+says 1 'open2,2,bounded,0,4,16,100\n' "pie: record 2: $kind\n" 'open2,2,bounded,0,4,16,100\nclock,1,2\n' run
+third=open3,1,stamp,derandomized,capped,unscaled,bounded,0,4,16,100
+timed="$third\nclock,0,1795550400000000000\ndepart,1,1,empty\nclock,1152921504606846975,18446744073709551615\nclock,9,0\n"
+says 0 "$timed" '' "${timed/,empty/}" run
+says 0 'clean,1\n' '' "$timed" audit
+says 0 "$timed" '' "$timed" migrate
+# clocked FAULT RECORD: of a trace and of a history in version three
+clocked() {
+    says 1 "$third\ndepart,1,1,empty\n" "pie: record 3: $1\n" "$third\ndepart,1,1\n$2\ndepart,1,2\n" run
+    says 1 '' "pie: record 3: $1\n" "$third\ndepart,1,1,empty\n$2\n" audit
+}
+for it in clock clock,1 clock,1, clock,1,2,3; do
+    case $it in clock,1,) clocked "$number" "$it" ;; *) clocked "$fields" "$it" ;; esac
+done
+for it in clock,x,2 clock,1152921504606846976,2 clock,01,2 clock,1,18446744073709551616 clock,1,-1 clock,,1; do clocked "$number" "$it"; done
+clocked "$kind" Clock,1,2
+clocked "$kind" clocks,1,2
+# so it is in a text that resumes, behind the packets that waited
+nine=15000000,15000000,150000000,125,1250,1024,262144,100000000000,16384
+resumed=resume,1,stamp,derandomized,capped,unscaled,bounded,0,4,16,100,$nine,$nine
+none_waits=$resumed,0,0,0,0,0,0,0,0,150000000,0,0,0,0,0,0,1,0,0,0,0,0,0,0,0,0,0,0,0,0,0,0
+one_waits=$resumed,1,0,1,1500,10,0,0,0,150000000,0,0,0,0,0,0,1,1,1,0,0,0,0,0,0,0,0,0,0,1500,0,0
+says 0 'clean,1\n' '' "$none_waits\nclock,0,5\ndepart,1,1,empty\nclock,0,6\n" audit
+says 1 '' "pie: record 2: $number\n" "$none_waits\nclock,0,x\n" audit
+says 0 'clean,2\n' '' "$one_waits\nqueued,7,1500,ect0,10\nclock,1,2\ndepart,1,20,left,7,1500,ect0\n" audit
+says 1 '' 'pie: record 1: fewer packets than were announced\n' "$one_waits\nclock,1,2\nqueued,7,1500,ect0,10\n" audit
 # the first bad field counts
 record "$number" arrive,1,10,7,-1,ect2,0
 record "$word" arrive,1,10,7,1500,ect2,-1
@@ -109,6 +138,7 @@ done
 for it in open,0,4,16,100 show fold,1; do line $one "$kind" $it; done
 # parameters that cannot be set
 line $one differs,1 params,1,8,1,1,0,850000,0,1,100000,0,1024,done
+line $one "$kind" clock,1,2
 # in version two `shown` ends with whether the controller works
 two=open2,2,bounded,0,4,16,100
 line $two clean,0 shown,1,2,3,4,5,6,7,8,9,10,1,0
@@ -117,6 +147,7 @@ line $two "$fields" shown,1,2,3,4,5,6,7,8,9,10,1
 line $two "$number" shown,1,2,3,4,5,6,7,8,9,10,2,1
 line $two "$number" shown,1,2,3,4,5,6,7,8,9,10,1,2
 line $two "$kind" open2,2,bounded,0,4,16,100
+line $two "$kind" clock,1,2
 
 # found FINDING HISTORY: the audit of a history
 found() {

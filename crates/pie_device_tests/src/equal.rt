@@ -37,9 +37,9 @@ pub(crate) fn lines(one: Line, other: Line) -> bool
                 let _ = events(event, again);
                 is_same
             }
-            Line::Unmakeable | Line::Note => is_same,
+            Line::Unmakeable | Line::Note | Line::Clock(_) => is_same,
         },
-        Line::Unmakeable | Line::Note => is_same,
+        Line::Unmakeable | Line::Note | Line::Clock(_) => is_same,
     }
 }
 

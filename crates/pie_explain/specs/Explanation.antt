@@ -12,7 +12,7 @@ use Rattle.pie_book.specs.Registers.{registers_after}
 use Rattle.pie_book.specs.Statistics.{count_of, wait_of}
 use Rattle.pie_book.specs.Cause.{cause_after}
 use Rattle.pie_record.specs.declared.history_record.Line.{Line}
-use Rattle.pie_record.specs.declared.history_record.Line.TheVariants.{Made, Unmakeable, Note}
+use Rattle.pie_record.specs.declared.history_record.Line.TheVariants.{Clock, Made, Unmakeable, Note}
 use Rattle.pie_record.specs.HistoryLines.{event_count}
 use Rattle.pie_audit.specs.Finding.{LinePlace, events_of, first_difference, line_places, number_of}
 use Rattle.pie_explain.specs.declared.explanation.Explained.{Explained}
@@ -64,6 +64,7 @@ abbrev pub sets_probability : Bool → Line → Bool → Bool
 sets_probability was (Made event) is = is_setting was event.command is
 sets_probability was Unmakeable is = false
 sets_probability was Note is = false
+sets_probability was (Clock clock) is = false
 
 -- the controller is active after the events of these lines
 abbrev pub is_active_after : Opening → List Line → Bool
@@ -104,6 +105,7 @@ told_after opening choice lines set_by (Made event) =
     (explanation opening (events_of lines) (event_count lines + 1) event set_by)
 told_after opening choice lines set_by Unmakeable = None
 told_after opening choice lines set_by Note = None
+told_after opening choice lines set_by (Clock clock) = None
 
 -- nothing from an event on that differs
 abbrev pub told_unless : Option ℕ → Option Explanation → Option Explanation

@@ -11,6 +11,7 @@ use Rattle.pie_queue.specs.declared.packet.Packet.{Packet}
 use Rattle.pie_book.specs.declared.command.Command.{Command}
 use Rattle.pie_book.specs.declared.command.Command.TheVariants.{Arrive, Depart, Update, Reset, SetParams}
 use Rattle.pie_book.specs.Ranges.{CommandFits, PacketFits, ParamsFit}
+use Rattle.pie_record.specs.declared.clock.Clock.{Clock}
 use Rattle.pie_record.specs.declared.command.Asked.{Asked}
 use Rattle.pie_record.specs.declared.command.Asked.TheVariants as asked
 use Rattle.pie_record.specs.declared.command.CommandKind.{CommandKind}
@@ -19,9 +20,11 @@ use Rattle.pie_record.specs.declared.fault.Flaw.{Flaw}
 use Rattle.pie_record.specs.declared.fault.Flaw.TheVariants as flaw
 use Rattle.pie_record.specs.declared.trace_record.Request.{Request}
 use Rattle.pie_record.specs.declared.trace_record.Request.TheVariants as request
+use Rattle.pie_record.specs.declared.version.Version.{Version}
+use Rattle.pie_record.specs.Clock.{clock_in}
 use Rattle.pie_record.specs.Command.{arrival_at, asked_at, change_at, change_to, command_at, command_kind, command_length}
 use Rattle.pie_record.specs.Field.{and_then, ecn_at, is_kind, most_u16, most_u32, most_u64, number_at, packet_at, params_at}
-use Rattle.pie_record.specs.TraceRecord.{command_request, fold_request, request_by, request_for, request_of}
+use Rattle.pie_record.specs.TraceRecord.{clock_request, command_request, fold_request, request_by, request_for, request_of}
 use Rattle.pie_record.specs.Text.{Row}
 use Rattle.pie_record.proofs.FieldFacts.{and_after, field-kept, number_at-within}
 
@@ -181,30 +184,41 @@ fold-asks row caller command e = by (length row == 2) (number_at row 1 most_u64)
     by true (Err what) e = cc
     by false r e = cc
 
-pub asks-command : (row : Row) (caller : ℕ) (command : Command) → request_of row ≡ Ok (request.Ask caller command)
+clock-asks : (version : Version) (row : Row) (caller : ℕ) (command : Command) → clock_request version row ≡ Ok (request.Ask caller command) → ⊥
+clock-asks version row caller command e = by (clock_in version row) e
+  where
+    by : (r : Result Clock Flaw) → and_then r (λ clock. let said : Result Request Flaw = Ok (request.Clock clock) in said)
+        ≡ Ok (request.Ask caller command) → ⊥
+    by (Ok clock) e = cc
+    by (Err what) e = cc
+
+pub asks-command : (version : Version) (row : Row) (caller : ℕ) (command : Command) → request_of version row ≡ Ok (request.Ask caller command)
     → AsksCommand row (asked.Command caller command)
 unfolding request_of
-asks-command row caller command e = by (command_kind row) refl e
+asks-command version row caller command e = by (command_kind row) refl e
   where
-    other : (g h i l : Bool) → (if g then fold_request row else if h then (if l then Ok request.Show else Err flaw.Fields) else if i then
-        (if l then Ok request.Tally else Err flaw.Fields) else Err flaw.Kind) ≡ Ok (request.Ask caller command)
-        → AsksCommand row (asked.Command caller command)
-    other true h i l e = absurd (fold-asks row caller command e)
-    other false true i true e = cc
-    other false true i false e = cc
-    other false false true true e = cc
-    other false false true false e = cc
-    other false false false l e = cc
+    other : (g h i k l : Bool) → (if g then fold_request row else if h then (if l then Ok request.Show else Err flaw.Fields) else if i then
+        (if l then Ok request.Tally else Err flaw.Fields) else if k then clock_request version row else Err flaw.Kind)
+        ≡ Ok (request.Ask caller command) → AsksCommand row (asked.Command caller command)
+    other true h i k l e = absurd (fold-asks row caller command e)
+    other false true i k true e = cc
+    other false true i k false e = cc
+    other false false true k true e = cc
+    other false false true k false e = cc
+    other false false false true l e = absurd (clock-asks version row caller command e)
+    other false false false false l e = cc
 
-    by : (o : Option CommandKind) → command_kind row ≡ o → request_by o row ≡ Ok (request.Ask caller command)
+    by : (o : Option CommandKind) → command_kind row ≡ o → request_by o version row ≡ Ok (request.Ask caller command)
         → AsksCommand row (asked.Command caller command)
     by (Some kind) is e = command-asked row kind caller command is e
-    by None is e = other (is_kind row (codes "fold")) (is_kind row (codes "show")) (is_kind row (codes "tally")) (length row == 1) e
+    by None is e = other (is_kind row (codes "fold")) (is_kind row (codes "show")) (is_kind row (codes "tally")) (is_kind row (codes "clock"))
+        (length row == 1) e
 
-pub request-fits : (row : Row) (caller : ℕ) (command : Command) → ((params : RawParams) → first_bad params ≡ None → ParamsFit params)
-    → request_of row ≡ Ok (request.Ask caller command) → CommandFits command
-request-fits row caller command held e =
-    let asks = asks-command row caller command e in command-fits row asks.kind caller command held asks.reads
+pub request-fits : (version : Version) (row : Row) (caller : ℕ) (command : Command) → ((params : RawParams) → first_bad params ≡ None
+    → ParamsFit params)
+    → request_of version row ≡ Ok (request.Ask caller command) → CommandFits command
+request-fits version row caller command held e =
+    let asks = asks-command version row caller command e in command-fits row asks.kind caller command held asks.reads
 
 -- ---- more fields after a command
 

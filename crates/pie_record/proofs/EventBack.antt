@@ -148,20 +148,20 @@ event-read version row k caller command answer is long reads answers =
 
 -- the record of a trace that asks a command, with an answer that the command can have
 pub answered-back : (version : Version) (row : Row) (caller : ℕ) (command : Command) (answer : Answer)
-    → request_of row ≡ Ok (request.Ask caller command) → fits command answer ≡ true → AnswerFits answer
+    → request_of version row ≡ Ok (request.Ask caller command) → fits command answer ≡ true → AnswerFits answer
     → line_of version (row ++ answer_fields answer) ≡ Ok (made caller command answer)
 answered-back version row caller command answer e can said =
-    let asks = asks-command row caller command e in
+    let asks = asks-command version row caller command e in
     let same = command-kind row asks.kind caller command asks.reads in
     event-read version row asks.kind caller command answer asks.is asks.long asks.reads
     (subst (λ (k : CommandKind). Answers row k answer) (sym same)
     (answer-after row command answer can said (asks.long ∙ ap command_length same)))
 
 -- the fields of a command are read as that command
-pub command-back : (caller : ℕ) (command : Command) → caller ≤ most_u16 → CommandFits command
-    → request_of (command_fields caller command) ≡ Ok (request.Ask caller command)
+pub command-back : (version : Version) (caller : ℕ) (command : Command) → caller ≤ most_u16 → CommandFits command
+    → request_of version (command_fields caller command) ≡ Ok (request.Ask caller command)
 unfolding request_of command_request command_kind command_at arrival_at change_at packet_at params_at field_at command_fields
-command-back caller (Arrive moment packet word) called fits =
+command-back version caller (Arrive moment packet word) called fits =
     rw (
       back_u16 caller called,
       back_u64 moment fits.0,
@@ -170,10 +170,10 @@ command-back caller (Arrive moment packet word) called fits =
       back_ecn packet.ecn,
       back_u64 word fits.2,
     ) refl
-command-back caller (Depart moment) called fits = rw (back_u16 caller called, back_u64 moment fits) refl
-command-back caller (Update moment) called fits = rw (back_u16 caller called, back_u64 moment fits) refl
-command-back caller (Reset moment) called fits = rw (back_u16 caller called, back_u64 moment fits) refl
-command-back caller (SetParams moment params) called fits =
+command-back version caller (Depart moment) called fits = rw (back_u16 caller called, back_u64 moment fits) refl
+command-back version caller (Update moment) called fits = rw (back_u16 caller called, back_u64 moment fits) refl
+command-back version caller (Reset moment) called fits = rw (back_u16 caller called, back_u64 moment fits) refl
+command-back version caller (SetParams moment params) called fits =
     rw (
       back_u16 caller called,
       back_u64 moment fits.0,
@@ -194,4 +194,4 @@ pub line-back : (version : Version) (caller : ℕ) (command : Command) (answer :
     → CommandFits command → AnswerFits answer
     → line_of version (command_fields caller command ++ answer_fields answer) ≡ Ok (made caller command answer)
 line-back version caller command answer kind called fits said =
-    answered-back version (command_fields caller command) caller command answer (command-back caller command called fits) kind said
+    answered-back version (command_fields caller command) caller command answer (command-back version caller command called fits) kind said

@@ -31,8 +31,9 @@ use Rattle.pie_record.specs.declared.fault.OpenFault.TheVariants as open_fault
 use Rattle.pie_record.specs.declared.fault.TraceFault.{TraceFault}
 use Rattle.pie_record.specs.declared.fault.TraceFault.TheVariants as fault
 use Rattle.pie_record.specs.declared.history_record.Line.{Line}
-use Rattle.pie_record.specs.declared.history_record.Line.TheVariants.{Made, Unmakeable, Note}
+use Rattle.pie_record.specs.declared.history_record.Line.TheVariants.{Clock, Made, Unmakeable, Note}
 use Rattle.pie_record.specs.declared.version.Version.TheVariants as version
+use Rattle.pie_record.specs.Clock.{clock_at, clock_in}
 use Rattle.pie_record.specs.Number.{number}
 use Rattle.pie_record.specs.FirstRecord.{draft_at, elements_at, first_kind, limits_at, profile_of, version_of, version_one_fields}
 use Rattle.pie_record.specs.FirstRecord.{version_three_fields, version_two_fields, which_of}
@@ -43,7 +44,8 @@ use Rattle.pie_record.specs.HistoryRecord.{verdict_of}
 use Rattle.pie_record.specs.Answer.{answer_fields}
 use Rattle.pie_record.specs.Opening.{opening_of}
 use Rattle.pie_record.specs.Text.{rows_text, records_of}
-use Rattle.pie_record.specs.HistoryLines.{after_opening, fault_from, history_lines, history_opening, history_version, later_fault, lines_from, told_by}
+use Rattle.pie_record.specs.HistoryLines.{after_opening, fault_from, history_lines, history_opening, history_version, later_fault}
+use Rattle.pie_record.specs.HistoryLines.{latest_clock, lines_from, told_by}
 use Rattle.pie_record.specs.Write.{command_fields, opening_row, written_rows}
 
 -- ---- reading
@@ -159,6 +161,24 @@ unfolding records_from next_record strip_bom field_at digits fields_text is_blan
     command_kind arrival_at event_line answer_at departure_at update_at change_at numbers_at registers_at note_line shown_line line_of
     told_by lines_from fault_from history_opening history_version after_opening opening_row command_fields
 shown-lines = refl
+
+-- the time of day at a moment is told in version three alone
+clock-lines : (map (λ first. fault_in (first ++ codes "clock,5,7\n")) (
+    codes "open,0,4,16,100\n"
+    ∷ codes "open2,1,bounded,0,4,16,100\n"
+    ∷ codes "open3,1,stamp,derandomized,capped,unscaled,bounded,0,4,16,100\n"
+    ∷ [])
+    ≡ Some (fault.Kind 2) ∷ Some (fault.Kind 2) ∷ None ∷ [])
+    × (lines_of (codes "open3,1,stamp,derandomized,capped,unscaled,bounded,0,4,16,100\nclock,5,7\nrefused,1,1\nclock,6,7\nclock,6\n")
+    ≡ Clock (record { moment = 5; unix = 7 }) ∷ Note ∷ Clock (record { moment = 6; unix = 7 }) ∷ [])
+    × (latest_clock (Clock (record { moment = 5; unix = 7 }) ∷ Note ∷ Clock (record { moment = 6; unix = 8 }) ∷ Unmakeable ∷ [])
+    ≡ Some (record { moment = 6; unix = 8 }))
+unfolding records_from next_record strip_bom field_at digits fields_text is_blank number ecn_of params_at first_kind version_of profile_of
+    which_of limits_at draft_at version_one_fields version_two_fields opening_of rows_text answer_fields verdict_of command_at packet_at
+    command_kind arrival_at event_line answer_at departure_at update_at change_at numbers_at registers_at note_line shown_line clock_in
+    clock_at line_of told_by lines_from fault_from history_opening history_version after_opening opening_row command_fields latest_clock
+    version_three_fields elements_at
+clock-lines = (refl, refl, refl)
 
 -- ---- writing
 

@@ -20,6 +20,7 @@ use Rattle.pie_record.specs.declared.command.CommandKind.TheVariants as kind
 use Rattle.pie_record.specs.declared.fault.Flaw.{Flaw}
 use Rattle.pie_record.specs.declared.fault.Flaw.TheVariants as flaw
 use Rattle.pie_record.specs.declared.trace_record.Request.TheVariants as request
+use Rattle.pie_record.specs.declared.version.Version.{Version}
 use Rattle.pie_record.specs.Command.{arrival_at, asked_at, change_at, change_to, command_at, command_kind, command_length}
 use Rattle.pie_record.specs.Field.{ecn_at, ecn_of, is_kind, is_word, most_u16, most_u32, most_u64, number_at, packet_at, params_at}
 use Rattle.pie_record.specs.Number.{number}
@@ -34,11 +35,11 @@ use Rattle.pie_record.proofs.NumberFacts.{number-some}
 -- ---- fields at their places
 
 -- this field stands at a place
-abbrev Has : Row → ℕ → List ℕ → Type 0
+abbrev pub Has : Row → ℕ → List ℕ → Type 0
 Has row place field = field_at row place ≡ Some field
 
 -- these stand from a place on
-abbrev HasAll : Row → ℕ → Row → Type 0
+abbrev pub HasAll : Row → ℕ → Row → Type 0
 HasAll row place [] = ⊤
 HasAll row place (field ∷ fields) = Has row place field × HasAll row (place + 1) fields
 
@@ -294,7 +295,7 @@ command-back row k caller command known long e =
         change-back row caller from moment command long word (subst (λ (n : ℕ). Has row 1 (decimal n)) who_is who) when e
 
 -- a record of a trace that asks a command has the fields of that command
-pub asked-fields : (row : Row) (caller : ℕ) (command : Command) → request_of row ≡ Ok (request.Ask caller command)
+pub asked-fields : (version : Version) (row : Row) (caller : ℕ) (command : Command) → request_of version row ≡ Ok (request.Ask caller command)
     → row ≡ command_fields caller command
-asked-fields row caller command e =
-    let asks = asks-command row caller command e in command-back row asks.kind caller command asks.is asks.long asks.reads
+asked-fields version row caller command e =
+    let asks = asks-command version row caller command e in command-back row asks.kind caller command asks.is asks.long asks.reads

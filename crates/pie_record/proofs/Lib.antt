@@ -13,5 +13,6 @@ mod EventBack
 mod OpeningBack
 mod HistoryBack
 mod NotesBack
+mod ClockBack
 mod ExamplesLines
 pub mod Laws

@@ -4,6 +4,7 @@ pub mod Fault
 pub mod Text
 pub mod Field
 pub mod Command
+pub mod Clock
 pub mod TraceRecord
 pub mod FirstRecord
 pub mod Opening

@@ -12,6 +12,7 @@
 //! Proofs of crates above cite the laws in `proofs/Laws.antt`, and no other lemma of this crate.
 #![tactic(auto)]
 
+pub mod clock;
 pub mod code;
 pub mod command;
 pub mod fault;
@@ -27,6 +28,7 @@ pub mod trace_record;
 pub mod version;
 pub mod words;
 
+pub use clock::Clock;
 pub use fault::{ExcerptFault, Flaw, OpenFault, TraceFault};
 pub use history_reader::HistoryLines;
 pub use history_record::Line;

@@ -1,6 +1,6 @@
-//! Records of a history as plain bytes: the opening, an event, a refusal, a fold, the registers and the statistics, each made from its last
-//! field to its first in a row, with no memory taken. What is written is the text that pie_record's definitions give. Whoever writes a record
-//! calls this crate.
+//! Records of a history as plain bytes: the opening, an event, a refusal, a fold, the registers, the statistics and the time of day, each made from
+//! its last field to its first in a row, with no memory taken. What is written is the text that pie_record's definitions give. Whoever writes a
+//! record calls this crate.
 #![tactic(auto)]
 
 mod event;
@@ -12,6 +12,6 @@ mod words;
 
 pub use event::{put_arrival, put_empty, put_event, put_left, put_reset, put_update};
 pub use law::lost_records_are_faults;
-pub use note::{put_folded, put_lost, put_refused, put_shown, put_tallied};
+pub use note::{put_clock, put_folded, put_lost, put_refused, put_shown, put_tallied};
 pub use opening::put_opening;
 pub use params::put_params;

@@ -22,13 +22,14 @@ use Rattle.pie_book.specs.declared.refusal.Refusal.TheVariants as refusal
 use Rattle.pie_record.specs.declared.fault.Flaw.TheVariants as flaw
 use Rattle.pie_record.specs.declared.fault.OpenFault.TheVariants as open_fault
 use Rattle.pie_record.specs.declared.fault.TraceFault.TheVariants as fault
-use Rattle.pie_record.specs.declared.trace_record.Request.TheVariants.{Ask, BadParams, Fold, Show, Tally}
+use Rattle.pie_record.specs.declared.trace_record.Request.TheVariants.{Ask, BadParams, Clock, Fold, Show, Tally}
 use Rattle.pie_record.specs.declared.version.Version.TheVariants as version
 use Rattle.pie_record.specs.Number.{number}
 use Rattle.pie_record.specs.FirstRecord.{draft_at, first_kind, limits_at, profile_of, version_of, version_one_fields, version_two_fields}
 use Rattle.pie_record.specs.FirstRecord.{which_of}
 use Rattle.pie_record.specs.Field.{packet_at, ecn_of, params_at}
 use Rattle.pie_record.specs.Command.{arrival_at, change_at, command_at, command_kind}
+use Rattle.pie_record.specs.Clock.{clock_at, clock_in}
 use Rattle.pie_record.specs.TraceRecord.{command_request, fold_request, request_of}
 use Rattle.pie_record.specs.Answer.{answer_fields, code_of, folded_row, refused_row, shown_row, tallied_row}
 use Rattle.pie_trace.specs.History.{before_fault, fault_of, first_fault, record_fault}
@@ -83,7 +84,8 @@ nine_params = record {
 }
 
 -- what each kind asks
-requests : map request_of (arrive_row ∷ depart_row ∷ (codes "update" ∷ codes "3" ∷ codes "4" ∷ []) ∷ (codes "reset" ∷ codes "5" ∷ codes "6" ∷ [])
+requests : map (request_of version.One) (arrive_row ∷ depart_row ∷ (codes "update" ∷ codes "3" ∷ codes "4" ∷ []) ∷
+    (codes "reset" ∷ codes "5" ∷ codes "6" ∷ [])
     ∷ (codes "params" ∷ codes "7" ∷ codes "8" ∷ nine) ∷ (codes "fold" ∷ codes "9" ∷ []) ∷ (codes "show" ∷ []) ∷ (codes "tally" ∷ []) ∷ [])
     ≡ Ok (Ask 1 (Arrive 10 (record { tag = 7; size = 1500; ecn = ecn.Ect0 }) 0)) ∷ Ok (Ask 2 (Depart 25)) ∷ Ok (Ask 3 (Update 4))
     ∷ Ok (Ask 5 (Reset 6))
@@ -93,7 +95,7 @@ unfolding number ecn_of params_at first_kind version_of profile_of which_of limi
 requests = refl
 
 -- a parameter out of its range is no flaw, but a number that is no number is
-bad_params : map request_of (
+bad_params : map (request_of version.One) (
     (codes "params" ∷ codes "7" ∷ codes "8" ∷ codes "1" ∷ codes "1" ∷ codes "0" ∷ codes "1" ∷ codes "1" ∷ codes "1" ∷ codes "1" ∷ codes "0"
     ∷ codes "1024" ∷ [])
     ∷ (codes "params" ∷ codes "7" ∷ codes "8" ∷ codes "1" ∷ codes "1" ∷ codes "0" ∷ codes "1" ∷ codes "1" ∷ codes "1" ∷ codes "1" ∷ codes "0"
@@ -105,16 +107,33 @@ unfolding number ecn_of params_at first_kind version_of profile_of which_of limi
 bad_params = refl
 
 -- a later opening and any other word are no kind; the number of the fields comes before the fields
-flaws : map request_of (open_row ∷ (codes "rolling" ∷ []) ∷ (codes "open2" ∷ codes "1" ∷ codes "bounded" ∷ codes "0" ∷ codes "4" ∷ codes "16"
+flaws : map (request_of version.One) (open_row ∷ (codes "rolling" ∷ []) ∷
+    (codes "open2" ∷ codes "1" ∷ codes "bounded" ∷ codes "0" ∷ codes "4" ∷ codes "16"
     ∷ codes "100" ∷ []) ∷ (codes "shown" ∷ []) ∷ [] ∷ (codes "depart" ∷ codes "x" ∷ []) ∷ (codes "depart" ∷ codes "65536" ∷ codes "1" ∷ []) ∷ [])
     ≡ Err flaw.Kind ∷ Err flaw.Kind ∷ Err flaw.Kind ∷ Err flaw.Kind ∷ Err flaw.Kind ∷ Err flaw.Fields ∷ Err flaw.Number ∷ []
 unfolding number ecn_of params_at first_kind version_of profile_of which_of limits_at draft_at version_one_fields version_two_fields
     command_kind command_at arrival_at packet_at command_request change_at fold_request request_of field_at
 flaws = refl
 
+-- the time of day is told from version three on; a moment is below 2^60, and the first bad field counts
+clocks : (map (λ v. request_of v (codes "clock" ∷ codes "1152921504606846975" ∷ codes "18446744073709551615" ∷ [])) (
+    version.One ∷ version.Two ∷ version.Three ∷ [])
+    ≡ Err flaw.Kind ∷ Err flaw.Kind ∷ Ok (Clock (record { moment = 1152921504606846975; unix = 18446744073709551615 })) ∷ [])
+    × (map (request_of version.Three) (
+    (codes "clock" ∷ codes "1152921504606846976" ∷ codes "x" ∷ [])
+    ∷ (codes "clock" ∷ codes "1" ∷ codes "18446744073709551616" ∷ [])
+    ∷ (codes "clock" ∷ codes "1" ∷ [])
+    ∷ (codes "clock" ∷ codes "1" ∷ codes "2" ∷ codes "3" ∷ [])
+    ∷ [])
+    ≡ Err flaw.Number ∷ Err flaw.Number ∷ Err flaw.Fields ∷ Err flaw.Fields ∷ [])
+unfolding number ecn_of params_at first_kind version_of profile_of which_of limits_at draft_at version_one_fields version_two_fields
+    command_kind command_at arrival_at packet_at command_request change_at fold_request clock_in clock_at request_of field_at
+clocks = (refl, refl)
+
 -- of several bad fields the first counts
-first_flaws : (request_of (codes "arrive" ∷ codes "1" ∷ codes "10" ∷ codes "7" ∷ codes "01" ∷ codes "ect2" ∷ codes "0" ∷ []) ≡ Err flaw.Number)
-    × (request_of (codes "arrive" ∷ codes "1" ∷ codes "10" ∷ codes "7" ∷ codes "1" ∷ codes "ect2" ∷ codes "00" ∷ []) ≡ Err flaw.Word)
+first_flaws : (request_of version.One (codes "arrive" ∷ codes "1" ∷ codes "10" ∷ codes "7" ∷ codes "01" ∷ codes "ect2" ∷ codes "0" ∷ [])
+    ≡ Err flaw.Number)
+    × (request_of version.One (codes "arrive" ∷ codes "1" ∷ codes "10" ∷ codes "7" ∷ codes "1" ∷ codes "ect2" ∷ codes "00" ∷ []) ≡ Err flaw.Word)
 unfolding number ecn_of params_at first_kind version_of profile_of which_of limits_at draft_at version_one_fields version_two_fields
     command_kind command_at arrival_at packet_at command_request change_at fold_request request_of field_at
 first_flaws = (refl, refl)
@@ -192,8 +211,9 @@ unfolding opening_of number ecn_of params_at first_kind version_of profile_of wh
 not_opened = (refl, refl, refl, refl, refl)
 
 -- a record past the greatest number is that fault, whatever it says
-too_long : (record_fault 3 4 (codes "shown" ∷ []) ≡ Some fault.TooLong) × (record_fault 4 4 (codes "shown" ∷ []) ≡ Some (fault.Kind 4))
-    × (record_fault 4 4 depart_row ≡ None)
+too_long : (record_fault version.One 3 4 (codes "shown" ∷ []) ≡ Some fault.TooLong) × (record_fault version.One 4 4 (codes "shown" ∷ [])
+    ≡ Some (fault.Kind 4))
+    × (record_fault version.One 4 4 depart_row ≡ None)
 unfolding record_fault number ecn_of params_at first_kind version_of profile_of which_of limits_at draft_at version_one_fields
     version_two_fields command_kind command_at arrival_at packet_at command_request change_at fold_request request_of field_at
 too_long = (refl, refl, refl)
@@ -207,7 +227,7 @@ unfolding fault_of first_fault record_fault opening_of number ecn_of params_at f
     field_at
 faults = (refl, refl, refl, refl, refl, refl, refl, refl)
 
-up_to_the_fault : before_fault 9 2 (depart_row ∷ open_row ∷ late_row ∷ []) ≡ depart_row ∷ []
+up_to_the_fault : before_fault version.One 9 2 (depart_row ∷ open_row ∷ late_row ∷ []) ≡ depart_row ∷ []
 unfolding before_fault record_fault number ecn_of params_at first_kind version_of profile_of which_of limits_at draft_at version_one_fields
     version_two_fields command_kind command_at arrival_at packet_at command_request change_at fold_request request_of field_at
 up_to_the_fault = refl

@@ -32,7 +32,7 @@ use Rattle.pie_record.specs.declared.fault.OpenFault.TheVariants as open_fault
 use Rattle.pie_record.specs.declared.fault.TraceFault.{TraceFault}
 use Rattle.pie_record.specs.declared.fault.TraceFault.TheVariants as fault
 use Rattle.pie_record.specs.declared.trace_record.Request.{Request}
-use Rattle.pie_record.specs.declared.trace_record.Request.TheVariants.{Ask, BadParams, Fold, Show, Tally}
+use Rattle.pie_record.specs.declared.trace_record.Request.TheVariants.{Ask, BadParams, Clock, Fold, Show, Tally}
 use Rattle.pie_record.specs.declared.first_record.Draft.{Draft}
 use Rattle.pie_record.specs.declared.first_record.FirstKind.{FirstKind}
 use Rattle.pie_record.specs.declared.first_record.FirstKind.TheVariants as kinds
@@ -51,7 +51,8 @@ use Rattle.pie_record.specs.FirstRecord.{first_fields, first_kind, holds_limits,
 use Rattle.pie_trace.specs.Reply.{Reply, after, history_row, reply, reply_to_command, reply_to_fold}
 use Rattle.pie_record.specs.Answer.{code_of}
 use Rattle.pie_trace.proofs.EndFacts.{history_text-read}
-use Rattle.pie_record.proofs.Laws.{TellEach-cons, TellEach-none, folded-note, answered-back, history-told, kind-word, ltb-false, refused-note}
+use Rattle.pie_record.proofs.Laws.{TellEach-cons, TellEach-none, clock-told, folded-note, answered-back, history-told, kind-word, ltb-false}
+use Rattle.pie_record.proofs.Laws.{refused-note}
 use Rattle.pie_record.proofs.Laws.{request-fits, rows_text-cons, shown-note, tallied-note, told-field}
 use Rattle.pie_trace.proofs.HistoryFacts.{before_fault-later, flawed-record, long-record, requests_of-cons}
 
@@ -102,7 +103,7 @@ code-small refusal.HistoryFull = omega arith
 -- ---- one record
 
 ask-told : (version : Version) (held : Held) (number : ℕ) (row : Row) (caller : ℕ) (command : Command) (opening : Opening) (progress : Progress)
-    → number < 2 ^ 64 → Opens opening → Sound opening progress → request_of row ≡ Ok (Ask caller command)
+    → number < 2 ^ 64 → Opens opening → Sound opening progress → request_of version row ≡ Ok (Ask caller command)
     → line_of version (history_row version number row (reply opening progress (Ask caller command)))
     ≡ Ok (line_told (Ask caller command) (reply opening progress (Ask caller command)))
 ask-told version held number row caller command opening progress small opens sound reads =
@@ -141,7 +142,7 @@ fold-told version held number row n opening progress small opens sound = by (fol
         folded-note version n (omega arith)
 
 record-told : (version : Version) (held : Held) (number : ℕ) (row : Row) (request : Request) (opening : Opening) (progress : Progress)
-    → number < 2 ^ 64 → Opens opening → Sound opening progress → request_of row ≡ Ok request
+    → number < 2 ^ 64 → Opens opening → Sound opening progress → request_of version row ≡ Ok request
     → line_of version (history_row version number row (reply opening progress request)) ≡ Ok (line_told request (reply opening progress request))
 record-told version held number row (Ask caller command) opening progress small opens sound reads = ask-told version held number row caller command
     opening progress small opens sound reads
@@ -154,6 +155,7 @@ record-told version held number row Show opening progress small opens sound read
 record-told version held number row Tally opening progress small opens sound reads =
     tallied-note version (stats_after opening progress.history)
     (held.stats opening progress.history opens.accepted opens.params sound.legal sound.fit)
+record-told version held number row (Clock clock) opening progress small opens sound reads = clock-told version row clock reads
 
 -- where the run stands after it
 with-one : (mode : Mode) (most held : ℕ) → held_with_one mode most held ≤ held + 1
@@ -189,39 +191,42 @@ asked-sound held opening progress caller command fit sound =
     by None true free = sound
     by (Some why) full free = sound
 
-after-sound : (held : Held) (opening : Opening) (progress : Progress) (row : Row) (request : Request) → request_of row ≡ Ok request
+after-sound : (version : Version) (held : Held) (opening : Opening) (progress : Progress) (row : Row) (request : Request)
+    → request_of version row ≡ Ok request
     → Sound opening progress → Sound opening (after opening progress request)
-after-sound held opening progress row (Ask caller command) reads sound = asked-sound held opening progress caller command
-    (request-fits row caller command held.params reads) sound
-after-sound held opening progress row BadParams reads sound = sound
-after-sound held opening progress row (Fold n) reads sound =
+after-sound version held opening progress row (Ask caller command) reads sound = asked-sound held opening progress caller command
+    (request-fits version row caller command held.params reads) sound
+after-sound version held opening progress row BadParams reads sound = sound
+after-sound version held opening progress row (Fold n) reads sound =
     let within = sound.held in
     let less = after-fold (nat_lt progress.held n) progress.held n in
     record { legal = sound.legal; fit = sound.fit; held = omega (arith, less) }
-after-sound held opening progress row Show reads sound = sound
-after-sound held opening progress row Tally reads sound = sound
+after-sound version held opening progress row Show reads sound = sound
+after-sound version held opening progress row Tally reads sound = sound
+after-sound version held opening progress row (Clock clock) reads sound = sound
 
 -- ---- all records
 
-pub record Good (most number : ℕ) (row : Row) : Type 0 where
+pub record Good (version : Version) (most number : ℕ) (row : Row) : Type 0 where
   pub request : Request
-  pub reads : request_of row ≡ Ok request
+  pub reads : request_of version row ≡ Ok request
   pub within : number ≤ most
 
-pub good : (most number : ℕ) (row : Row) → record_fault most number row ≡ None → Good most number row
-good most number row e = by (nat_lt most number) (request_of row) refl refl
+pub good : (version : Version) (most number : ℕ) (row : Row) → record_fault version most number row ≡ None → Good version most number row
+good version most number row e = by (nat_lt most number) (request_of version row) refl refl
   where
-    by : (late : Bool) (o : Result Request Flaw) → nat_lt most number ≡ late → request_of row ≡ o → Good most number row
-    by true o l r = let wrong : None ≡ Some fault.TooLong = sym e ∙ long-record most number row (ltb-true most number l) in cc
+    by : (late : Bool) (o : Result Request Flaw) → nat_lt most number ≡ late → request_of version row ≡ o → Good version most number row
+    by true o l r = let wrong : None ≡ Some fault.TooLong = sym e ∙ long-record version most number row (ltb-true most number l) in cc
     by false (Ok request) l r = record { request = request; reads = r; within = ltb-false most number l }
     by false (Err what) l r = let wrong : None ≡ Some (fault_at number what) = sym e
-        ∙ flawed-record most number row what (ltb-false most number l) r in cc
+        ∙ flawed-record version most number row what (ltb-false most number l) r in cc
 
 abbrev pub RowsTold : Version → Opening → ℕ → Progress → List Row → List Request → Type 0
 RowsTold version opening number progress rows requests = TellEach version (history_rows version number rows (replies opening progress requests))
     (lines_told requests (replies opening progress requests))
 
-told-none : (version : Version) (opening : Opening) (number : ℕ) (progress : Progress) → RowsTold version opening number progress [] (requests_of [])
+told-none : (version : Version) (opening : Opening) (number : ℕ) (progress : Progress)
+    → RowsTold version opening number progress [] (requests_of version [])
 unfolding requests_of replies history_rows lines_told
 told-none version opening number progress = TellEach-none version
 
@@ -236,56 +241,62 @@ told-one version opening number progress row rows request requests here later =
     (history_rows version (number + 1) rows (replies opening (after opening progress request) requests))
     (line_told request (reply opening progress request)) (lines_told requests (replies opening (after opening progress request) requests)) here later
 
-pub before-none : (most number : ℕ) → before_fault most number [] ≡ []
+pub before-none : (version : Version) (most number : ℕ) → before_fault version most number [] ≡ []
 unfolding before_fault
-before-none most number = refl
+before-none version most number = refl
 
-pub before-here : (most number : ℕ) (row : Row) (rows : List Row) (why : TraceFault) → record_fault most number row ≡ Some why
-    → before_fault most number (row ∷ rows) ≡ []
+pub before-here : (version : Version) (most number : ℕ) (row : Row) (rows : List Row) (why : TraceFault)
+    → record_fault version most number row ≡ Some why
+    → before_fault version most number (row ∷ rows) ≡ []
 unfolding before_fault
-before-here most number row rows why e = rw e refl
+before-here version most number row rows why e = rw e refl
 
 pub rows-told : (version : Version) (held : Held) (most : ℕ) (opening : Opening) (number : ℕ) (progress : Progress) (rows : List Row) → most ≤ 2 ^ 32
     → Opens opening → Sound opening progress
-    → RowsTold version opening number progress (before_fault most number rows) (requests_of (before_fault most number rows))
+    → RowsTold version opening number progress (before_fault version most number rows) (requests_of version (before_fault version most number rows))
 rows-told version held most opening number progress [] few opens sound =
-    subst (λ (l : List Row). RowsTold version opening number progress l (requests_of l)) (sym (before-none most number))
+    subst (λ (l : List Row). RowsTold version opening number progress l (requests_of version l)) (sym (before-none version most number))
     (told-none version opening number progress)
 rows-told version held most opening number progress (row ∷ rows) few opens sound =
-    by (record_fault most number row) refl (λ request reads. rows-told version held most opening (number + 1) (after opening progress request) rows
-    few opens (after-sound held opening progress row request reads sound))
+    by (record_fault version most number row) refl (λ request reads. rows-told version held most opening (number + 1)
+    (after opening progress request) rows
+    few opens (after-sound version held opening progress row request reads sound))
   where
-    by : (o : Option TraceFault) → record_fault most number row ≡ o
-        → ((request : Request) → request_of row ≡ Ok request → RowsTold version opening (number + 1) (after opening progress request)
-        (before_fault most (number + 1) rows) (requests_of (before_fault most (number + 1) rows)))
-        → RowsTold version opening number progress (before_fault most number (row ∷ rows)) (requests_of (before_fault most number (row ∷ rows)))
+    by : (o : Option TraceFault) → record_fault version most number row ≡ o
+        → ((request : Request) → request_of version row ≡ Ok request → RowsTold version opening (number + 1) (after opening progress request)
+        (before_fault version most (number + 1) rows) (requests_of version (before_fault version most (number + 1) rows)))
+        → RowsTold version opening number progress (before_fault version most number (row ∷ rows)) (requests_of version
+        (before_fault version most number (row ∷ rows)))
     by (Some why) e later =
-        subst (λ (l : List Row). RowsTold version opening number progress l (requests_of l)) (sym (before-here most number row rows why e))
+        subst (λ (l : List Row). RowsTold version opening number progress l (requests_of version l)) (sym
+        (before-here version most number row rows why e))
         (told-none version opening number progress)
     by None e later =
-        let g = good most number row e in
+        let g = good version most number row e in
         let within = g.within in
-        let rest = before_fault most (number + 1) rows in
-        subst (λ (l : List Row). RowsTold version opening number progress l (requests_of l)) (sym (before_fault-later most number row rows e))
-        (subst (λ (asked : List Request). RowsTold version opening number progress (row ∷ before_fault most (number + 1) rows) asked)
-        (sym (requests_of-cons row (before_fault most (number + 1) rows) g.request g.reads))
-        (told-one version opening number progress row (before_fault most (number + 1) rows) g.request
-        (requests_of (before_fault most (number + 1) rows))
+        let rest = before_fault version most (number + 1) rows in
+        subst (λ (l : List Row). RowsTold version opening number progress l (requests_of version l)) (sym
+        (before_fault-later version most number row rows e))
+        (subst (λ (asked : List Request). RowsTold version opening number progress (row ∷ before_fault version most (number + 1) rows) asked)
+        (sym (requests_of-cons version row (before_fault version most (number + 1) rows) g.request g.reads))
+        (told-one version opening number progress row (before_fault version most (number + 1) rows) g.request
+        (requests_of version (before_fault version most (number + 1) rows))
         (record-told version held number row g.request opening progress (omega arith) opens sound g.reads) (later g.request g.reads)))
 
 -- how many there are
-pub before-few : (most number : ℕ) (rows : List Row) → number ≤ most + 1 → number + length (before_fault most number rows) ≤ most + 1
-before-few most number [] within = rw (before-none most number) (omega arith)
-before-few most number (row ∷ rows) within = by (record_fault most number row) refl (λ w. before-few most (number + 1) rows w)
+pub before-few : (version : Version) (most number : ℕ) (rows : List Row) → number ≤ most + 1
+    → number + length (before_fault version most number rows) ≤ most + 1
+before-few version most number [] within = rw (before-none version most number) (omega arith)
+before-few version most number (row ∷ rows) within = by (record_fault version most number row) refl (λ w. before-few version most (number + 1) rows w)
   where
-    by : (o : Option TraceFault) → record_fault most number row ≡ o
-        → (number + 1 ≤ most + 1 → number + 1 + length (before_fault most (number + 1) rows) ≤ most + 1)
-        → number + length (before_fault most number (row ∷ rows)) ≤ most + 1
-    by (Some why) e later = rw (before-here most number row rows why e) (omega arith)
+    by : (o : Option TraceFault) → record_fault version most number row ≡ o
+        → (number + 1 ≤ most + 1 → number + 1 + length (before_fault version most (number + 1) rows) ≤ most + 1)
+        → number + length (before_fault version most number (row ∷ rows)) ≤ most + 1
+    by (Some why) e later = rw (before-here version most number row rows why e) (omega arith)
     by None e later =
-        let g = (good most number row e).within in
+        let g = (good version most number row e).within in
         let more = later (omega arith) in
-        rw (before_fault-later most number row rows e) (omega arith)
+        rw (before_fault-later version most number row rows e) (omega arith)
 
 pub rows-few : (version : Version) (number : ℕ) (rows : List Row) (given : List Reply) → length (history_rows version number rows given) ≤ length rows
 unfolding history_rows
@@ -376,39 +387,42 @@ pub sound-start : (held : Held) (opening : Opening) → Sound opening start
 sound-start held opening = record { legal = held.legal_at_first opening; fit = All-nil (λ (e : Event). CommandFits e.command); held = omega arith }
 
 text-rows : (version : Version) (most : ℕ) (opening : Opening) (rows : List Row)
-    → text_left version most opening 2 start rows ≡ rows_text (history_rows version 2 (before_fault most 2 rows)
-    (replies opening start (requests_of (before_fault most 2 rows))))
+    → text_left version most opening 2 start rows ≡ rows_text (history_rows version 2 (before_fault version most 2 rows)
+    (replies opening start (requests_of version (before_fault version most 2 rows))))
 unfolding text_left
 text-rows version most opening rows = refl
 
 pub text-whole : (most : ℕ) (row : Row) (rows : List Row) (opening : Opening) → 0 < most → opening_of row ≡ Ok opening
-    → history_text most (row ∷ rows) ≡ rows_text (row ∷ history_rows (version_of row) 2 (before_fault most 2 rows)
-    (replies opening start (requests_of (before_fault most 2 rows))))
+    → history_text most (row ∷ rows) ≡ rows_text (row ∷ history_rows (version_of row) 2 (before_fault (version_of row) most 2 rows)
+    (replies opening start (requests_of (version_of row) (before_fault (version_of row) most 2 rows))))
 text-whole most row rows opening some opens =
     history_text-read most row rows some ∙ rw opens (rw (text-rows (version_of row) most opening rows)
-    (sym (rows_text-cons row (history_rows (version_of row) 2 (before_fault most 2 rows)
-    (replies opening start (requests_of (before_fault most 2 rows)))))))
+    (sym (rows_text-cons row (history_rows (version_of row) 2 (before_fault (version_of row) most 2 rows)
+    (replies opening start (requests_of (version_of row) (before_fault (version_of row) most 2 rows)))))))
+
+run-begun : (held : Held) (most : ℕ) (kind : FirstKind) (rest : Row) (rows : List Row) (opening : Opening) → 0 < most → most ≤ 2 ^ 32
+    → opening_of (kind_word kind ∷ rest) ≡ Ok opening
+    → TellsHistory (history_text most ((kind_word kind ∷ rest) ∷ rows)) opening (run_lines (version_of (kind_word kind ∷ rest)) most opening rows)
+unfolding run_lines
+run-begun held most kind rest rows opening some few opens =
+    let first : Row = kind_word kind ∷ rest in
+    let version : Version = version_of (kind_word kind ∷ rest) in
+    let is = opened (kind_word kind ∷ rest) opening opens in
+    let fit : Opens opening = record { accepted = is.accepted; params = held.params opening.params is.in_range } in
+    let asked : List Request = requests_of version (before_fault version most 2 rows) in
+    let given : List Reply = replies opening start asked in
+    let told : TellEach version (history_rows version 2 (before_fault version most 2 rows) given) (lines_told asked given) =
+    rows-told version held most opening 2 start rows few fit (sound-start held opening) in
+    let count = before-few version most 2 rows (omega arith) in
+    let fewer = rows-few version 2 (before_fault version most 2 rows) given in
+    subst (λ (text : List ℕ). TellsHistory text opening (lines_told asked given)) (sym (text-whole most first rows opening some opens))
+    (history-told kind rest (history_rows version 2 (before_fault version most 2 rows) given) opening (lines_told asked given) opens
+    (told-fields version _ _ told) told (omega arith))
 
 pub run-told : (held : Held) (most : ℕ) (row : Row) (rows : List Row) (opening : Opening) → 0 < most → most ≤ 2 ^ 32 → opening_of row ≡ Ok opening
-    → TellsHistory (history_text most (row ∷ rows)) opening (run_lines most opening rows)
-unfolding run_lines
+    → TellsHistory (history_text most (row ∷ rows)) opening (run_lines (version_of row) most opening rows)
 run-told held most row rows opening some few opens =
     let is = opened row opening opens in
-    let fit : Opens opening = record { accepted = is.accepted; params = held.params opening.params is.in_range } in
-    let first : Row = kind_word is.begins.kind ∷ is.begins.rest in
-    let told : TellEach (version_of first) (history_rows (version_of first) 2 (before_fault most 2 rows)
-    (replies opening start (requests_of (before_fault most 2 rows))))
-    (lines_told (requests_of (before_fault most 2 rows)) (replies opening start (requests_of (before_fault most 2 rows)))) =
-    rows-told (version_of first) held most opening 2 start rows few fit (sound-start held opening) in
-    let count = before-few most 2 rows (omega arith) in
-    let fewer = rows-few (version_of first) 2 (before_fault most 2 rows) (replies opening start (requests_of (before_fault most 2 rows))) in
-    subst (λ (text : List ℕ). TellsHistory text opening (lines_told (requests_of (before_fault most 2 rows))
-    (replies opening start (requests_of (before_fault most 2 rows))))) (sym (text-whole most row rows opening some opens))
-    (subst (λ (first : Row). TellsHistory (rows_text (first ∷ history_rows (version_of first) 2 (before_fault most 2 rows)
-    (replies opening start (requests_of (before_fault most 2 rows))))) opening
-    (lines_told (requests_of (before_fault most 2 rows)) (replies opening start (requests_of (before_fault most 2 rows))))) (sym is.begins.is)
-    (history-told is.begins.kind is.begins.rest (history_rows (version_of first) 2 (before_fault most 2 rows)
-    (replies opening start (requests_of (before_fault most 2 rows)))) opening
-    (lines_told (requests_of (before_fault most 2 rows)) (replies opening start (requests_of (before_fault most 2 rows))))
-    (ap opening_of (sym is.begins.is) ∙ opens)
-    (told-fields (version_of first) _ _ told) told (omega arith)))
+    subst (λ (first : Row). TellsHistory (history_text most (first ∷ rows)) opening (run_lines (version_of first) most opening rows))
+    (sym is.begins.is)
+    (run-begun held most is.begins.kind is.begins.rest rows opening some few (ap opening_of (sym is.begins.is) ∙ opens))

@@ -3,7 +3,7 @@ use Rattle.std.proofs.Common.{◌≡◌, List, [], ◌∷◌, refl, ap}
 use Rattle.pie_book.specs.declared.opening.Opening.{Opening}
 use Rattle.pie_book.specs.Run.{Outcome, Progress, Step, asked, folded, outcomes, was_asked, was_folded}
 use Rattle.pie_record.specs.declared.trace_record.Request.{Request}
-use Rattle.pie_record.specs.declared.trace_record.Request.TheVariants.{Ask, BadParams, Fold, Show, Tally}
+use Rattle.pie_record.specs.declared.trace_record.Request.TheVariants.{Ask, BadParams, Clock, Fold, Show, Tally}
 use Rattle.pie_trace.specs.Reply.{Reply, after, refused, reply, reply_to_command, reply_to_fold}
 use Rattle.pie_trace.specs.History.{replies, steps_of}
 
@@ -29,6 +29,7 @@ to_steps (BadParams ∷ requests) (given ∷ others) = to_steps requests others
 to_steps (Fold n ∷ requests) (given ∷ others) = given ∷ to_steps requests others
 to_steps (Show ∷ requests) (given ∷ others) = to_steps requests others
 to_steps (Tally ∷ requests) (given ∷ others) = to_steps requests others
+to_steps (Clock clock ∷ requests) (given ∷ others) = to_steps requests others
 
 pub replies-outcomes : (opening : Opening) (progress : Progress) (requests : List Request)
     → to_steps requests (replies opening progress requests) ≡ replies_by (steps_of requests) (outcomes opening progress (steps_of requests))
@@ -42,3 +43,4 @@ replies-outcomes opening progress (Fold n ∷ requests) =
     ap (λ (given : List Reply). reply opening progress (Fold n) ∷ given) (replies-outcomes opening (after opening progress (Fold n)) requests)
 replies-outcomes opening progress (Show ∷ requests) = replies-outcomes opening progress requests
 replies-outcomes opening progress (Tally ∷ requests) = replies-outcomes opening progress requests
+replies-outcomes opening progress (Clock clock ∷ requests) = replies-outcomes opening progress requests

@@ -3,7 +3,8 @@ use Rattle.std.specs.Prelude.{ℕ, List, [], ◌∷◌}
 use Rattle.pie_book.specs.Run.{start}
 use Rattle.pie_book.specs.declared.opening.Opening.{Opening}
 use Rattle.pie_record.specs.declared.trace_record.Request.{Request}
-use Rattle.pie_record.specs.declared.trace_record.Request.TheVariants.{Ask}
+use Rattle.pie_record.specs.declared.trace_record.Request.TheVariants.{Ask, Clock}
+use Rattle.pie_record.specs.declared.version.Version.{Version}
 use Rattle.pie_record.specs.declared.history_record.Line.{Line}
 use Rattle.pie_record.specs.declared.history_record.Line.TheVariants as line
 use Rattle.pie_trace.specs.History.{before_fault, replies, requests_of}
@@ -13,9 +14,11 @@ use Rattle.pie_record.specs.Text.{Row}
 
 -- ---- what the history text of a trace tells
 
--- the line that the history record of a request tells: the event of a command that was answered, and a note for all else
+-- the line that the history record of a request tells: the event of a command that was answered, the time of day as it was told, and a note
+-- for all else
 abbrev pub line_told : Request → Reply → Line
 line_told (Ask caller command) (answered answer) = made caller command answer
+line_told (Clock clock) _ = line.Clock clock
 line_told _ _ = line.Note
 
 -- .. of each of these
@@ -24,7 +27,8 @@ lines_told [] given = []
 lines_told (request ∷ requests) [] = []
 lines_told (request ∷ requests) (reply ∷ given) = line_told request reply ∷ lines_told requests given
 
--- the lines that the history text of a trace tells whose first record opens a book so, and is followed by these, of which those
+-- the lines that the history text of a trace of this version tells whose first record opens a book so, and is followed by these, of which those
 -- are read that stand before the first fault
-unfoldable pub run_lines : ℕ → Opening → List Row → List Line
-run_lines most opening rows = let good = before_fault most 2 rows in lines_told (requests_of good) (replies opening start (requests_of good))
+unfoldable pub run_lines : Version → ℕ → Opening → List Row → List Line
+run_lines version most opening rows =
+    let good = before_fault version most 2 rows in lines_told (requests_of version good) (replies opening start (requests_of version good))

@@ -29,8 +29,9 @@ pub record IsAt (book : BookView) (opening : Opening) (progress : Progress) : Ty
 pub record HasCome (version : Version) (most : ℕ) (opening : Opening) (all : List Row) (first : ℕ) (from : Progress) (number : ℕ)
     (progress : Progress) (rows : List Row) (text : List ℕ) (refused : ℕ) : Type 0 where
   pub written : text_left version most opening first from all ≡ text ++ text_left version most opening number progress rows
-  pub ended : progress_after opening from (steps_of (requests_of all)) ≡ progress_after opening progress (steps_of (requests_of rows))
-  pub refusals : refused_count (replies opening from (requests_of all)) ≡ refused + refused_count (replies opening progress (requests_of rows))
+  pub ended : progress_after opening from (steps_of (requests_of version all)) ≡ progress_after opening progress (steps_of (requests_of version rows))
+  pub refusals : refused_count (replies opening from (requests_of version all))
+      ≡ refused + refused_count (replies opening progress (requests_of version rows))
 
 -- how many refusals a reply is
 abbrev pub refusals_in : Reply → ℕ
@@ -46,7 +47,7 @@ pub record IsReplied (version : Version) (number : ℕ) (row : Row) (request : R
 -- .. whichever record asked it, and wherever the run stood
 abbrev pub Replies : Version → ℕ → Request → BookView → BookView → ℕ → ℕ → List ℕ → Type 0
 Replies version number request old new refused refused_then text =
-    (row : Row) → request_of row ≡ Ok request → (progress : Progress) → IsAt old old.opening progress
+    (row : Row) → request_of version row ≡ Ok request → (progress : Progress) → IsAt old old.opening progress
     → IsReplied version number row request old.opening new refused refused_then text progress
 
 -- what a record after the first did, where it reads well: its request is answered after the run so far, and its history
@@ -72,34 +73,34 @@ pub record Stands (version : Version) (most : ℕ) (opening : Opening) (all : Li
     (refused : ℕ) (left : Option (List Row)) (before now : Option (List ℕ)) : Type 0 where
   pub rows : List Row
   pub remain : left ≡ Some rows
-  pub fault : first_fault most first all ≡ first_fault most number rows
+  pub fault : first_fault version most first all ≡ first_fault version most number rows
   pub goes : (from : Progress) → IsAt old opening from → Goes version most opening all first from number book refused rows before now
 
 -- what a run that stood at `from` has done, once all records are answered
 pub record HasRun (version : Version) (most : ℕ) (opening : Opening) (all : List Row) (first : ℕ) (from : Progress) (book : BookView)
     (refused : ℕ) (before now : Option (List ℕ)) : Type 0 where
-  pub stands : IsAt book opening (progress_after opening from (steps_of (requests_of all)))
-  pub refusals : refused ≡ refused_count (replies opening from (requests_of all))
+  pub stands : IsAt book opening (progress_after opening from (steps_of (requests_of version all)))
+  pub refusals : refused ≡ refused_count (replies opening from (requests_of version all))
   pub written : Appends before now (text_left version most opening first from all)
 
 -- the steps of a trace ended with their last record, with no fault
 pub record AreDone (version : Version) (most : ℕ) (opening : Opening) (all : List Row) (first : ℕ) (old book : BookView) (refused : ℕ)
     (before now : Option (List ℕ)) : Type 0 where
-  pub sound : first_fault most first all ≡ None
+  pub sound : first_fault version most first all ≡ None
   pub ran : (from : Progress) → IsAt old opening from → HasRun version most opening all first from book refused before now
 
 -- they ended at the first fault
 pub record AreStopped (version : Version) (most : ℕ) (opening : Opening) (all : List Row) (first : ℕ) (old : BookView) (why : TraceFault)
     (before now : Option (List ℕ)) : Type 0 where
-  pub fault : first_fault most first all ≡ Some why
+  pub fault : first_fault version most first all ≡ Some why
   pub written : (from : Progress) → IsAt old opening from → Appends before now (text_left version most opening first from all)
 
 -- how a run ends that began with the book `old` before the record with the number `first`, where neither the reader, the writer nor memory failed
 abbrev pub RunsFrom : Version → ℕ → Opening → List Row → ℕ → BookView → Result RunEnd TraceFault → Option (List ℕ) → Option (List ℕ) → Type 0
 RunsFrom version most opening all first old (Ok end) before now =
-    (first_fault most first all ≡ None)
+    (first_fault version most first all ≡ None)
     × ((from : Progress) → IsAt old opening from
-    → (end ≡ end_from opening from all) × Appends before now (text_left version most opening first from all))
+    → (end ≡ end_from version opening from all) × Appends before now (text_left version most opening first from all))
 RunsFrom version most opening all first old (Err why) before now =
     is_device why ≡ false → AreStopped version most opening all first old why before now
 

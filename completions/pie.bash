@@ -2,17 +2,18 @@
 _pie() {
     local word=${COMP_WORDS[COMP_CWORD]} subcommand=${COMP_WORDS[1]:-} words
     if [ "$COMP_CWORD" = 1 ]; then
-        words='run audit explain migrate storm params help --help --version'
+        words='run audit explain cut migrate storm params help --help --version'
     else
         case $subcommand in
             run) words='--count --progress --output --force --help' ;;
             audit) words='--progress --help' ;;
             migrate) words='--progress --output --force --help' ;;
             explain) words='--event --tag --lost --marked --all --from --to --summary --every --digest --csv --progress --output --force --help' ;;
+            cut) words='--from --to --event --around --progress --output --force --help' ;;
             storm) words='--senders --packets --burst --seed --load --changes --folds --profile --delay --picking --step --size --count --help' ;;
             params) words='--rate --target --tupdate --limit --alpha --beta --ecn --bytemode --mtu --dq_rate_estimator --no_derandomization \
                 --no_cap_drop_adjustment --help' ;;
-            help) words='run audit explain migrate storm params help' ;;
+            help) words='run audit explain cut migrate storm params help' ;;
             *) words='' ;;
         esac
     fi

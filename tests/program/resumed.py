@@ -9,15 +9,13 @@ usage: tests/program/resumed.py [PROGRAM [FIRST_SEED [RUNS]]]      PROGRAM: crat
 needs: program
 """
 import random
-import subprocess
 import sys
-import tempfile
 from pathlib import Path
 
 sys.path.insert(0, str(Path(__file__).resolve().parents[1] / "shared"))
 import reference_resumed  # noqa: E402
 from checks import check, finish  # noqa: E402
-from running import PROGRAM  # noqa: E402
+from excerpts import audited, explained, rows_within  # noqa: E402
 
 FIRST, RUNS = ([int(word) for word in sys.argv[2:4]] + [1, 16][len(sys.argv[2:4]) :])[:2]
 # How many events a history has at most, and how many places lie between two at which it is resumed.
@@ -45,38 +43,10 @@ def changed(text, chance):
     return "".join([",".join(fields) + "\n", *lines[1:]])
 
 
-def audited(texts):
-    """What one run of `pie audit` over files finds of each of these texts, and what it tells of it on standard error."""
-    with tempfile.TemporaryDirectory() as folder:
-        for place, text in enumerate(texts):
-            (Path(folder) / str(place)).write_bytes(text.encode())
-        ran = subprocess.run([PROGRAM, "audit", *map(str, range(len(texts)))], cwd=folder, capture_output=True, text=True, check=False)
-        found = dict(line.split(": ", 1) for line in ran.stdout.splitlines())
-        told = dict(line.removeprefix("pie: ").split(": ", 1) for line in ran.stderr.splitlines())
-        return ran.returncode, [(found.get(str(place), ""), told.get(str(place), "")) for place in range(len(texts))]
-
-
-def explained(text, *words):
-    """The records of what `pie explain` writes of a text, and its status."""
-    ran = subprocess.run([PROGRAM, "explain", *words, "--csv"], input=text, capture_output=True, text=True, check=False)
-    return ran.returncode, [line.split(",") for line in ran.stdout.splitlines()]
-
-
-def whole_text(book):
-    """The history that a book tells, from its opening."""
-    (_, *opening), *_ = reference_resumed.resumed_at(book, 0)
-    return "".join(reference_resumed.text_of(row) for row in [["open3", *opening[:19]], *reference_resumed.history_rows(book, 0)])
-
-
 def check_explanations(seed, book, n, text, is_known, whole):
     """Whether a text that goes on after n events is explained as the whole history, of which these are the records."""
     header, *records = whole
-    setter = header.index("set_by")
-    wanted_rows = [header]
-    for record in records:
-        if int(record[0]) > n:
-            is_told = is_known or record[setter] and int(record[setter]) > n
-            wanted_rows.append(record if is_told else [*record[:setter], "", *record[setter + 1 :]])
+    wanted_rows = rows_within(whole, n, len(book.events), is_known)
     got = explained(text, "--all")
     check(got == (0, wanted_rows), f"seed {seed}, resumed after event {n}: explained otherwise than the whole")
     if n:
@@ -86,7 +56,7 @@ def check_explanations(seed, book, n, text, is_known, whole):
         at = str(n + 1)
         check(explained(text, "--event", at) == (0, wanted_rows[:2]), f"seed {seed}, resumed after event {n}: --event {at}")
         moment = records[n][header.index("effective_moment")]
-        same = explained(whole_text(book), "--summary", "--from", f"{moment}ns")
+        same = explained(reference_resumed.whole_text(book), "--summary", "--from", f"{moment}ns")
         first = next(place for place, record in enumerate(records) if int(record[header.index("effective_moment")]) >= int(moment))
         if first == n:
             summed.append(n)
@@ -110,7 +80,7 @@ def main():
         check(status == 0, f"seed {seed}: status {status} of texts that are clean")
         for n, got in zip(places, found):
             check(got == (f"clean,{len(book.events)}", ""), f"seed {seed}, resumed after event {n}: {got}")
-        records = explained(whole_text(book), "--all")[1]
+        records = explained(reference_resumed.whole_text(book), "--all")[1]
         told += sum(check_explanations(seed, book, n, text, n % 2 == 0, records) for n, text in zip(places, whole))
         chance = random.Random(seed)
         wrong = [changed(text, chance) for text in whole for _ in range(4)]

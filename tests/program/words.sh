@@ -24,7 +24,7 @@ help() {
 help pie --help
 help pie -h
 help pie help
-for name in run audit explain migrate storm params; do
+for name in run audit explain cut migrate storm params; do
     help "$name" "$name" --help
     help "$name" "$name" -h
     help "$name" help "$name"
@@ -52,7 +52,7 @@ mistake "error: unexpected argument '--fast' found" --fast
 mistake "error: unexpected argument 'more' found" run one more
 mistake "error: unexpected argument 'more' found" migrate one more
 mistake 'pie: one: No such file or directory (os error 2)' audit one more
-for name in run audit migrate; do
+for name in run audit cut migrate; do
     mistake "error: unexpected argument '--wrong' found" "$name" --wrong
     mistake "error: unexpected argument '-x' found" "$name" -x
 done
@@ -64,6 +64,16 @@ mistake "error: a value is required for '--tag <N>' but none was supplied" expla
 mistake "error: unexpected value 'yes' for '--lost' found; no more were expected" explain --lost=yes
 mistake "error: the argument '--lost' cannot be used multiple times" explain --lost --lost
 mistake "error: unexpected argument 'more' found" explain one more
+mistake "error: invalid value '0' for '--event <N>': 0 is not in 1..18446744073709551615" cut --event 0
+mistake "error: a value is required for '--from <MOMENT>' but none was supplied" cut --from
+mistake "error: unexpected argument 'more' found" cut one more
+# Words that choose no events, or choose in two ways.
+unchosen='pie: cut takes --from, --to or both, or --event N, which may have --around M; see pie cut --help'
+for words in '' '--around 3' '--event 3 --from 2' '--event 3 --to 2' '--around 3 --from 2' '--event 3 --around 1 --from 1 --to 2'; do
+    mistake "$unchosen" cut $words
+done
+mistake 'pie: --from is after --to: no event is at both' cut --from 2 --to 1ns
+mistake 'pie: --from: a moment is whole nanoseconds, or a number with ns, us, ms or s, such as 1500000, 1.5ms or 2s' cut --from soon
 mistake "error: invalid value '1' for '--senders <N>': 1 is not in 2..=8" storm --senders 1
 mistake "error: invalid value '9' for '--senders <N>': 9 is not in 2..=8" storm --senders 9
 mistake "error: invalid value 'two' for '--senders <N>': invalid digit found in string" storm --senders two
@@ -96,7 +106,7 @@ if [ "$got" != 1 ] || [ -s "$work/output" ] || ! [ -s "$work/errors" ]; then
     failed=1
 fi
 # Words that are no command line: a text on the error stream alone.
-for words in walk 'run fast' 'audit twice' 'explain --csv --fast' 'migrate now'; do
+for words in walk 'run fast' 'audit twice' 'explain --csv --fast' 'cut --from' 'migrate now'; do
     "$program" $words > "$work/output" 2> "$work/errors" < /dev/null
     got=$?
     if [ "$got" != 1 ] || [ -s "$work/output" ] || ! [ -s "$work/errors" ]; then
@@ -105,7 +115,7 @@ for words in walk 'run fast' 'audit twice' 'explain --csv --fast' 'migrate now';
     fi
 done
 # Help is answered on the output, with an example.
-for words in --help 'run --help' 'audit --help' 'explain --help' 'migrate --help' 'storm --help' help; do
+for words in --help 'run --help' 'audit --help' 'explain --help' 'cut --help' 'migrate --help' 'storm --help' help; do
     "$program" $words > "$work/output" 2> "$work/errors" < /dev/null
     got=$?
     if [ "$got" != 0 ] || [ -s "$work/errors" ] || ! grep -q Example "$work/output"; then

@@ -7,7 +7,8 @@ from checks import check, program
 
 PROGRAM = program()
 # The commands that read a history, each with words by which it reads all of one. A command that is not here and by its help reads one is a failure.
-READERS = {"audit": ["audit"], "explain": ["explain", "--all"], "summary": ["explain", "--summary", "--every", "100us"], "migrate": ["migrate"]}
+READERS = {"audit": ["audit"], "explain": ["explain", "--all"], "summary": ["explain", "--summary", "--every", "100us"], "cut": ["cut", "--from", "0"],
+           "migrate": ["migrate"]}
 READ, WRITE, MEMORY = b"pie: cannot read the input\n", b"pie: cannot write the output\n", b"pie: out of memory\n"
 
 # Every kind of record and nearly every answer.

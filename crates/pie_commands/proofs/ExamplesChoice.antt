@@ -1,5 +1,5 @@
--- Which events the words of `pie explain` choose, worked out.
-use Rattle.std.proofs.Common.{◌≡◌, [], ◌∷◌, Some, None, codes, refl}
+-- Which events the words of `pie explain` and `pie cut` choose, worked out.
+use Rattle.std.proofs.Common.{◌≡◌, ◌-◌, ◌^◌, [], ◌∷◌, Some, None, codes, refl}
 use Rattle.clap.specs.Words.{Text}
 use Rattle.clap.proofs.OnLiterals.{clap_on_literals}
 use Rattle.pie_explain.specs.declared.choice.Choice.{Choice}
@@ -9,6 +9,7 @@ use Rattle.pie_units.specs.Scale.{is_word, time_scale}
 use Rattle.pie_units.specs.Written.{digit_count, number_after}
 use Rattle.pie_options.specs.Words.{options_in}
 use Rattle.pie_commands.specs.Choice.{choice_of}
+use Rattle.pie_commands.specs.CutEnds.{around, between, span_of}
 
 -- these events, at every moment
 abbrev at_all_moments : Which → Choice
@@ -35,3 +36,21 @@ no_moment-chosen name = refl
 two-chosen : (name : Text) → choice_of (options_in (name ∷ codes "explain" ∷ codes "--tag=7" ∷ codes "--all" ∷ [])) ≡ None
 unfolding clap_on_literals
 two-chosen name = refl
+
+-- ---- `pie cut`
+
+around-cut : (name : Text) → span_of (options_in (name ∷ codes "cut" ∷ codes "--event" ∷ codes "10" ∷ codes "--around=3" ∷ [])) ≡ Some (around 10 3)
+unfolding clap_on_literals
+around-cut name = refl
+
+from-cut : (name : Text) → span_of (options_in (name ∷ codes "cut" ∷ codes "--from" ∷ codes "2s" ∷ [])) ≡ Some (between 2_000_000_000 (2 ^ 64 - 1))
+unfolding clap_on_literals digit_count number_after is_word time_scale
+from-cut name = refl
+
+late-cut : (name : Text) → span_of (options_in (name ∷ codes "cut" ∷ codes "--from=2" ∷ codes "--to=1" ∷ [])) ≡ None
+unfolding clap_on_literals digit_count number_after is_word time_scale
+late-cut name = refl
+
+around_nothing-cut : (name : Text) → span_of (options_in (name ∷ codes "cut" ∷ codes "--around" ∷ codes "3" ∷ [])) ≡ None
+unfolding clap_on_literals
+around_nothing-cut name = refl

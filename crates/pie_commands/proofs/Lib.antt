@@ -1,4 +1,5 @@
 mod AuditFacts
+mod CutFacts
 mod EndFacts
 mod ExamplesChoice
 mod ExplainFacts

@@ -10,15 +10,17 @@ use Rattle.pie_audit.specs.declared.auditor.Finding.{Finding}
 use Rattle.pie_commands.specs.declared.end.End.{End}
 use Rattle.pie_commands.specs.declared.end.End.TheVariants.{Failed}
 use Rattle.pie_options.specs.declared.subcommand.Subcommand.{Subcommand}
-use Rattle.pie_options.specs.declared.subcommand.Subcommand.TheVariants.{Run, Audit, Explain, Migrate, Storm, Params}
+use Rattle.pie_options.specs.declared.subcommand.Subcommand.TheVariants.{Run, Audit, Explain, Cut, Migrate, Storm, Params}
 use Rattle.pie_options.specs.Words.{file_in, files_in, is_forced}
 use Rattle.pie_options.specs.Subcommands.{word_of}
 use Rattle.pie_files.specs.Files.{text_given}
 use Rattle.pie_files.specs.Output.{Held, Keeps}
 use Rattle.pie_commands.specs.AuditEnds.{EndsAudits, IsFound, Told}
+use Rattle.pie_commands.specs.CutEnds.{EndsCut}
 use Rattle.pie_commands.specs.Ends.{EndsMigrate, EndsRun, status_of}
 use Rattle.pie_commands.specs.ExplainEnds.{EndsExplain}
 use Rattle.pie_commands.specs.Subcommands.{EndsAs, EndsTo, output_for}
+use Rattle.pie_commands.proofs.CutFacts.{EndsCut-failed}
 use Rattle.pie_commands.proofs.EndFacts.{EndsAudits-failed, EndsMigrate-failed, EndsRun-failed}
 use Rattle.pie_commands.proofs.ExplainFacts.{EndsExplain-failed}
 use Rattle.pie_commands.proofs.OutputFacts.{ends-failed}
@@ -30,6 +32,7 @@ EndsAs-failed Run options input files before now same = EndsRun-failed (text_giv
 EndsAs-failed Audit options input files before now same = EndsAudits-failed input files (files_in options) before now same
 EndsAs-failed Explain options input files before now same =
     EndsExplain-failed options (text_given input files (file_in options)) 1 before now refl same
+EndsAs-failed Cut options input files before now same = EndsCut-failed options (text_given input files (file_in options)) before now same
 EndsAs-failed Migrate options input files before now same = EndsMigrate-failed (text_given input files (file_in options)) before now same
 EndsAs-failed Storm options input files before now same = inl refl
 EndsAs-failed Params options input files before now same = inl refl
@@ -94,13 +97,17 @@ EndsAs-kept Run options input old new end before now keeps ended =
 EndsAs-kept Audit options input old new end before now keeps ended = audits-kept input old new (files_in options) end before now keeps ended
 EndsAs-kept Explain options input old new end before now keeps ended =
     text-kept input old new (file_in options) (λ text. EndsExplain options text (status_of end) before now) keeps ended
+EndsAs-kept Cut options input old new end before now keeps ended =
+    text-kept input old new (file_in options) (λ text. EndsCut options text end before now) keeps ended
 EndsAs-kept Migrate options input old new end before now keeps ended =
     text-kept input old new (file_in options) (λ text. EndsMigrate text end before now) keeps ended
 EndsAs-kept Storm options input old new end before now keeps ended = ended
 EndsAs-kept Params options input old new end before now keeps ended = ended
 
--- ---- an event can differ in two of them
-pub may-differ : (subcommand : Subcommand) (found : Option Text) → found ≡ Some (word_of subcommand) → (subcommand ≡ Audit) ⊎ (subcommand ≡ Explain)
-    → (found ≡ Some (codes "audit")) ⊎ (found ≡ Some (codes "explain"))
+-- ---- an event can differ in three of them
+pub may-differ : (subcommand : Subcommand) (found : Option Text) → found ≡ Some (word_of subcommand)
+    → (subcommand ≡ Audit) ⊎ (subcommand ≡ Explain) ⊎ (subcommand ≡ Cut)
+    → (found ≡ Some (codes "audit")) ⊎ (found ≡ Some (codes "explain")) ⊎ (found ≡ Some (codes "cut"))
 may-differ subcommand found is (inl audit) = inl (is ∙ ap (λ (s : Subcommand). Some (word_of s)) audit)
-may-differ subcommand found is (inr explain) = inr (is ∙ ap (λ (s : Subcommand). Some (word_of s)) explain)
+may-differ subcommand found is (inr (inl explain)) = inr (inl (is ∙ ap (λ (s : Subcommand). Some (word_of s)) explain))
+may-differ subcommand found is (inr (inr cut)) = inr (inr (is ∙ ap (λ (s : Subcommand). Some (word_of s)) cut))

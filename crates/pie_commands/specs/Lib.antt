@@ -1,5 +1,6 @@
 pub mod AuditEnds
 pub mod Choice
+pub mod CutEnds
 pub mod Ends
 pub mod ExplainEnds
 pub mod Outputs

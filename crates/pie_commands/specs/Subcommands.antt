@@ -2,12 +2,13 @@
 use Rattle.std.specs.Prelude.{ℕ, List, Option, None, IfSome}
 use Rattle.clap.specs.Words.{Row, Text}
 use Rattle.pie_options.specs.declared.subcommand.Subcommand.{Subcommand}
-use Rattle.pie_options.specs.declared.subcommand.Subcommand.TheVariants.{Run, Audit, Explain, Migrate, Storm, Params}
+use Rattle.pie_options.specs.declared.subcommand.Subcommand.TheVariants.{Run, Audit, Explain, Cut, Migrate, Storm, Params}
 use Rattle.pie_options.specs.Words.{file_in, files_in, is_forced, output_in}
 use Rattle.pie_files.specs.Files.{text_given}
 use Rattle.pie_files.specs.Output.{Held}
 use Rattle.pie_commands.specs.declared.end.End.{End}
 use Rattle.pie_commands.specs.AuditEnds.{EndsAudits}
+use Rattle.pie_commands.specs.CutEnds.{EndsCut}
 use Rattle.pie_commands.specs.Ends.{EndsMigrate, EndsRun, status_of}
 use Rattle.pie_commands.specs.ExplainEnds.{EndsExplain}
 use Rattle.pie_commands.specs.Outputs.{EndsIn}
@@ -20,6 +21,7 @@ EndsAs Run options input files end before now = IfSome (text_given input files (
 EndsAs Audit options input files end before now = EndsAudits input files (files_in options) end before now
 EndsAs Explain options input files end before now =
     IfSome (text_given input files (file_in options)) (λ text. EndsExplain options text (status_of end) before now)
+EndsAs Cut options input files end before now = IfSome (text_given input files (file_in options)) (λ text. EndsCut options text end before now)
 EndsAs Migrate options input files end before now = IfSome (text_given input files (file_in options)) (λ text. EndsMigrate text end before now)
 EndsAs Storm options input files end before now = EndsStorm options (status_of end) before now
 EndsAs Params options input files end before now = EndsParams options (status_of end) before now
@@ -29,6 +31,7 @@ abbrev pub output_for : Subcommand → List Row → Option Text
 output_for Run options = output_in options
 output_for Audit options = None
 output_for Explain options = output_in options
+output_for Cut options = output_in options
 output_for Migrate options = output_in options
 output_for Storm options = None
 output_for Params options = None

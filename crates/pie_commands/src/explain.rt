@@ -6,10 +6,11 @@ ghost use Rattle.pie_explain.specs.Either.{ExplainsEither};
 ghost use Rattle.pie_files.specs.Files.{text_given};
 ghost use Rattle.pie_options.specs.Words.{file_in};
 ghost use Rattle.pie_commands.specs.Ends.{status_of};
-ghost use Rattle.pie_commands.specs.Choice.{choice_of, chosen, every_of, form_of, in_order, is_digest, is_summary, lasts, moment_given, tale_by, units_of, which_of};
+ghost use Rattle.pie_commands.specs.Choice.{choice_of, chosen, every_of, form_of, is_digest, is_summary, lasts, tale_by, which_of};
 ghost use Rattle.pie_commands.specs.ExplainEnds.{EndsExplain, answer_status};
 
 use crate::end::{DIFFERS, DONE, End, FAULT, fault};
+use crate::moments::{NO_ORDER, in_order, moment, moment_of};
 use crate::screen::{Screen, shows_progress};
 use clap::ArgMatches;
 use pie_explain::{Choice, ExplainFault, Form, Which, explain_either};
@@ -17,7 +18,6 @@ use pie_files::{NamedFiles, reader_of};
 use pie_options::{file, flag, number};
 use pie_progress::Watched;
 use pie_summary::{Digest, Summary};
-use pie_units::{Moment, MomentFault};
 use std::alloc::Global;
 use std::io::{Read, Write};
 use std::time::Clock;
@@ -49,24 +49,6 @@ fn chosen(
         (None, None, false, false, false) => { if summary { Some(Which::All) } else { None } }
         _ => None,
     }
-}
-
-/// The nanoseconds of a moment that was read, if there was one to read.
-fn units_of(read: Result<Option<Moment>, MomentFault>) -> Result<Option<u64>, MomentFault>
-    ensures { result ≡ units_of read }
-{
-    match read {
-        Ok(Some(moment)) => Ok(Some(moment.0)),
-        Ok(None) => Ok(None),
-        Err(why) => Err(why),
-    }
-}
-
-/// The moment that an option is given, in nanoseconds.
-fn moment(options: &ArgMatches<'_>, name: &str) -> Result<Option<u64>, MomentFault>
-    ensures { result ≡ moment_given name.now (rows_of (found_of options.now)) }
-{
-    units_of(options.try_get_one::<Moment>(name))
 }
 
 /// The length of a period that these options want, where it can be read.
@@ -103,19 +85,6 @@ fn lasts(every: Option<u64>) -> bool
     }
 }
 
-/// What is said where no moment is both late and early enough.
-const NO_MOMENT: &str = "--from is after --to: no event is at both";
-
-/// Whether the one moment isn't after the other, where there are both.
-fn in_order(from: Option<u64>, to: Option<u64>) -> bool
-    ensures { result ≡ in_order from to }
-{
-    match (from, to) {
-        (Some(from), Some(to)) => from <= to,
-        _ => true,
-    }
-}
-
 /// The events that these options choose.
 fn which_of(options: &ArgMatches<'_>) -> Option<Which>
     ensures { result ≡ which_of (rows_of (found_of options.now)) }
@@ -125,23 +94,6 @@ fn which_of(options: &ArgMatches<'_>) -> Option<Which>
     let (lost, marked) = (flag(options, "lost"), flag(options, "marked"));
     let (all, summary) = (flag(options, "all"), is_summary(options));
     chosen(summary, event, tag, lost, marked, all)
-}
-
-/// The moment that an option is given, with a line on `errors` where its text is none.
-fn moment_of<E: Write>(
-    options: &ArgMatches<'_>,
-    name: &str,
-    errors: &mut E,
-) -> Result<Option<u64>, MomentFault>
-    ensures { result ≡ moment_given name.now (rows_of (found_of options.now)) }
-{
-    match moment(options, name) {
-        Ok(moment) => Ok(moment),
-        Err(why) => {
-            let _ = writeln!(errors, "pie: --{name}: {why}");
-            Err(why)
-        }
-    }
 }
 
 /// What these options choose, with a line on `errors` where they don't say it as they have to.
@@ -166,7 +118,7 @@ fn choice_of<E: Write>(options: &ArgMatches<'_>, errors: &mut E) -> Option<Choic
         return None;
     }
     if !in_order(from, to) {
-        let _ = fault(errors, NO_MOMENT);
+        let _ = fault(errors, NO_ORDER);
         return None;
     }
     Some(Choice { which, from, to })

@@ -5,9 +5,11 @@
 #![tactic(auto)]
 
 mod audit;
+mod cut;
 mod end;
 mod explain;
 mod migrate;
+mod moments;
 mod params;
 mod perform;
 mod program;

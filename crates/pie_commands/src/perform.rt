@@ -9,6 +9,7 @@ ghost use Rattle.pie_commands.specs.Outputs.{EndsAt};
 ghost use Rattle.pie_commands.specs.Subcommands.{EndsAs, EndsTo, output_for};
 
 use crate::audit::audit;
+use crate::cut::cut;
 use crate::end::End;
 use crate::explain::explain;
 use crate::migrate::migrate;
@@ -36,7 +37,8 @@ fn perform<H: Threads + Wait + Sync + NamedFiles + Screen, R: Read + Drop, W: Wr
     errors: &mut E,
 ) -> End
     ensures status { status_of result ≤ 2 }
-    ensures differs { result ≡ End.Differs → (subcommand ≡ Subcommand.Audit) ⊎ (subcommand ≡ Subcommand.Explain) }
+    ensures differs { result ≡ End.Differs → (subcommand ≡ Subcommand.Audit) ⊎ (subcommand ≡ Subcommand.Explain)
+        ⊎ (subcommand ≡ Subcommand.Cut) }
     ensures ends { EndsAs subcommand (rows_of (found_of options.now)) (R.remaining input) (H.holds rt.now) result (W.contents output.old)
         (W.contents output.new) }
 {
@@ -44,6 +46,7 @@ fn perform<H: Threads + Wait + Sync + NamedFiles + Screen, R: Read + Drop, W: Wr
         Subcommand::Run => run(rt, alloc, options, input, output, errors),
         Subcommand::Audit => audit(rt, alloc, options, input, output, errors),
         Subcommand::Explain => explain(rt, alloc, options, input, output, errors),
+        Subcommand::Cut => cut(rt, alloc, options, input, output, errors),
         Subcommand::Migrate => migrate(rt, alloc, options, input, output, errors),
         Subcommand::Storm => End::with_status(make_storm(rt, alloc, options, output, errors)),
         Subcommand::Params => End::with_status(params(options, output, errors)),
@@ -61,7 +64,8 @@ fn perform_for<H: Threads + Wait + Sync + NamedFiles + Screen, R: Read + Drop, E
     errors: &mut E,
 ) -> End
     ensures status { status_of result ≤ 2 }
-    ensures differs { result ≡ End.Differs → (subcommand ≡ Subcommand.Audit) ⊎ (subcommand ≡ Subcommand.Explain) }
+    ensures differs { result ≡ End.Differs → (subcommand ≡ Subcommand.Audit) ⊎ (subcommand ≡ Subcommand.Explain)
+        ⊎ (subcommand ≡ Subcommand.Cut) }
     ensures ends { EndsAt (file_in (rows_of (found_of options.now))) (is_forced (rows_of (found_of options.now))) name.now (H.holds rt.old)
         (H.holds rt.new) (EndsAs subcommand (rows_of (found_of options.now)) (R.remaining input) (H.holds rt.old)) result }
 {
@@ -82,6 +86,7 @@ fn output_for<'a>(subcommand: Subcommand, options: &ArgMatches<'a>) -> Option<&'
         Subcommand::Run => output(options),
         Subcommand::Audit => None,
         Subcommand::Explain => output(options),
+        Subcommand::Cut => output(options),
         Subcommand::Migrate => output(options),
         Subcommand::Storm => None,
         Subcommand::Params => None,
@@ -104,7 +109,8 @@ pub(crate) fn performed<
     errors: &mut E,
 ) -> End
     ensures status { status_of result ≤ 2 }
-    ensures differs { result ≡ End.Differs → (subcommand ≡ Subcommand.Audit) ⊎ (subcommand ≡ Subcommand.Explain) }
+    ensures differs { result ≡ End.Differs → (subcommand ≡ Subcommand.Audit) ⊎ (subcommand ≡ Subcommand.Explain)
+        ⊎ (subcommand ≡ Subcommand.Cut) }
     ensures ends { EndsTo subcommand (rows_of (found_of options.now)) (R.remaining input) (H.holds rt.old) (H.holds rt.new) result
         (W.contents output.old) (W.contents output.new) }
 {

@@ -9,6 +9,7 @@ ghost use Rattle.pie_files.specs.Files.{text_given};
 ghost use Rattle.pie_files.specs.Output.{Keeps};
 ghost use Rattle.pie_commands.specs.declared.end.End.{End};
 ghost use Rattle.pie_commands.specs.AuditEnds.{EndsFiles};
+ghost use Rattle.pie_commands.specs.CutEnds.{EndsCut};
 ghost use Rattle.pie_commands.specs.Ends.{EndsAudit, EndsMigrate, EndsRun, status_of};
 ghost use Rattle.pie_commands.specs.ExplainEnds.{EndsExplain};
 ghost use Rattle.pie_commands.specs.Outputs.{EndsIn};
@@ -30,7 +31,7 @@ use std::sync::Wait;
 use std::thread::Threads;
 
 /// Runs `pie` with these words, of which the first is the program's own name, and answers how it ended, which gives the exit status: 0
-/// done, 1 a fault, whose text stands on `errors`, 2 an audit or an explanation that met an event that differs. A mistake in the words
+/// done, 1 a fault, whose text stands on `errors`, 2 an audit, an explanation or a cut that met an event that differs. A mistake in the words
 /// prints what `clap` says of it on `errors` and ends with 1; a request for help prints it on `output` and ends with 0.
 ///
 /// A `FILE` among the words is opened by `rt`, and then all that is said here of the reader holds of that file's text, where `rt` knows it; `-` is
@@ -40,7 +41,7 @@ use std::thread::Threads;
 /// or 2 that file then has the name. With the status 1 each file that was there holds what it held; so does each but the one of that name in any case,
 /// and that one too without `--force`, and where it is the file that is read.
 ///
-/// While `pie run`, `audit`, `explain` and `migrate` read, `errors` is told how far they have come, where `rt` has it at a terminal or the option
+/// While `pie run`, `audit`, `explain`, `cut` and `migrate` read, `errors` is told how far they have come, where `rt` has it at a terminal or the option
 /// `--progress` is there; it is wiped before anything else is written there, and nothing that is said here changes by it.
 ///
 /// For the words `pie run` a trace without a fault writes its whole history text and is done; one with a fault writes the history text of
@@ -59,6 +60,9 @@ use std::thread::Threads;
 /// event that differs, and the status is 2 where an event differs, 1 for a fault and where no event is the chosen one, and else 0; or 1,
 /// where the reader, the writer or memory fails.
 ///
+/// For any words that ask for `pie cut`, they choose events in exactly one way; or the end is `Failed` and nothing is written. The excerpt of these
+/// events is written, up to the first that differs, at which it ends; at a fault it ends as a run does, and where no event is chosen it has `Failed`.
+///
 /// For any words that ask for `pie storm`, the threads of the runtime make a storm of the plan that the options ask for. Its
 /// history is written, which is legal and clean, and the status is 0; or it is 1, where memory, a thread or the writer fails.
 ///
@@ -75,7 +79,8 @@ pub fn command<H: Threads + Wait + Sync + NamedFiles + Screen, R: Read + Drop, W
     ensures status { status_of result ≤ 2 }
     ensures keeps { status_of result ≡ 1 → Keeps (H.holds rt.old) (H.holds rt.new) }
     ensures differs { result ≡ End.Differs → (subcommand_in (map string_bytes words.now) ≡ Some (codes "audit"))
-        ⊎ (subcommand_in (map string_bytes words.now) ≡ Some (codes "explain")) }
+        ⊎ (subcommand_in (map string_bytes words.now) ≡ Some (codes "explain"))
+        ⊎ (subcommand_in (map string_bytes words.now) ≡ Some (codes "cut")) }
     ensures runs { AskFor (codes "run") (map string_bytes words.now)
         → IfSome (R.remaining input) (λ text. EndsRun text result (W.contents output.old) (W.contents output.new)) }
     ensures audits { AskFor (codes "audit") (map string_bytes words.now)
@@ -101,6 +106,11 @@ pub fn command<H: Threads + Wait + Sync + NamedFiles + Screen, R: Read + Drop, W
         (λ end before now. IfSome (text_given (R.remaining input) (H.holds rt.old) (file_in (options_in (map string_bytes words.now))))
         (λ text. EndsExplain (options_in (map string_bytes words.now)) text (status_of end) before now)) result (W.contents output.old)
         (W.contents output.new) }
+    ensures cuts { Asks (codes "cut") (map string_bytes words.now)
+        → EndsIn (output_in (options_in (map string_bytes words.now))) (file_in (options_in (map string_bytes words.now)))
+        (is_forced (options_in (map string_bytes words.now))) (H.holds rt.old) (H.holds rt.new)
+        (λ end before now. IfSome (text_given (R.remaining input) (H.holds rt.old) (file_in (options_in (map string_bytes words.now))))
+        (λ text. EndsCut (options_in (map string_bytes words.now)) text end before now)) result (W.contents output.old) (W.contents output.new) }
     ensures storms { Asks (codes "storm") (map string_bytes words.now)
         → EndsStorm (options_in (map string_bytes words.now)) (status_of result) (W.contents output.old) (W.contents output.new) }
     ensures params { Asks (codes "params") (map string_bytes words.now)
@@ -121,7 +131,8 @@ fn answer<H: Threads + Wait + Sync + NamedFiles + Screen, R: Read + Drop, W: Wri
     ensures status { status_of result ≤ 2 }
     ensures keeps { status_of result ≡ 1 → Keeps (H.holds rt.old) (H.holds rt.new) }
     ensures differs { result ≡ End.Differs → (subcommand_in (map string_bytes words.now) ≡ Some (codes "audit"))
-        ⊎ (subcommand_in (map string_bytes words.now) ≡ Some (codes "explain")) }
+        ⊎ (subcommand_in (map string_bytes words.now) ≡ Some (codes "explain"))
+        ⊎ (subcommand_in (map string_bytes words.now) ≡ Some (codes "cut")) }
     ensures ends { (subcommand : Subcommand) → Asks (word_of subcommand) (map string_bytes words.now)
         → EndsTo subcommand (options_in (map string_bytes words.now)) (R.remaining input) (H.holds rt.old) (H.holds rt.new) result
         (W.contents output.old) (W.contents output.new) }

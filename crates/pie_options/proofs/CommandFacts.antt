@@ -4,7 +4,7 @@ use Rattle.std.specs.Prelude.{◌&&◌, not}
 use Rattle.clap.specs.Words.{AddsSubcommand, App, Rule, app_of, new_rule, with_rule, with_subcommand}
 use Rattle.clap.specs.declared.builder.command.Command.{Command}
 use Rattle.pie_options.specs.declared.subcommand.Subcommand.{Subcommand}
-use Rattle.pie_options.specs.declared.subcommand.Subcommand.TheVariants.{Run, Audit, Explain, Migrate, Storm, Params}
+use Rattle.pie_options.specs.declared.subcommand.Subcommand.TheVariants.{Run, Audit, Explain, Cut, Migrate, Storm, Params}
 use Rattle.pie_options.specs.Words.{app_for, with_rules, with_subcommands}
 
 drop-all : {A : Type 0} (xs : List A) → drop (length xs) xs ≡ []
@@ -36,6 +36,7 @@ plain-for : (subcommand : Subcommand) → (app_for subcommand).top.is_plain ≡ 
 plain-for Run = refl
 plain-for Audit = refl
 plain-for Explain = refl
+plain-for Cut = refl
 plain-for Migrate = refl
 plain-for Storm = refl
 plain-for Params = refl

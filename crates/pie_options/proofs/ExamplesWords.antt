@@ -24,6 +24,16 @@ lost : (name : Text) → Asks (codes "explain") (name ∷ codes "explain" ∷ co
 unfolding clap_on_literals
 lost name = record { taken = refl; found = refl }
 
+-- ---- `pie cut`
+
+cut : (name : Text) → Asks (codes "cut") (name ∷ codes "cut" ∷ codes "--from" ∷ codes "1s" ∷ codes "a" ∷ [])
+unfolding clap_on_literals
+cut name = record { taken = refl; found = refl }
+
+cut-file : (name : Text) → file_in (options_in (name ∷ codes "cut" ∷ codes "--event" ∷ codes "7" ∷ codes "a" ∷ [])) ≡ Some (codes "a")
+unfolding clap_on_literals
+cut-file name = refl
+
 -- ---- `pie storm`
 
 storm : (name : Text) → Asks (codes "storm") (name ∷ codes "storm" ∷ codes "--senders" ∷ codes "3" ∷ [])

@@ -9,7 +9,7 @@ use Rattle.clap.specs.declared.parser.matches.ArgMatches.{ArgMatches}
 use Rattle.clap.specs.declared.parser.matches.ArgMatches.TheViews.{out-ArgMatches, out-SubCommand}
 use Rattle.clap.proofs.OnLiterals.{clap_on_literals}
 use Rattle.pie_options.specs.declared.subcommand.Subcommand.{Subcommand}
-use Rattle.pie_options.specs.declared.subcommand.Subcommand.TheVariants.{Run, Audit, Explain, Migrate, Storm, Params}
+use Rattle.pie_options.specs.declared.subcommand.Subcommand.TheVariants.{Run, Audit, Explain, Cut, Migrate, Storm, Params}
 use Rattle.pie_options.specs.Subcommands.{word_of}
 use Rattle.pie_options.specs.Words.{AskFor, Asks, file_in, files_in, options_in, output_in, pie_app, subcommand_in}
 
@@ -110,6 +110,7 @@ abbrev asked_by : Text → Option Subcommand
 asked_by word = if bytes_eq word (codes "run") then Some Run
     else if bytes_eq word (codes "audit") then Some Audit
     else if bytes_eq word (codes "explain") then Some Explain
+    else if bytes_eq word (codes "cut") then Some Cut
     else if bytes_eq word (codes "migrate") then Some Migrate
     else if bytes_eq word (codes "storm") then Some Storm
     else Some Params
@@ -118,6 +119,7 @@ asked-word : (subcommand : Subcommand) → asked_by (word_of subcommand) ≡ Som
 asked-word Run = refl
 asked-word Audit = refl
 asked-word Explain = refl
+asked-word Cut = refl
 asked-word Migrate = refl
 asked-word Storm = refl
 asked-word Params = refl

@@ -9,7 +9,7 @@ use Rattle.clap.specs.Words.{App, Row, Rule, Text, all_of, first_of, new_app, ne
 use Rattle.clap.specs.declared.builder.action.ArgAction.TheVariants.{Append, SetTrue}
 use Rattle.clap.specs.declared.builder.value_parser.ValueParser.TheVariants.{Unsigned}
 use Rattle.pie_options.specs.declared.subcommand.Subcommand.{Subcommand}
-use Rattle.pie_options.specs.declared.subcommand.Subcommand.TheVariants.{Run, Audit, Explain, Migrate, Storm, Params}
+use Rattle.pie_options.specs.declared.subcommand.Subcommand.TheVariants.{Run, Audit, Explain, Cut, Migrate, Storm, Params}
 use Rattle.pie_options.specs.Subcommands.{word_of}
 
 -- `pie`, which has a version and wants a subcommand
@@ -58,6 +58,8 @@ rules_for Audit = progress_rule ∷ files_rule ∷ []
 rules_for Explain = number_rule (codes "event") 1 (2 ^ 64 - 1) ∷ number_rule (codes "tag") 0 (2 ^ 64 - 1) ∷ flag_rule (codes "lost")
     ∷ flag_rule (codes "marked") ∷ flag_rule (codes "all") ∷ text_rule (codes "from") ∷ text_rule (codes "to") ∷ flag_rule (codes "summary")
     ∷ text_rule (codes "every") ∷ flag_rule (codes "digest") ∷ flag_rule (codes "csv") ∷ progress_rule ∷ output_rule ∷ force_rule ∷ file_rule ∷ []
+rules_for Cut = text_rule (codes "from") ∷ text_rule (codes "to") ∷ number_rule (codes "event") 1 (2 ^ 64 - 1)
+    ∷ number_rule (codes "around") 0 (2 ^ 64 - 1) ∷ progress_rule ∷ output_rule ∷ force_rule ∷ file_rule ∷ []
 rules_for Migrate = progress_rule ∷ output_rule ∷ force_rule ∷ file_rule ∷ []
 rules_for Storm = number_rule (codes "senders") 2 8 ∷ number_rule (codes "packets") 1 10_000 ∷ number_rule (codes "burst") 1 1024
     ∷ number_rule (codes "seed") 0 (2 ^ 64 - 1) ∷ number_rule (codes "load") 50 200 ∷ number_rule (codes "changes") 0 100 ∷ number_rule (codes "folds") 0 100
@@ -77,7 +79,7 @@ with_subcommands app [] = app
 with_subcommands app (subcommand ∷ subcommands) = with_subcommands (with_subcommand app (app_for subcommand).top) subcommands
 
 abbrev pub pie_app : App
-pie_app = with_subcommands pie_alone (Run ∷ Audit ∷ Explain ∷ Migrate ∷ Storm ∷ Params ∷ [])
+pie_app = with_subcommands pie_alone (Run ∷ Audit ∷ Explain ∷ Cut ∷ Migrate ∷ Storm ∷ Params ∷ [])
 
 -- ---- subcommands
 

@@ -7,7 +7,7 @@ ghost use Rattle.pie_options.specs.Words.{app_for, pie_alone, pie_app, with_rule
 use crate::argument::{Argument, arg_of};
 use crate::help::PIE_HELP;
 use crate::subcommand::Subcommand;
-use crate::{audit, explain, migrate, params, run, storm};
+use crate::{audit, cut, explain, migrate, params, run, storm};
 use clap::{Arg, Command};
 use std::alloc::{AllocError, Global};
 
@@ -62,6 +62,7 @@ fn command_for<'a>(alloc: Global, subcommand: Subcommand) -> Result<Command<'a>,
         Subcommand::Run => run::command(alloc),
         Subcommand::Audit => audit::command(alloc),
         Subcommand::Explain => explain::command(alloc),
+        Subcommand::Cut => cut::command(alloc),
         Subcommand::Migrate => migrate::command(alloc),
         Subcommand::Storm => storm::command(alloc),
         Subcommand::Params => params::command(alloc),
@@ -105,6 +106,7 @@ pub fn options<'a>(alloc: Global) -> Result<Command<'a>, AllocError>
             Subcommand::Run,
             Subcommand::Audit,
             Subcommand::Explain,
+            Subcommand::Cut,
             Subcommand::Migrate,
             Subcommand::Storm,
             Subcommand::Params,

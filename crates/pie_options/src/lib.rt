@@ -7,6 +7,7 @@
 mod argument;
 mod audit;
 mod command_line;
+mod cut;
 mod explain;
 mod given;
 mod help;

@@ -11,6 +11,8 @@ pub enum Subcommand {
     Audit,
     /// Explain a history.
     Explain,
+    /// Cut a part out of a history.
+    Cut,
     /// Write a history in version two.
     Migrate,
     /// Make a storm.
@@ -28,6 +30,7 @@ impl Subcommand {
             "run" => Some(Subcommand::Run),
             "audit" => Some(Subcommand::Audit),
             "explain" => Some(Subcommand::Explain),
+            "cut" => Some(Subcommand::Cut),
             "migrate" => Some(Subcommand::Migrate),
             "storm" => Some(Subcommand::Storm),
             "params" => Some(Subcommand::Params),

@@ -1,7 +1,7 @@
 use Rattle.std.proofs.Common.{List, Option, map, string_bytes, subst}
 use Rattle.std.specs.Prelude.{IfSome}
 use Rattle.clap.specs.Words.{Text}
-use Rattle.pie_options.specs.declared.subcommand.Subcommand.TheVariants.{Run, Audit, Explain, Migrate, Storm, Params}
+use Rattle.pie_options.specs.declared.subcommand.Subcommand.TheVariants.{Run, Audit, Explain, Cut, Migrate, Storm, Params}
 use Rattle.pie_options.specs.Words.{file_in, is_forced, options_in}
 use Rattle.pie_options.proofs.WordFacts.{audit-asks, audit-files, migrate-asks, migrate-file, migrate-output, run-asks, run-file, run-output}
 use Rattle.pie_files.specs.Files.{text_given}
@@ -60,6 +60,9 @@ returns-clause-migrates_file g c asks = c.answer.ensures.ends Migrate asks
 
 pub returns-clause-explains : goal.returns-clause-explains
 returns-clause-explains g c asks = c.answer.ensures.ends Explain asks
+
+pub returns-clause-cuts : goal.returns-clause-cuts
+returns-clause-cuts g c asks = c.answer.ensures.ends Cut asks
 
 pub returns-clause-storms : goal.returns-clause-storms
 returns-clause-storms g c asks = (c.answer.ensures.ends Storm asks).1

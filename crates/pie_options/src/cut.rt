@@ -1,0 +1,70 @@
+//! The words of `pie cut`: what it takes, and what `--help` says of it.
+ghost use Rattle.std.specs.Prelude.{◌≡◌, IfOk};
+ghost use Rattle.clap.specs.Words.{app_of};
+ghost use Rattle.pie_options.specs.declared.subcommand.Subcommand.{Subcommand};
+ghost use Rattle.pie_options.specs.Words.{app_for};
+
+use crate::argument::{Argument, FILE, FORCE, OUTPUT, PROGRESS, Takes};
+use crate::command_line::command_of;
+use clap::Command;
+use std::alloc::{AllocError, Global};
+
+/// What `pie cut` is for.
+const ABOUT: &str =
+    "Reads a history from a file or standard input and cuts out some of its events, as a text that stands alone";
+
+/// What `pie cut --help` says below its options.
+const HELP: &str =
+    "What is cut out is an excerpt: it begins with what the controller held before its first event, in a record resume, and with the
+packets that waited then, in records queued; then come its events as they were read, without the notes between them. So pie
+audit and pie explain take it as they take the whole, and say the same of its events, each by the number that it has in the
+whole: clean,<events> names the last one.
+
+With --from and --to, or with one of them, the excerpt has the events whose effective moments are within, both ends included; a
+--from that is after its --to is refused. A moment is written as for pie explain: 1500000, 1500us, 1.5ms and 0.0015s are the same.
+
+With --event N it has the event with this number, and with --around M so many events before and after it too, as far as there
+are any.
+
+The history is decided again, as pie audit does, up to the excerpt's end. Where an event until there is not what the rules give,
+the excerpt ends with it, standard error names it, and the status is 2. A record that cannot be read ends with status 1, wherever
+it is, and so does a choice of which the history has no event. With -o FILE the excerpt goes to FILE, once all of it was written,
+also with status 2; pie run --help says what becomes of FILE at a fault, and where it is there already.
+
+Example: why were packets lost, and what came before? With the history of a day in the file day:
+
+  pie cut --from 72000s --to 72060s -o minute day
+  pie explain --lost minute";
+
+/// The subcommand `cut`.
+pub(crate) fn command<'a>(alloc: Global) -> Result<Command<'a>, AllocError>
+    ensures { IfOk result (λ command. app_of command ≡ app_for Subcommand.Cut) }
+{
+    let arguments = [
+        Argument {
+            name: "from",
+            takes: Takes::Value("MOMENT"),
+            help: "Cut out the events at this moment and later, such as 1.5ms",
+        },
+        Argument {
+            name: "to",
+            takes: Takes::Value("MOMENT"),
+            help: "Cut out the events at this moment and earlier",
+        },
+        Argument {
+            name: "event",
+            takes: Takes::Number(1, u64::MAX),
+            help: "Cut out the event with this number, counted from 1",
+        },
+        Argument {
+            name: "around",
+            takes: Takes::Number(0, u64::MAX),
+            help: "With --event: so many events before and after it too",
+        },
+        PROGRESS,
+        OUTPUT,
+        FORCE,
+        FILE,
+    ];
+    command_of(alloc, "cut", ABOUT, HELP, &arguments)
+}

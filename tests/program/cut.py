@@ -1,0 +1,168 @@
+#!/usr/bin/env python3
+"""Cuts histories by `pie cut` and holds each excerpt to the whole: the histories of examples/, those of the worked rows, and random ones, in each
+choice of the optional elements; small ones at each event, and others at random ones. An excerpt is clean, with the number of the whole's event with
+which it ends; its explanations are those of the whole, number for number, and its sums those of the whole at these moments. Of a random history it
+is, byte for byte, the text that tests/shared/reference_resumed.py makes of look-backs over the whole. Then faults, events that differ, choices of
+which there is no event, and what becomes of the file that -o names.
+
+usage: tests/program/cut.py [PROGRAM [FIRST_SEED [RUNS]]]      PROGRAM: crates/pie/out/pie where none is given
+needs: program
+"""
+import random
+import sys
+import tempfile
+from pathlib import Path
+
+sys.path.insert(0, str(Path(__file__).resolve().parents[1] / "shared"))
+import reference_resumed  # noqa: E402
+from checks import ROOT, check, finish  # noqa: E402
+from excerpts import audited, explained, rows_within  # noqa: E402
+from running import run  # noqa: E402
+
+FIRST, RUNS = ([int(word) for word in sys.argv[2:4]] + [1, 12][len(sys.argv[2:4]) :])[:2]
+# How many events a random history has at most; up to how many a history is small; and at how many places another is cut.
+EVENTS, SMALL, PLACES = 60, 12, 6
+NOTES = ("refused,", "folded,", "shown,", "tallied,")
+DIFFERS = "event {} is not what the rules give there, so what comes after it is not cut"
+tried = {"excerpts": 0, "summed up": 0, "cut again": 0}
+
+
+def cut(text, *words):
+    status, output, errors = run(["cut", *words], text.encode())
+    return status, output.decode(), errors.decode().removeprefix("pie: ").rstrip("\n")
+
+
+class History:
+    """A history, and the records of its explanations."""
+
+    def __init__(self, name, text, book=None):
+        self.name, self.text, self.book = name, text, book
+        self.rows = explained(text, "--all")[1]
+        self.moments = [int(row[self.rows[0].index("effective_moment")]) for row in self.rows[1:]]
+        self.count = len(self.moments)
+
+    def part(self, first, last):
+        """The excerpt of these events by the reference."""
+        lines = reference_resumed.excerpt(self.book, first - 1).splitlines(keepends=True)
+        return "".join(lines[: len(lines) - (self.count - last)])
+
+
+def histories():
+    for path in sorted((ROOT / "examples").glob("*.history")):
+        yield History(path.stem, path.read_text())
+    for path in sorted((ROOT / "tests/rows").glob("**/*.out")):
+        if not path.with_suffix(".fault").exists():
+            yield History(path.stem, path.read_bytes().decode())
+    for seed in range(FIRST, FIRST + RUNS):
+        book = reference_resumed.random_book(seed, EVENTS)
+        yield History(f"seed {seed}", reference_resumed.whole_text(book), book)
+
+
+def choices(history, chance):
+    """Words that choose events, and the first and the last of these."""
+    count = history.count
+    events = range(1, count + 1) if count <= SMALL else sorted(chance.sample(range(1, count + 1), PLACES))
+    for event in events:
+        around = chance.choice((0, 1, 3, count, 2**64 - 1))
+        words = ["--event", str(event), *(["--around", str(around)] if around or chance.random() < 0.5 else [])]
+        yield words, max(1, event - around), min(count, event + around)
+    for _ in range(min(count, 3)):
+        start, end = sorted((chance.choice(history.moments), chance.choice(history.moments)))
+        within = [place + 1 for place, moment in enumerate(history.moments) if start <= moment <= end]
+        yield ["--from", str(start), f"--to={end}ns"], within[0], within[-1]
+        yield ["--from", str(start)], within[0], count
+        yield ["--to", str(end)], 1, within[-1]
+
+
+def summed(text, *words):
+    return explained(text, "--summary", *words), explained(text, "--every", "1ms", *words)
+
+
+def check_part(history, words, first, last):
+    """Whether the words cut out the events from first to last of a history; the excerpt."""
+    what = f"{history.name}: cut {' '.join(words)}"
+    status, part, errors = cut(history.text, *words)
+    check((status, errors) == (0, ""), f"{what}: status {status}, {errors}")
+    check(explained(part, "--all") == (0, rows_within(history.rows, first - 1, last)), f"{what}: explained otherwise than the whole")
+    check(not any(line.startswith(NOTES) for line in part.splitlines()), f"{what}: a note in the excerpt")
+    if history.book:
+        check(part == history.part(first, last), f"{what}: another excerpt than the reference's")
+    if words[0] != "--event":
+        tried["summed up"] += 1
+        check(summed(part) == summed(history.text, *words), f"{what}: summed up otherwise than the whole")
+    tried["excerpts"] += 1
+    return part
+
+
+def hold(history, chance):
+    parts = [(check_part(history, words, first, last), words, last) for words, first, last in choices(history, chance)]
+    status, found = audited([part for part, *_ in parts])
+    check(status == 0, f"{history.name}: status {status} of excerpts that are clean")
+    for (_, words, last), got in zip(parts, found):
+        check(got == (f"clean,{last}", ""), f"{history.name}: cut {' '.join(words)}: its audit is {got}")
+
+
+def check_differing(history, chance):
+    """A verdict is changed: an excerpt that ends before is the same, any other ends with that event, and has none where it begins after it."""
+    verdicts = [place for place, row in enumerate(history.rows) if row[1] == "arrive"]
+    if not verdicts:
+        return
+    event = chance.choice(verdicts)
+    lines = [line for line in history.text.splitlines(keepends=True) if not line.startswith(NOTES)]
+    fields = lines[event].rstrip("\r\n").split(",")
+    fields[7] = "mark" if fields[7] == "enqueue" else "enqueue"
+    lines[event] = ",".join(fields) + "\n"
+    changed, what = "".join(lines), f"{history.name}: event {event} changed"
+    if event > 1:
+        words = ["--event", str(chance.randrange(1, event))]
+        check(cut(changed, *words) == cut(history.text, *words), f"{what}: another cut {' '.join(words)}")
+    first = chance.randrange(1, event + 1)
+    around = (event - first + 1) // 2
+    status, part, errors = cut(changed, "--event", str(first + around), "--around", str(around))
+    check((status, errors) == (2, DIFFERS.format(event)), f"{what}: status {status}, {errors}")
+    check(audited([part]) == (2, [(f"differs,{event}", "")]), f"{what}: {audited([part])}")
+    if event < history.count:
+        check(cut(changed, "--event", str(event + 1)) == (2, "", DIFFERS.format(event)), f"{what}: cut after it")
+
+
+def check_nothing(history):
+    """Choices of which there is no event, and a fault, wherever it is."""
+    nothing = (1, "", "no event of the text is wanted")
+    check(cut(history.text, "--event", str(history.count + 1)) == nothing, f"{history.name}: an event that is not there")
+    check(cut(history.text, "--from", str(history.moments[-1] + 1)) == nothing, f"{history.name}: a moment after all events")
+    damaged = history.text + "depart,1,x,empty\n"
+    status, part, errors = cut(damaged, "--event", "1")
+    check((status, errors) == (1, audited([damaged])[1][0][1]), f"{history.name}: status {status}, {errors} of a text with a fault")
+    check(part == cut(history.text, "--event", "1")[1], f"{history.name}: another excerpt before a fault")
+
+
+def check_file(history):
+    """With -o FILE the excerpt is there once all of it was written, also where an event differs; and nothing is there at a fault."""
+    with tempfile.TemporaryDirectory() as folder:
+        file, words = Path(folder) / "part", ["--from", "0"]
+        wanted = cut(history.text, *words)
+        check(cut(history.text, *words, "-o", str(file)) == (0, "", "") and file.read_text() == wanted[1], "-o: another excerpt")
+        status, *_ = cut(history.text, *words, "-o", str(file))
+        check(status == 1, "-o: a file that is there was replaced")
+        check(cut(history.text, "--event", "1", "-o", str(file), "--force")[0] == 0, "-o: --force did not replace it")
+        other = history.text.replace(",enqueue\n", ",bytes\n", 1)
+        found = cut(other, *words, "-o", f"{folder}/differs")
+        check(found[0] == 2 and Path(f"{folder}/differs").read_text() == cut(other, *words)[1], "-o: an excerpt that ends with a difference")
+        status, _, _ = cut(history.text + "x\n", *words, "-o", f"{folder}/fault")
+        check(status == 1 and not Path(f"{folder}/fault").exists(), "-o: a file after a fault")
+
+
+def main():
+    chance = random.Random(FIRST)
+    for history in histories():
+        if history.count:
+            hold(history, chance)
+            check_differing(history, chance)
+            check_nothing(history)
+    check_file(History("overload", (ROOT / "examples/overload.history").read_text()))
+    print(", ".join(f"{number} {what}" for what, number in tried.items()))
+    check(all(tried.values()), "something was never tried")
+    finish()
+
+
+main()

@@ -280,11 +280,13 @@ def compare_flight(header, rust):
     answers = {"DONE", "NONE", "GONE", "BROKEN", "STOPPED"}
     told = [it for it in re.findall(r"PIE_FLIGHT_(\w+) = (\d+)()", bare) if it[0] not in answers]
     told += re.findall(r"#define PIE_FLIGHT_(\w+) \(?(?:UINT64_C\()?(\w+)\)*(?: << (\d+)\))?", bare)
-    found = re.findall(r"const (\w+): (?:usize|u64) = (\w+)(?: << (\d+))?;", rust)
+    found = re.findall(r"const (\w+): (?:usize|u64|u32) = (\w+)(?: << (\d+))?;", rust)
     here, there = ({name: int(number, 0) << int(shift or 0) for name, number, shift in it} for it in (found, told))
     if len(there) < 20:
         yield "include/pie_flight.h: its words were not found"
     yield from same("bindings/rust: a flight recorder's words", {it: here.get(it) for it in there}, there, "in include/pie_flight.h")
+    here, there = re.findall(r"WIDTHS: \[u32; 9\] = \[(.*?)\]", rust), re.findall(r"pie_flight_widths\[9\] = {(.*?)}", bare)
+    yield from same("bindings/rust: the bits of a flight recorder's parameters", here, there, "in include/pie_flight.h")
 
 
 def compare_rates(header, sizes):
@@ -342,7 +344,8 @@ def differences(root):
     yield from compare_refusals(header, rust_text, source)
     yield from compare_numbers(header, source)
     yield from compare_limits(header)
-    yield from compare_flight((root / "include/pie_flight.h").read_text(), (root / "bindings/rust/src/flight.rs").read_text())
+    recorder = "".join((root / f"bindings/rust/src/{it}.rs").read_text() for it in ("flight", "flight_event"))
+    yield from compare_flight((root / "include/pie_flight.h").read_text(), recorder)
     yield from compare_versions(header, root)
 
 

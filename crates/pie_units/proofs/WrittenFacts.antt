@@ -50,6 +50,13 @@ unfolding number_after
 after-append n [] ys = refl
 after-append n (x ∷ xs) ys = after-append (n * 10 + (x - 48)) xs ys
 
+-- digits in two parts
+pub number-both : (decimals zeros : List ℕ) (first second most : ℕ) → first ≡ min (number_after 0 decimals) most
+    → second ≡ min (number_after first zeros) most → second ≡ min (number_after 0 (decimals ++ zeros)) most
+number-both decimals zeros first second most first-is second-is =
+    second-is ∙ ap (λ (k : ℕ). min (number_after k zeros) most) first-is ∙ after-min (number_after 0 decimals) most zeros
+    ∙ ap (λ (k : ℕ). min k most) (sym (after-append 0 decimals zeros))
+
 -- digits in three parts
 pub number-joined : (whole decimals zeros : List ℕ) (first second third most : ℕ) → first ≡ min (number_after 0 whole) most
     → second ≡ min (number_after first decimals) most → third ≡ min (number_after second zeros) most

@@ -37,7 +37,7 @@ fn moment_fault(why: UnitFault) -> MomentFault
 }
 
 /// The moment that a text writes, in nanoseconds.
-fn moment_in(text: &[u8]) -> Result<u64, MomentFault>
+pub(crate) fn moment_in(text: &[u8]) -> Result<u64, MomentFault>
     ensures { result ≡ moment_in text.now }
 {
     match read(Kind::Moment, text) {

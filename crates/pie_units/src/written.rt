@@ -25,7 +25,7 @@ pub enum UnitFault {
 }
 
 /// How many digits stand first in a text.
-fn digit_count(text: &[u8]) -> usize
+pub(crate) fn digit_count(text: &[u8]) -> usize
     ensures count { result ≡ digit_count text.now }
     ensures within { result ≤ length text.now }
 {
@@ -46,7 +46,7 @@ fn with_digit(number: u128, digit: u8) -> u128
 }
 
 /// The number that digits write, where they follow those of another; at most 2^128 - 1.
-fn number_after(before: u128, digits: &[u8]) -> u128
+pub(crate) fn number_after(before: u128, digits: &[u8]) -> u128
     ensures { result ≡ min (number_after before digits.now) (2 ^ 128 - 1) }
 {
     let mut number = before;
@@ -57,7 +57,7 @@ fn number_after(before: u128, digits: &[u8]) -> u128
 }
 
 /// The digits behind a point that stands first in a text; none where none is behind it.
-fn decimals_in(text: &[u8]) -> &[u8]
+pub(crate) fn decimals_in(text: &[u8]) -> &[u8]
     ensures decimals { result.now ≡ decimals_in text.now }
     ensures few { length result.now ≤ length text.now - 1 }
 {
@@ -68,7 +68,7 @@ fn decimals_in(text: &[u8]) -> &[u8]
 }
 
 /// The unit behind so many decimals and their point.
-fn unit_in(decimals: usize, text: &[u8]) -> &[u8]
+pub(crate) fn unit_in(decimals: usize, text: &[u8]) -> &[u8]
     requires { decimals ≤ length text.now - 1 }
     ensures { result.now ≡ unit_in decimals text.now }
 {

@@ -1,0 +1,64 @@
+//! A bound of moments as a person writes it: a moment, or a time of day.
+ghost use Rattle.std.specs.Prelude.{◌≡◌};
+ghost use Rattle.pie_units.specs.When.{is_date, when_in};
+
+use crate::moment::{MomentFault, moment_in};
+use crate::utc::{UtcFault, utc_in};
+use std::str::FromStr;
+use thiserror::Error;
+
+/// A moment, or a time of day.
+#[derive(Clone, Copy, Debug, PartialEq, Eq)]
+pub enum When {
+    /// A moment in nanoseconds: at most 2^60 - 1.
+    Moment(u64),
+    /// A time of day, in nanoseconds after 1970-01-01T00:00:00Z.
+    Unix(u64),
+}
+
+/// Why a text is neither.
+#[derive(Clone, Copy, Debug, PartialEq, Eq, Error)]
+pub enum WhenFault {
+    /// It is no moment.
+    #[error("{0}")]
+    Moment(MomentFault),
+    /// It is no time of day.
+    #[error("{0}")]
+    Utc(UtcFault),
+}
+
+/// Whether a text begins as a date does: its fifth byte is `-`, which no moment has.
+fn is_date(text: &[u8]) -> bool
+    ensures { result ≡ is_date text.now }
+{
+    text.len() > 4 && text[4] == b'-'
+}
+
+/// What a text writes.
+fn when_in(text: &[u8]) -> Result<When, WhenFault>
+    ensures { result ≡ when_in text.now }
+{
+    if is_date(text) {
+        match utc_in(text) {
+            Ok(unix) => Ok(When::Unix(unix)),
+            Err(why) => Err(WhenFault::Utc(why)),
+        }
+    } else {
+        match moment_in(text) {
+            Ok(moment) => Ok(When::Moment(moment)),
+            Err(why) => Err(WhenFault::Moment(why)),
+        }
+    }
+}
+
+impl FromStr for When {
+    type Err = WhenFault;
+
+    ghost use Rattle.pie_units.specs.When.{WritesWhen};
+
+    ghost from_str_gives = { λ text read. WritesWhen text read };
+
+    fn from_str(text: &str) -> Result<When, WhenFault> {
+        when_in(text.as_bytes())
+    }
+}

@@ -57,7 +57,7 @@ rules_for Run = flag_rule (codes "count") ∷ progress_rule ∷ output_rule ∷ 
 rules_for Audit = progress_rule ∷ files_rule ∷ []
 rules_for Explain = number_rule (codes "event") 1 (2 ^ 64 - 1) ∷ number_rule (codes "tag") 0 (2 ^ 64 - 1) ∷ flag_rule (codes "lost")
     ∷ flag_rule (codes "marked") ∷ flag_rule (codes "all") ∷ text_rule (codes "from") ∷ text_rule (codes "to") ∷ flag_rule (codes "summary")
-    ∷ text_rule (codes "every") ∷ flag_rule (codes "digest") ∷ flag_rule (codes "csv") ∷ progress_rule ∷ output_rule ∷ force_rule ∷ file_rule ∷ []
+    ∷ text_rule (codes "every") ∷ flag_rule (codes "digest") ∷ flag_rule (codes "csv") ∷ flag_rule (codes "wall") ∷ progress_rule ∷ output_rule ∷ force_rule ∷ file_rule ∷ []
 rules_for Migrate = progress_rule ∷ output_rule ∷ force_rule ∷ file_rule ∷ []
 rules_for Storm = number_rule (codes "senders") 2 8 ∷ number_rule (codes "packets") 1 10_000 ∷ number_rule (codes "burst") 1 1024
     ∷ number_rule (codes "seed") 0 (2 ^ 64 - 1) ∷ number_rule (codes "load") 50 200 ∷ number_rule (codes "changes") 0 100 ∷ number_rule (codes "folds") 0 100

@@ -5,6 +5,9 @@ use Rattle.clap.proofs.OnLiterals.{clap_on_literals}
 use Rattle.pie_explain.specs.declared.choice.Choice.{Choice}
 use Rattle.pie_explain.specs.declared.which.Which.{Which}
 use Rattle.pie_explain.specs.declared.which.Which.TheVariants.{Number, Lost, All}
+use Rattle.pie_units.specs.declared.when.When.TheVariants.{Moment, Unix}
+use Rattle.pie_units.specs.Date.{day_number}
+use Rattle.pie_units.specs.Utc.{date_part, has_marks, nanos_in, seconds_part, unix_of, utc_in, utc_with}
 use Rattle.pie_units.specs.Scale.{is_word, time_scale}
 use Rattle.pie_units.specs.Written.{digit_count, number_after}
 use Rattle.pie_options.specs.Words.{options_in}
@@ -25,9 +28,18 @@ unfolding clap_on_literals
 event-chosen name = refl
 
 from-chosen : (name : Text) → choice_of (options_in (name ∷ codes "explain" ∷ codes "--all" ∷ codes "--from" ∷ codes "1.5ms" ∷ codes "--to=2s" ∷ []))
-    ≡ Some (record { which = All; from = Some 1_500_000; to = Some 2_000_000_000 })
+    ≡ Some (record { which = All; from = Some (Moment 1_500_000); to = Some (Moment 2_000_000_000) })
 unfolding clap_on_literals digit_count number_after is_word time_scale
 from-chosen name = refl
+
+from_day-chosen : (name : Text) → choice_of (options_in (name ∷ codes "explain" ∷ codes "--lost" ∷ codes "--wall"
+    ∷ codes "--from=2026-11-24T20:00:00Z" ∷ [])) ≡ Some (record { which = Lost; from = Some (Unix 1795550400000000000); to = None })
+unfolding clap_on_literals digit_count number_after utc_in utc_with unix_of seconds_part date_part has_marks nanos_in day_number
+from_day-chosen name = refl
+
+wall_of_sums : (name : Text) → choice_of (options_in (name ∷ codes "explain" ∷ codes "--wall" ∷ codes "--summary" ∷ [])) ≡ None
+unfolding clap_on_literals
+wall_of_sums name = refl
 
 no_moment-chosen : (name : Text) → choice_of (options_in (name ∷ codes "explain" ∷ codes "--all" ∷ codes "--from" ∷ codes "soon" ∷ [])) ≡ None
 unfolding clap_on_literals digit_count is_word time_scale

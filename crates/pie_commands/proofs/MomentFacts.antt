@@ -1,11 +1,14 @@
--- What a getter of `clap` reads of an option that is given a moment.
+-- What a getter of `clap` reads of an option that is given a moment, or a bound of moments.
 use Rattle.std.proofs.Common.{◌≡◌, ℕ, List, Option, Some, None, refl, sym, ap}
 use Rattle.std.specs.Prelude.{Result, Ok, Err}
 use Rattle.clap.specs.Matches.{TriesOne}
 use Rattle.pie_units.specs.declared.moment.Moment.{Moment}
 use Rattle.pie_units.specs.declared.moment.MomentFault.{MomentFault}
 use Rattle.pie_units.specs.Moment.{WritesMoment}
-use Rattle.pie_commands.specs.Choice.{moment_read, units_of, written}
+use Rattle.pie_units.specs.declared.when.When.{When}
+use Rattle.pie_units.specs.declared.when.WhenFault.{WhenFault}
+use Rattle.pie_units.specs.When.{WritesWhen}
+use Rattle.pie_commands.specs.Choice.{bound_read, bound_written, moment_read, units_of, written}
 
 pub moment-given : (given : Option (List ℕ)) (result : Result (Option Moment) MomentFault) → (given ≡ None → result ≡ Ok None)
     → ((text : List ℕ) → given ≡ Some text → TriesOne WritesMoment text result) → units_of result ≡ moment_read given
@@ -16,3 +19,13 @@ moment-given (Some text) result none some = go result (some text refl)
     go (Ok (Some moment)) tries = sym (ap written tries)
     go (Ok None) tries = absurd tries
     go (Err why) tries = sym (ap written tries)
+
+pub bound-given : (given : Option (List ℕ)) (result : Result (Option When) WhenFault) → (given ≡ None → result ≡ Ok None)
+    → ((text : List ℕ) → given ≡ Some text → TriesOne WritesWhen text result) → result ≡ bound_read given
+bound-given None result none some = none refl
+bound-given (Some text) result none some = go result (some text refl)
+  where
+    go : (read : Result (Option When) WhenFault) → TriesOne WritesWhen text read → read ≡ bound_read (Some text)
+    go (Ok (Some bound)) tries = sym (ap bound_written tries)
+    go (Ok None) tries = absurd tries
+    go (Err why) tries = sym (ap bound_written tries)

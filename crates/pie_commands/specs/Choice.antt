@@ -4,13 +4,17 @@ use Rattle.clap.specs.Words.{Row, Text, one_of}
 use Rattle.pie_options.specs.Words.{flag_given, number_given}
 use Rattle.pie_explain.specs.declared.choice.Choice.{Choice}
 use Rattle.pie_explain.specs.declared.explainer.Form.{Form}
-use Rattle.pie_explain.specs.declared.explainer.Form.TheVariants.{Text as Words, Csv}
+use Rattle.pie_explain.specs.declared.explainer.Form.TheVariants.{Text as Words, Csv, TextByWall, CsvByWall}
 use Rattle.pie_explain.specs.declared.explanation.Explained.{Explained}
 use Rattle.pie_units.specs.declared.moment.Moment.{Moment}
 use Rattle.pie_units.specs.declared.moment.MomentFault.{MomentFault}
 use Rattle.pie_explain.specs.declared.which.Which.{Which}
 use Rattle.pie_explain.specs.declared.which.Which.TheVariants.{Number, Tag, Lost, Marked, All}
 use Rattle.pie_units.specs.Moment.{moment_in}
+use Rattle.pie_units.specs.When.{when_in}
+use Rattle.pie_units.specs.declared.when.When.{When}
+use Rattle.pie_units.specs.declared.when.When.TheVariants as when
+use Rattle.pie_units.specs.declared.when.WhenFault.{WhenFault}
 use Rattle.pie_explain.specs.Output.{pages}
 use Rattle.pie_summary.specs.Digest.{digest_of}
 use Rattle.pie_summary.specs.Summary.{summary_of}
@@ -37,7 +41,25 @@ moment_read (Some text) = written (moment_in text)
 abbrev pub moment_given : Text → List Row → Result (Option ℕ) MomentFault
 moment_given name options = moment_read (one_of name options)
 
+-- a bound that was written
+abbrev pub bound_written : Result When WhenFault → Result (Option When) WhenFault
+bound_written (Ok bound) = Ok (Some bound)
+bound_written (Err why) = Err why
+
+-- the bound that a text writes, if there is one
+abbrev pub bound_read : Option Text → Result (Option When) WhenFault
+bound_read None = Ok None
+bound_read (Some text) = bound_written (when_in text)
+
+-- the bound that an option is given
+abbrev pub bound_given : Text → List Row → Result (Option When) WhenFault
+bound_given name options = bound_read (one_of name options)
+
 -- ---- the choice
+
+-- these options ask for times of day
+abbrev pub is_by_wall : List Row → Bool
+is_by_wall options = flag_given (codes "wall") options
 
 -- the length of a period that an option is given, where it can be read
 abbrev pub every_in : Result (Option ℕ) MomentFault → Option ℕ
@@ -76,29 +98,33 @@ abbrev pub lasts : Option ℕ → Bool
 lasts None = true
 lasts (Some every) = not (every == 0)
 
--- the one moment isn't after the other, where there are both
-abbrev pub in_order : Option ℕ → Option ℕ → Bool
-in_order (Some from) (Some to) = nat_le from to
-in_order None to = true
-in_order from None = true
+-- the one bound isn't after the other, where there are both, and both are moments or times of day
+abbrev pub in_order : Option When → Option When → Bool
+in_order (Some (when.Moment from)) (Some (when.Moment to)) = nat_le from to
+in_order (Some (when.Unix from)) (Some (when.Unix to)) = nat_le from to
+in_order _ _ = true
 
--- these events, at the moments from one to another, where both can be read and so can the length of a period, which is above 0
-abbrev pub choice_at : Option Which → Result (Option ℕ) MomentFault → Result (Option ℕ) MomentFault → Result (Option ℕ) MomentFault → Option Choice
-choice_at (Some which) (Ok from) (Ok to) (Ok every) = if lasts every && in_order from to then Some (record { which = which; from = from; to = to }) else None
+-- these events, from one bound to another, where both can be read and so can the length of a period, which is above 0
+abbrev pub choice_at : Option Which → Result (Option When) WhenFault → Result (Option When) WhenFault → Result (Option ℕ) MomentFault → Option Choice
+choice_at (Some which) (Ok from) (Ok to) (Ok every) =
+    if lasts every && in_order from to then Some (record { which = which; from = from; to = to }) else None
 choice_at _ _ _ _ = None
 
 -- what these options choose; nothing where they don't say it as they have to
 abbrev pub choice_of : List Row → Option Choice
 choice_of options =
-    choice_at (which_of options) (moment_given (codes "from") options) (moment_given (codes "to") options) (moment_given (codes "every") options)
+    if is_by_wall options && is_summary options then None
+    else choice_at (which_of options) (bound_given (codes "from") options) (bound_given (codes "to") options) (moment_given (codes "every") options)
 
--- in words, and as CSV where this holds
-abbrev pub form_where : Bool → Form
-form_where true = Csv
-form_where false = Words
+-- in words, and as CSV where the first holds; with times of day where the second does
+abbrev pub form_where : Bool → Bool → Form
+form_where true true = CsvByWall
+form_where true false = Csv
+form_where false true = TextByWall
+form_where false false = Words
 
 abbrev pub form_of : List Row → Form
-form_of options = form_where (flag_given (codes "csv") options)
+form_of options = form_where (flag_given (codes "csv") options) (is_by_wall options)
 
 -- what is told of the explained events: each; or summaries of all or of each period, with the words for lost and marked packets or without
 abbrev pub tale_by : Bool → Bool → Option ℕ → Form → List Explained → List ℕ

@@ -1,5 +1,5 @@
 -- `pie cut`: which events the words choose, and how it ends.
-use Rattle.std.specs.Prelude.{ℕ, ◌≡◌, ◌⊎◌, ◌+◌, ◌-◌, ◌^◌, List, Option, Some, None, Result, Ok, Err, codes, if◌then◌else◌, min}
+use Rattle.std.specs.Prelude.{ℕ, ◌≡◌, ◌⊎◌, ◌+◌, ◌-◌, ◌^◌, Bool, true, List, Option, Some, None, Result, Ok, Err, codes, if◌then◌else◌, min, nat_le}
 use Rattle.std.specs.Io.KnownBytes.{Appends}
 use Rattle.clap.specs.Words.{Row}
 use Rattle.pie_record.specs.Text.{Row as Fields, records_of}
@@ -11,7 +11,7 @@ use Rattle.pie_units.specs.declared.moment.MomentFault.{MomentFault}
 use Rattle.pie_options.specs.Words.{number_given}
 use Rattle.pie_commands.specs.declared.end.End.{End}
 use Rattle.pie_commands.specs.declared.end.End.TheVariants.{Done, Differs, Fault, Failed}
-use Rattle.pie_commands.specs.Choice.{in_order, moment_given}
+use Rattle.pie_commands.specs.Choice.{moment_given}
 
 -- ---- the choice
 
@@ -32,9 +32,14 @@ chosen None None None (Some to) = Some (between 0 to)
 chosen None None (Some from) (Some to) = Some (between from to)
 chosen _ _ _ _ = None
 
+-- the one moment isn't after the other, where there are both
+abbrev pub are_in_order : Option ℕ → Option ℕ → Bool
+are_in_order (Some from) (Some to) = nat_le from to
+are_in_order _ _ = true
+
 -- .. where both moments can be read, and the one isn't after the other
 abbrev pub span_at : Option ℕ → Option ℕ → Result (Option ℕ) MomentFault → Result (Option ℕ) MomentFault → Option Span
-span_at event more (Ok from) (Ok to) = if in_order from to then chosen event more from to else None
+span_at event more (Ok from) (Ok to) = if are_in_order from to then chosen event more from to else None
 span_at _ _ _ _ = None
 
 -- the events that these options choose; nothing where they don't say it as they have to

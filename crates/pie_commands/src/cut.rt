@@ -6,7 +6,7 @@ ghost use Rattle.pie_options.specs.Words.{file_in};
 ghost use Rattle.pie_commands.specs.CutEnds.{EndsCut, chosen, end_of_cut, span_of};
 
 use crate::end::{End, failed, fault, faulted};
-use crate::moments::{NO_ORDER, in_order, moment_of};
+use crate::moments::{NO_ORDER, are_in_order, moment_of};
 use crate::screen::{Screen, shows_progress};
 use clap::ArgMatches;
 use pie_cut::{CutFault, Span};
@@ -50,7 +50,7 @@ fn span_of<E: Write>(options: &ArgMatches<'_>, errors: &mut E) -> Option<Span>
     let Ok(to) = moment_of(options, "to", errors) else {
         return None;
     };
-    if !in_order(from, to) {
+    if !are_in_order(from, to) {
         let _ = fault(errors, NO_ORDER);
         return None;
     }

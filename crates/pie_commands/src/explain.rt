@@ -6,11 +6,12 @@ ghost use Rattle.pie_explain.specs.Either.{ExplainsEither};
 ghost use Rattle.pie_files.specs.Files.{text_given};
 ghost use Rattle.pie_options.specs.Words.{file_in};
 ghost use Rattle.pie_commands.specs.Ends.{status_of};
-ghost use Rattle.pie_commands.specs.Choice.{choice_of, chosen, every_of, form_of, is_digest, is_summary, lasts, tale_by, which_of};
+ghost use Rattle.pie_commands.specs.Choice.{bound_given, choice_of, chosen, every_of, form_of, in_order, is_by_wall, is_digest, is_summary, lasts};
+ghost use Rattle.pie_commands.specs.Choice.{tale_by, which_of};
 ghost use Rattle.pie_commands.specs.ExplainEnds.{EndsExplain, answer_status};
 
 use crate::end::{DIFFERS, DONE, End, FAULT, fault};
-use crate::moments::{NO_ORDER, in_order, moment, moment_of};
+use crate::moments::{NO_ORDER, moment, moment_of};
 use crate::screen::{Screen, shows_progress};
 use clap::ArgMatches;
 use pie_explain::{Choice, ExplainFault, Form, Which, explain_either};
@@ -18,6 +19,7 @@ use pie_files::{NamedFiles, reader_of};
 use pie_options::{file, flag, number};
 use pie_progress::Watched;
 use pie_summary::{Digest, Summary};
+use pie_units::{When, WhenFault};
 use std::alloc::Global;
 use std::io::{Read, Write};
 use std::time::Clock;
@@ -25,6 +27,9 @@ use std::time::Clock;
 /// What is said where the words don't choose events by exactly one option.
 const NO_CHOICE: &str =
     "explain takes one of --event N, --tag T, --lost, --marked and --all, or --summary, --every or --digest; see pie explain --help";
+
+/// What is said where times of day are asked for in sums.
+const NO_WALL: &str = "--wall: not with --summary, --every or --digest";
 
 /// What is said where a period has no length.
 const NO_PERIOD: &str = "--every: a period lasts at least 1 ns";
@@ -85,6 +90,48 @@ fn lasts(every: Option<u64>) -> bool
     }
 }
 
+/// Whether the one bound isn't after the other, where there are both, and both are moments or times of day.
+fn in_order(from: Option<When>, to: Option<When>) -> bool
+    ensures { result ≡ in_order from to }
+{
+    match (from, to) {
+        (Some(When::Moment(from)), Some(When::Moment(to))) => from <= to,
+        (Some(When::Unix(from)), Some(When::Unix(to))) => from <= to,
+        _ => true,
+    }
+}
+
+/// The bound that an option is given.
+fn bound(options: &ArgMatches<'_>, name: &str) -> Result<Option<When>, WhenFault>
+    ensures { result ≡ bound_given name.now (rows_of (found_of options.now)) }
+{
+    options.try_get_one::<When>(name)
+}
+
+/// The same, with a line on `errors` where its text is none.
+fn bound_of<E: Write>(
+    options: &ArgMatches<'_>,
+    name: &str,
+    errors: &mut E,
+) -> Result<Option<When>, WhenFault>
+    ensures { result ≡ bound_given name.now (rows_of (found_of options.now)) }
+{
+    match bound(options, name) {
+        Ok(bound) => Ok(bound),
+        Err(why) => {
+            let _ = writeln!(errors, "pie: --{name}: {why}");
+            Err(why)
+        }
+    }
+}
+
+/// Whether these options ask for times of day.
+fn is_by_wall(options: &ArgMatches<'_>) -> bool
+    ensures { result ≡ is_by_wall (rows_of (found_of options.now)) }
+{
+    flag(options, "wall")
+}
+
 /// The events that these options choose.
 fn which_of(options: &ArgMatches<'_>) -> Option<Which>
     ensures { result ≡ which_of (rows_of (found_of options.now)) }
@@ -104,10 +151,14 @@ fn choice_of<E: Write>(options: &ArgMatches<'_>, errors: &mut E) -> Option<Choic
         let _ = fault(errors, NO_CHOICE);
         return None;
     };
-    let Ok(from) = moment_of(options, "from", errors) else {
+    if is_by_wall(options) && is_summary(options) {
+        let _ = fault(errors, NO_WALL);
+        return None;
+    }
+    let Ok(from) = bound_of(options, "from", errors) else {
         return None;
     };
-    let Ok(to) = moment_of(options, "to", errors) else {
+    let Ok(to) = bound_of(options, "to", errors) else {
         return None;
     };
     let Ok(every) = moment_of(options, "every", errors) else {
@@ -128,10 +179,11 @@ fn choice_of<E: Write>(options: &ArgMatches<'_>, errors: &mut E) -> Option<Choic
 fn form_of(options: &ArgMatches<'_>) -> Form
     ensures { result ≡ form_of (rows_of (found_of options.now)) }
 {
-    if flag(options, "csv") {
-        Form::Csv
-    } else {
-        Form::Text
+    match (flag(options, "csv"), is_by_wall(options)) {
+        (true, true) => Form::CsvByWall,
+        (true, false) => Form::Csv,
+        (false, true) => Form::TextByWall,
+        (false, false) => Form::Text,
     }
 }
 

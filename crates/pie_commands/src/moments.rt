@@ -1,7 +1,8 @@
 //! The moments that options are given.
 ghost use Rattle.std.specs.Prelude.{◌≡◌};
 ghost use Rattle.clap.specs.Words.{found_of, rows_of};
-ghost use Rattle.pie_commands.specs.Choice.{in_order, moment_given, units_of};
+ghost use Rattle.pie_commands.specs.Choice.{moment_given, units_of};
+ghost use Rattle.pie_commands.specs.CutEnds.{are_in_order};
 
 use clap::ArgMatches;
 use pie_units::{Moment, MomentFault};
@@ -46,8 +47,8 @@ pub(crate) fn moment_of<E: Write>(
 pub(crate) const NO_ORDER: &str = "--from is after --to: no event is at both";
 
 /// Whether the one moment isn't after the other, where there are both.
-pub(crate) fn in_order(from: Option<u64>, to: Option<u64>) -> bool
-    ensures { result ≡ in_order from to }
+pub(crate) fn are_in_order(from: Option<u64>, to: Option<u64>) -> bool
+    ensures { result ≡ are_in_order from to }
 {
     match (from, to) {
         (Some(from), Some(to)) => from <= to,

@@ -11,13 +11,14 @@ use Rattle.pie_book.specs.Estimates.{active_after, delay_after}
 use Rattle.pie_book.specs.History.{effective_moment, waiting_after}
 use Rattle.pie_book.specs.Registers.{registers_after}
 use Rattle.pie_book.specs.Statistics.{count_of, stats_after, wait_of}
+use Rattle.pie_record.specs.declared.clock.Clock.{Clock}
 use Rattle.pie_explain.specs.declared.explanation.Explanation.{Explanation}
 use Rattle.pie_explain.specs.declared.setter.Setter.{Setter}
 use Rattle.pie_explain.specs.Explanation.{explanation, moment_of}
 
 -- an explanation of these parts
-abbrev pub the_explanation : ℕ → Event → ℕ → Registers → ℕ → Option Cause → ℕ → Setter → ℕ → Explanation
-the_explanation number event now before delay cause waited set_by updates = record {
+abbrev pub the_explanation : ℕ → Event → ℕ → Registers → ℕ → Option Cause → ℕ → Setter → ℕ → Option Clock → Explanation
+the_explanation number event now before delay cause waited set_by updates clock = record {
   number = number;
   event = event;
   moment = now;
@@ -27,6 +28,7 @@ the_explanation number event now before delay cause waited set_by updates = reco
   waited = waited;
   set_by = set_by;
   updates = updates;
+  clock = clock;
 }
 
 pub updates-counted : (opening : Opening) (history : List Event) → (stats_after opening history).updates ≡ count_of is_update history
@@ -54,11 +56,11 @@ moment-is opening history event before now before-is now-is = now-is ∙ rw (bef
 
 -- the parts of an explanation make it
 pub explanation-is : (opening : Opening) (history : List Event) (number : ℕ) (event : Event) (set_by : Setter) (now : ℕ) (before : Registers)
-    (delay : ℕ) (cause : Option Cause) (waited updates : ℕ)
+    (delay : ℕ) (cause : Option Cause) (waited updates : ℕ) (clock : Option Clock)
     → before ≡ registers_after opening history → delay ≡ delay_after opening history → cause ≡ cause_after opening history event.command
     → now ≡ moment_of opening history event → waited ≡ wait_of (deed_of event) now (waiting_after opening history)
     → updates ≡ count_of is_update history
-    → the_explanation number event now before delay cause waited set_by updates ≡ explanation opening history number event set_by
+    → the_explanation number event now before delay cause waited set_by updates clock ≡ explanation opening history number event set_by clock
 unfolding explanation
-explanation-is opening history number event set_by now before delay cause waited updates before-is delay-is cause-is now-is waited-is updates-is =
+explanation-is opening history number event set_by now before delay cause waited updates clock before-is delay-is cause-is now-is waited-is updates-is =
     rw (waited-is, before-is, delay-is, cause-is, now-is, updates-is) refl

@@ -2,7 +2,8 @@
 use Rattle.std.proofs.Common.{◌≡◌, ℕ, List, [], ◌∷◌, ◌++◌, refl, sym, ap, ◌∙◌, append_assoc, codes}
 use Rattle.std.specs.Prelude.{Result, Ok, Err, OnOk}
 use Rattle.pie_explain.specs.declared.explanation.Explained.{Explained}
-use Rattle.pie_explain.specs.Record.{active_field, head_fields, held_fields, line_of, met_fields, more_fields, onto, packet_fields, record_of}
+use Rattle.pie_explain.specs.Record.{active_field, head_fields, held_fields, line_of, met_fields, more_fields, most_fields, onto, packet_fields}
+use Rattle.pie_explain.specs.Record.{record_of}
 use Rattle.pie_explain.specs.Which.{packet_of}
 
 -- fields before the last, which stands at the end of the line
@@ -42,3 +43,35 @@ record-written (Err why) all old with_front with_held new front-is held-is is = 
 record-written (Ok done) all old with_front with_held new front-is held-is is =
     let last : List ℕ = active_field all.after.active ++ codes "\n" in
     is ∙ ap (λ (l : List ℕ). l ++ last) (held-is ∙ ap (λ (l : List ℕ). l ++ onto (held_fields all.after all.delay) []) front-is) ∙ record-is all old
+
+-- where its first fields were written, and those after the event
+pub most-written : {A E : Type 0} (result : Result A E) (all : Explained) (old with_front new : List ℕ)
+    → with_front ≡ old ++ onto (front_of all) []
+    → OnOk result (new ≡ with_front ++ onto (held_fields all.after all.delay) [])
+    → OnOk result (new ≡ old ++ onto (most_fields all) [])
+most-written (Err why) all old with_front new front-is is = tt
+most-written (Ok done) all old with_front new front-is is =
+    let held : List ℕ = onto (held_fields all.after all.delay) [] in
+    is ∙ ap (λ (l : List ℕ). l ++ held) front-is ∙ append_assoc old (onto (front_of all) []) held
+    ∙ ap (λ (l : List ℕ). old ++ l) (onto-append (front_of all) [] held)
+
+-- .. and then the last of them and the time of day
+pub wall-written : {A E : Type 0} (result : Result A E) (all : Explained) (wall old with_most with_active with_wall new : List ℕ)
+    → with_most ≡ old ++ onto (most_fields all) []
+    → with_active ≡ with_most ++ (active_field all.after.active ++ codes ",")
+    → with_wall ≡ with_active ++ wall
+    → OnOk result (new ≡ with_wall ++ codes "\n")
+    → OnOk result (new ≡ old ++ line_of (record_of all ++ wall ∷ []))
+wall-written (Err why) all wall old with_most with_active with_wall new most-is active-is wall-is is = tt
+wall-written (Ok done) all wall old with_most with_active with_wall new most-is active-is wall-is is =
+    let most : List ℕ = onto (most_fields all) [] in
+    let active : List ℕ = active_field all.after.active in
+    let rest : List ℕ = active ++ (44 ∷ (wall ++ codes "\n")) in
+    is ∙ ap (λ (l : List ℕ). l ++ codes "\n") (wall-is ∙ ap (λ (l : List ℕ). l ++ wall) (active-is
+    ∙ ap (λ (l : List ℕ). l ++ (active ++ codes ",")) most-is))
+    ∙ flat old most active wall
+    ∙ ap (λ (l : List ℕ). old ++ l) (onto-append (most_fields all) [] rest ∙ sym (line-onto (most_fields all ++ active ∷ []) wall))
+  where
+    flat : (old most active wall : List ℕ) → (((old ++ most) ++ (active ++ codes ",")) ++ wall) ++ codes "\n"
+        ≡ old ++ (most ++ (active ++ (44 ∷ (wall ++ codes "\n"))))
+    flat old most active wall = simp append_assoc

@@ -2,7 +2,7 @@
 use Rattle.std.proofs.Common.{◌≡◌, ◌-◌, ℕ, [], length, arith, refl, append-nil}
 use Rattle.std.specs.Prelude.{false}
 use Rattle.std.specs.Fmt.{char_count, decimal, format_spec, padded_integral}
-use Rattle.pie_explain.specs.Words.{with_zeros}
+use Rattle.pie_units.specs.Utc.{with_zeros}
 
 pub six-digits : (n : ℕ) → padded_integral (format_spec 32 0 4 6 18446744073709551615) false [] (decimal n) ≡ with_zeros 6 n
 unfolding padded_integral char_count

@@ -12,8 +12,10 @@ use Rattle.pie_book.specs.Registers.{registers_after}
 use Rattle.pie_book.specs.Statistics.{count_of, wait_of}
 use Rattle.pie_book.specs.Cause.{cause_after}
 use Rattle.pie_record.specs.declared.history_record.Line.{Line}
-use Rattle.pie_record.specs.declared.history_record.Line.TheVariants.{Clock, Made, Unmakeable, Note}
-use Rattle.pie_record.specs.HistoryLines.{event_count}
+use Rattle.pie_record.specs.declared.history_record.Line.TheVariants.{Made, Unmakeable, Note}
+use Rattle.pie_record.specs.declared.history_record.Line.TheVariants as line
+use Rattle.pie_record.specs.declared.clock.Clock.{Clock}
+use Rattle.pie_record.specs.HistoryLines.{event_count, latest_clock}
 use Rattle.pie_audit.specs.Finding.{LinePlace, events_of, first_difference, line_places, number_of}
 use Rattle.pie_explain.specs.declared.explanation.Explained.{Explained}
 use Rattle.pie_explain.specs.declared.explanation.Explanation.{Explanation}
@@ -26,9 +28,9 @@ use Rattle.pie_explain.specs.Choice.{picks}
 abbrev pub moment_of : Opening → List Event → Event → ℕ
 moment_of opening history event = max (effective_moment opening history) (handed_in event.command)
 
--- the event with this number after this history, all numbers being those of before it
-unfoldable pub explanation : Opening → List Event → ℕ → Event → Setter → Explanation
-explanation opening history number event set_by = record {
+-- the event with this number after this history, all numbers being those of before it, where this record tells the time of day
+unfoldable pub explanation : Opening → List Event → ℕ → Event → Setter → Option Clock → Explanation
+explanation opening history number event set_by clock = record {
   number = number;
   event = event;
   moment = moment_of opening history event;
@@ -38,6 +40,7 @@ explanation opening history number event set_by = record {
   waited = wait_of (deed_of event) (moment_of opening history event) (waiting_after opening history);
   set_by = set_by;
   updates = count_of is_update history;
+  clock = clock;
 }
 
 -- .. with what the controller holds after this history, whose last event it is
@@ -64,7 +67,7 @@ abbrev pub sets_probability : Bool → Line → Bool → Bool
 sets_probability was (Made event) is = is_setting was event.command is
 sets_probability was Unmakeable is = false
 sets_probability was Note is = false
-sets_probability was (Clock clock) is = false
+sets_probability was (line.Clock clock) is = false
 
 -- the controller is active after the events of these lines
 abbrev pub is_active_after : Opening → List Line → Bool
@@ -101,11 +104,11 @@ told_if false told = None
 -- what there is to say of a line after these lines: it tells an event, which has the next number and is chosen
 abbrev pub told_after : Opening → Choice → List Line → Setter → Line → Option Explanation
 told_after opening choice lines set_by (Made event) =
-    told_if (picks choice (event_count lines + 1) (moment_of opening (events_of lines) event) event)
-    (explanation opening (events_of lines) (event_count lines + 1) event set_by)
+    told_if (picks choice (event_count lines + 1) (moment_of opening (events_of lines) event) (latest_clock lines) event)
+    (explanation opening (events_of lines) (event_count lines + 1) event set_by (latest_clock lines))
 told_after opening choice lines set_by Unmakeable = None
 told_after opening choice lines set_by Note = None
-told_after opening choice lines set_by (Clock clock) = None
+told_after opening choice lines set_by (line.Clock clock) = None
 
 -- nothing from an event on that differs
 abbrev pub told_unless : Option ℕ → Option Explanation → Option Explanation

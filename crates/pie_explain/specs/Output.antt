@@ -6,12 +6,13 @@ use Rattle.pie_record.specs.declared.fault.TraceFault.{TraceFault}
 use Rattle.pie_record.specs.HistoryLines.{history_lines, history_opening}
 use Rattle.pie_record.specs.Text.{Row}
 use Rattle.pie_explain.specs.declared.explainer.Form.{Form}
-use Rattle.pie_explain.specs.declared.explainer.Form.TheVariants.{Text, Csv}
+use Rattle.pie_explain.specs.declared.explainer.Form.TheVariants.{Text, Csv, TextByWall, CsvByWall}
 use Rattle.pie_explain.specs.declared.explanation.Explained.{Explained}
 use Rattle.pie_explain.specs.declared.choice.Choice.{Choice}
 use Rattle.pie_explain.specs.Explanation.{explanations}
-use Rattle.pie_explain.specs.Record.{line_of, record_of}
-use Rattle.pie_explain.specs.Words.{words}
+use Rattle.pie_explain.specs.Choice.{time_of}
+use Rattle.pie_explain.specs.Record.{line_of, record_of, wall_field}
+use Rattle.pie_explain.specs.Words.{words, words_by}
 
 -- the names of the fields of a record
 abbrev pub field_names : List (List ℕ)
@@ -27,11 +28,15 @@ field_names =
 unfoldable pub header : Form → List ℕ
 header Text = []
 header Csv = line_of field_names
+header TextByWall = []
+header CsvByWall = line_of (field_names ++ codes "wall" ∷ [])
 
 -- what is written of an explanation
 unfoldable pub said_of : Form → Explained → List ℕ
 said_of Text told = words told
 said_of Csv told = line_of (record_of told)
+said_of TextByWall told = words_by told.told.clock told
+said_of CsvByWall told = line_of (record_of told ++ wall_field (time_of told.told.clock told.told.moment) ∷ [])
 
 -- .. of each of these, one after the other
 unfoldable pub said : Form → List Explained → List ℕ

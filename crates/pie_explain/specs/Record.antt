@@ -14,6 +14,7 @@ use Rattle.pie_book.specs.Deed.{handed_in}
 use Rattle.pie_record.specs.declared.words.Kind.TheVariants as kind
 use Rattle.pie_record.specs.declared.words.Said.TheVariants as said
 use Rattle.pie_record.specs.Words.{ecn_word, word_of_kind, word_said}
+use Rattle.pie_units.specs.Utc.{utc_text}
 use Rattle.pie_explain.specs.declared.explanation.Explained.{Explained}
 use Rattle.pie_explain.specs.declared.explanation.Explanation.{Explanation}
 use Rattle.pie_explain.specs.declared.setter.Setter.{Setter}
@@ -123,6 +124,11 @@ record_of all =
     ++ more_fields all.told
     ++ after_fields all
 
+-- the time of day, empty where it is not known
+abbrev pub wall_field : Option ℕ → List ℕ
+wall_field None = []
+wall_field (Some unix) = utc_text unix
+
 -- these fields as a line of CSV: none of them has a comma, a quote or a line's end in it
 abbrev pub line_of : List (List ℕ) → List ℕ
 line_of [] = codes "\n"
@@ -152,6 +158,13 @@ steady_fields prob accu burst = decimal prob ∷ decimal accu ∷ decimal burst 
 abbrev pub held_fields : Registers → ℕ → List (List ℕ)
 held_fields held delay =
     decimal held.bytes ∷ decimal held.packets ∷ decimal delay ∷ decimal held.prob ∷ decimal held.accu ∷ decimal held.burst ∷ []
+
+-- all but the last of the twenty-seven
+abbrev pub most_fields : Explained → List (List ℕ)
+most_fields all =
+    head_fields all.told ++ (tag_field (packet_of all.told.event) ∷ size_field (packet_of all.told.event) ∷ []) ++ met_fields all.told
+    ++ more_fields all.told
+    ++ held_fields all.after all.delay
 
 abbrev pub packet_fields : Option Packet → List (List ℕ)
 packet_fields packet = tag_field packet ∷ size_field packet ∷ []

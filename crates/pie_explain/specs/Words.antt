@@ -15,6 +15,9 @@ use Rattle.pie_book.specs.declared.command.Command.TheVariants.{Arrive, Depart, 
 use Rattle.pie_book.specs.declared.command.Answer.{Answer}
 use Rattle.pie_book.specs.declared.command.Answer.TheVariants.{Enqueued, Marked, DroppedEarly, DroppedBytes, DroppedPackets, Left, Updated}
 use Rattle.pie_book.specs.declared.registers.Registers.{Registers}
+use Rattle.pie_record.specs.declared.clock.Clock.{Clock}
+use Rattle.pie_record.specs.Clock.{unix_at}
+use Rattle.pie_units.specs.Utc.{utc_text, with_zeros}
 use Rattle.pie_explain.specs.declared.explanation.Explained.{Explained}
 use Rattle.pie_explain.specs.declared.explanation.Explanation.{Explanation}
 use Rattle.pie_explain.specs.declared.setter.Setter.{Setter}
@@ -28,13 +31,14 @@ joined (text ∷ (next ∷ texts)) = text ++ joined (next ∷ texts)
 
 -- ---- numbers with their units, the exact whole number in parentheses
 
--- a number with zeros before it, up to so many digits
-abbrev pub with_zeros : ℕ → ℕ → List ℕ
-with_zeros digits n = replicate (digits - length (decimal n)) 48 ++ decimal n
-
 -- a time in nanoseconds, in milliseconds
 unfoldable pub millis : ℕ → List ℕ
 millis time = joined (decimal (time / 10 ^ 6) ∷ codes "." ∷ with_zeros 6 (time % 10 ^ 6) ∷ codes " ms (" ∷ decimal time ∷ codes " ns)" ∷ [])
+
+-- a moment: its time of day, where a record tells it, and else its time since the trace's clock began
+unfoldable pub moment_words : Option Clock → ℕ → List ℕ
+moment_words None moment = millis moment
+moment_words (Some clock) moment = joined (utc_text (unix_at clock moment) ∷ codes " (" ∷ decimal moment ∷ codes " ns)" ∷ [])
 
 -- a part in units of 10^-12, in per cent
 unfoldable pub per_cent : ℕ → List ℕ
@@ -98,8 +102,8 @@ deed_words number active (Reset moment) answer waited = joined (codes "event " �
 deed_words number active (SetParams moment params) answer waited = joined (codes "event " ∷ decimal number ∷ codes ": new parameters\n" ∷ [])
 
 -- when, and by whom
-unfoldable pub when_words : ℕ → ℕ → List ℕ
-when_words moment caller = joined (codes "  at " ∷ millis moment ∷ codes ", by caller " ∷ decimal caller ∷ codes "\n" ∷ [])
+unfoldable pub when_words : Option Clock → ℕ → ℕ → List ℕ
+when_words clock moment caller = joined (codes "  at " ∷ moment_words clock moment ∷ codes ", by caller " ∷ decimal caller ∷ codes "\n" ∷ [])
 
 -- ---- what decided an arrival
 
@@ -182,8 +186,9 @@ turned_words false false = codes ""
 -- ---- what the controller held before the event
 
 -- the last of so many updates, at this moment
-unfoldable pub last_words : ℕ → ℕ → List ℕ
-last_words updates last = if updates == 0 then codes " no update so far;" else joined (codes " last update at " ∷ millis last ∷ codes ";" ∷ [])
+unfoldable pub last_words : Option Clock → ℕ → ℕ → List ℕ
+last_words clock updates last =
+    if updates == 0 then codes " no update so far;" else joined (codes " last update at " ∷ moment_words clock last ∷ codes ";" ∷ [])
 
 unfoldable pub setter_words : Setter → Registers → List ℕ
 setter_words setter.Opening before = joined (codes "  probability " ∷ per_cent before.prob ∷ codes ", as at the opening;" ∷ [])
@@ -199,16 +204,21 @@ queue_words packets bytes delay =
 unfoldable pub burst_words : ℕ → List ℕ
 burst_words burst = joined (codes " burst allowance " ∷ millis burst ∷ codes "\n" ∷ [])
 
-unfoldable pub before_words : Explanation → List ℕ
-before_words told =
+unfoldable pub before_words : Option Clock → Explanation → List ℕ
+before_words clock told =
     joined (queue_words told.before.packets told.before.bytes told.delay ∷ setter_words told.set_by told.before
-    ∷ last_words told.updates told.before.last
+    ∷ last_words clock told.updates told.before.last
     ∷ burst_words told.before.burst ∷ [])
 
 -- ---- the whole
 
-unfoldable pub words : Explained → List ℕ
-words all =
+-- .. whose moments are told as times of day, where this record tells them
+unfoldable pub words_by : Option Clock → Explained → List ℕ
+words_by clock all =
     joined (deed_words all.told.number all.told.before.active all.told.event.command all.told.event.answer all.told.waited
-    ∷ when_words all.told.moment all.told.event.caller ∷ reason_words all.told.before.prob all.told.cause ∷ turned_words all.told.before.active all.after.active
-    ∷ before_words all.told ∷ [])
+    ∷ when_words clock all.told.moment all.told.event.caller ∷ reason_words all.told.before.prob all.told.cause ∷ turned_words all.told.before.active all.after.active
+    ∷ before_words clock all.told ∷ [])
+
+-- .. by the trace's clock
+abbrev pub words : Explained → List ℕ
+words all = words_by None all

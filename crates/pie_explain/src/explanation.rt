@@ -10,6 +10,7 @@ ghost use Rattle.pie_explain.specs.Explanation.{moment_of};
 
 use crate::setter::Setter;
 use pie_book::{Answer, Cause, Command, Core, Event, Registers};
+use pie_record::Clock;
 
 /// One event and the numbers that it met: all are those of before the event. Times are in nanoseconds, probabilities in units
 /// of `10^-12`.
@@ -34,6 +35,8 @@ pub struct Explanation {
     pub set_by: Setter,
     /// How many updates there were before it.
     pub updates: u64,
+    /// The last record before it that tells the time of day.
+    pub clock: Option<Clock>,
 }
 
 /// An explanation, and what the controller held after the event.
@@ -84,11 +87,17 @@ impl Explanation {
     ghost use Rattle.pie_explain.specs.Explanation.{explanation};
 
     /// What there is to say of an event with this number that a core is about to decide, where `set_by` is what last set the
-    /// probability. The core is as it was.
+    /// probability, and `clock` the last record that tells the time of day. The core is as it was.
     #[inline(always)]
-    pub fn of(core: &Core, number: u64, event: &Event, set_by: Setter) -> Explanation
+    pub fn of(
+        core: &Core,
+        number: u64,
+        event: &Event,
+        set_by: Setter,
+        clock: Option<Clock>,
+    ) -> Explanation
         ensures { (opening : Opening) (history : List Event) → Shows opening core.now history
-            → result ≡ explanation opening history number event.now set_by }
+            → result ≡ explanation opening history number event.now set_by clock }
     {
         let before = core.registers();
         let now = moment_of(core, event);
@@ -102,6 +111,7 @@ impl Explanation {
             waited: waited(core, event, now),
             set_by,
             updates: updates(core),
+            clock,
         }
     }
 }
@@ -114,13 +124,19 @@ impl Explained {
     /// What there is to say of an event that a core is about to decide, as `Explanation::of` says it, made where it stays: as long as
     /// the core has not decided it, what it held before stands in the place of what it holds after.
     #[inline(always)]
-    pub fn begin(core: &Core, number: u64, event: &Event, set_by: Setter) -> Explained
+    pub fn begin(
+        core: &Core,
+        number: u64,
+        event: &Event,
+        set_by: Setter,
+        clock: Option<Clock>,
+    ) -> Explained
         ensures told { (opening : Opening) (history : List Event) → Shows opening core.now history
-            → result.told ≡ explanation opening history number event.now set_by }
+            → result.told ≡ explanation opening history number event.now set_by clock }
         ensures held { (opening : Opening) (history : List Event) → Shows opening core.now history
             → (result.after ≡ registers_after opening history) × (result.delay ≡ delay_after opening history) }
     {
-        let told = Explanation::of(core, number, event, set_by);
+        let told = Explanation::of(core, number, event, set_by, clock);
         let (after, delay) = (told.before, told.delay);
         Explained { told, after, delay }
     }

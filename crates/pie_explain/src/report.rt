@@ -3,13 +3,14 @@ ghost use Rattle.std.specs.Prelude.{◌≡◌, ◌++◌, ◌∷◌, [], ℕ, Lis
 ghost use Rattle.pie_explain.specs.declared.explanation.Explained.{Explained};
 ghost use Rattle.pie_explain.specs.Output.{header, said_of};
 ghost use Rattle.pie_explain.specs.Report.{Grows};
-ghost use Rattle.pie_explain.specs.Words.{words};
+ghost use Rattle.pie_explain.specs.Words.{words, words_by};
 
 use crate::explainer::Form;
 use crate::explanation::Explained;
-use crate::record::{HEADER, RecordWriter};
+use crate::record::{HEADER, HEADER_BY_WALL, RecordWriter};
 use crate::text::push_text;
 use pie_page::Page;
+use pie_record::Clock;
 use std::alloc::AllocError;
 
 /// What is written of the explained events, one after another.
@@ -54,8 +55,9 @@ fn push_header(page: &mut Page, form: Form) -> Result<(), AllocError>
     ensures { OnOk result (page.new ≡ page.old ++ header form) }
 {
     match form {
-        Form::Text => Ok(()),
+        Form::Text | Form::TextByWall => Ok(()),
         Form::Csv => page.push(HEADER.as_bytes()),
+        Form::CsvByWall => page.push(HEADER_BY_WALL.as_bytes()),
     }
 }
 
@@ -67,8 +69,15 @@ fn push_header(page: &mut Page, form: Form) -> Result<(), AllocError>
 pub fn push_words(page: &mut Page, told: &Explained) -> Result<(), AllocError>
     ensures { OnOk result (page.new ≡ page.old ++ words told.now) }
 {
+    push_words_by(page, None, told)
+}
+
+/// Writes an explanation in words onto the page, its moments as times of day where this record tells them.
+fn push_words_by(page: &mut Page, clock: Option<Clock>, told: &Explained) -> Result<(), AllocError>
+    ensures { OnOk result (page.new ≡ page.old ++ words_by clock told.now) }
+{
     let mut text = page.words();
-    push_text(&mut text, told)?;
+    push_text(&mut text, clock, told)?;
     page.put(text)
 }
 
@@ -85,6 +94,8 @@ fn push_said(
     match form {
         Form::Text => push_words(page, told),
         Form::Csv => records.push(page, told),
+        Form::TextByWall => push_words_by(page, told.told.clock, told),
+        Form::CsvByWall => records.push_by_wall(page, told),
     }
 }
 

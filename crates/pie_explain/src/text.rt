@@ -3,13 +3,14 @@ ghost use Rattle.std.specs.Prelude.{◌≡◌, ◌++◌, OnOk, string_bytes};
 ghost use Rattle.pie_explain.specs.Words.{before_words, burst_words, cause_words, compared_words, considered_words, counted_name, deed_words};
 ghost use Rattle.pie_explain.specs.Words.{departure_words, never_words, scaled_words, total_words};
 ghost use Rattle.pie_explain.specs.Words.{ecn_name, last_words, verdict_text, packet_words, picked_words, queue_words, reason_words, setter_words};
-ghost use Rattle.pie_explain.specs.Words.{sum_words, turned_words, update_words, when_words, words};
+ghost use Rattle.pie_explain.specs.Words.{sum_words, turned_words, update_words, when_words, words_by};
 
 use crate::explanation::{Explained, Explanation};
 use crate::setter::Setter;
-use crate::units::{Millis, PerCent, Word};
+use crate::units::{Millis, MomentWords, PerCent, Word};
 use pie_book::{Answer, Cause, Command, Fate, Registers};
 use pie_queue::{Ecn, Packet};
+use pie_record::Clock;
 use std::alloc::AllocError;
 
 /// An ECN field as RFC 3168 names it.
@@ -123,10 +124,15 @@ fn push_deed(
 
 /// When the event was, and whose it was.
 #[tactic(auto, unfolding(crate::specs::Words::when_words))]
-fn push_when(page: &mut String, moment: u64, caller: u16) -> Result<(), AllocError>
-    ensures { OnOk result (string_bytes page.new ≡ string_bytes page.old ++ when_words moment caller) }
+fn push_when(
+    page: &mut String,
+    clock: Option<Clock>,
+    moment: u64,
+    caller: u16,
+) -> Result<(), AllocError>
+    ensures { OnOk result (string_bytes page.new ≡ string_bytes page.old ++ when_words clock moment caller) }
 {
-    let now = Millis(moment);
+    let now = MomentWords { clock, moment };
     write!(page, "  at {now}, by caller {caller}\n")
 }
 
@@ -331,13 +337,21 @@ fn push_setter(page: &mut String, set_by: Setter, before: &Registers) -> Result<
 
 /// When the last of so many updates was.
 #[tactic(auto, unfolding(crate::specs::Words::last_words))]
-fn push_last(page: &mut String, updates: u64, last: u64) -> Result<(), AllocError>
-    ensures { OnOk result (string_bytes page.new ≡ string_bytes page.old ++ last_words updates last) }
+fn push_last(
+    page: &mut String,
+    clock: Option<Clock>,
+    updates: u64,
+    last: u64,
+) -> Result<(), AllocError>
+    ensures { OnOk result (string_bytes page.new ≡ string_bytes page.old ++ last_words clock updates last) }
 {
     if updates == 0 {
         return write!(page, " no update so far;");
     }
-    let last = Millis(last);
+    let last = MomentWords {
+        clock,
+        moment: last,
+    };
     write!(page, " last update at {last};")
 }
 
@@ -376,20 +390,28 @@ fn push_burst(page: &mut String, burst: u64) -> Result<(), AllocError>
 
 /// What the controller held before the event.
 #[tactic(auto, unfolding(crate::specs::Words::before_words))]
-fn push_before(page: &mut String, told: &Explanation) -> Result<(), AllocError>
-    ensures { OnOk result (string_bytes page.new ≡ string_bytes page.old ++ before_words told.now) }
+fn push_before(
+    page: &mut String,
+    clock: Option<Clock>,
+    told: &Explanation,
+) -> Result<(), AllocError>
+    ensures { OnOk result (string_bytes page.new ≡ string_bytes page.old ++ before_words clock told.now) }
 {
     let before = &told.before;
     push_queue(page, before.packets, before.bytes, told.delay)?;
     push_setter(page, told.set_by, before)?;
-    push_last(page, told.updates, before.last)?;
+    push_last(page, clock, told.updates, before.last)?;
     push_burst(page, before.burst)
 }
 
-/// Writes an explanation in words.
-#[tactic(auto, unfolding(crate::specs::Words::words))]
-pub(crate) fn push_text(page: &mut String, all: &Explained) -> Result<(), AllocError>
-    ensures { OnOk result (string_bytes page.new ≡ string_bytes page.old ++ words all.now) }
+/// Writes an explanation in words, its moments as times of day where this record tells them.
+#[tactic(auto, unfolding(crate::specs::Words::words_by))]
+pub(crate) fn push_text(
+    page: &mut String,
+    clock: Option<Clock>,
+    all: &Explained,
+) -> Result<(), AllocError>
+    ensures { OnOk result (string_bytes page.new ≡ string_bytes page.old ++ words_by clock all.now) }
 {
     let told = &all.told;
     let (event, was_active) = (&told.event, told.before.active);
@@ -401,8 +423,8 @@ pub(crate) fn push_text(page: &mut String, all: &Explained) -> Result<(), AllocE
         event.answer,
         told.waited,
     )?;
-    push_when(page, told.moment, event.caller)?;
+    push_when(page, clock, told.moment, event.caller)?;
     push_reason(page, told.before.prob, told.cause)?;
     push_turned(page, was_active, all.after.active)?;
-    push_before(page, told)
+    push_before(page, clock, told)
 }

@@ -1,4 +1,6 @@
 //! Numbers as people read them, with the exact whole number in parentheses.
+use pie_record::Clock;
+use pie_units::Utc;
 use std::fmt;
 use std::fmt::Display;
 
@@ -16,6 +18,35 @@ impl Display for Millis {
         let (whole, rest) = (self.0 / 1_000_000, self.0 % 1_000_000);
         let exact = self.0;
         write!(f, "{whole}.{rest:06} ms ({exact} ns)")
+    }
+}
+
+/// A moment in nanoseconds: its time of day, where a record tells it, and else in milliseconds since the trace's clock began.
+#[derive(Clone, Copy, Debug)]
+pub(crate) struct MomentWords {
+    pub(crate) clock: Option<Clock>,
+    pub(crate) moment: u64,
+}
+
+impl Display for MomentWords {
+    ghost use Rattle.std.specs.Prelude.{Some};
+    ghost use Rattle.pie_explain.specs.Words.{moment_words};
+
+    ghost output = { λ told. Some (moment_words told.clock told.moment) };
+
+    #[tactic(auto, unfolding(crate::specs::Words::moment_words))]
+    fn fmt<W: fmt::Write>(&self, f: &mut fmt::Formatter<W>) -> fmt::Result {
+        let exact = self.moment;
+        match self.clock {
+            None => {
+                let time = Millis(exact);
+                write!(f, "{time}")
+            }
+            Some(clock) => {
+                let time = Utc(clock.unix_at(exact));
+                write!(f, "{time} ({exact} ns)")
+            }
+        }
     }
 }
 

@@ -23,6 +23,11 @@ With --from and --to only the chosen events are explained whose effective moment
 after its --to is refused. A moment is written as whole nanoseconds, or as a number with ns, us, ms or s: 1500000, 1500us, 1.5ms
 and 0.0015s are the same. Longer units of tc, as msec and msecs, and capital letters do too.
 
+A history of version three may tell the time of day: a record clock says what it was at a moment. With --wall the moments are told
+by the last such record before the event, in UTC, and CSV has one more field, wall, the time of day of the effective moment; before
+any such record moments are told as without it, and the field is empty. --from and --to also take a time of day in UTC, such as
+2026-11-24T20:00:00Z, with up to nine decimals of a second; then an event before any such record is not chosen.
+
 With --summary the chosen events are summed up, all of them where no option chooses: what became of the arrivals and what
 decided them (by the words of the field cause), with their part of these arrivals; how long the packets had waited that left;
 the delays that updates took, and the probabilities after the events; and when the controller turned on and off. With --every
@@ -93,12 +98,12 @@ pub(crate) fn command<'a>(alloc: Global) -> Result<Command<'a>, AllocError>
         Argument {
             name: "from",
             takes: Takes::Value("MOMENT"),
-            help: "Only the chosen events at this moment and later, such as 1.5ms",
+            help: "Only the chosen events at this moment or time of day and later, such as 1.5ms",
         },
         Argument {
             name: "to",
             takes: Takes::Value("MOMENT"),
-            help: "Only the chosen events at this moment and earlier",
+            help: "Only the chosen events at this moment or time of day and earlier",
         },
         Argument {
             name: "summary",
@@ -119,6 +124,11 @@ pub(crate) fn command<'a>(alloc: Global) -> Result<Command<'a>, AllocError>
             name: "csv",
             takes: Takes::Nothing,
             help: "Write CSV, a header and a record an event or a summary, in place of words",
+        },
+        Argument {
+            name: "wall",
+            takes: Takes::Nothing,
+            help: "Tell moments as times of day, in UTC, where the history tells them",
         },
         PROGRESS,
         OUTPUT,

@@ -159,6 +159,7 @@ event command answer moment cause waited before after = record {
     waited = waited;
     set_by = setter.Opening;
     updates = 0;
+    clock = None;
   };
   after = after;
   delay = 0;

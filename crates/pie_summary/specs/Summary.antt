@@ -3,7 +3,7 @@ use Rattle.std.specs.Prelude.{ℕ, ◌≡◌, Bool, true, false, List, [], ◌++
 use Rattle.std.specs.List.{flat_map}
 use Rattle.pie_aqm.specs.Places.{Place, places}
 use Rattle.pie_explain.specs.declared.explainer.Form.{Form}
-use Rattle.pie_explain.specs.declared.explainer.Form.TheVariants.{Text, Csv}
+use Rattle.pie_explain.specs.declared.explainer.Form.TheVariants.{Text, Csv, TextByWall, CsvByWall}
 use Rattle.pie_explain.specs.declared.explanation.Explained.{Explained}
 use Rattle.pie_explain.specs.Record.{line_of}
 use Rattle.pie_summary.specs.declared.period.Period.{Period}
@@ -18,11 +18,15 @@ use Rattle.pie_summary.specs.Words.{wait_99, words}
 unfoldable pub header : Form → List ℕ
 header Text = []
 header Csv = line_of field_names
+header TextByWall = []
+header CsvByWall = line_of field_names
 
 -- these numbers in words, or as a CSV record
 abbrev pub said : Form → Sums → List ℕ → List ℕ
 said Text sums ranges = words sums (wait_99 ranges sums.waits)
 said Csv sums ranges = record_of sums (wait_99 ranges sums.waits)
+said TextByWall sums ranges = words sums (wait_99 ranges sums.waits)
+said CsvByWall sums ranges = record_of sums (wait_99 ranges sums.waits)
 
 -- .. of these events
 abbrev pub said_of : Form → List Explained → List ℕ

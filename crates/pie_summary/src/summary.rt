@@ -29,8 +29,8 @@ pub(crate) fn push_header(page: &mut Page, form: Form) -> Result<(), AllocError>
     ensures { OnOk result (page.new ≡ page.old ++ header form) }
 {
     match form {
-        Form::Text => Ok(()),
-        Form::Csv => page.push(HEADER.as_bytes()),
+        Form::Text | Form::TextByWall => Ok(()),
+        Form::Csv | Form::CsvByWall => page.push(HEADER.as_bytes()),
     }
 }
 
@@ -40,8 +40,8 @@ fn push_sums(text: &mut String, form: Form, sums: &Sums, waits: &Ranges) -> Resu
 {
     let most = wait_99(waits, &sums.waits);
     match form {
-        Form::Text => push_words(text, sums, most),
-        Form::Csv => push_record(text, sums, most),
+        Form::Text | Form::TextByWall => push_words(text, sums, most),
+        Form::Csv | Form::CsvByWall => push_record(text, sums, most),
     }
 }
 

@@ -1,0 +1,178 @@
+#!/usr/bin/env python3
+"""Holds the times of day that `pie explain --wall` tells, and those that `--from` and `--to` take, to Python's dates: of random histories of version
+three by tests/shared/reference.py, with records of the time of day at random places (none, one, or some, between which the time jumps), each record
+of `--all --csv --wall` has the time of day of its effective moment by the last such record before it, and else is the record without the option; the
+words have it in place of milliseconds, also for the last update; and the events within some times of day are explained, and no others. Then times at
+the ends of years, months and days, what lies before 1970 or past 2^64 - 1 ns, texts that are no times of day, and what doesn't go together. Exit
+status 1 where something differs.
+
+usage: tests/program/wall.py [PROGRAM [FIRST_SEED [RUNS [STEPS]]]]      PROGRAM: crates/pie/out/pie where none is given
+needs: program
+"""
+import os
+import random
+import re
+import sys
+from datetime import datetime, timedelta, timezone
+
+sys.path.insert(0, f"{os.path.dirname(os.path.abspath(__file__))}/../shared")
+from checks import NAME, expect  # noqa: E402
+from explaining import FIRST, RUNS, histories, pie  # noqa: E402
+
+SECOND, MOST = 10**9, 2**64 - 1
+EPOCH = datetime(1970, 1, 1, tzinfo=timezone.utc)
+OPENING = "open3,1,stamp,derandomized,capped,unscaled,rolling,0,4,16,1000\n"
+
+
+def utc(unix, places=9):
+    """A time of day as Python has it, with so many decimals of a second."""
+    date = EPOCH + timedelta(seconds=unix // SECOND)
+    decimals = f".{unix % SECOND:09}"[: places + 1] if places else ""
+    return f"{date:%Y-%m-%dT%H:%M:%S}{decimals}Z"
+
+
+def wall(clock, moment):
+    """The time of day at a moment by a record of it."""
+    return min(max(clock[1] + moment - clock[0], 0), MOST)
+
+
+def timed(history, words):
+    """The history with records of the time of day at random places, and for each event the last of them before it, if there is one."""
+    kept = [line for line in history.splitlines(keepends=True) if not line.startswith("clock,")]
+    chance = words.choice((0, 0.01, 0.1, 0.5))
+    out, clocks, clock = kept[:1], [], None
+    for line in kept[1:]:
+        if words.random() < chance:
+            clock = (words.randrange(2**36), words.choice((words.randrange(2**64), 1_795_550_400 * SECOND + words.randrange(10**15))))
+            out.append(f"clock,{clock[0]},{clock[1]}\n")
+        if line.split(",")[0] in ("arrive", "depart", "update", "reset", "params"):
+            clocks.append(clock)
+        out.append(line)
+    return "".join(out), clocks
+
+
+def hold_records(name, history, clocks):
+    """The fields of --csv --wall; answers the lines without the option, and the time of day of each event."""
+    status, plain, errors = pie(history, "--all", "--csv")
+    expect(f"{name}: --csv", (status, errors), (0, ""))
+    lines = plain.splitlines(keepends=True)
+    moments = [int(line.split(",")[4]) for line in lines[1:]]
+    times = [clock and wall(clock, moment) for clock, moment in zip(clocks, moments)]
+    wanted = [f"{line[:-1]},{'' if time is None else utc(time)}\n" for line, time in zip(lines[1:], times)]
+    expect(f"{name}: --csv --wall", pie(history, "--all", "--csv", "--wall"), (0, f"{lines[0][:-1]},wall\n" + "".join(wanted), ""))
+    return lines, times
+
+
+def hold_words(name, history, clocks):
+    """The words of --wall are those without it, but for moments."""
+    status, plain, _ = pie(history, "--all")
+    wanted, number = [], 0
+    for line in plain.splitlines(keepends=True):
+        number = int(line.split()[1][:-1]) if line.startswith("event ") else number
+        clock = clocks[number - 1]
+
+        def told(found):
+            return f"{found[1]}{utc(wall(clock, int(found[2])))} ({found[2]} ns)"
+
+        wanted.append(line if clock is None else re.sub(r"(^  at |last update at )[0-9.]+ ms \((\d+) ns\)", told, line))
+    expect(f"{name}: --wall", pie(history, "--all", "--wall"), (status, "".join(wanted), ""))
+
+
+def hold_within(name, history, lines, times, words):
+    """--from and --to by times of day, alone and beside moments."""
+    known = [time for time in times if time is not None] or [1_795_550_400 * SECOND]
+    for _ in range(4):
+        first, last = sorted((words.choice(known), min(words.choice(known) + words.randrange(3), MOST)))
+        kept = [time is not None and first <= time <= last for time in times]
+        chosen = "".join(line for line, keep in zip(lines[1:], kept) if keep)
+        options = ("--from", utc(first), f"--to={utc(last)}")
+        expect(f"{name}: {options}", pie(history, "--all", "--csv", *options), (0, lines[0] + chosen, ""))
+        moment = int(words.choice(lines[1:]).split(",")[4])
+        both = "".join(line for line, time in zip(lines[1:], times) if time is not None and first <= time and int(line.split(",")[4]) <= moment)
+        expect(f"{name}: both kinds", pie(history, "--all", "--csv", "--from", utc(first), "--to", f"{moment}ns"), (0, lines[0] + both, ""))
+    later = sum(time is not None and time >= known[0] for time in times)
+    summed = pie(history, "--summary", "--csv", "--from", utc(known[0]))
+    expect(f"{name}: a summary", (summed[0], summed[1].splitlines()[1].split(",")[0]), (0, str(later)))
+
+
+def hold_dates():
+    """The first and the last nanosecond of each year, of each month of some years, and of other days."""
+    days = [datetime(year, 1, 1, tzinfo=timezone.utc) for year in range(1971, 2555)]
+    days += [datetime(year, month, 1, tzinfo=timezone.utc) for year in (1972, 1999, 2000, 2026, 2100, 2400) for month in range(1, 13)]
+    days += [EPOCH + timedelta(days=day) for day in random.Random(FIRST).sample(range(213503), 400)]
+    units = [int((day - EPOCH).total_seconds()) * SECOND + more for day in days for more in (-1, 0)]
+    units = [unix for unix in units if unix >= 0] + [0, 1, MOST]
+    history = OPENING + "".join(f"clock,0,{unix}\ndepart,1,0,empty\n" for unix in units).replace("1000\n", "1000\n")
+    history = history.replace(",16,1000\n", ",16,100000\n")
+    status, out, errors = pie(history, "--all", "--csv", "--wall")
+    expect("dates", (status, errors, [line.rsplit(",", 1)[1] for line in out.splitlines()[1:]]), (0, "", [utc(unix) for unix in units]))
+    some = random.Random(FIRST).sample(units, 60)
+    for unix in some:
+        text, alone = utc(unix), f"{OPENING}clock,0,{unix}\nreset,1,0,done\n"
+        expect(f"--from {text}", pie(alone, "--all", "--csv", "--from", text, "--to", text)[1].count("\n"), 2)
+    for places in range(10):
+        unix = 1_795_550_400 * SECOND + 123_456_789 // 10 ** (9 - places) * 10 ** (9 - places)
+        text, alone = utc(unix, places), f"{OPENING}clock,7,{unix}\nreset,1,7,done\n"
+        expect(f"--to {text}", pie(alone, "--all", "--csv", "--from", text, "--to", text)[1].count("\n"), 2)
+
+
+def hold_ends():
+    """Times that are bounded, and events before any record."""
+    rows = (
+        ("clock,1000,5\n", 0, 0), ("clock,1000,1000\n", 0, 0), ("clock,1000,1001\n", 0, 1), (f"clock,0,{MOST}\n", 1, MOST),
+        (f"clock,1,{MOST}\n", 0, MOST - 1), ("clock,1152921504606846975,0\n", 2**60 - 1, 0), ("", 0, None), ("clock,0,1\nclock,0,2\n", 0, 2),
+    )
+    for clocks, moment, unix in rows:
+        history = f"{OPENING}{clocks}reset,1,{moment},done\nclock,0,9\n"
+        record = pie(history, "--all", "--csv", "--wall")[1].splitlines()[1]
+        expect(f"{clocks!r} at {moment}", record.split(",")[27], "" if unix is None else utc(unix))
+        chosen = pie(history, "--all", "--from", "1970-01-01T00:00:00Z")
+        expect(f"{clocks!r} chosen", (chosen[0], chosen[1] == ""), (0, unix is None))
+    none = "pie: no chosen event is at the moments that are wanted\n"
+    expect("no time of day", pie(f"{OPENING}reset,1,0,done\n", "--event", "1", "--to", "2554-01-01T00:00:00Z"), (1, "", none))
+
+
+def hold_texts():
+    """Texts that are no times of day, and options that don't go together."""
+    history = f"{OPENING}clock,0,0\nreset,1,0,done\n"
+    form = "pie: --from: a time of day is written in UTC as 2026-11-24T20:00:00Z, with at most nine decimals of a second\n"
+    for text in ("2026-11-24", "2026-11-24T20:00Z", "2026-11-24T20:00:00", "2026-11-24T20:00:00z", "2026-11-24t20:00:00Z", "2026-11-24 20:00:00Z",
+                 "2026-11-24T20:00:00+00:00", "2026-11-24T24:00:00Z", "2026-11-24T20:60:00Z", "2026-11-24T20:00:60Z", "2026-13-24T20:00:00Z",
+                 "2026-00-24T20:00:00Z", "2026-11-31T20:00:00Z", "2026-02-29T20:00:00Z", "2100-02-29T20:00:00Z", "2026-11-00T20:00:00Z",
+                 "2026-11-24T20:00:00.Z", "2026-11-24T20:00:00.1234567890Z", "2026-11-24T20:00:00,5Z", "2026-11-24T20:00:00Z ",
+                 "2026-1-24T20:00:00ZZ", "2026-11-24T20:00:0xZ", "1234-", "20260-11-24T20:00:00Z"):
+        expected = form if text != "20260-11-24T20:00:00Z" else (
+            "pie: --from: a moment is whole nanoseconds, or a number with ns, us, ms or s, such as 1500000, 1.5ms or 2s\n")
+        expect(f"--from {text!r}", pie(history, "--all", f"--from={text}"), (1, "", expected))
+    past = "pie: --to: a time of day is from 1970 to 2554-07-21T23:34:33.709551615Z\n"
+    for text in ("1969-12-31T23:59:59.999999999Z", "0000-01-01T00:00:00Z", "2554-07-21T23:34:33.709551616Z", "2554-07-21T23:34:34Z",
+                 "9999-12-31T23:59:59Z"):
+        expect(f"--to {text!r}", pie(history, "--all", "--to", text), (1, "", past))
+    order = "pie: --from is after --to: no event is at both\n"
+    one, two = "2026-11-24T20:00:00Z", "2026-11-24T20:00:00.000000001Z"
+    expect("after", pie(history, "--all", "--from", two, "--to", one), (1, "", order))
+    expect("the same", pie(history, "--all", "--from", one, "--to", one), (0, "", ""))
+    expect("of two kinds", pie(history, "--all", "--from", two, "--to", "0"), (0, "", ""))
+    sums = "pie: --wall: not with --summary, --every or --digest\n"
+    for option in ("--summary", "--every=1s", "--digest"):
+        expect(f"--wall {option}", pie(history, option, "--wall"), (1, "", sums))
+
+
+def main():
+    hold_dates()
+    hold_ends()
+    hold_texts()
+    words, held = random.Random(FIRST), 0
+    for name, history in histories():
+        if not history.startswith("open3,"):
+            continue
+        held += 1
+        history, clocks = timed(history, words)
+        lines, times = hold_records(name, history, clocks)
+        hold_words(name, history, clocks)
+        hold_within(name, history, lines, times, words)
+    expect("histories of version three", held >= RUNS // 3, True)
+    print(f"{NAME}: {held} histories, and the ends of years, months and days: times of day are those of Python's dates")
+
+
+main()

@@ -27,6 +27,8 @@ REFUSED = {
         "Book::apply": None,
         "Core::resume": r"a number that no controller holds\nCore::resume: Memory\n",
         "Book::resume": r"Book::resume: Memory\n",
+        "Excerpt::with_room": r"Excerpt::with_room: Memory\n",
+        "Book::excerpt": None,
         "RuledLock::new": r"RuledLock::new: Memory, back: 0 and 0\nand then: count 1, total 5\n",
         "RuledLock::try_take": None,
         "Link::open": r"Link::open: (Book\(Memory\)|Memory)\n",
@@ -51,6 +53,10 @@ REFUSED = {
         "migrate": r"migrate: Memory, other bytes: false\n",
         "explain as CSV": r"explain as CSV: Trace\(Memory\), other bytes: false\n",
         "explain in words": r"explain in words: Trace\(Memory\), other bytes: false\n",
+        "cut_either": r"cut_either: Trace\(Memory\), other bytes: false\n",
+        "cut_either of an excerpt": r"cut_either of an excerpt: Trace\(Memory\), other bytes: false\n",
+        "cut_every": r"cut_every: Trace\(Memory\), other bytes: false\n",
+        "last_number": r"last_number: Memory\n",
     },
 }
 # What each of these calls requests at the most at once, in bytes, and what is not enough for it: an event that is handed out takes 64 bytes, however

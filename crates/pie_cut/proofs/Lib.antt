@@ -3,3 +3,10 @@ mod FollowFacts
 mod PartFacts
 mod CutFacts
 mod EndFacts
+mod BegunFacts
+mod EitherFacts
+mod LineReading
+mod SegmentFacts
+mod SegmentEnds
+mod LastFacts
+mod Examples

@@ -5,6 +5,7 @@
 //! `pie_memory_tests`.
 #![tactic(auto)]
 
+mod cutting;
 mod devices;
 mod endless;
 mod equal;
@@ -30,13 +31,19 @@ fn main(rt: HostRuntime) -> io::Result<()> {
 /// Makes the calls that have this name.
 fn make(rt: &impl Print, alloc: Global, name: &str) -> io::Result<()> {
     match name {
-        "memory" => texts::all(rt, alloc),
+        "memory" => memory(rt, alloc),
         "all" => {
-            texts::all(rt, alloc)?;
+            memory(rt, alloc)?;
             others(rt, alloc)
         }
         _ => println!(rt; "pie_device_tests: name what to make: memory or all"),
     }
+}
+
+/// The calls that can want memory.
+fn memory(rt: &impl Print, alloc: Global) -> io::Result<()> {
+    texts::all(rt, alloc)?;
+    cutting::all(rt, alloc)
 }
 
 /// The calls over failing devices, a reader without an end, and a worked row.

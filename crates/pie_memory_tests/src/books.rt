@@ -190,7 +190,7 @@ pub(crate) fn moments(events: &[Recorded]) -> (u64, u64) {
 }
 
 /// Three arrivals and a departure, of which one was folded.
-fn four_events(alloc: Global) -> Option<Book> {
+pub(crate) fn four_events(alloc: Global) -> Option<Book> {
     let Ok(mut book) = Book::open(alloc, limits(), Params::default_profile(), 0) else {
         return None;
     };

@@ -6,6 +6,7 @@
 
 mod books;
 mod equal;
+mod excerpts;
 mod links;
 mod locks;
 mod report;
@@ -51,6 +52,7 @@ fn make<R: Threads + Wait + Print + Sync, I: Read + Drop>(
 fn memory<R: Threads + Wait + Print + Sync>(rt: &R, alloc: Global) -> io::Result<()> {
     books::all(rt, alloc)?;
     resumed::all(rt, alloc)?;
+    excerpts::all(rt, alloc)?;
     locks::all(rt, alloc)?;
     links::all(rt, alloc)?;
     storms::all(rt, alloc)

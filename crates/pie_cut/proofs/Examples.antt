@@ -1,0 +1,142 @@
+-- Excerpts of a small history, from its bytes: each theorem computes.
+use Rattle.std.specs.Prelude.{◌≡◌, ℕ, List, [], ◌∷◌, ◌++◌, Result, Ok, Err, Option, Some, None, true, false, codes, map, option_map, refl}
+use Rattle.std.specs.Fmt.{digits}
+use Rattle.csv.specs.Machine.{next_record}
+use Rattle.csv.specs.Reading.{records_from, strip_bom}
+use Rattle.csv.specs.Records.{field_at}
+use Rattle.pie_rate.specs.Cycles.{cycles, begun, first_position, first_opening, first_closing, first_cycle, cycles_from}
+use Rattle.pie_rate.specs.Average.{average, samples}
+use Rattle.pie_control.specs.Delay.{delay_of}
+use Rattle.pie_control.specs.History.{probability, last_delay, last_moment, granted_burst, burst_allowance}
+use Rattle.pie_control.specs.Next.{raw_step, tuning_divisor, tuned_step, decayed, next}
+use Rattle.pie_early.specs.Decision.{is_considered, is_picked}
+use Rattle.pie_early.specs.History.{accumulated}
+use Rattle.pie_aqm.specs.History.{active_of, arrivals_shown, control_of, delay_noted, departures_of, departures_shown, early_of, held_of}
+use Rattle.pie_aqm.specs.History.{is_active, noted, noted_after, now_of, params_of, updates_shown}
+use Rattle.pie_aqm.specs.Places.{places, greatest, last_or}
+use Rattle.pie_aqm.specs.Steps.{verdict}
+use Rattle.pie_book.specs.Estimates.{held_after}
+use Rattle.pie_book.specs.History.{effective_moment, admitted, departed_count, waiting_after}
+use Rattle.pie_book.specs.Shown.{shown}
+use Rattle.pie_record.specs.Number.{number}
+use Rattle.pie_record.specs.FirstRecord.{draft_at, first_kind, limits_at, profile_of, version_of, version_one_fields, version_two_fields}
+use Rattle.pie_record.specs.FirstRecord.{which_of}
+use Rattle.pie_record.specs.Field.{ecn_of, packet_at, params_at}
+use Rattle.pie_record.specs.Command.{arrival_at, change_at, command_at, command_kind}
+use Rattle.pie_record.specs.HistoryRecord.{answer_at, departure_at, event_line, line_of, note_line, numbers_at, registers_at, shown_line, update_at}
+use Rattle.pie_record.specs.HistoryRecord.{verdict_of}
+use Rattle.pie_record.specs.Opening.{opening_of}
+use Rattle.pie_record.specs.HistoryLines.{after_opening, fault_from, history_opening, history_version, lines_from, told_by}
+use Rattle.pie_record.specs.Text.{records_of}
+use Rattle.pie_record.specs.HistoryLines.{event_count}
+use Rattle.pie_audit.specs.Finding.{agrees, events_of, finding, first_difference, line_places}
+use Rattle.std.specs.Option.{is_some}
+use Rattle.pie_book.specs.declared.command.Event.{Event}
+use Rattle.pie_book.specs.declared.opening.Opening.{Opening}
+use Rattle.pie_record.specs.HistoryLines.{history_lines}
+use Rattle.pie_record.specs.declared.fault.TraceFault.{TraceFault}
+use Rattle.pie_record.specs.declared.fault.TraceFault.TheVariants as fault
+use Rattle.pie_explain.specs.Start.{from_opening}
+use Rattle.pie_cut.specs.declared.fault.CutFault.{CutFault}
+use Rattle.pie_cut.specs.declared.fault.CutFault.TheVariants.{Differs, NoEvents, Trace}
+use Rattle.pie_cut.specs.declared.span.Span.{Span}
+use Rattle.pie_cut.specs.Answer.{answer}
+use Rattle.pie_cut.specs.Excerpt.{chosen, end_place, first_place, kept, met_by, number_told}
+use Rattle.pie_cut.specs.Last.{last_after}
+use Rattle.pie_cut.specs.Segment.{every_answer, segment}
+use Rattle.pie_cut.specs.Span.{is_past, is_reached}
+use Rattle.pie_cut.specs.Told.{whole_answer}
+use Rattle.pie_explain.specs.declared.setter.Setter.TheVariants as setter
+
+-- ---- spans
+
+-- all moments
+abbrev numbers : ℕ → ℕ → Span
+numbers first last = record { first = first; last = last; from = 0; to = 18446744073709551615 }
+
+-- all numbers
+abbrev moments : ℕ → ℕ → Span
+moments from to = record { first = 0; last = 18446744073709551615; from = from; to = to }
+
+-- of a text before which 100 events were: event 100 is none of it, 101 is the first wanted, 103 the last, and 104 is past it
+wanted : (is_reached (numbers 1 103) 100 100 7 ≡ false) × (is_reached (numbers 1 103) 100 101 7 ≡ true)
+    × (is_past (numbers 1 103) 100 103 7 ≡ false) × (is_past (numbers 1 103) 100 104 7 ≡ true)
+    × (is_reached (moments 8 9) 100 101 7 ≡ false) × (is_reached (moments 7 9) 100 101 7 ≡ true)
+    × (is_past (moments 7 9) 100 101 9 ≡ false) × (is_past (moments 7 9) 100 101 10 ≡ true)
+wanted = (refl, refl, refl, refl, refl, refl, refl, refl)
+
+-- segments of 50 events of it: 101 to 150, 151 to 200; none is beyond the greatest number
+segments : (segment 100 50 0 ≡ numbers 101 150) × (segment 100 50 1 ≡ numbers 151 200)
+    × (segment 0 10000000000000000000 1 ≡ numbers 10000000000000000001 18446744073709551615)
+segments = (refl, refl, refl)
+
+-- what set the probability, as a number
+setters : (number_told setter.Opening ≡ Some 0) × (number_told (setter.Event 97) ≡ Some 97) × (number_told setter.Untold ≡ None)
+setters = (refl, refl, refl)
+
+-- ---- a history
+
+-- an arrival, a note, a departure at a moment before it, which is effective as late as the arrival, and a departure of an empty queue; the last
+-- record is left open
+abbrev history : List ℕ → List ℕ
+history last =
+    codes "open,0,4,16,100\n"
+    ++ codes "arrive,1,30,7,1500,ect0,0,enqueue\n"
+    ++ codes "refused,5,3\n"
+    ++ codes "depart,2,25,left,7,1500,ect0\n"
+    ++ codes "depart,2,40," ++ last ++ codes "\n"
+
+-- how cutting it is answered
+abbrev cut : Span → List ℕ → Result ℕ CutFault
+cut span last = answer span (records_of (history last))
+
+-- two events from the second on; the departure is cut by its effective moment; none after the third; a difference counts up to the end alone; a
+-- fault anywhere comes first
+answers : (cut (numbers 2 3) (codes "empty") ≡ Ok 2) × (cut (numbers 0 9) (codes "empty") ≡ Ok 3)
+    × (cut (numbers 4 9) (codes "empty") ≡ Err NoEvents)
+    × (cut (moments 26 39) (codes "empty") ≡ Ok 2) × (cut (moments 0 29) (codes "empty") ≡ Err NoEvents)
+    × (cut (numbers 1 2) (codes "left,8,100,not") ≡ Ok 2) × (cut (numbers 1 3) (codes "left,8,100,not") ≡ Err (Differs 3))
+    × (cut (numbers 1 1) (codes "full") ≡ Err (Trace (fault.Fields 5)))
+unfolding held_after shown held_of now_of params_of active_of departures_shown updates_shown arrivals_shown verdict records_from next_record
+    strip_bom field_at number ecn_of params_at first_kind version_of profile_of which_of limits_at draft_at version_one_fields
+    version_two_fields opening_of verdict_of command_at packet_at command_kind arrival_at event_line answer_at departure_at update_at
+    change_at numbers_at registers_at note_line shown_line line_of told_by lines_from fault_from history_opening history_version
+    after_opening events_of event_count agrees line_places first_difference finding accumulated is_considered is_picked delay_of last_or
+    places effective_moment greatest waiting_after departed_count admitted average samples begun cycles first_position first_opening
+    first_closing first_cycle cycles_from probability last_delay last_moment granted_burst burst_allowance raw_step tuning_divisor
+    tuned_step decayed next digits departures_of delay_noted control_of early_of noted noted_after is_active first_place end_place
+    chosen
+answers = (refl, refl, refl, refl, refl, refl, refl, refl)
+
+-- how cutting it into segments is answered
+abbrev every : List ℕ → Result ℕ CutFault
+every last = whole_answer every_answer (records_of (history last)) (history_opening (records_of (history last)))
+
+every-answers : (every (codes "empty") ≡ Ok 3) × (every (codes "left,8,100,not") ≡ Err (Differs 3))
+    × (every (codes "full") ≡ Err (Trace (fault.Fields 5)))
+unfolding held_after shown held_of now_of params_of active_of departures_shown updates_shown arrivals_shown verdict records_from next_record
+    strip_bom field_at number ecn_of params_at first_kind version_of profile_of which_of limits_at draft_at version_one_fields
+    version_two_fields opening_of verdict_of command_at packet_at command_kind arrival_at event_line answer_at departure_at update_at
+    change_at numbers_at registers_at note_line shown_line line_of told_by lines_from fault_from history_opening history_version
+    after_opening events_of event_count agrees line_places first_difference finding accumulated is_considered is_picked delay_of last_or
+    places effective_moment greatest waiting_after departed_count admitted average samples begun cycles first_position first_opening
+    first_closing first_cycle cycles_from probability last_delay last_moment granted_burst burst_allowance raw_step tuning_divisor
+    tuned_step decayed next digits departures_of delay_noted control_of early_of noted noted_after is_active first_place end_place
+    chosen
+every-answers = (refl, refl, refl)
+
+-- its last number, whether its last event is what the rules give there or not
+abbrev last : List ℕ → Result ℕ TraceFault
+last text = last_after (records_of (history text)) (history_opening (records_of (history text)))
+
+last-numbers : (last (codes "empty") ≡ Ok 3) × (last (codes "left,8,100,not") ≡ Ok 3) × (last (codes "full") ≡ Err (fault.Fields 5))
+unfolding held_after shown held_of now_of params_of active_of departures_shown updates_shown arrivals_shown verdict records_from next_record
+    strip_bom field_at number ecn_of params_at first_kind version_of profile_of which_of limits_at draft_at version_one_fields
+    version_two_fields opening_of verdict_of command_at packet_at command_kind arrival_at event_line answer_at departure_at update_at
+    change_at numbers_at registers_at note_line shown_line line_of told_by lines_from fault_from history_opening history_version
+    after_opening events_of event_count agrees line_places first_difference finding accumulated is_considered is_picked delay_of last_or
+    places effective_moment greatest waiting_after departed_count admitted average samples begun cycles first_position first_opening
+    first_closing first_cycle cycles_from probability last_delay last_moment granted_burst burst_allowance raw_step tuning_divisor
+    tuned_step decayed next digits departures_of delay_noted control_of early_of noted noted_after is_active first_place end_place
+    chosen
+last-numbers = (refl, refl, refl)

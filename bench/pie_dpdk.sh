@@ -1,10 +1,14 @@
 #!/usr/bin/env bash
 # Packets a second from one null port of DPDK to another, in bursts of 32: forwarding alone, through DPDK's rte_pie (which makes no marks),
-# through the stage of bindings/dpdk without marks and with, and through the stage recorded, with its history written to /dev/null by one more
-# lcore; all but the first behind the same lock and ring. Once one lcore receives, enqueues, dequeues and sends; once as many as the processors
-# allow receive and enqueue, and one dequeues and sends. Prints the greatest and the median of the runs, which take turns, as the table of
-# docs/PERFORMANCE.md. It needs libdpdk (bindings/dpdk/install.sh) and the library, which bindings/c/library.py builds.
-# usage: bench/pie_dpdk.sh [SECONDS [RUNS]]      SECONDS of each run, 1 where none is given; RUNS of each kind, 9: some 95 seconds in all
+# through the stage of bindings/dpdk without marks and with, through the stage with its flight recorder of the last 16384 events, and through the
+# stage with its whole history, written to /dev/null by one more lcore; all but the first behind the same lock and ring. Once one lcore receives,
+# enqueues, dequeues and sends; once as many as the processors allow receive and enqueue, and one dequeues and sends. Prints the greatest and the
+# median of the runs, which take turns, as the table of docs/PERFORMANCE.md. It needs libdpdk (bindings/dpdk/install.sh) and the library, which
+# bindings/c/library.py builds.
+#
+# usage: bench/pie_dpdk.sh [SECONDS [RUNS [PRIORITY]]]      SECONDS of each run, 1 where none is given; RUNS of each kind, 9: some 115 seconds in
+# all. With a PRIORITY (50, say) each run has its processors for itself, by the system's real-time policy (chrt): take runs of 0.02 seconds then,
+# since nothing else runs meanwhile.
 set -eu
 cd "$(dirname "$0")/.."
 work=$(mktemp -d)
@@ -12,10 +16,12 @@ trap 'rm -rf "$work"' EXIT
 cpus=$(nproc --all)
 [ "$cpus" -ge 2 ] || { echo "NOT RUN: bench/pie_dpdk.sh: it takes two processors"; exit 0; }
 [ "$cpus" -le 8 ] || cpus=8
+priority=()
+[ $# -lt 3 ] || priority=(chrt -f "$3")
 make -s -C bindings/dpdk out/stage_measure
 for lcores in 2 "$cpus"; do
-    bindings/dpdk/out/stage_measure --no-huge -m 512 --no-pci --no-shconf --no-telemetry --log-level=lib.eal:error --lcores "0-$((lcores - 1))" \
-        --vdev=net_null0 --vdev=net_null1 -- rate "${1:-1}" "${2:-9}" > "$work/$lcores"
+    "${priority[@]}" bindings/dpdk/out/stage_measure --no-huge -m 512 --no-pci --no-shconf --no-telemetry --log-level=lib.eal:error \
+        --lcores "0-$((lcores - 1))" --vdev=net_null0 --vdev=net_null1 -- rate "${1:-1}" "${2:-9}" > "$work/$lcores"
 done
 python3 - "$work/2" "$work/$cpus" <<'END2'
 import statistics
@@ -49,10 +55,12 @@ row("forwarding alone", rate("alone"))
 row("with rte_pie", rate("rte_pie"))
 row("with the stage, without marks", rate("dropping"))
 row("with the stage", rate("stage"))
-row("with the stage recorded", rate("recorded"))
+row("with the stage and its flight recorder", rate("flight"))
+row("with the stage and its whole history", rate("recorded"))
 row("the stage without marks, to rte_pie", ratio("dropping", "rte_pie"))
 row("the stage, to rte_pie", ratio("stage", "rte_pie"))
-row("the stage recorded, to rte_pie", ratio("recorded", "rte_pie"))
-row("the stage recorded, to the stage", ratio("recorded", "stage"))
+row("the stage and its flight recorder, to rte_pie", ratio("flight", "rte_pie"))
+row("the stage and its flight recorder, to the stage", ratio("flight", "stage"))
+row("the stage and its whole history, to the stage", ratio("recorded", "stage"))
 row("events told as lost, since the text came too late", lambda side: f"{min(side['lost']):.1f} % ({statistics.median(side['lost']):.1f} %)")
 END2

@@ -2,7 +2,7 @@
 # Builds the stage for DPDK and pie-fwd, and runs them without huge pages and cards: the tests of the stage, also with the sanitizers of
 # addresses and of threads; a slow link with overload beside rte_pie; null ports at full speed; pie-fwd, its files, its history, and its end by an
 # interrupt (fwd_test.py). In each of these no mbuf is lost, and each history is clean or tells its gaps. Where libdpdk is not installed, a line
-# that begins with NOT RUN says so.
+# that begins with NOT RUN says so. The flight recorder's texts, at full speed too, and each segment of a history that is cut are clean as well.
 # usage: bindings/dpdk/check.sh
 # needs: program, library, an early start
 set -u
@@ -29,11 +29,11 @@ step() {
     exit 1
 }
 
-# A history is clean, or its audit ends at the first line that tells a gap.
+# A history is clean up to its last event, or its audit ends at the first line that tells a gap. One that resumes says how many events came before.
 audited() {
     local gap found wanted
     gap=$(grep -n -m 1 '^lost,' "$1" | cut -d: -f1)
-    wanted="$1: clean,$(($(wc -l < "$1") - 1))"
+    wanted="$1: clean,$(awk -F, 'NR == 1 { count = $1 == "resume" ? $30 : 0; next } $1 != "queued" { count++ } END { print count }' "$1")"
     [ -z "$gap" ] || wanted="pie: $1: record $gap: unknown kind"
     found=$("$pie" audit "$1" 2>&1)
     [ "$found" = "$wanted" ] && return
@@ -48,12 +48,12 @@ mkdir "$work/plain" "$work/address" "$work/thread"
 step test timeout 120 out/stage_test "${eal[@]}" --lcores "0@$cpus" -- "$work/plain"
 step test-address timeout 120 out/address/stage_test "${eal[@]}" --lcores "0@$cpus" -- "$work/address"
 step test-thread timeout 120 out/thread/stage_test "${eal[@]}" --lcores "0@$cpus" -- "$work/thread" threads
-step slow timeout 120 out/stage_measure "${eal[@]}" --lcores "0@$cpus" -- slow "$work/plain/slow.history"
+step slow timeout 120 out/stage_measure "${eal[@]}" --lcores "0@$cpus" -- slow "$work/plain"
+step null timeout 60 out/stage_measure "${eal[@]}" --lcores "(0-1)@$cpus" --vdev=net_null0 --vdev=net_null1 -- rate 1 1 "$work/plain/null.history"
 for history in "$work"/*/*.history; do
     step audit audited "$history"
 done
-[ "$(grep -L '^lost,' "$work"/plain/*.history | wc -l)" -ge 3 ] || { echo "bindings/dpdk/check.sh: gaps in histories that have none"; exit 1; }
-step null timeout 60 out/stage_measure "${eal[@]}" --lcores "(0-1)@$cpus" --vdev=net_null0 --vdev=net_null1 -- rate 0.2 2
+[ "$(grep -L '^lost,' "$work"/plain/*.history | wc -l)" -ge 100 ] || { echo "bindings/dpdk/check.sh: gaps in histories that have none"; exit 1; }
 step address timeout 60 out/address/pie-fwd "${eal[@]}" --vdev=net_null0 --vdev=net_ring0 --lcores "(0-2)@$cpus" -- \
     --total-num-mbufs=8192 --rate 50mbit --for 2s --history /dev/null
 step pie-fwd timeout 120 ./fwd_test.py out/pie-fwd "$pie"

@@ -1,23 +1,29 @@
-/* The history of a stage, written to a file. */
+/* The history of a stage, written to a file, or to segments of which each stands alone. */
 #ifndef FWD_HISTORY_H
 #define FWD_HISTORY_H
 
 #include "pie_stage.h"
 
+#include <limits.h>
 #include <stdio.h>
 
 struct fwd_history {
-    FILE *file;           /* NULL where none is written, or no more */
+    FILE *file;            /* NULL where none is written, or no more */
     const char *path;
-    bool is_broken;       /* not all could be written */
+    char name[PATH_MAX];   /* of the file: the path, or PATH.<segment> */
+    uint64_t rotate;       /* bytes, after which a segment ends; 0: it is one text */
+    uint64_t segments;     /* that are kept, the last ones; 0: all */
+    uint64_t segment;      /* the number of this one, from 1 on */
+    uint64_t bytes, lost;  /* in this segment; events lost to the history when it was begun */
+    bool is_broken;        /* not all could be written */
     unsigned char *text;
 };
 
 /* Opens the file, NULL for none; false where that fails, with errno. */
-bool fwd_history_open(struct fwd_history *history, const char *path);
+bool fwd_history_open(struct fwd_history *history, const char *path, uint64_t rotate, uint64_t segments);
 
-/* Writes some of what waits, and answers whether there was anything. Where the file takes no more, it says so once on stderr and writes nothing from
- * then on: the stage counts as lost what is not taken out. */
+/* Writes some of what waits, and answers whether there was anything; a segment that is long enough, or that tells a gap, is the last of its file.
+ * Where the file takes no more, it says so once on stderr and writes nothing from then on: the stage counts as lost what is not taken out. */
 bool fwd_history_write(struct fwd_history *history, struct pie_stage *stage);
 
 /* Writes the rest when no lcore calls the stage any more, and closes the file; false where not all could be written. */

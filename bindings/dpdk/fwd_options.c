@@ -6,6 +6,7 @@
 #include <string.h>
 
 #define EVENTS (1u << 17) /* that may wait for the history: 8 megabytes */
+#define LEAST_SEGMENT 65536 /* bytes of a segment */
 
 static const char help[] =
     "pie-fwd [EAL OPTIONS] -- [OPTIONS]\n"
@@ -27,7 +28,12 @@ static const char help[] =
     "  --one-way             forward nothing from port 1 to port 0\n"
     "  --open-metrics FILE   the same numbers as OpenMetrics text, replaced each second\n"
     "  --json FILE           the same numbers in the shape of tc -s -j, replaced each second\n"
-    "  --history FILE        every decision, for pie audit and pie explain: some 120 bytes a packet\n"
+    "  --flight FILE         the last decisions, for pie audit and pie explain, written at SIGUSR1 (pie-fwd.flight)\n"
+    "  --flight-wait 100ms   also where a packet waited longer than this, once a second at the most\n"
+    "  --flight-events 16384 how many decisions are kept at the least, up to 2^24; 0: none\n"
+    "  --history FILE        every decision: some 120 bytes a packet\n"
+    "  --rotate 64mb         the history in segments of this size, FILE.1, FILE.2 and so on, each of which stands alone\n"
+    "  --segments 8          keep the last of them, and remove those before (all are kept)\n"
     "  --receive 120mbit     receive no more than this from port 0: for a port without end, as a null port is\n"
     "  --total-num-mbufs 8192\n"
     "                        mbufs in the pool, 1024 to 2^24\n"
@@ -57,7 +63,7 @@ static bool read_decimal(const char *text, double factor, bool percent, uint64_t
 }
 
 struct values {
-    uint64_t limit, packets, profile;
+    uint64_t limit, packets, profile, flight;
 };
 
 /* An option with a number, and why its text is none, NULL where it is one; false where there is no such option. */
@@ -77,6 +83,8 @@ static bool read_number(const char *name, const char *text, struct fwd_options *
         {"--threshold", pie_read_size, 0, &p->dq_threshold},   {"--alpha", NULL, 1e3, &p->alpha},
         {"--beta", NULL, 1e3, &p->beta},                       {"--mark-below", NULL, 1e12, &p->mark_ecnth},
         {"--profile", NULL, 1, &values->profile},              {"--total-num-mbufs", pie_read_packets, 0, &options->mbufs},
+        {"--flight-events", NULL, 1, &values->flight},         {"--flight-wait", pie_read_time, 0, &options->stage.flight_wait},
+        {"--rotate", pie_read_size, 0, &options->rotate},      {"--segments", NULL, 1, &options->segments},
     };
     for (size_t i = 0; i < sizeof known / sizeof known[0]; i++) {
         if (strcmp(name, known[i].name) != 0)
@@ -124,6 +132,8 @@ static bool read_name(const char *name, const char *text, struct fwd_options *op
         options->json = text;
     else if (strcmp(name, "--history") == 0)
         options->history = text;
+    else if (strcmp(name, "--flight") == 0)
+        options->flight = text;
     else
         return false;
     return true;
@@ -141,9 +151,14 @@ static const char *fault_of(struct fwd_options *options, const struct values *va
     options->stage.pie.limit_bytes = values->limit != 0 ? values->limit : usual.pie.limit_bytes;
     // a queue that takes all mbufs leaves the card none to receive with, and then the card drops, and not PIE
     uint64_t packets = options->stage.pie.limit_bytes / 64 + 1, most = options->mbufs / 2;
+    if (values->flight > PIE_STAGE_MAX_FLIGHT)
+        return "flight-events";
+    options->stage.flight = (uint32_t)values->flight;
     options->stage.events = options->history != NULL ? EVENTS : 0;
-    if (options->history != NULL && most > 1 << 20)
+    if ((options->history != NULL || options->stage.flight != 0) && most > 1 << 20)
         most = 1 << 20; // (a history's queue has room for no more)
+    if (options->rotate != 0 && options->rotate < LEAST_SEGMENT)
+        return "rotate";
     packets = values->packets != 0 ? values->packets : packets < most ? packets : most;
     uint32_t bad = pie_check_params(&options->stage.pie);
     if (bad != 0)
@@ -160,8 +175,8 @@ static const char *fault_of(struct fwd_options *options, const struct values *va
 }
 
 int fwd_read_options(int count, char **words, struct fwd_options *options) {
-    struct values values = {.profile = PIE_ALWAYS_ON};
-    *options = (struct fwd_options){.rate = 10000000, .mbufs = 8192};
+    struct values values = {.profile = PIE_ALWAYS_ON, .flight = PIE_STAGE_FLIGHT};
+    *options = (struct fwd_options){.rate = 10000000, .mbufs = 8192, .flight = "pie-fwd.flight"};
     pie_stage_default_params(&options->stage, options->rate);
     for (int i = 1; i < count; i++) {
         const char *fault = "unknown";

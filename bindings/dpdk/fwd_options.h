@@ -14,6 +14,9 @@ struct fwd_options {
     const char *open_metrics; /* files, or NULL */
     const char *json;
     const char *history;
+    uint64_t rotate;       /* bytes of a segment of the history, 0: it is one text */
+    uint64_t segments;     /* that are kept, 0: all */
+    const char *flight;    /* where the flight recorder's text goes, never NULL */
 };
 
 enum { FWD_READ, FWD_HELP, FWD_WRONG };

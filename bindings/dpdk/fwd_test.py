@@ -1,7 +1,7 @@
 #!/usr/bin/env python3
 """Runs pie-fwd between a null port and a ring, several at once: what it refuses, its end by an interrupt, its files, and its history, at full speed
-and by a device that is full; no mbuf is lost. With --real-time it runs nothing else than one that holds its target in real time, at raised
-priority, for which a processor has to be free.
+and by a device that is full, in segments, and of the last events alone; no mbuf is lost. With --real-time it runs nothing else than one that holds
+its target in real time, at raised priority, for which a processor has to be free.
 
 usage: bindings/dpdk/fwd_test.py PIE_FWD PIE [--real-time]"""
 import json
@@ -45,6 +45,9 @@ def refused():
         (RING, ["--rate", "5"], "--rate 5: refused: no number with a unit"),
         (RING, ["--history", "/nowhere/history"], "the file of --history: No such file"),
         (RING, ["--history", "/dev/null", "--total-num-mbufs", "4194304", "--packets", "1048577"], "--packets: out of its range"),
+        (RING, ["--flight-events", "16777217"], "--flight-events: out of its range"),
+        (RING, ["--history", "/dev/null", "--rotate", "1kb"], "--rotate: out of its range"),
+        (RING, ["--flight-wait", "5"], "--flight-wait 5: refused: no number with a unit"),
         (RING[:1], [], "there are 1 ports"),
     ):
         status, _, errors = run(ports, *words)
@@ -90,12 +93,17 @@ def files(metrics, queues):
 
 
 def audited(path):
-    """What an audit says of a history: of one with gaps the record of the first of them, which is what it has to say."""
+    """What an audit says of a history: of one with gaps the record of the first of them, which is what it has to say. Answers the number of the
+    event before the text, and of its last."""
     text = Path(path).read_bytes()
+    first = text.split(NEWLINE, 1)[0].split(b",")
+    before = int(first[29]) if first[0] == b"resume" else 0
+    last = before + text.count(NEWLINE) - 1 - len(re.findall(rb"^queued,", text, re.M))
     gap = re.search(rb"^lost,", text, re.M)
-    wanted = f"pie: {path}: record {1 + text.count(NEWLINE, 0, gap.start())}: unknown kind\n" if gap else f"{path}: clean,{text.count(NEWLINE) - 1}\n"
+    wanted = f"pie: {path}: record {1 + text.count(NEWLINE, 0, gap.start())}: unknown kind\n" if gap else f"{path}: clean,{last}\n"
     done = subprocess.run([PIE, "audit", path], stdout=subprocess.PIPE, stderr=subprocess.STDOUT, text=True, check=False)
     assert done.stdout == wanted, (done.stdout, wanted)
+    return before, None if gap else last
 
 
 def events_of(numbers):
@@ -160,6 +168,51 @@ def paced():
         return f"{events} events in real time"
 
 
+def flight():
+    """Null ports at full speed with the flight recorder, whose text is asked for by signals; and one that is asked for by a wait."""
+    with tempfile.TemporaryDirectory() as work:
+        path, kept = f"{work}/flight", 30000
+        process = subprocess.Popen(command(RING, "--total-num-mbufs=8192", "--rate", "10gbit", "--flight", path, "--flight-events", str(kept)),
+                                   stdout=subprocess.PIPE, stderr=subprocess.PIPE, text=True)
+        texts = []
+        for _ in range(3):
+            assert LINE.match(process.stdout.readline())
+            process.send_signal(signal.SIGUSR1)
+            said = process.stderr.readline()
+            if "overwritten" in said:  # (it was kept from a processor while it copied)
+                continue
+            assert said == f"pie-fwd: --flight {path}: written\n", said
+            texts.append(audited(path))
+        process.send_signal(signal.SIGINT)
+        printed = process.communicate(timeout=60)[0]
+        told(printed)
+        assert process.returncode == 0 and texts and all(last > before > 0 for before, last in texts), (printed, texts)
+        assert all(one[1] <= other[1] for one, other in zip(texts, texts[1:])), texts
+        assert len(texts) < 2 or audited(f"{path}.before") == texts[-2]
+        words = ["--rate", "20mbit", "--receive", "40mbit", "--flight-wait", "30ms", "--for", "2s", "--flight", path, "--packets", "400"]
+        status, printed, errors = run(PACED, *words)
+        assert status == 0 and errors.startswith(f"pie-fwd: --flight {path}: written\n"), (printed, errors)
+        audited(path)
+        status, printed, errors = run(PACED, *words, "--flight-events", "0")
+        assert status == 0 and errors == "", (printed, errors)
+        return f"the last {min(last - before for before, last in texts)} events or more at full speed"
+
+
+def segments():
+    """A history in segments, of which the last ones are kept: each stands alone, and begins where the one before ends."""
+    with tempfile.TemporaryDirectory() as work:
+        path = Path(work, "history")
+        status, printed, errors = run(PACED, "--rate", "20mbit", "--receive", "24mbit", "--for", "3s", "--history", str(path), "--rotate", "64kb",
+                                      "--segments", "3")
+        events = events_of(told(printed))
+        names = sorted(os.listdir(work), key=lambda name: int(name.rpartition(".")[2]))
+        assert status == 0 and len(names) == 3 and names[0] != "history.1", (names, printed, errors)
+        ends = [audited(str(path.with_name(name))) for name in names]
+        assert all(one[1] == other[0] for one, other in zip(ends, ends[1:])) and ends[-1][1] == events, (ends, events)
+        assert all(64 << 10 <= path.with_name(name).stat().st_size for name in names[:-1])
+        return f"{names[-1].rpartition('.')[2]} segments"
+
+
 def first_of_all():
     """Raises the priority; where sessions share the processors (autogroup), also that of a session of its own."""
     os.setsid()
@@ -187,7 +240,7 @@ def main():
         real_time()
         return
     with ThreadPoolExecutor(max_workers=3) as pool:
-        print("; ".join(pool.map(lambda it: it(), (full_speed, interrupt, paced, device_full, refused))))
+        print("; ".join(pool.map(lambda it: it(), (full_speed, flight, interrupt, paced, segments, device_full, refused))))
 
 
 main()

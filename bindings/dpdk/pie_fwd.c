@@ -1,4 +1,5 @@
 /* pie-fwd: forwards between two ports through a stage that is shaped to a rate. See `pie-fwd -- --help`. */
+#include "fwd_flight.h"
 #include "fwd_history.h"
 #include "fwd_options.h"
 #include "fwd_pace.h"
@@ -34,11 +35,17 @@ static struct {
     uint16_t receivers; /* lcores that receive, and queues of port 0 */
     uint64_t unsent;    /* packets that a port did not take */
     int is_stopped;
+    int is_asked; /* for the flight recorder's text */
 } forward;
 
 static void stop(int number) {
     (void)number;
     __atomic_store_n(&forward.is_stopped, 1, __ATOMIC_RELAXED);
+}
+
+static void ask(int number) {
+    (void)number;
+    __atomic_store_n(&forward.is_asked, 1, __ATOMIC_RELAXED);
 }
 
 static bool is_stopped(void) {
@@ -162,7 +169,7 @@ static bool open_all(void) {
     forward.stage = pie_stage_create("pie-fwd", &forward.options.stage, SOCKET_ID_ANY);
     if (forward.stage == NULL)
         return fail("the stage", rte_errno);
-    if (!fwd_history_open(&forward.history, forward.options.history))
+    if (!fwd_history_open(&forward.history, forward.options.history, forward.options.rotate, forward.options.segments))
         return fail("the file of --history", errno);
     return open_port(IN, forward.receivers) && open_port(OUT, 1);
 }
@@ -179,12 +186,21 @@ static void launch(void) {
     }
 }
 
-/* A line a second, and the history, until the end. */
+/* Writes the flight recorder's text where a signal asked for it, or where a wait did and the last text is a second old. */
+static void write_flight(uint64_t *written) {
+    bool is_asked = __atomic_exchange_n(&forward.is_asked, 0, __ATOMIC_RELAXED) != 0;
+    if (!is_asked && (rte_rdtsc() - *written < rte_get_tsc_hz() || !pie_stage_flight_is_asked(forward.stage)))
+        return;
+    fwd_flight_write(forward.options.flight, forward.stage);
+    *written = rte_rdtsc();
+}
+
+/* A line a second, the history, and the flight recorder's text, until the end. */
 static void report(void) {
     char port[RTE_ETH_NAME_MAX_LEN];
     struct pie_stage_stats before = {0}, after;
-    uint64_t hz = rte_get_tsc_hz(), start = rte_rdtsc(), told = start;
-    bool is_told_of_file = false;
+    uint64_t hz = rte_get_tsc_hz(), start = rte_rdtsc(), told = start, written = start - hz;
+    bool is_told_of_file = false, is_quick = forward.options.history != NULL || forward.options.stage.flight_wait != 0;
     rte_eth_dev_get_name_by_port(OUT, port);
     for (;;) {
         uint64_t now = rte_rdtsc();
@@ -199,11 +215,12 @@ static void report(void) {
             before = after;
             told = now;
         }
+        write_flight(&written);
         // (who reads the lines may go: then it is over too)
         if (is_over || ferror(stdout) != 0)
             return;
         if (!fwd_history_write(&forward.history, forward.stage))
-            nanosleep(&(struct timespec){.tv_nsec = forward.options.history != NULL ? 1000000 : 10000000}, NULL);
+            nanosleep(&(struct timespec){.tv_nsec = is_quick ? 1000000 : 10000000}, NULL);
     }
 }
 
@@ -255,6 +272,7 @@ int main(int count, char **words) {
     }
     signal(SIGINT, stop);
     signal(SIGTERM, stop);
+    signal(SIGUSR1, ask);
     signal(SIGPIPE, SIG_IGN); // (a write fails then, and everything is freed)
     bool is_open = open_all();
     if (is_open) {

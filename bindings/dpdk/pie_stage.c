@@ -22,6 +22,7 @@
 #define SMALLEST 64u /* bytes of an Ethernet frame */
 #define LEAST_EVENTS 16u
 #define AHEAD 12u /* events ahead whose slots are fetched */
+#define HANDED_OVER 256u /* packets that wait of which the flight recorder's text is told in one turn at the lock */
 #define RECORDED_PACKETS (1u << 20) /* the most that a history's queue has room for */
 #define RECORDED_EVENTS (UINT64_C(1) << 47)
 #define TAIL 1024 /* events that the book which decides again keeps */
@@ -36,6 +37,19 @@ struct waiting {
 };
 
 #define TAG_MASK ((UINT64_C(1) << 46) - 1)
+
+/* Where the text of a history is cut, and what the next text begins with. */
+struct cut {
+    enum { NONE, AHEAD_OF_US, REACHED, BEGUN } state; /* of its writer: none; the old text goes on; 0 was answered; the new text begins */
+    uint64_t at;                                     /* the old text ends before this slot of the ring */
+    struct pie_state pie;
+    struct pie_stats stats;
+    uint64_t count, bytes;  /* events so far, bytes that wait */
+    uint32_t packets, told; /* packets that wait, and those of them that are told */
+    struct waiting *queue;  /* memory for those */
+    unsigned char gap[PIE_RECORD_ROOM];
+    size_t gap_size;
+};
 
 /* What was seen of a packet that arrives. */
 struct seen {
@@ -55,17 +69,30 @@ struct turn {
     uint16_t caller;  /* of a recorded stage */
 };
 
+/* What a stage records. */
+enum record {
+    NOTHING,
+    FLIGHT, /* the last events */
+    WHOLE   /* the history, and the last events where `memory` is there */
+};
+
 struct pie_stage {
     struct rte_ring *ring;
     uint64_t start;  /* cycles of the TSC at moment 0 */
     uint64_t factor; /* nanoseconds in a cycle, times 2^SHIFT */
-    struct pie_event *slots; /* of the ring of events, NULL where none is recorded */
+    struct pie_event *slots; /* of the ring of events, NULL where no history is recorded */
+    void *memory, *scratch;  /* of the flight recorder, NULL with none */
+    size_t memory_bytes;
+    uint64_t longest; /* a wait above this many nanoseconds asks for the flight recorder's text */
+    enum record record;
     uint32_t room;
     bool ecn, hands_back;
 
     struct pie_text text __rte_cache_aligned; /* of who writes the history, and its first line */
-    unsigned char opening[PIE_RECORD_ROOM];
-    size_t opening_size;
+    unsigned char first[PIE_RECORD_ROOM];
+    size_t first_size;
+    struct pie_opening opening; /* (of the flight recorder too) */
+    struct cut cut;
 
     rte_spinlock_t lock __rte_cache_aligned; /* of all that follows; `due`, `packets` and `picks` are read without it too */
     bool picks;                              /* the probability is above 0 */
@@ -74,7 +101,10 @@ struct pie_stage {
     uint64_t bytes;                          /* in the ring */
     struct pie_state pie;
     uint64_t arrivals; /* that were decided on: the tag of the latest */
+    struct pie_flight flight;
     struct pie_stage_stats stats;
+    uint64_t waited_high, most_bytes, greatest_delay; /* what the history's statistics have beside these */
+    bool is_asked;                                    /* a packet waited longer than `longest` */
     struct stage_words words;
     struct pie_ring events; /* (its reader's part lies on lines of its own) */
 };
@@ -100,11 +130,13 @@ void pie_stage_default_params(struct pie_stage_params *params, uint64_t rate) {
     params->choices = PIE_USUAL;
     params->packets = (uint32_t)RTE_MIN(params->pie.limit_bytes / SMALLEST, UINT64_C(65536));
     params->ecn = true;
+    params->flight = PIE_STAGE_FLIGHT;
 }
 
 /* Opens the controller and takes a key; 0, or what rte_errno becomes. */
 static int open_stage(struct pie_stage *stage, const struct pie_stage_params *params) {
-    if (params->packets < 1 || params->packets > (params->events == 0 ? PIE_STAGE_MAX_PACKETS : RECORDED_PACKETS))
+    bool is_recorded = params->events != 0 || params->flight != 0;
+    if (params->packets < 1 || params->packets > (is_recorded ? RECORDED_PACKETS : PIE_STAGE_MAX_PACKETS))
         return EINVAL;
     if (pie_open_with(&stage->pie, &params->pie, 0, params->profile, params->choices) != PIE_DONE)
         return EINVAL;
@@ -113,6 +145,17 @@ static int open_stage(struct pie_stage *stage, const struct pie_stage_params *pa
     stage->room = params->packets;
     stage->ecn = params->ecn;
     stage->hands_back = params->hands_back;
+    stage->opening = (struct pie_opening){
+        .params = params->pie,
+        .profile = params->profile,
+        .choices = params->choices,
+        .mode = PIE_ROLLING,
+        .packets = params->packets,
+        .tail = TAIL,
+        .events = RECORDED_EVENTS,
+    };
+    stage->record = params->events != 0 ? WHOLE : params->flight != 0 ? FLIGHT : NOTHING;
+    stage->longest = params->flight_wait != 0 ? params->flight_wait : UINT64_MAX;
     stage->due = pie_due(&stage->pie);
     stage->factor = (uint64_t)(((unsigned __int128)1000000000u << SHIFT) / rte_get_tsc_hz());
     stage->start = rte_rdtsc();
@@ -130,10 +173,35 @@ static int open_events(struct pie_stage *stage, const struct pie_stage_params *p
     stage->slots = rte_malloc_socket("pie_stage", events * sizeof *stage->slots, RTE_CACHE_LINE_SIZE, socket);
     if (stage->slots == NULL)
         return ENOMEM;
+    stage->cut.queue = rte_malloc_socket("pie_stage", params->packets * sizeof *stage->cut.queue, RTE_CACHE_LINE_SIZE, socket);
+    if (stage->cut.queue == NULL)
+        return ENOMEM;
     pie_ring_open(&stage->events, stage->slots, events);
-    stage->opening_size = write_rolling_opening(&params->pie, 0, params->profile, params->choices, params->packets, TAIL, RECORDED_EVENTS,
-                                                stage->opening);
-    return stage->opening_size != 0 ? 0 : EINVAL;
+    stage->first_size =
+        write_rolling_opening(&params->pie, 0, params->profile, params->choices, params->packets, TAIL, RECORDED_EVENTS, stage->first);
+    return stage->first_size != 0 ? 0 : EINVAL;
+}
+
+/* Opens the flight recorder; 0, or what rte_errno becomes. The memory for a copy is taken here, so that a text can be written when memory is out. */
+static int open_flight(struct pie_stage *stage, const struct pie_stage_params *params, int socket) {
+    if (params->flight == 0)
+        return 0;
+    if (params->flight > PIE_STAGE_MAX_FLIGHT)
+        return EINVAL;
+    stage->memory_bytes = pie_flight_bulk_bytes(params->flight, params->packets, BURST);
+    stage->memory = rte_malloc_socket("pie_stage", stage->memory_bytes, RTE_CACHE_LINE_SIZE, socket);
+    stage->scratch = rte_malloc_socket("pie_stage", stage->memory_bytes, RTE_CACHE_LINE_SIZE, socket);
+    if (stage->memory == NULL || stage->scratch == NULL)
+        return ENOMEM;
+    return pie_flight_open_bulk(&stage->flight, stage->memory, stage->memory_bytes, params->flight, BURST, &stage->opening, &stage->pie) ? 0 : EINVAL;
+}
+
+static void free_memory(struct pie_stage *stage) {
+    rte_free(stage->scratch);
+    rte_free(stage->memory);
+    rte_free(stage->cut.queue);
+    rte_free(stage->slots);
+    rte_free(stage);
 }
 
 struct pie_stage *pie_stage_create(const char *name, const struct pie_stage_params *params, int socket) {
@@ -145,6 +213,8 @@ struct pie_stage *pie_stage_create(const char *name, const struct pie_stage_para
     int fault = open_stage(stage, params);
     if (fault == 0)
         fault = open_events(stage, params, socket);
+    if (fault == 0)
+        fault = open_flight(stage, params, socket);
     if (fault == 0) {
         // (rte_ring_create_elem sets rte_errno)
         stage->ring = rte_ring_create_elem(name, sizeof(struct waiting), params->packets, socket,
@@ -152,8 +222,7 @@ struct pie_stage *pie_stage_create(const char *name, const struct pie_stage_para
         fault = stage->ring == NULL ? rte_errno : 0;
     }
     if (fault != 0) {
-        rte_free(stage->slots);
-        rte_free(stage);
+        free_memory(stage);
         rte_errno = fault;
         return NULL;
     }
@@ -167,11 +236,10 @@ void pie_stage_free(struct pie_stage *stage) {
     while (rte_ring_dequeue_elem(stage->ring, &oldest, sizeof oldest) == 0)
         rte_pktmbuf_free(oldest.mbuf);
     rte_ring_free(stage->ring);
-    rte_free(stage->slots);
-    rte_free(stage);
+    free_memory(stage);
 }
 
-/* Under the lock of a recorded stage, the event that the next call decides on. */
+/* Under the lock of a stage with a history, the event that the next call decides on. */
 static inline struct pie_event *event_at(struct pie_stage *stage, const struct turn *turn) {
     struct pie_event *event = pie_ring_slot(&stage->events);
     // (the slot of a later event: whoever writes the history had its line of memory last)
@@ -187,26 +255,72 @@ static inline void publish(struct pie_stage *stage) {
         pie_ring_publish(&stage->events);
 }
 
+/* Under the lock, the statistics of the history so far. */
+static struct pie_stats history_stats(const struct pie_stage *stage) {
+    const struct pie_stage_stats *stats = &stage->stats;
+    return (struct pie_stats){
+        .arrivals = stage->arrivals,
+        .enqueued = stats->queued - stats->marked,
+        .marked = stats->marked,
+        .early = stats->early,
+        .over_bytes = stats->bytes,
+        .over_packets = stats->full,
+        .left = stats->departed,
+        .left_bytes = stats->departed_bytes,
+        .updates = stats->updates,
+        .largest_queue = stage->most_bytes,
+        .largest_delay = stage->greatest_delay,
+        .waited = stats->waited,
+        .waited_high = stage->waited_high,
+    };
+}
+
+/* Under the lock, the flight recorder's snapshot of what there is now. */
+static __rte_noinline void take_snapshot(struct pie_stage *stage) {
+    stage->flight.stats = history_stats(stage);
+    stage->flight.came_so_far = stage->stats.queued;
+    stage->flight.packets = stage->packets;
+    stage->flight.bytes = stage->bytes;
+    pie_flight_snapshot(&stage->flight, &stage->pie);
+}
+
+/* Under the lock, a burst of events for the flight recorder, of none where there is no recorder. */
+static __rte_always_inline struct pie_flight_burst begin_burst(const struct pie_stage *stage, const enum record record) {
+    return record != NOTHING ? pie_flight_begin(&stage->flight) : (struct pie_flight_burst){0};
+}
+
+/* Under the lock, keeps the events of a burst, whose packets are counted already. */
+static inline void keep(struct pie_stage *stage, const struct pie_flight_burst *burst) {
+    if (burst->event == NULL)
+        return;
+    pie_flight_end(&stage->flight, burst);
+    if (unlikely(pie_flight_is_due(&stage->flight)))
+        take_snapshot(stage);
+}
+
 /* Under the lock, makes an update that may be due. */
 static __rte_noinline bool update(struct pie_stage *stage, const struct turn *turn) {
-    uint64_t due = stage->due, code;
-    if (stage->slots == NULL)
-        code = pie_update(&stage->pie, stage->bytes, turn->moment).code;
-    else
-        code = pie_update_event(&stage->pie, stage->bytes, event_at(stage, turn));
+    struct pie_event kept = {.moment = turn->moment, .caller = turn->caller}, *event = stage->slots != NULL ? event_at(stage, turn) : &kept;
+    struct pie_flight_burst burst = pie_flight_begin(&stage->flight);
+    uint64_t due = stage->due;
+    uint32_t code = pie_update_event(&stage->pie, stage->bytes, event);
     __atomic_store_n(&stage->due, pie_due(&stage->pie), __ATOMIC_RELAXED);
     __atomic_store_n(&stage->picks, stage->pie.prob != 0, __ATOMIC_RELAXED);
     if (code != PIE_DONE)
         return false;
     stage->stats.updates++;
     stage->stats.late += turn->moment - due > stage->pie.params.t_update;
+    stage->greatest_delay = RTE_MAX(stage->greatest_delay, event->delay);
+    if (stage->memory != NULL)
+        pie_flight_other(&burst, &stage->pie, event);
+    keep(stage, &burst);
     return true;
 }
 
 /* Under the lock, begins a turn with packets: an update first, where one is due. */
 static inline struct turn begin(struct pie_stage *stage, uint64_t moment) {
     struct turn turn = {.moment = moment, .reached = RTE_MAX(stage->pie.moment, moment)};
-    if (stage->slots != NULL)
+    if (stage->record != NOTHING)
         turn.caller = (uint16_t)rte_lcore_id();
     stage->stats.earlier += moment < turn.reached;
     if (unlikely(moment >= stage->due))
@@ -228,7 +342,7 @@ bool pie_stage_update(struct pie_stage *stage, uint64_t now) {
 /* Whether headers are looked at before the lock is taken. While the probability is 0 no packet is picked, so there is nothing to mark, and its
  * header would be read for nothing; but a history has the ECN field of each packet. */
 static inline bool looks_early(const struct pie_stage *stage) {
-    return stage->ecn && (stage->slots != NULL || __atomic_load_n(&stage->picks, __ATOMIC_RELAXED));
+    return stage->ecn && (stage->record != NOTHING || __atomic_load_n(&stage->picks, __ATOMIC_RELAXED));
 }
 
 static inline void look_at_sizes(struct rte_mbuf **mbufs, uint32_t count, struct seen *seen) {
@@ -255,18 +369,29 @@ static __rte_noinline struct unmarkable look(struct rte_mbuf **mbufs, uint32_t c
 
 /* Under the lock, the controller's answer to a packet. At the probability 0 the random word plays no part. */
 static __rte_always_inline uint32_t decide(struct pie_stage *stage, uint64_t bytes, const struct seen *seen, uint32_t room,
-                                           const struct turn *turn, const bool is_recorded) {
+                                           const struct turn *turn, struct pie_flight_burst *burst, const enum record record) {
     if (unlikely(seen->size < 1 || seen->size > PIE_MAX_SIZE))
         return PIE_BAD_SIZE;
     uint64_t word = stage->pie.prob != 0 ? stage_word(&stage->words) : 0;
-    if (!is_recorded)
-        return pie_arrive(&stage->pie, bytes, seen->size, room, seen->packet.ecn, word, turn->moment);
-    struct pie_event *event = event_at(stage, turn);
-    event->tag = ++stage->arrivals & TAG_MASK;
-    event->word = word;
-    event->size = seen->size;
-    event->ecn = seen->packet.ecn;
-    return pie_arrive_event(&stage->pie, bytes, room, event);
+    uint32_t verdict;
+    if (record == WHOLE) {
+        struct pie_event *event = event_at(stage, turn);
+        event->tag = (stage->arrivals + 1) & TAG_MASK;
+        event->word = word;
+        event->size = seen->size;
+        event->ecn = seen->packet.ecn;
+        verdict = pie_arrive_event(&stage->pie, bytes, room, event);
+    } else {
+        verdict = pie_arrive(&stage->pie, bytes, seen->size, room, seen->packet.ecn, word, turn->moment);
+    }
+    if (record == NOTHING || unlikely(verdict > PIE_PACKETS))
+        return verdict;
+    stage->arrivals++;
+    if (record == FLIGHT || burst->event != NULL) {
+        rte_prefetch0_write(burst->event + AHEAD * PIE_FLIGHT_EVENT);
+        pie_flight_arrive(burst, turn->moment, stage->arrivals & TAG_MASK, word, seen->size, seen->packet.ecn, verdict, turn->caller);
+    }
+    return verdict;
 }
 
 /* Under the lock, counts a packet that is dropped. */
@@ -280,15 +405,16 @@ static __rte_noinline void count_drop(struct pie_stage_stats *stats, uint32_t ve
 
 /* Under the lock, decides on up to BURST packets from the place `from` on. Those that are queued come to `mbufs + queued`; answers how many. */
 static __rte_always_inline uint32_t arrive_burst(struct pie_stage *stage, struct rte_mbuf **mbufs, uint32_t queued, uint32_t from, uint32_t count,
-                                                 const struct seen *seen, const struct turn *turn, const bool is_recorded) {
+                                                 const struct seen *seen, const struct turn *turn, const enum record record) {
     struct rte_ring_zc_data places = {0};
+    struct pie_flight_burst burst = begin_burst(stage, record);
     uint32_t packets = stage->packets, room = stage->room - packets, taken = 0;
     uint64_t bytes = stage->bytes;
     rte_ring_enqueue_zc_burst_elem_start(stage->ring, sizeof(struct waiting), count, &places, NULL);
     struct waiting *to = places.ptr1, *end = to + places.n1;
     for (uint32_t i = 0; i < count; i++) {
         struct rte_mbuf *mbuf = mbufs[from + i];
-        uint32_t verdict = decide(stage, bytes, &seen[i], room - taken, turn, is_recorded);
+        uint32_t verdict = decide(stage, bytes, &seen[i], room - taken, turn, &burst, record);
         if (unlikely(verdict > PIE_MARK)) {
             count_drop(&stage->stats, verdict);
             continue;
@@ -300,7 +426,7 @@ static __rte_always_inline uint32_t arrive_burst(struct pie_stage *stage, struct
         if (unlikely(to == end))
             to = places.ptr2; // (the ring's first place again)
         *to++ = (struct waiting){.mbuf = mbuf, .arrived = turn->reached, .size = seen[i].size,
-                                 .ecn = verdict == PIE_MARK ? PIE_CE : seen[i].packet.ecn, .tag = is_recorded ? stage->arrivals : 0};
+                                 .ecn = verdict == PIE_MARK ? PIE_CE : seen[i].packet.ecn, .tag = record != NOTHING ? stage->arrivals : 0};
         if (unlikely(queued + taken != from + i)) {
             mbufs[from + i] = mbufs[queued + taken];
             mbufs[queued + taken] = mbuf;
@@ -314,6 +440,10 @@ static __rte_always_inline uint32_t arrive_burst(struct pie_stage *stage, struct
     __atomic_store_n(&stage->packets, packets, __ATOMIC_RELAXED);
     stage->stats.queued += taken;
     stage->stats.most = RTE_MAX(stage->stats.most, (uint64_t)packets);
+    if (record != NOTHING) {
+        stage->most_bytes = RTE_MAX(stage->most_bytes, bytes);
+        keep(stage, &burst);
+    }
     return taken;
 }
 
@@ -336,10 +466,12 @@ uint32_t pie_stage_enqueue(struct pie_stage *stage, struct rte_mbuf **mbufs, uin
             unmarkable = look(mbufs + from, part, seen);
         stage->stats.no_ip += unmarkable.no_ip;
         stage->stats.shared += unmarkable.shared;
-        if (stage->slots == NULL)
-            queued += arrive_burst(stage, mbufs, queued, from, part, seen, &turn, false);
+        if (stage->record == NOTHING)
+            queued += arrive_burst(stage, mbufs, queued, from, part, seen, &turn, NOTHING);
+        else if (stage->record == FLIGHT)
+            queued += arrive_burst(stage, mbufs, queued, from, part, seen, &turn, FLIGHT);
         else
-            queued += arrive_burst(stage, mbufs, queued, from, part, seen, &turn, true);
+            queued += arrive_burst(stage, mbufs, queued, from, part, seen, &turn, WHOLE);
         publish(stage);
         rte_spinlock_unlock(&stage->lock);
     }
@@ -350,32 +482,38 @@ uint32_t pie_stage_enqueue(struct pie_stage *stage, struct rte_mbuf **mbufs, uin
 
 /* Under the lock, a packet leaves. */
 static __rte_always_inline void depart(struct pie_stage *stage, const struct waiting *oldest, uint64_t left, const struct turn *turn,
-                                       const bool is_recorded) {
-    if (!is_recorded) {
+                                       struct pie_flight_burst *burst, const enum record record) {
+    if (record == WHOLE) {
+        struct pie_event *event = event_at(stage, turn);
+        event->tag = oldest->tag;
+        event->size = oldest->size;
+        event->ecn = oldest->ecn;
+        pie_depart_event(&stage->pie, left, oldest->arrived, event);
+    } else {
         pie_depart_waited(&stage->pie, oldest->size, left, oldest->arrived, turn->moment);
-        return;
     }
-    struct pie_event *event = event_at(stage, turn);
-    event->tag = oldest->tag;
-    event->size = oldest->size;
-    event->ecn = oldest->ecn;
-    pie_depart_event(&stage->pie, left, oldest->arrived, event);
+    if (record == FLIGHT || (record == WHOLE && burst->event != NULL)) {
+        rte_prefetch0_write(burst->event + AHEAD * PIE_FLIGHT_EVENT);
+        pie_flight_depart(burst, turn->moment, oldest->tag, oldest->arrived, oldest->size, oldest->ecn, turn->caller);
+    }
 }
 
-/* Under the lock, the `count` oldest packets leave, and no more than bring the sum of their sizes to `bytes`; answers how many. */
-static __rte_always_inline uint32_t depart_burst(struct pie_stage *stage, struct rte_mbuf **mbufs, uint32_t count, uint64_t bytes,
-                                                 const struct turn *turn, const bool is_recorded) {
+/* Under the lock, the `count` oldest packets leave, BURST of them at the most, and no more than bring the sum of their sizes to `bytes`, which is
+ * less by that sum then; answers how many. */
+static __rte_always_inline uint32_t depart_burst(struct pie_stage *stage, struct rte_mbuf **mbufs, uint32_t count, uint64_t *bytes,
+                                                 const struct turn *turn, const enum record record) {
     struct rte_ring_zc_data places = {0};
+    struct pie_flight_burst burst = begin_burst(stage, record);
     struct pie_stage_stats *stats = &stage->stats;
-    uint64_t sent = 0, waited = 0, longest = stats->longest;
+    uint64_t sent = 0, waited = 0, longest = 0, most = *bytes;
     uint32_t found = rte_ring_dequeue_zc_burst_elem_start(stage->ring, sizeof(struct waiting), count, &places, NULL), taken = 0;
     const struct waiting *oldest = places.ptr1, *end = oldest + places.n1;
-    while (taken < found && sent < bytes) {
+    while (taken < found && sent < most) {
         if (unlikely(oldest == end))
             oldest = places.ptr2; // (the ring's first place again)
         rte_prefetch0(oldest->mbuf);
         sent += oldest->size;
-        depart(stage, oldest, stage->bytes - sent, turn, is_recorded);
+        depart(stage, oldest, stage->bytes - sent, turn, &burst, record);
         uint64_t wait = turn->reached - oldest->arrived;
         longest = RTE_MAX(longest, wait);
         waited += wait;
@@ -385,24 +523,37 @@ static __rte_always_inline uint32_t depart_burst(struct pie_stage *stage, struct
     rte_ring_dequeue_zc_elem_finish(stage->ring, taken);
     __atomic_store_n(&stage->packets, stage->packets - taken, __ATOMIC_RELAXED);
     stage->bytes -= sent;
-    stats->longest = longest;
+    *bytes -= RTE_MIN(sent, most);
+    stats->longest = RTE_MAX(stats->longest, longest);
     stats->departed += taken;
     stats->departed_bytes += sent;
     stats->waited += waited;
+    if (record != NOTHING) {
+        stage->waited_high += stats->waited < waited;
+        keep(stage, &burst);
+        if (unlikely(longest > stage->longest))
+            __atomic_store_n(&stage->is_asked, true, __ATOMIC_RELAXED);
+    }
     return taken;
 }
 
 uint32_t pie_stage_dequeue_bytes(struct pie_stage *stage, struct rte_mbuf **mbufs, uint32_t count, uint64_t bytes, uint64_t now) {
     uint64_t moment = moment_of(stage, now);
-    uint32_t taken;
+    uint32_t taken = 0, part, most;
     if (__atomic_load_n(&stage->packets, __ATOMIC_RELAXED) == 0)
         return 0;
     rte_spinlock_lock(&stage->lock);
     struct turn turn = begin(stage, moment);
-    if (stage->slots == NULL)
-        taken = depart_burst(stage, mbufs, count, bytes, &turn, false);
-    else
-        taken = depart_burst(stage, mbufs, count, bytes, &turn, true);
+    do {
+        most = RTE_MIN(count - taken, BURST);
+        if (stage->record == NOTHING)
+            part = depart_burst(stage, mbufs + taken, most, &bytes, &turn, NOTHING);
+        else if (stage->record == FLIGHT)
+            part = depart_burst(stage, mbufs + taken, most, &bytes, &turn, FLIGHT);
+        else
+            part = depart_burst(stage, mbufs + taken, most, &bytes, &turn, WHOLE);
+        taken += part;
+    } while (part == BURST && taken < count && bytes != 0);
     publish(stage);
     rte_spinlock_unlock(&stage->lock);
     return taken;
@@ -424,18 +575,119 @@ void pie_stage_read(struct pie_stage *stage, struct pie_stage_stats *stats) {
     rte_spinlock_unlock(&stage->lock);
 }
 
+/* Writes some of what a new text begins with: the record that resumes, and those of the packets that wait. */
+static size_t begin_text(struct pie_stage *stage, unsigned char *text, size_t room) {
+    struct cut *cut = &stage->cut;
+    size_t size = 0;
+    if (cut->state == REACHED) {
+        size = pie_write_resume(&stage->opening, &cut->pie, &cut->stats, cut->count, PIE_UNKNOWN, cut->packets, cut->bytes, text, room);
+        if (size == 0)
+            return 0;
+        stage->text.records = 1;
+        cut->state = BEGUN;
+    }
+    for (; cut->told < cut->packets && room - size >= PIE_RECORD_ROOM; cut->told++, stage->text.records++) {
+        const struct waiting *it = &cut->queue[cut->told];
+        size += pie_write_queued(it->tag, it->size, it->ecn, it->arrived, text + size, room - size);
+    }
+    if (cut->told == cut->packets)
+        cut->state = NONE;
+    return size;
+}
+
+/* Writes the end of the old text, and answers 0 once where it is whole. */
+static size_t end_text(struct pie_stage *stage, unsigned char *text) {
+    struct cut *cut = &stage->cut;
+    size_t size = cut->gap_size;
+    memcpy(text, cut->gap, size);
+    cut->gap_size = 0;
+    if (size == 0)
+        cut->state = REACHED;
+    return size;
+}
+
 size_t pie_stage_history(struct pie_stage *stage, unsigned char *text, size_t room) {
+    const struct cut *cut = &stage->cut;
+    struct pie_event event;
+    struct pie_params unused;
     size_t size = 0;
     if (stage->slots == NULL || room < PIE_RECORD_ROOM)
         return 0;
+    if (cut->state > AHEAD_OF_US)
+        return begin_text(stage, text, room);
     if (stage->text.records == 0) {
-        size = pie_text_opening(&stage->text, stage->opening_size);
-        memcpy(text, stage->opening, size);
+        size = pie_text_opening(&stage->text, stage->first_size);
+        memcpy(text, stage->first, size);
     }
-    return size + pie_ring_text(&stage->events, &stage->text, text + size, room - size);
+    while (room - size >= PIE_RECORD_ROOM && !(cut->state == AHEAD_OF_US && stage->events.tail == cut->at) &&
+           pie_ring_take(&stage->events, &event, &unused))
+        size += pie_text_event(&stage->text, &event, &unused, text + size, room - size);
+    return size == 0 && cut->state == AHEAD_OF_US ? end_text(stage, text) : size;
 }
 
 size_t pie_stage_history_end(struct pie_stage *stage, unsigned char *text, size_t room) {
     size_t size = pie_stage_history(stage, text, room);
     return size != 0 || stage->slots == NULL || room < PIE_RECORD_ROOM ? size : pie_ring_last_gap(&stage->events, &stage->text, text, room);
+}
+
+/* Under the lock, the packets that wait. */
+static uint32_t copy_queue(struct pie_stage *stage, struct waiting *to) {
+    struct rte_ring_zc_data data = {0};
+    uint32_t found = rte_ring_dequeue_zc_burst_elem_start(stage->ring, sizeof *to, stage->packets, &data, NULL);
+    if (found != 0)
+        memcpy(to, data.ptr1, data.n1 * sizeof *to);
+    if (found > data.n1)
+        memcpy(to + data.n1, data.ptr2, (found - data.n1) * sizeof *to);
+    rte_ring_dequeue_zc_elem_finish(stage->ring, 0);
+    return found;
+}
+
+bool pie_stage_history_cut(struct pie_stage *stage) {
+    struct cut *cut = &stage->cut;
+    if (stage->slots == NULL || cut->state != NONE || stage->text.records == 0)
+        return false;
+    rte_spinlock_lock(&stage->lock);
+    pie_ring_publish(&stage->events);
+    cut->at = stage->events.head;
+    cut->gap_size = pie_ring_last_gap(&stage->events, &stage->text, cut->gap, sizeof cut->gap);
+    cut->pie = stage->pie;
+    cut->stats = history_stats(stage);
+    cut->count = stage->arrivals + stage->stats.departed + stage->stats.updates;
+    cut->bytes = stage->bytes;
+    cut->packets = copy_queue(stage, cut->queue);
+    rte_spinlock_unlock(&stage->lock);
+    cut->told = 0;
+    cut->state = AHEAD_OF_US;
+    return true;
+}
+
+/* Hands over the packets that wait, some in each turn at the lock: those that leave meanwhile are told by their departures. */
+static void hand_over(void *owner, PIE_RING_WORD *queued, uint64_t places) {
+    struct pie_stage *stage = owner;
+    uint64_t next = 0, end = UINT64_MAX;
+    while (next < end) {
+        struct rte_ring_zc_data data = {0};
+        rte_spinlock_lock(&stage->lock);
+        uint64_t first = stage->stats.departed;
+        end = RTE_MIN(end, stage->stats.queued);
+        next = RTE_MAX(next, first);
+        uint32_t found = rte_ring_dequeue_zc_burst_elem_start(stage->ring, sizeof(struct waiting), stage->packets, &data, NULL);
+        for (uint32_t part = 0; part < HANDED_OVER && next < end && next - first < found; part++, next++) {
+            uint64_t place = next - first;
+            const struct waiting *one = data.ptr1, *two = data.ptr2, *it = place < data.n1 ? one + place : two + (place - data.n1);
+            pie_flight_waits(queued, places, next, it->tag, it->size, it->ecn, it->arrived);
+        }
+        rte_ring_dequeue_zc_elem_finish(stage->ring, 0);
+        rte_spinlock_unlock(&stage->lock);
+    }
+}
+
+int pie_stage_flight(struct pie_stage *stage, pie_flight_write write, void *user) {
+    if (stage->memory == NULL)
+        return PIE_FLIGHT_NONE;
+    return pie_flight_dump_of(stage->memory, stage->memory_bytes, stage->scratch, hand_over, stage, write, user);
+}
+
+bool pie_stage_flight_is_asked(struct pie_stage *stage) {
+    return __atomic_load_n(&stage->is_asked, __ATOMIC_RELAXED) && __atomic_exchange_n(&stage->is_asked, false, __ATOMIC_RELAXED);
 }

@@ -22,8 +22,13 @@
  * All calls but create, free and those for the history may be made by any number of threads at once; they take one spin lock, a burst at a time,
  * and nothing that waits or takes memory stands under it. A dequeue with nothing to take, and an update that is not due, take no lock.
  *
- * With `events` above 0 the stage records each arrival, departure and update in a ring of memory of its own (pie_ring.h), and one more thread
- * writes the history, which `pie audit` decides again (docs/FORMATS.md):
+ * A flight recorder (pie_flight.h) keeps the last `flight` arrivals, departures and updates. pie_stage_flight writes them, from any lcore while the
+ * others go on, as a text that resumes (docs/FORMATS.md), which `pie audit` decides again:
+ *
+ *   if (pie_stage_flight_is_asked(stage))                                        // a packet waited longer than flight_wait
+ *       pie_stage_flight(stage, write, file);
+ *
+ * With `events` above 0 the stage records its whole history, in a ring of memory of its own (pie_ring.h), and one more thread writes it:
  *
  *   while ((size = pie_stage_history(stage, text, sizeof text)) != 0)            // on one lcore, again and again
  *       fwrite(text, 1, size, file);
@@ -33,7 +38,7 @@
 #ifndef PIE_STAGE_H
 #define PIE_STAGE_H
 
-#include "pie.h"
+#include "pie_flight.h"
 
 #include <stdbool.h>
 #include <stddef.h>
@@ -47,6 +52,8 @@ struct rte_mbuf;
 struct pie_stage;
 
 #define PIE_STAGE_MAX_PACKETS (1u << 24) /* the greatest room */
+#define PIE_STAGE_MAX_FLIGHT (1u << 24)  /* the most events of the flight recorder */
+#define PIE_STAGE_FLIGHT (1u << 14)      /* .. and those of the default parameters */
 
 struct pie_stage_params {
     struct pie_params pie; /* the controller's parameters */
@@ -55,8 +62,11 @@ struct pie_stage_params {
     uint32_t packets;      /* how many packets the queue has room for, 1 to 2^24 */
     bool ecn;              /* mark packets whose ECN field allows it; else they are dropped, as others */
     bool hands_back;       /* dropped mbufs are handed back to whoever enqueued them; else the stage frees them */
-    uint32_t events;       /* how many events may wait for who writes the history, a power of two from 16 to 2^24, each of 64 bytes; 0: none is
-                              recorded. Of a recorded stage `packets` is at most 2^20 */
+    uint32_t flight;       /* how many of the last events the flight recorder keeps at the least, up to 2^24, each of some 100 bytes with the memory
+                              for a copy; 0: it keeps none */
+    uint64_t flight_wait;  /* a packet that waited longer than so many nanoseconds asks for the flight recorder's text; 0: none does */
+    uint32_t events;       /* how many events may wait for who writes the whole history, a power of two from 16 to 2^24, each of 64 bytes; 0: it is
+                              not recorded. With a history or a flight recorder `packets` is at most 2^20 */
 };
 
 /* What a stage counted since it was made, and what it holds now. Each packet that was enqueued is counted once as queued (of these some are
@@ -91,7 +101,7 @@ struct pie_stage_stats {
 };
 
 /* Default parameters for a link of this rate, in bits a second: pie_params_for, always on, usual choices, a queue with room for
- * limit_bytes of packets of 64 bytes up to 65536 packets, marks, and dropped mbufs freed. */
+ * limit_bytes of packets of 64 bytes up to 65536 packets, marks, dropped mbufs freed, and a flight recorder of PIE_STAGE_FLIGHT events. */
 void pie_stage_default_params(struct pie_stage_params *params, uint64_t rate);
 
 /* Makes a stage. Its memory is DPDK's, on this socket or SOCKET_ID_ANY; the name is that of its rte_ring, and no other ring has it.
@@ -118,13 +128,28 @@ bool pie_stage_update(struct pie_stage *stage, uint64_t now);
 /* Reads the statistics, all at one moment. */
 void pie_stage_read(struct pie_stage *stage, struct pie_stage_stats *stats);
 
+/* Writes what the flight recorder holds, as pie_flight_dump: at least the last `flight` events, if no more than an eighth of these came while it was
+ * copied. One thread at a time; it holds the lock for 256 packets of the queue at once, and not while it writes. PIE_FLIGHT_NONE where the stage
+ * has no flight recorder. */
+int pie_stage_flight(struct pie_stage *stage, pie_flight_write write, void *user);
+
+/* Whether a packet waited longer than flight_wait since this was asked last. */
+bool pie_stage_flight_is_asked(struct pie_stage *stage);
+
 /* Takes out of a recorded stage what waits for the history, and writes it as text: whole lines, of the history's first record on. Answers how
  * many bytes there are, 0 where there is nothing now or nothing is recorded. `room` is at least PIE_RECORD_ROOM. One thread at a time; it takes no
- * lock and holds up no other call. Where it came too late, a line `lost,<count>` stands for so many events, where an audit ends. */
+ * lock and holds up no other call; after a cut `room` is at least PIE_RESUME_ROOM. Where it came too late, a line `lost,<count>` stands for so many
+ * events, where an audit ends. */
 size_t pie_stage_history(struct pie_stage *stage, unsigned char *text, size_t room);
 
 /* The end of the history: the same, when no other thread calls the stage any more; once it answers 0 the history is whole. */
 size_t pie_stage_history_end(struct pie_stage *stage, unsigned char *text, size_t room);
+
+/* Cuts the history here: pie_stage_history writes the text up to this moment, answers 0 once where it is whole, and from then on writes a new
+ * text, which resumes (docs/FORMATS.md) and stands alone. A gap stays in the text before the cut. By the thread that writes the history. Answers
+ * false, and cuts nothing, where nothing is recorded, nothing was written yet, or the text before the last cut is not yet whole. The lock is held
+ * while the packets that wait are copied, 24 bytes each. */
+bool pie_stage_history_cut(struct pie_stage *stage);
 
 /* Nanoseconds in so many cycles of the TSC, by the clock of the stage. It rounds down, and is exact to 10^-13. */
 uint64_t pie_stage_nanoseconds(const struct pie_stage *stage, uint64_t cycles);

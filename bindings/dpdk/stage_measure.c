@@ -1,12 +1,12 @@
 /* The stage beside DPDK's rte_pie, behind the same lock and ring.
  *
- * usage: stage_measure [EAL options] -- slow HISTORY
+ * usage: stage_measure [EAL options] -- slow FOLDER
  *   A link of 20 Mbit/s with 1.2 times its load, for 80 simulated seconds: the mean wait of the last 60, in ms, and the packets dropped. The stage is
- *   recorded, with its whole history in the file HISTORY. Status 1 where the stage's mean wait is not within 10 per cent of the target,
- *   15 ms, where the history is not whole, or an mbuf is lost.
- * usage: stage_measure [EAL options] --vdev=net_null0 --vdev=net_null1 -- rate [SECONDS [RUNS]]
- *   Packets a second from one null port to another in bursts of 32: forwarding alone, by rte_pie, by the stage without marks, by the stage, and by
- *   the stage recorded, in turn.
+ *   recorded, with its whole history in FOLDER, in a segment slow-N.history for each 10 seconds. Status 1 where the stage's mean wait is not within
+ *   10 per cent of the target, 15 ms, where the history is not whole, or an mbuf is lost.
+ * usage: stage_measure [EAL options] --vdev=net_null0 --vdev=net_null1 -- rate [SECONDS [RUNS [FILE]]]
+ *   Packets a second from one null port to another in bursts of 32: forwarding alone, by rte_pie, by the stage without marks, by the stage, by the
+ *   stage with the flight recorder, and by the stage with its whole history, in turn. What the flight recorder holds after its last run goes to FILE.
  *   The last lcore writes the history, to /dev/null. Where one more is left it receives, enqueues, dequeues and sends; of several the main lcore
  *   dequeues and sends, and the others receive and enqueue. 512 packets wait all the time where one lcore does it all. Each line is `name
  *   value unit`, for bench/pie_dpdk.sh; with `lost`, the share of the recorded stage's events that its history lacks.
@@ -40,8 +40,8 @@ static void die(const char *what) {
     exit(1);
 }
 
-enum which { ALONE, PEER, DROPPING, STAGE, RECORDED };
-static const char *const names[] = {"alone", "rte_pie", "dropping", "stage", "recorded"};
+enum which { ALONE, PEER, DROPPING, STAGE, LAST, RECORDED };
+static const char *const names[] = {"alone", "rte_pie", "dropping", "stage", "flight", "recorded"};
 
 static struct peer peer;
 static struct pie_stage *stage;
@@ -78,13 +78,35 @@ static uint64_t next_random(uint64_t *state) {
     return *state;
 }
 
-/* The mean wait in milliseconds. */
-static double run_slow(enum which which, FILE *history) {
+static FILE *open_segment(const char *folder, int segment) {
+    char path[4096];
+    snprintf(path, sizeof path, "%s/slow-%d.history", folder, segment);
+    FILE *file = fopen(path, "w");
+    if (file == NULL)
+        die("the history");
+    return file;
+}
+
+/* Ends the segment and begins the next. */
+static FILE *next_segment(FILE *history, const char *folder, int segment) {
+    if (!pie_stage_history_cut(stage))
+        die("a segment");
+    while (write_history(history, false))
+        continue;
+    if (fclose(history) != 0)
+        die("the history");
+    return open_segment(folder, segment);
+}
+
+/* The mean wait in milliseconds. `folder` is where the stage's history goes. */
+static double run_slow(enum which which, const char *folder) {
     uint64_t hz = rte_get_tsc_hz(), start = rte_rdtsc(), seed = 88172645463325252u, dropped = 0, departed = 0, waited = 0;
     double arrival = 0, is_free = 0;
     const double byte = (double)hz * 8 / 20e6, warm = 20.0 * (double)hz;
     bool is_warm = false;
     struct pie_stage_stats stats = {0};
+    FILE *history = which == STAGE ? open_segment(folder, 0) : NULL;
+    int segment = 0;
     while (arrival < 80.0 * (double)hz) {
         struct rte_mbuf *mbuf = rte_pktmbuf_alloc(pool), *left;
         if (mbuf == NULL)
@@ -114,9 +136,16 @@ static double run_slow(enum which which, FILE *history) {
         which == PEER ? peer_enqueue(&peer, &mbuf, 1, now) : pie_stage_enqueue(stage, &mbuf, 1, now);
         if (which == STAGE)
             write_history(history, false);
+        if (which == STAGE && arrival > 10.0 * (segment + 1) * (double)hz)
+            history = next_segment(history, folder, ++segment);
     }
-    if (which == STAGE)
+    if (which == STAGE) {
         pie_stage_read(stage, &stats);
+        while (write_history(history, true))
+            continue;
+        if (fclose(history) != 0)
+            die("the history");
+    }
     departed = (which == PEER ? peer.departed : stats.departed) - departed;
     waited = (which == PEER ? peer.waited : stats.waited) - waited;
     dropped = (which == PEER ? peer.dropped : stats.early + stats.bytes + stats.full) - dropped;
@@ -126,12 +155,9 @@ static double run_slow(enum which which, FILE *history) {
     return nanoseconds / 1e6;
 }
 
-static int measure_slow(const char *path) {
+static int measure_slow(const char *folder) {
     struct pie_stage_params params;
     struct pie_stage_stats stats;
-    FILE *history = fopen(path, "w");
-    if (history == NULL)
-        die("the history");
     pie_stage_default_params(&params, 20000000);
     params.packets = ROOM;
     params.events = EVENTS;
@@ -143,13 +169,11 @@ static int measure_slow(const char *path) {
     stage = pie_stage_create("stage", &params, SOCKET_ID_ANY);
     if (stage == NULL)
         die("stage");
-    double wait = run_slow(STAGE, history);
-    while (write_history(history, true))
-        continue;
+    double wait = run_slow(STAGE, folder);
     pie_stage_read(stage, &stats);
     pie_stage_free(stage);
     expect_all_back();
-    if (fclose(history) != 0 || stats.lost != 0) {
+    if (stats.lost != 0) {
         fprintf(stderr, "stage_measure: the history is not whole\n");
         return 1;
     }
@@ -252,12 +276,24 @@ static void tell_lost(void) {
     printf("lost %.2f per_cent\n", 100 * (double)stats.lost / (double)events);
 }
 
-static double run_rate(enum which which, double seconds, FILE *nowhere) {
+static int write_to(void *user, const unsigned char *bytes, size_t count) {
+    return fwrite(bytes, 1, count, user) == count ? 0 : 1;
+}
+
+/* Writes what the flight recorder holds. */
+static void write_flight(const char *path) {
+    FILE *file = fopen(path, "w");
+    if (file == NULL || pie_stage_flight(stage, write_to, file) != PIE_FLIGHT_DONE || fclose(file) != 0)
+        die("the text of the flight recorder");
+}
+
+static double run_rate(enum which which, double seconds, FILE *nowhere, const char *flight) {
     struct pie_stage_params params;
     uint64_t hz = rte_get_tsc_hz();
     pie_stage_default_params(&params, UINT64_C(10000000000));
     params.packets = ROOM;
     params.ecn = which != DROPPING;
+    params.flight = which == LAST ? PIE_STAGE_FLIGHT : 0;
     params.events = which == RECORDED ? EVENTS : 0;
     measured = which;
     if (which == PEER && !peer_open(&peer, ROOM))
@@ -275,13 +311,15 @@ static double run_rate(enum which which, double seconds, FILE *nowhere) {
         peer_close(&peer);
     if (which == RECORDED)
         tell_lost();
+    if (which == LAST && flight != NULL)
+        write_flight(flight);
     if (which > PEER)
         pie_stage_free(stage);
     expect_all_back();
     return (double)packets / took;
 }
 
-static int measure_rate(double seconds, int runs) {
+static int measure_rate(double seconds, int runs, const char *flight) {
     uint16_t queues = (uint16_t)rte_lcore_count();
     FILE *nowhere = fopen("/dev/null", "w");
     if (rte_eth_dev_count_avail() < 2 || queues < 2 || nowhere == NULL)
@@ -291,7 +329,7 @@ static int measure_rate(double seconds, int runs) {
     open_port(1, queues);
     for (int run = 0; run < runs; run++)
         for (enum which which = ALONE; which <= RECORDED; which++)
-            printf("%s %.0f packets/s\n", names[which], run_rate(which, seconds, nowhere));
+            printf("%s %.0f packets/s\n", names[which], run_rate(which, seconds, nowhere, flight));
     fclose(nowhere);
     for (uint16_t port = 0; port < 2; port++) {
         rte_eth_dev_stop(port);
@@ -313,10 +351,10 @@ int main(int count, char **words) {
     int status = 2;
     if (count == 3 && strcmp(words[1], "slow") == 0)
         status = measure_slow(words[2]);
-    else if (count >= 2 && count <= 4 && strcmp(words[1], "rate") == 0)
-        status = measure_rate(count > 2 ? atof(words[2]) : 1, count > 3 ? atoi(words[3]) : 5);
+    else if (count >= 2 && count <= 5 && strcmp(words[1], "rate") == 0)
+        status = measure_rate(count > 2 ? atof(words[2]) : 1, count > 3 ? atoi(words[3]) : 5, count > 4 ? words[4] : NULL);
     else
-        fprintf(stderr, "usage: stage_measure [EAL options] -- slow HISTORY | rate [SECONDS [RUNS]]\n");
+        fprintf(stderr, "usage: stage_measure [EAL options] -- slow FOLDER | rate [SECONDS [RUNS [FILE]]]\n");
     rte_eal_cleanup();
     return status;
 }

@@ -3,9 +3,11 @@
 #define STAGE_PACKET_H
 
 #include <rte_branch_prediction.h>
+#include <rte_byteorder.h>
 #include <rte_mbuf.h>
 #include <stdbool.h>
 #include <stdint.h>
+#include <string.h>
 
 struct stage_packet {
     uint16_t header; /* where the outermost IP header begins, in bytes from the frame's first */
@@ -23,10 +25,15 @@ bool stage_packet_is_shared_anywhere(const struct rte_mbuf *mbuf, const struct s
 /* Looks for the IP header of an Ethernet frame behind up to four VLAN tags, also where it lies across segments. */
 static inline struct stage_packet stage_packet_look(const struct rte_mbuf *mbuf) {
     const uint8_t *bytes = rte_pktmbuf_mtod(mbuf, const uint8_t *);
+    uint32_t word;
     // (the usual frame: IPv4 without tags and options)
-    if (likely(rte_pktmbuf_data_len(mbuf) >= STAGE_ETHERNET + STAGE_IPV4 && bytes[12] == 8 && bytes[13] == 0 && bytes[14] == 0x45))
-        return (struct stage_packet){STAGE_ETHERNET, 4, bytes[15] & 3};
-    return stage_packet_look_anywhere(mbuf);
+    if (unlikely(rte_pktmbuf_data_len(mbuf) < STAGE_ETHERNET + STAGE_IPV4))
+        return stage_packet_look_anywhere(mbuf);
+    memcpy(&word, bytes + STAGE_ETHERNET - 2, sizeof word);
+    word = rte_be_to_cpu_32(word);
+    if (unlikely(word >> 8 != 0x080045))
+        return stage_packet_look_anywhere(mbuf);
+    return (struct stage_packet){STAGE_ETHERNET, 4, word & 3};
 }
 
 /* Whether others hold the bytes that a mark changes. */

@@ -200,6 +200,13 @@ static void test_words(void) {
     printf("stage_test: random words\n");
 }
 
+/* The default parameters for 100 Mbit/s, without a flight recorder. */
+static void unrecorded(struct pie_stage_params *params) {
+    pie_stage_default_params(params, 100000000);
+    EXPECT(params->flight == PIE_STAGE_FLIGHT);
+    params->flight = 0;
+}
+
 static struct pie_stage *stage_of(struct pie_stage_params *params) {
     struct pie_stage *stage = pie_stage_create("test", params, SOCKET_ID_ANY);
     EXPECT(stage != NULL);
@@ -235,18 +242,64 @@ static FILE *open_history(const char *name) {
     return file;
 }
 
+/* What a stage counted is so many events. */
+static uint64_t events_of(const struct pie_stage_stats *stats) {
+    return stats->queued + stats->early + stats->bytes + stats->full + stats->departed + stats->updates;
+}
+
+static int write_to(void *user, const unsigned char *bytes, size_t count) {
+    return fwrite(bytes, 1, count, user) == count ? 0 : 1;
+}
+
+/* Of a text that resumes: the events before it, the packets that wait then, and its events. */
+struct resumed {
+    uint64_t before, queued, events;
+};
+
+static struct resumed read_resumed(const char *name) {
+    struct resumed resumed = {0};
+    char path[4096], line[2048];
+    snprintf(path, sizeof path, "%s/%s.history", folder, name);
+    FILE *file = fopen(path, "r");
+    EXPECT(file != NULL && fgets(line, sizeof line, file) != NULL && strncmp(line, "resume,", 7) == 0);
+    char *at = line;
+    for (int field = 0; field < 29; field++)
+        at = strchr(at, ',') + 1;
+    resumed.before = strtoull(at, NULL, 10);
+    while (fgets(line, sizeof line, file) != NULL) {
+        bool is_queued = strncmp(line, "queued,", 7) == 0;
+        EXPECT(!is_queued || resumed.events == 0);
+        resumed.queued += is_queued;
+        resumed.events += !is_queued;
+    }
+    fclose(file);
+    return resumed;
+}
+
+/* Writes what the flight recorder holds, of a stage that stands still: all events, or at least so many, to the last. */
+static struct resumed expect_flight(struct pie_stage *stage, const char *name, uint64_t least) {
+    struct pie_stage_stats stats;
+    FILE *file = open_history(name);
+    EXPECT(pie_stage_flight(stage, write_to, file) == PIE_FLIGHT_DONE && fclose(file) == 0);
+    struct resumed resumed = read_resumed(name);
+    pie_stage_read(stage, &stats);
+    EXPECT(resumed.before + resumed.events == events_of(&stats) && (resumed.before == 0 || resumed.events >= least));
+    EXPECT(resumed.events <= least + 2 * (least / 8 + 32));
+    return resumed;
+}
+
 /* Each decision of a recorded stage stands in its history, or is told as lost. */
 static void expect_told(struct pie_stage *stage, const struct told *told) {
     struct pie_stage_stats stats;
     pie_stage_read(stage, &stats);
-    uint64_t events = stats.queued + stats.early + stats.bytes + stats.full + stats.departed + stats.updates;
+    uint64_t events = events_of(&stats);
     EXPECT(stats.refused == 0 && told->lost == stats.lost && (told->lost == 0) == (told->gaps == 0));
     EXPECT(told->lines == 1 + events - told->lost + told->gaps);
 }
 
 static void test_clock(void) {
     struct pie_stage_params params;
-    pie_stage_default_params(&params, 100000000);
+    unrecorded(&params);
     struct pie_stage *stage = stage_of(&params);
     uint64_t hz = rte_get_tsc_hz(), before = 0;
     EXPECT(pie_stage_nanoseconds(stage, 0) == 0);
@@ -277,7 +330,7 @@ static void test_clock(void) {
 
 static void test_create(void) {
     struct pie_stage_params params, bad;
-    pie_stage_default_params(&params, 100000000);
+    unrecorded(&params);
     struct pie_stage *stage = stage_of(&params);
     EXPECT(pie_stage_create("test", &params, SOCKET_ID_ANY) == NULL && rte_errno == EEXIST);
     bad = params, bad.packets = 0;
@@ -306,8 +359,16 @@ static void test_create(void) {
     EXPECT(pie_stage_create("other", &bad, SOCKET_ID_ANY) == NULL && rte_errno == EINVAL);
     bad = params, bad.events = 1 << 24; // a gigabyte
     EXPECT(pie_stage_create("other", &bad, SOCKET_ID_ANY) == NULL && rte_errno == ENOMEM);
+    // .. and of a flight recorder
+    bad = params, bad.flight = PIE_STAGE_MAX_FLIGHT + 1;
+    EXPECT(pie_stage_create("other", &bad, SOCKET_ID_ANY) == NULL && rte_errno == EINVAL);
+    bad = params, bad.flight = 1, bad.packets = (1 << 20) + 1;
+    EXPECT(pie_stage_create("other", &bad, SOCKET_ID_ANY) == NULL && rte_errno == EINVAL);
+    bad = params, bad.flight = PIE_STAGE_MAX_FLIGHT;
+    EXPECT(pie_stage_create("other", &bad, SOCKET_ID_ANY) == NULL && rte_errno == ENOMEM);
     unsigned char text[PIE_RECORD_ROOM];
     EXPECT(pie_stage_history(stage, text, sizeof text) == 0 && pie_stage_history_end(stage, text, sizeof text) == 0); // nothing is recorded
+    EXPECT(!pie_stage_history_cut(stage) && !pie_stage_flight_is_asked(stage) && pie_stage_flight(stage, write_to, stdout) == PIE_FLIGHT_NONE);
     pie_stage_free(stage);
     pie_stage_free(NULL);
     stage = stage_of(&params); // the name is free again
@@ -321,7 +382,7 @@ static void test_full(void) {
         struct pie_stage_params params;
         struct pie_stage_stats stats;
         struct rte_mbuf *mbufs[6], *kept[6], *out[8];
-        pie_stage_default_params(&params, 100000000);
+        unrecorded(&params);
         params.packets = 4;
         params.hands_back = hands_back == 1;
         params.events = hands_back == 1 ? 16 : 0;
@@ -344,7 +405,7 @@ static void test_full(void) {
     }
     struct pie_stage_params params;
     struct pie_stage_stats stats;
-    pie_stage_default_params(&params, 100000000);
+    unrecorded(&params);
     params.pie.limit_bytes = 1000;
     params.hands_back = true;
     struct pie_stage *stage = stage_of(&params);
@@ -370,18 +431,20 @@ static void test_full(void) {
 
 /* A link of 100 Mbit/s with twice its load, for a simulated second with marks up to the probability 1: packets are marked, and those that
  * cannot be are dropped. Every third packet cannot carry a mark, of these half since their header is shared. */
-static void test_decisions(uint32_t events) {
+static void test_decisions(uint32_t events, uint32_t flight) {
     struct pie_stage_params params;
     struct pie_stage_stats stats;
-    pie_stage_default_params(&params, 100000000);
+    unrecorded(&params);
     params.pie.mark_ecnth = PIE_ONE;
     params.pie.max_burst = 0;
     params.pie.target = 1000000;
     params.pie.t_update = 1000000;
     params.events = events;
+    params.flight = flight;
     struct pie_stage *stage = stage_of(&params);
     struct told told = {0};
-    FILE *file = events != 0 ? open_history("decisions") : NULL;
+    char name[64];
+    FILE *file = events != 0 ? open_history(flight != 0 ? "decisions-both" : "decisions") : NULL;
     uint64_t hz = rte_get_tsc_hz(), start = rte_rdtsc(), marked = 0, in = 0, out = 0, shared = 0;
     for (uint64_t i = 0; i < 12500; i++) { // a packet of 1000 bytes takes the link 80 us
         uint64_t now = start + i * hz / 12500;
@@ -404,10 +467,14 @@ static void test_decisions(uint32_t events) {
             rte_pktmbuf_free(left);
             out++;
         }
+        if (flight != 0 && i % 500 == 0) {
+            snprintf(name, sizeof name, "decisions-%" PRIu32 "-%" PRIu32 "-%" PRIu64, events, flight, i);
+            expect_flight(stage, name, flight);
+        }
     }
     pie_stage_read(stage, &stats);
     EXPECT(stats.queued + stats.early + stats.bytes + stats.full == in && stats.departed == out);
-    EXPECT(events != 0 ? stats.shared == shared : stats.shared <= shared && stats.shared > shared / 2);
+    EXPECT(events != 0 || flight != 0 ? stats.shared == shared : stats.shared <= shared && stats.shared > shared / 2);
     EXPECT(stats.marked > 500 && stats.early > 500 && stats.updates > 900 && stats.updates <= 1000);
     EXPECT(stats.prob > 0 && stats.no_ip == 0 && stats.refused == 0);
     EXPECT(stats.marked >= marked && stats.marked - marked <= stats.waiting && stats.waiting == stats.queued - out);
@@ -418,7 +485,8 @@ static void test_decisions(uint32_t events) {
     }
     pie_stage_free(stage);
     expect_all_back();
-    printf("stage_test: decisions%s (%" PRIu64 " marked, %" PRIu64 " dropped early)\n", events != 0 ? ", recorded" : "", stats.marked, stats.early);
+    printf("stage_test: decisions%s%s (%" PRIu64 " marked, %" PRIu64 " dropped early)\n", events != 0 ? ", recorded" : "",
+           flight != 0 ? ", with a flight recorder" : "", stats.marked, stats.early);
 }
 
 /* The update that makes the probability positive is made by the burst whose packets it may pick: they are marked, and not dropped as packets that
@@ -427,7 +495,7 @@ static void test_first_marks(void) {
     struct pie_stage_params params;
     struct pie_stage_stats stats;
     struct rte_mbuf *mbufs[32];
-    pie_stage_default_params(&params, 100000000);
+    unrecorded(&params);
     params.choices = PIE_DELAY_STAMP | PIE_PICK_RANDOM | PIE_STEP_UNCAPPED;
     params.pie.mark_ecnth = PIE_ONE;
     params.pie.max_burst = 0;
@@ -457,7 +525,7 @@ static void test_record(void) {
     struct pie_stage_params params;
     struct pie_stage_stats stats;
     struct told told = {0};
-    pie_stage_default_params(&params, 100000000);
+    unrecorded(&params);
     params.packets = 4;
     params.events = 16;
     struct pie_stage *stage = stage_of(&params);
@@ -501,6 +569,104 @@ static void test_record(void) {
     printf("stage_test: the record, and a full ring of events\n");
 }
 
+/* The flight recorder of what is odd: packets of no IP, oversized ones, a full queue, a clock that jumps back, bursts of more than 32 packets, and
+ * fewer events kept than a burst has. A packet that waits too long asks for its text. */
+static void test_flight(uint32_t flight) {
+    struct pie_stage_params params;
+    struct pie_stage_stats stats;
+    struct rte_mbuf *mbufs[100], *out[100];
+    char name[64];
+    unrecorded(&params);
+    params.packets = 90;
+    params.flight = flight;
+    params.flight_wait = 20000000;
+    struct pie_stage *stage = stage_of(&params);
+    uint64_t hz = rte_get_tsc_hz(), now = rte_rdtsc() + hz;
+    snprintf(name, sizeof name, "flight-%" PRIu32 "-0", flight);
+    expect_flight(stage, name, flight);
+    for (int round = 1; round <= 12; round++, now += hz / 100) {
+        for (int i = 0; i < 100; i++)
+            mbufs[i] = i == 7 ? alloc() : plain(i == 3 ? 20 : (uint16_t)(100 + i), i % 3 == 0 ? PIE_ECT0 : PIE_NOT_ECT);
+        uint32_t queued = pie_stage_enqueue(stage, mbufs, 100, now);
+        EXPECT(queued > 0 && queued <= 90);
+        uint32_t taken = pie_stage_dequeue(stage, out, round % 3 == 0 ? 100 : 70, round % 2 == 0 ? now : now - hz);
+        rte_pktmbuf_free_bulk(out, taken);
+        snprintf(name, sizeof name, "flight-%" PRIu32 "-%d", flight, round);
+        expect_flight(stage, name, flight);
+    }
+    EXPECT(!pie_stage_flight_is_asked(stage));
+    uint32_t taken = pie_stage_dequeue_bytes(stage, out, 100, 1, now + hz); // (one waited since the last round)
+    if (taken == 0) {
+        mbufs[0] = plain(100, 0);
+        EXPECT(pie_stage_enqueue(stage, mbufs, 1, now + hz) == 1 && pie_stage_dequeue(stage, out, 1, now + 2 * hz) == 1);
+    }
+    rte_pktmbuf_free(out[0]);
+    EXPECT(pie_stage_flight_is_asked(stage) && !pie_stage_flight_is_asked(stage));
+    pie_stage_read(stage, &stats);
+    EXPECT(stats.oversized == 12 && stats.no_ip == 24 && stats.full > 0 && stats.earlier > 0 && stats.lost == 0);
+    FILE *full = fopen("/dev/full", "w");
+    EXPECT(full != NULL && setvbuf(full, NULL, _IONBF, 0) == 0 && pie_stage_flight(stage, write_to, full) == PIE_FLIGHT_STOPPED);
+    fclose(full);
+    pie_stage_free(stage);
+    expect_all_back();
+    printf("stage_test: the flight recorder of %" PRIu32 " events\n", flight);
+}
+
+/* A history that is cut: each text stands alone, none lacks an event, and a gap stays in the text before the cut. */
+static void test_cut(void) {
+    struct pie_stage_params params;
+    struct rte_mbuf *mbufs[8], *out[8];
+    char name[64];
+    uint64_t last = 0;
+    unrecorded(&params);
+    params.pie.target = 1000000;
+    params.pie.t_update = 1000000;
+    params.pie.max_burst = 0;
+    params.packets = 100;
+    params.events = 1024;
+    struct pie_stage *stage = stage_of(&params);
+    struct told told = {0};
+    uint64_t hz = rte_get_tsc_hz(), now = rte_rdtsc(), lost = 0;
+    EXPECT(!pie_stage_history_cut(stage)); // (nothing was written yet)
+    FILE *file = open_history("cut-0");
+    for (int round = 0; round < 400; round++, now += hz / 2500) {
+        for (int i = 0; i < 8; i++)
+            mbufs[i] = plain(1000, i % 2 == 0 ? PIE_ECT0 : PIE_NOT_ECT);
+        pie_stage_enqueue(stage, mbufs, 8, now);
+        rte_pktmbuf_free_bulk(out, pie_stage_dequeue(stage, out, 5, now));
+        if (round == 250) { // more than the ring has room for
+            for (int i = 0; i < 2000; i++)
+                EXPECT(pie_stage_update(stage, now += hz / 500));
+            lost = told.lost;
+        }
+        if (round % 50 != 0)
+            continue;
+        take_history(stage, file, false, &told);
+        EXPECT(pie_stage_history_cut(stage) && !pie_stage_history_cut(stage));
+        take_history(stage, file, false, &told);
+        EXPECT(fclose(file) == 0);
+        if (round > 0) {
+            struct resumed resumed = read_resumed(name);
+            EXPECT(resumed.before == last);
+            struct pie_stage_stats stats;
+            pie_stage_read(stage, &stats);
+            last = events_of(&stats);
+            EXPECT(told.gaps != 0 || resumed.before + resumed.events == last);
+        } else {
+            last = told.lines - 1;
+        }
+        EXPECT((told.gaps != 0) == (round == 250) && told.lost >= lost);
+        told = (struct told){0};
+        snprintf(name, sizeof name, "cut-%d", round + 1);
+        file = open_history(name);
+    }
+    take_history(stage, file, true, &told);
+    EXPECT(fclose(file) == 0 && told.gaps == 0 && read_resumed(name).before == last);
+    pie_stage_free(stage);
+    expect_all_back();
+    printf("stage_test: a history that is cut\n");
+}
+
 /* The pace of pie-fwd: right on the average, and of a pause of a second it makes up for 10 ms. */
 static void test_pace(void) {
     uint64_t now = 1000, bytes = 0;
@@ -525,7 +691,7 @@ static void test_pace(void) {
 static void test_updates(void) {
     struct pie_stage_params params;
     struct pie_stage_stats stats;
-    pie_stage_default_params(&params, 100000000);
+    unrecorded(&params);
     struct pie_stage *stage = stage_of(&params);
     uint64_t hz = rte_get_tsc_hz(), start = rte_rdtsc();
     EXPECT(!pie_stage_update(stage, start));
@@ -612,6 +778,26 @@ struct writer {
     struct told told;
 };
 
+/* Writes the flight recorder's text again and again, while the others go on; each is of later events. */
+static void *write_flights(void *argument) {
+    char name[64];
+    uint64_t last = 0;
+    for (int i = 0; i < 8 || !__atomic_load_n(&are_done, __ATOMIC_SEQ_CST); i++) {
+        snprintf(name, sizeof name, "flight-threads-%d", i % 8);
+        FILE *file = open_history(name);
+        int answer = pie_stage_flight(argument, write_to, file);
+        EXPECT(fclose(file) == 0 && (answer == PIE_FLIGHT_DONE || answer == PIE_FLIGHT_GONE));
+        if (answer == PIE_FLIGHT_GONE) {
+            i--;
+            continue;
+        }
+        struct resumed resumed = read_resumed(name);
+        EXPECT(resumed.before + resumed.events >= last);
+        last = resumed.before + resumed.events;
+    }
+    return NULL;
+}
+
 static void *write_history(void *argument) {
     struct writer *writer = argument;
     while (!__atomic_load_n(&are_done, __ATOMIC_SEQ_CST))
@@ -619,12 +805,12 @@ static void *write_history(void *argument) {
     return NULL;
 }
 
-/* With `events` above 0 one more thread writes the history. */
-static void test_threads(uint32_t rounds, uint32_t events) {
+/* With `events` above 0 one more thread writes the history, and with `flight` one writes what the flight recorder holds. */
+static void test_threads(uint32_t rounds, uint32_t events, uint32_t flight) {
     struct pie_stage_params params;
     struct pie_stage_stats stats;
-    pthread_t taker, updater, recorder;
-    pie_stage_default_params(&params, 100000000);
+    pthread_t taker, updater, recorder, flights;
+    unrecorded(&params);
     params.packets = 60;
     params.hands_back = true;
     params.pie.target = 2000;
@@ -632,10 +818,12 @@ static void test_threads(uint32_t rounds, uint32_t events) {
     params.pie.max_burst = 0;
     params.pie.dq_threshold = 1024;
     params.events = events;
+    params.flight = flight;
     struct pie_stage *stage = stage_of(&params);
     struct writer writer = {.stage = stage, .file = events != 0 ? open_history("threads") : NULL};
     are_done = 0;
     EXPECT(events == 0 || pthread_create(&recorder, NULL, write_history, &writer) == 0);
+    EXPECT(flight == 0 || pthread_create(&flights, NULL, write_flights, stage) == 0);
     for (uint32_t i = 0; i < SENDERS; i++) {
         senders[i] = (struct sender){.stage = stage, .number = i, .rounds = rounds, .count = OWNED};
         for (uint32_t k = 0; k < OWNED; k++) {
@@ -656,6 +844,10 @@ static void test_threads(uint32_t rounds, uint32_t events) {
         EXPECT(fclose(writer.file) == 0);
         expect_told(stage, &writer.told);
     }
+    if (flight != 0) {
+        EXPECT(pthread_join(flights, NULL) == 0);
+        expect_flight(stage, "flight-threads", flight);
+    }
     pie_stage_read(stage, &stats);
     for (uint32_t i = 0; i < SENDERS; i++) {
         EXPECT(senders[i].count == OWNED);
@@ -666,7 +858,8 @@ static void test_threads(uint32_t rounds, uint32_t events) {
     EXPECT(stats.early + stats.full + stats.bytes == handed_back && stats.refused == 0);
     pie_stage_free(stage);
     expect_all_back();
-    printf("stage_test: threads%s (%" PRIu64 " queued, %" PRIu64 " dropped)\n", events != 0 ? ", recorded" : "", stats.queued, handed_back);
+    printf("stage_test: threads%s%s (%" PRIu64 " queued, %" PRIu64 " dropped)\n", events != 0 ? ", recorded" : "",
+           flight != 0 ? ", with a flight recorder" : "", stats.queued, handed_back);
 }
 
 int main(int count, char **words) {
@@ -688,15 +881,24 @@ int main(int count, char **words) {
         test_no_ip();
         test_shared();
         test_full();
-        test_decisions(0);
-        test_decisions(1 << 16);
+        test_decisions(0, 0);
+        test_decisions(1 << 16, 0);
+        test_decisions(0, 3000);
+        test_decisions(1 << 16, 100);
         test_first_marks();
         test_updates();
         test_record();
+        test_flight(1);
+        test_flight(50);
+        test_flight(1000);
+        test_cut();
         test_pace();
-        test_threads(4000, 0);
+        test_threads(4000, 0, 0);
+        test_threads(4000, 0, 2000);
     }
-    test_threads(1500, 1 << 14);
+    test_threads(1500, 1 << 14, 0);
+    test_threads(1500, 0, 4000);
+    test_threads(1500, 1 << 14, 4000);
     rte_mempool_free(pool);
     rte_eal_cleanup();
     return 0;

@@ -1,7 +1,8 @@
 #!/usr/bin/env bash
-# Builds the test of include/pie_flight.h (flight.c beside this) as C11, C++11 and C++17 with warnings as errors, and with the thread sanitizer and
-# the address and undefined behaviour sanitizers, and runs it: random events through the library's calls with dumps at random places, each of
-# which is decided again; dumps beside a writer; processes that are killed; damaged memory. Then six wrong recorders, each of which is found.
+# Builds the tests of include/pie_flight.h (flight.c and flight_steps.c beside this) as C11, C++11 and C++17 with warnings as errors, and with the
+# thread sanitizer and the address and undefined behaviour sanitizers, and runs them: random events through the library's calls, also in bursts, with
+# dumps at random places, each of which is decided again; dumps beside a writer; processes that are killed; damaged memory; a copy and a writer that
+# are stopped between two words. Then fourteen wrong recorders, each of which is found.
 # What cannot be tried here is told on a line that begins with NOT RUN.
 #
 # usage: tests/libraries/flight.sh [EVENTS]      EVENTS: 100000 where none are given
@@ -9,8 +10,9 @@
 set -u
 . "$(dirname "$0")/../shared/header_test.sh"
 header_test flight 1 "${1:-100000}"
+header_test flight_steps 1 200
 
-# wrong NAME OLD NEW: a header with this change is found
+# wrong NAME OLD NEW [TEST COUNT]: a header with this change is found
 wrong() {
     cp include/pie.h include/pie_ring.h "$work"
     python3 - "$2" "$3" "$work/pie_flight.h" <<'END' || exit 1
@@ -20,16 +22,35 @@ text = open("include/pie_flight.h").read()
 assert old in text, old
 open(to, "w").write(text.replace(old, new, 1))
 END
-    "$cc" -std=c11 -O2 -I"$work" -o "$work/wrong" tests/libraries/flight.c "$lib" -pthread || exit 1
-    if (cd "$work" && timeout 120 ./wrong 1 50000) > "$work/said" 2>&1; then
+    "$cc" -std=c11 -O2 -I"$work" -o "$work/wrong" "tests/libraries/${4:-flight}.c" "$lib" -pthread || exit 1
+    if (cd "$work" && timeout 120 ./wrong 1 "${5:-50000}") > "$work/said" 2>&1; then
         echo "$script: not found: $1"
         failed=1
     fi
 }
-wrong "a snapshot one event late" "if (flight->count == flight->next)" "if (flight->count == flight->next + 1)"
-wrong "an arrival's moment as it was handed in" "pie_flight_came(flight, event, state->moment, event->ecn)" "pie_flight_came(flight, event, event->moment, event->ecn)"
-wrong "a marked packet that is queued as it came" "pie_flight_came(flight, event, state->moment, PIE_CE)" "pie_flight_came(flight, event, state->moment, event->ecn)"
-wrong "packets that are overwritten too soon" "layout->queued = layout->events + packets;" "layout->queued = 1 + packets;"
+wrong "a snapshot that counts an event less" "to[PIE_FLIGHT_COUNT], flight->count)" "to[PIE_FLIGHT_COUNT], flight->count - 1)"
+wrong "a snapshot an event late, of a burst's packets" "    pie_flight_end(flight, &burst);
+    if (pie_flight_is_due(flight))
+        pie_flight_snapshot(flight, state);" "    if (pie_flight_is_due(flight))
+        pie_flight_snapshot(flight, state);
+    pie_flight_end(flight, &burst);"
+wrong "an arrival's moment as it was handed in" \
+    "pie_flight_came(flight, event, state->moment, event->ecn)" "pie_flight_came(flight, event, event->moment, event->ecn)"
+wrong "a marked packet that is queued as it came" \
+    "pie_flight_came(flight, event, state->moment, PIE_CE)" "pie_flight_came(flight, event, state->moment, event->ecn)"
+wrong "packets that are overwritten too soon" "layout->queued = packets;" "layout->queued = packets / 2 + 1;"
+wrong "packets that departed since, not told by their departures" "number != kept && left != came &&" "number != kept && left + 1 < came &&"
+wrong "a packet that waits, told by its neighbour's place" \
+    "words + layout->queued_at + left % layout->queued" "words + layout->queued_at + (left + 1) % layout->queued"
+wrong "parameters a bit too narrow" "{34, 34, 40, 20, 20, 16, 31, 40, 5}" "{34, 34, 40, 20, 19, 16, 31, 40, 5}"
 wrong "a snapshot of the newest alone" "count >= oldest)" "count <= oldest && found != NULL)"
 wrong "the numbers begun anew" "PIE_RING_LOAD(snapshot[PIE_FLIGHT_COUNT]), PIE_UNKNOWN" "UINT64_C(0), PIE_UNKNOWN"
+wrong "a snapshot that changed during its copy" "(PIE_RING_LOAD(from[at]) != PIE_RING_LOAD(to[at]))" "(from == to)" flight_steps 200
+wrong "a snapshot that is one while it is written" "    PIE_RING_STORE(to[PIE_FLIGHT_NUMBER], 0);
+    PIE_RING_STORE(to[PIE_FLIGHT_COUNT]" "    PIE_RING_STORE(to[PIE_FLIGHT_COUNT]" flight_steps 200
+wrong "an event that is written over while it is copied" "KEPT]) + layout->burst;
+}" "KEPT]);
+}" flight_steps 200
+wrong "packets of which later departures tell" "    kept = PIE_RING_LOAD(from[PIE_FLIGHT_KEPT]);
+    i = kept < layout->events" "    i = kept < layout->events" flight_steps 200
 exit $failed

@@ -40,6 +40,7 @@ REFUSED = {
     "pie_device_tests": {
         "run_trace": r"run_trace: Memory, other bytes: false\n",
         "run_trace_within": r"run_trace_within: Memory, other bytes: false\n",
+        "run_either": r"run_either: Memory, other bytes: false\n",
         "HistoryLines::open": r"HistoryLines::open: Memory\n",
         "next_line": r"next_line: Some\(Memory\), and then Some\(Memory\)\nlines before it: [012]\n",
         "write_history": r"write_history: Memory, other bytes: false\n",

@@ -122,36 +122,6 @@ impl ParamsEvent {
     }
 }
 
-impl RawEvent {
-    /// Its words in a recorder's memory.
-    #[inline]
-    pub(crate) fn words(&self) -> [u64; 8] {
-        let RawEvent { moment, tag, word, delay, prob, burst, size, answer, caller, kind, ecn, reserved } = *self;
-        let last = u64::from(caller) | u64::from(kind) << 16 | u64::from(ecn) << 24 | u64::from(reserved) << 32;
-        [moment, tag, word, delay, prob, burst, u64::from(size) | u64::from(answer) << 32, last]
-    }
-
-    /// The event with these words.
-    #[cfg(feature = "std")]
-    pub(crate) fn of_words(words: [u64; 8]) -> RawEvent {
-        let [moment, tag, word, delay, prob, burst, of_packet, last] = words;
-        RawEvent {
-            moment,
-            tag,
-            word,
-            delay,
-            prob,
-            burst,
-            size: of_packet as u32,
-            answer: (of_packet >> 32) as u32,
-            caller: last as u16,
-            kind: (last >> 16) as u8,
-            ecn: (last >> 24) as u8,
-            reserved: (last >> 32) as u32,
-        }
-    }
-}
-
 /// A record without its line feed, or why there is none.
 fn show(text: Option<Text>, code: u32, f: &mut fmt::Formatter<'_>) -> fmt::Result {
     match text.as_ref().map(|it| core::str::from_utf8(it.bytes())) {

@@ -37,6 +37,7 @@ extern crate std;
 
 mod event;
 pub mod flight;
+mod flight_event;
 #[cfg(feature = "std")]
 mod flight_text;
 mod library;

@@ -1,27 +1,32 @@
 -- How a subcommand ends that never began, and a run, a migration and an audit.
 use Rattle.std.proofs.Common.{◌≡◌, ◌^◌, ℕ, List, [], ◌∷◌, Option, Some, None, inl, inr, refl}
-use Rattle.std.specs.Prelude.{false, IfErr, IfOk, IfSome, Result, Ok, Err}
+use Rattle.std.specs.Prelude.{Bool, true, false, IfErr, IfOk, IfSome, Result, Ok, Err}
 use Rattle.std.specs.Io.KnownBytes.{Appends}
 use Rattle.clap.specs.Words.{Text}
 use Rattle.pie_record.specs.declared.fault.TraceFault.{TraceFault}
 use Rattle.pie_record.specs.declared.fault.TraceFault.TheVariants as trace_fault
 use Rattle.pie_record.specs.Fault.{IsTold, is_device}
 use Rattle.pie_trace.specs.declared.run.RunEnd.{RunEnd}
-use Rattle.pie_trace.specs.History.{end_of as end_of_trace, fault_of, history_text}
+use Rattle.pie_trace.specs.Resumed.{RunsBy, RunsEither}
 use Rattle.pie_trace.specs.Migrate.{history_events, history_fault, migrated_text}
-use Rattle.pie_record.specs.Text.{records_of}
+use Rattle.pie_record.specs.Text.{Row, records_of}
+use Rattle.pie_excerpt.specs.Beginning.{is_resumed}
 use Rattle.pie_audit.specs.declared.auditor.Finding.{Finding}
 use Rattle.pie_audit.specs.declared.auditor.Finding.TheVariants as finding
 use Rattle.pie_audit.specs.Text.{FindsEither, finding_line}
 use Rattle.pie_commands.specs.declared.end.End.TheVariants.{Done, Differs, Fault, Failed}
 use Rattle.pie_commands.specs.AuditEnds.{EndsAudits}
-use Rattle.pie_commands.specs.Ends.{EndsAudit, EndsMigrate, EndsRun, end_of, run_ends}
+use Rattle.pie_commands.specs.Ends.{EndsAudit, EndsMigrate, EndsRun, end_of, run_ends, run_ends_by}
 
 -- ---- before a subcommand begins
 
+run-failed : (kind : Bool) (rows : List Row) (before now : Option (List ℕ)) → now ≡ before → run_ends_by kind rows Failed before now
+run-failed false rows before now same = same
+run-failed true rows before now same = same
+
 pub EndsRun-failed : (known : Option (List ℕ)) (before now : Option (List ℕ)) → now ≡ before → IfSome known (λ text. EndsRun text Failed before now)
 EndsRun-failed None before now same = tt
-EndsRun-failed (Some text) before now same = same
+EndsRun-failed (Some text) before now same = run-failed (is_resumed (records_of text)) (records_of text) before now same
 
 pub EndsAudit-failed : (known : Option (List ℕ)) (before now : Option (List ℕ)) → now ≡ before
     → IfSome known (λ text. EndsAudit text Failed before now)
@@ -46,22 +51,17 @@ run_ends-so : {A : Type 0} (found : Option TraceFault) (history : List ℕ) (giv
 run_ends-so found history (Ok end) before now so = so
 run_ends-so found history (Err why) before now so = so
 
-run-answers : (found : Option TraceFault) (ended : Option RunEnd) (history : List ℕ) (given : Result RunEnd TraceFault) (before now : Option (List ℕ))
-    → IfOk given (λ end. (found ≡ None) × (ended ≡ Some end)) → IfErr given (λ why. is_device why ≡ false → found ≡ Some why)
-    → (IsTold given → Appends before now history) → Answers found history given before now
-run-answers found ended history (Ok end) before now ends faults writes = (ends.0, writes tt)
-run-answers found ended history (Err why) before now ends faults writes = λ told. (faults told, writes told)
+run-told : (kind : Bool) (rows : List Row) (given : Result RunEnd TraceFault) (before now : Option (List ℕ)) → RunsBy kind rows given before now
+    → run_ends_by kind rows (end_of given) before now
+run-told false rows (Ok end) before now ran = (ran.0, ran.2)
+run-told false rows (Err why) before now ran = ran
+run-told true rows (Ok end) before now ran = (ran.0, ran.2)
+run-told true rows (Err why) before now ran = ran
 
 pub EndsRun-told : (known : Option (List ℕ)) (given : Result RunEnd TraceFault) (before now : Option (List ℕ))
-    → IfSome known (λ text. IfOk given (λ end. (fault_of (2 ^ 32) (records_of text) ≡ None) × (end_of_trace (records_of text) ≡ Some end)))
-    → IfSome known (λ text. IfErr given (λ why. is_device why ≡ false → fault_of (2 ^ 32) (records_of text) ≡ Some why))
-    → IfSome known (λ text. IsTold given → Appends before now (history_text (2 ^ 32) (records_of text)))
-    → IfSome known (λ text. EndsRun text (end_of given) before now)
-EndsRun-told None given before now ends faults writes = tt
-EndsRun-told (Some text) given before now ends faults writes =
-    run_ends-so (fault_of (2 ^ 32) (records_of text)) (history_text (2 ^ 32) (records_of text)) given before now
-    (run-answers (fault_of (2 ^ 32) (records_of text)) (end_of_trace (records_of text)) (history_text (2 ^ 32)
-    (records_of text)) given before now ends faults writes)
+    → IfSome known (λ text. RunsEither (records_of text) given before now) → IfSome known (λ text. EndsRun text (end_of given) before now)
+EndsRun-told None given before now ran = tt
+EndsRun-told (Some text) given before now ran = run-told (is_resumed (records_of text)) (records_of text) given before now ran
 
 migrate-answers : (found : Option TraceFault) (count : ℕ) (history : List ℕ) (given : Result ℕ TraceFault) (before now : Option (List ℕ))
     → IfOk given (λ events. (found ≡ None) × (events ≡ count)) → IfErr given (λ why. is_device why ≡ false → found ≡ Some why)

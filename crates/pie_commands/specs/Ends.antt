@@ -8,7 +8,9 @@ use Rattle.pie_record.specs.Fault.{is_device}
 use Rattle.pie_trace.specs.declared.run.RunEnd.{RunEnd}
 use Rattle.pie_trace.specs.History.{fault_of, history_text}
 use Rattle.pie_trace.specs.Migrate.{history_fault, migrated_text}
-use Rattle.pie_record.specs.Text.{records_of}
+use Rattle.pie_trace.specs.Resumed.{WritesExcerpt, resumed_fault}
+use Rattle.pie_record.specs.Text.{Row, records_of}
+use Rattle.pie_excerpt.specs.Beginning.{is_resumed}
 use Rattle.pie_audit.specs.declared.auditor.Finding.{Finding}
 use Rattle.pie_audit.specs.declared.auditor.Finding.TheVariants as finding
 use Rattle.pie_audit.specs.Text.{FindsEither, finding_line}
@@ -47,9 +49,21 @@ run_ends found history Differs before now = ⊥
 run_ends found history (Fault why) before now = is_device why ≡ false → (found ≡ Some why) × Appends before now history
 run_ends found history Failed before now = now ≡ before
 
+-- .. a trace of these records that goes on from the middle of a history: what is written is as whatever history it goes on after has it
+abbrev pub excerpt_run_ends : List Row → End → Option (List ℕ) → Option (List ℕ) → Type 0
+excerpt_run_ends rows Done before now = (resumed_fault rows ≡ None) × WritesExcerpt rows before now
+excerpt_run_ends rows Differs before now = ⊥
+excerpt_run_ends rows (Fault why) before now = is_device why ≡ false → (resumed_fault rows ≡ Some why) × WritesExcerpt rows before now
+excerpt_run_ends rows Failed before now = now ≡ before
+
+-- .. a trace of either kind
+abbrev pub run_ends_by : Bool → List Row → End → Option (List ℕ) → Option (List ℕ) → Type 0
+run_ends_by false rows end before now = run_ends (fault_of (2 ^ 32) rows) (history_text (2 ^ 32) rows) end before now
+run_ends_by true rows end before now = excerpt_run_ends rows end before now
+
 -- .. the trace being this input
 abbrev pub EndsRun : List ℕ → End → Option (List ℕ) → Option (List ℕ) → Type 0
-EndsRun input = run_ends (fault_of (2 ^ 32) (records_of input)) (history_text (2 ^ 32) (records_of input))
+EndsRun input = run_ends_by (is_resumed (records_of input)) (records_of input)
 
 -- the line of how many events a run recorded, and how many records it refused
 abbrev pub counts_line : RunEnd → List ℕ

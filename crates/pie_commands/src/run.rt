@@ -12,7 +12,7 @@ use clap::ArgMatches;
 use pie_files::{NamedFiles, reader_of};
 use pie_options::{file, flag};
 use pie_progress::Watched;
-use pie_trace::{RunEnd, TraceFault, run_trace};
+use pie_trace::{RunEnd, TraceFault, run_either};
 use std::alloc::Global;
 use std::io;
 use std::io::{Read, Write};
@@ -48,7 +48,7 @@ fn run_input<H: Clock, R: Read + Drop, W: Write, E: Write>(
     ensures runs { IfSome (R.remaining input) (λ text. EndsRun text result (W.contents output.old) (W.contents output.new)) }
 {
     let watched = Watched::new(input, &mut *errors, rt, is_shown);
-    let given = run_trace(alloc, watched, output);
+    let given = run_either(alloc, watched, output);
     if is_counted {
         say_counts(errors, &given);
     }

@@ -2,13 +2,15 @@
 
 use crate::failing::{FailingWriter, Fault};
 use crate::history::{
-    EXPLAINED, HISTORY, IN_WORDS, MIGRATED, TRACE, arrived, departed, next, opening, packet,
-    write_to,
+    EXPLAINED, GONE_ON, HISTORY, IN_WORDS, MIGRATED, RESUMED, TRACE, arrived, departed, next,
+    opening, packet, write_to,
 };
 use pie_audit::{Auditor, audit};
 use pie_book::{Answer, Core};
 use pie_explain::{Choice, Form, Which, explain};
-use pie_trace::{HistoryLines, Line, RunEnd, TraceFault, migrate, run_trace, run_trace_within};
+use pie_trace::{
+    HistoryLines, Line, RunEnd, TraceFault, migrate, run_either, run_trace, run_trace_within,
+};
 use std::alloc::Global;
 use std::io;
 
@@ -16,6 +18,7 @@ use std::io;
 pub(crate) fn all(rt: &impl Print, alloc: Global) -> io::Result<()> {
     run(rt, alloc)?;
     run_within(rt, alloc)?;
+    run_resumed(rt, alloc)?;
     open_lines(rt, alloc)?;
     next_lines(rt, alloc)?;
     write(rt, alloc)?;
@@ -90,6 +93,13 @@ fn run_within(rt: &impl Print, alloc: Global) -> io::Result<()> {
     begin(rt, "run_trace_within")?;
     let result = run_trace_within(alloc, TRACE, &mut writer, 4);
     tell_run(rt, "run_trace_within", result, &writer)
+}
+
+fn run_resumed(rt: &impl Print, alloc: Global) -> io::Result<()> {
+    let mut writer = FailingWriter::new(GONE_ON, Fault::NONE);
+    begin(rt, "run_either")?;
+    let result = run_either(alloc, RESUMED, &mut writer);
+    tell_run(rt, "run_either", result, &writer)
 }
 
 fn open_lines(rt: &impl Print, alloc: Global) -> io::Result<()> {

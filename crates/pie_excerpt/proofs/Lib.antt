@@ -3,3 +3,4 @@ pub mod BackFacts
 pub mod WrittenFacts
 mod Examples
 pub mod BeginningFacts
+pub mod AgainFacts

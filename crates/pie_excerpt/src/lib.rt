@@ -13,9 +13,9 @@ mod writing;
 mod written;
 
 pub use beginning::{Begun, begin_resumed, is_resume};
-pub use law::records_are_read_back;
+pub use law::{beginnings_are_written_again, records_are_read_back};
 pub use line::Line;
 pub use reading::{read_queued, read_resume};
 pub use resume::Resume;
 pub use writing::{make_resume, put_queued, put_resume};
-pub use written::write_excerpt;
+pub use written::{add_queue, write_excerpt};

@@ -48,7 +48,7 @@ drop-has [] place field e = cc
 drop-has (first ∷ rest) zero field e = let same : first ≡ field = cc in ap (λ (f : List ℕ). f ∷ rest) same
 drop-has (first ∷ rest) (suc place) field e = drop-has rest place field e
 
-has-all : (row : Row) (place : ℕ) (fields : Row) → length row ≡ place + length fields → HasAll row place fields → drop place row ≡ fields
+pub has-all : (row : Row) (place : ℕ) (fields : Row) → length row ≡ place + length fields → HasAll row place fields → drop place row ≡ fields
 has-all row place [] long has = drop_all place row (omega arith)
 has-all row place (field ∷ fields) long has =
     drop-has row place field has.0
@@ -56,7 +56,7 @@ has-all row place (field ∷ fields) long has =
 
 -- ---- what was read stands there as it is written
 
-number-has : (row : Row) (place most n : ℕ) → most < 2 ^ 64 → number_at row place most ≡ Ok n → Has row place (decimal n)
+pub number-has : (row : Row) (place most n : ℕ) → most < 2 ^ 64 → number_at row place most ≡ Ok n → Has row place (decimal n)
 number-has row place most n small e = by (field_at row place) e
   where
     inner : (field : List ℕ) (o : Option ℕ) → number most field ≡ o → ok_or o flaw.Number ≡ Ok n
@@ -89,7 +89,7 @@ ecn-word word e is =
     by false false false true p q r s is = this ecn.Ce s is
     by false false false false p q r s is = cc
 
-ecn-has : (row : Row) (place : ℕ) (e : Ecn) → ecn_at row place ≡ Ok e → Has row place (ecn_word e)
+pub ecn-has : (row : Row) (place : ℕ) (e : Ecn) → ecn_at row place ≡ Ok e → Has row place (ecn_word e)
 ecn-has row place e is = by (field_at row place) is
   where
     inner : (field : List ℕ) (o : Option Ecn) → ecn_of field ≡ o → ok_or o flaw.Word ≡ Ok e
@@ -103,7 +103,7 @@ ecn-has row place e is = by (field_at row place) is
     by None is = cc
     by (Some field) is = inner field (ecn_of field) refl is
 
-word-has : (row : Row) (word : List ℕ) → is_kind row word ≡ true → Has row 0 word
+pub word-has : (row : Row) (word : List ℕ) → is_kind row word ≡ true → Has row 0 word
 word-has row word e = by (field_at row 0) e
   where
     by : (field : Option (List ℕ)) → is_word word field ≡ true → field ≡ Some word

@@ -3,6 +3,8 @@ pub mod RunOfSteps
 pub mod StepFacts
 pub mod RunFacts
 pub mod EndFacts
+pub mod ResumedFacts
+pub mod GoingFacts
 pub mod WriteFacts
 pub mod RunBack
 pub mod Examples

@@ -13,7 +13,7 @@ use Rattle.pie_record.specs.declared.version.Version.{Version}
 use Rattle.pie_record.specs.Fault.{is_device}
 use Rattle.pie_record.specs.Text.{Row, text_of}
 use Rattle.pie_record.specs.TraceRecord.{request_of}
-use Rattle.pie_trace.specs.History.{end_of, fault_of, first_fault, history_text, refused_count, replies, requests_of, steps_of}
+use Rattle.pie_trace.specs.History.{end_from, end_of, fault_of, first_fault, history_text, refused_count, replies, requests_of, steps_of}
 use Rattle.pie_trace.specs.History.{text_left}
 use Rattle.pie_trace.specs.Reply.{Reply, after, history_row, is_refused, reply}
 
@@ -93,6 +93,15 @@ pub record AreStopped (version : Version) (most : ℕ) (opening : Opening) (all 
     (before now : Option (List ℕ)) : Type 0 where
   pub fault : first_fault most first all ≡ Some why
   pub written : (from : Progress) → IsAt old opening from → Appends before now (text_left version most opening first from all)
+
+-- how a run ends that began with the book `old` before the record with the number `first`, where neither the reader, the writer nor memory failed
+abbrev pub RunsFrom : Version → ℕ → Opening → List Row → ℕ → BookView → Result RunEnd TraceFault → Option (List ℕ) → Option (List ℕ) → Type 0
+RunsFrom version most opening all first old (Ok end) before now =
+    (first_fault most first all ≡ None)
+    × ((from : Progress) → IsAt old opening from
+    → (end ≡ end_from opening from all) × Appends before now (text_left version most opening first from all))
+RunsFrom version most opening all first old (Err why) before now =
+    is_device why ≡ false → AreStopped version most opening all first old why before now
 
 -- how a run of a whole trace ends, where neither the reader, the writer nor memory failed
 abbrev pub Ends : ℕ → List Row → Result RunEnd TraceFault → Option (List ℕ) → Option (List ℕ) → Type 0

@@ -1,7 +1,11 @@
-//! The law of history texts: they are read back.
-ghost use Rattle.std.specs.Prelude.{◌≡◌, ◌<◌, ◌≤◌, ◌^◌, ◌∷◌, ℕ, List, Ok};
+//! The laws of history texts, that they are read back, and of traces that go on from the middle of a history.
+ghost use Rattle.std.specs.Prelude.{◌≡◌, ◌<◌, ◌≤◌, ◌^◌, ◌∷◌, ◌++◌, ℕ, List, Ok};
 ghost use Rattle.pie_book.specs.declared.opening.Opening.{Opening};
-ghost use Rattle.pie_trace.specs.History.{history_text};
+ghost use Rattle.pie_book.specs.Run.{progress_after, start};
+ghost use Rattle.pie_record.specs.declared.trace_record.Request.{Request};
+ghost use Rattle.pie_trace.specs.History.{history_text, progress_at_end, replies, steps_of};
+ghost use Rattle.pie_trace.specs.Reply.{let_go};
+ghost use Rattle.pie_trace.specs.Resumed.{going_on};
 ghost use Rattle.pie_record.specs.Opening.{opening_of};
 ghost use Rattle.pie_record.specs.ReadBack.{TellsHistory};
 ghost use Rattle.pie_trace.specs.RunLines.{run_lines};
@@ -20,3 +24,17 @@ pub fn history_texts_are_read_back()
 {
     all_numbers_are_held();
 }
+
+/// A trace that goes on from the middle of a history is answered as the whole from there on: where a whole trace asks for some things, then lets
+/// all events of its tail go, and then asks for others, these are answered as by the run that goes on after the history so far, and both runs
+/// stand in the same place at their end (this project's own).
+///
+/// It does nothing: its contract is the law.
+#[tactic(auto, using(crate::proofs::GoingFacts::whole_replies, crate::proofs::GoingFacts::whole_ends))]
+pub fn resumed_runs_go_on_as_the_whole()
+    ensures answers { (opening : Opening) (earlier later : List Request) → let there = progress_at_end opening earlier in
+        replies opening start (earlier ++ Request.Fold there.held ∷ later)
+        ≡ replies opening start earlier ++ let_go there.held ∷ replies opening (going_on there.history) later }
+    ensures ends { (opening : Opening) (earlier later : List Request) → let there = progress_at_end opening earlier in
+        progress_at_end opening (earlier ++ Request.Fold there.held ∷ later) ≡ progress_after opening (going_on there.history) (steps_of later) }
+{}

@@ -8,6 +8,9 @@
 //! run), and else its first fault (`faults`); what was written is the history text (`writes`). They end over a reader that
 //! never ends.
 //!
+//! `run_either`: the same of a whole trace; of one that goes on from the middle of a history, for every history that comes to the numbers and
+//! packets with which it begins, what a run of the whole would write and tell from there on, where its tail is empty (`RunsExcerpt`).
+//!
 //! `write_history`: what was written is the opening's record and a record for each event (clause `written`), and it is read back as the same
 //! opening and events (`read_back`). `history_texts_are_read_back` is the same law of what a run writes.
 //!
@@ -20,16 +23,17 @@ pub mod law;
 pub mod migration;
 pub mod migration_law;
 mod number_ranges;
+mod resumed;
 pub mod run;
 mod session;
 pub mod write;
 
-pub use law::history_texts_are_read_back;
+pub use law::{history_texts_are_read_back, resumed_runs_go_on_as_the_whole};
 pub use migration::migrate;
 pub use migration_law::{
     migrated_histories_are_read_back, migrated_runs_are_runs_of_version_two,
     migrating_again_changes_nothing,
 };
 pub use pie_record::{Flaw, HistoryLines, Line, OpenFault, TraceFault, Version};
-pub use run::{RunEnd, run_trace, run_trace_within};
+pub use run::{RunEnd, run_either, run_trace, run_trace_within};
 pub use write::write_history;

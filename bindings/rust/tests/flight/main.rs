@@ -60,7 +60,7 @@ fn check_numbers(text: &[u8], wanted: u64, count: u64) {
 
 #[test]
 fn sizes() {
-    assert_eq!(flight::words(100_000, 200), Some(1_376_192)); // as pie_flight_bytes says
+    assert_eq!(flight::words(100_000, 200), Some(626_178)); // as pie_flight_bytes says
     for (events, packets) in [(0, 1), (1, 0), ((1 << 32) + 1, 1), (1, (1 << 20) + 1)] {
         assert_eq!(flight::words(events, packets), None);
     }

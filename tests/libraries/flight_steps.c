@@ -1,0 +1,180 @@
+/* Tries include/pie_flight.h with a copy and a writer of which each is stopped between two words while the other goes on: what the copy then has is
+ * decided again, or it was made too late. One thread does both, so a seed makes the same steps again.
+ * usage: flight_steps SEED ROUNDS */
+#define _DEFAULT_SOURCE
+#include "pie_ring.h"
+
+/* A word of the recorder's memory was loaded, or stored. */
+static void after_word(const PIE_RING_WORD *word, int is_stored);
+
+static inline uint64_t load_word(const PIE_RING_WORD *word) {
+    uint64_t value = PIE_RING_LOAD(*word);
+    after_word(word, 0);
+    return value;
+}
+
+static inline void store_word(PIE_RING_WORD *word, uint64_t value) {
+    PIE_RING_STORE(*word, value);
+    after_word(word, 1);
+}
+
+#undef PIE_RING_LOAD
+#undef PIE_RING_STORE
+#define PIE_RING_LOAD(word) load_word(&(word))
+#define PIE_RING_STORE(word, value) store_word(&(word), (value))
+#define PIE_FLIGHT_STORE(word, value) store_word(&(word), (value))
+
+#include "flight_again.h"
+
+#include <setjmp.h>
+
+#define MOST_WORDS 4096 /* of a recorder's memory here */
+#define STOPS 3         /* of a copy, at the most */
+
+/* Who puts events, as it stands between two of them. */
+struct writer {
+    struct queue queue;
+    struct pie_flight flight;
+};
+
+enum who { NOBODY, COPY, WRITER };
+
+static struct {
+    enum who goes;                      /* and may be stopped */
+    const PIE_RING_WORD *begin, *end;   /* of the recorder's memory */
+    const PIE_RING_WORD *at;            /* where the copy is stopped next, NULL where no word says it */
+    uint64_t loads;                     /* .. and with none, behind so many loads from here on */
+    uint64_t stores;                    /* the writer is stopped behind so many stores from here on */
+    uint64_t stops, seed;
+    jmp_buf stopped;
+} steps;
+
+static struct writer writer, before; /* `before`: as it was before the event in which it was stopped */
+static int is_within;                /* it was stopped in an event */
+static uint64_t meanwhile;           /* events that it kept since the copy began */
+static struct text text;
+static uint64_t most_words;
+
+static void keep_one(void) {
+    struct pie_event event;
+    step(&writer.queue, &event);
+    pie_flight_keep(&writer.flight, &writer.queue.pie, &event);
+}
+
+/* Ends the event in which the writer was stopped, and keeps so many more events, or refused calls. (What it had stored it stores again, the same.) */
+static void keep_events(uint64_t events) {
+    uint64_t kept;
+    if (is_within) {
+        writer = before;
+        events++;
+    }
+    is_within = 0;
+    kept = writer.flight.count;
+    for (; events != 0; events--)
+        keep_one();
+    meanwhile += writer.flight.count - kept;
+}
+
+/* Begins one more event, which is stopped behind so many stores if it has more. */
+static void keep_part(uint64_t stores) {
+    before = writer;
+    steps.stores = stores;
+    steps.goes = WRITER;
+    is_within = 1;
+    if (setjmp(steps.stopped) == 0) {
+        keep_one();
+        is_within = 0;
+    }
+    steps.goes = NOBODY;
+    meanwhile++;
+}
+
+/* The next snapshot's number: it is taken behind the next event that is kept. */
+static const PIE_RING_WORD *up_to_a_snapshot(void) {
+    while (writer.flight.count + 1 < writer.flight.next)
+        keep_events(1);
+    return writer.flight.words + PIE_FLIGHT_HEAD + writer.flight.taken % writer.flight.snapshots * PIE_FLIGHT_SNAPSHOT;
+}
+
+/* The copy is stopped: the writer goes on for a while. */
+static void change_over(void) {
+    int is_directed = steps.at != NULL;
+    steps.goes = NOBODY;
+    steps.at = NULL;
+    if (!is_directed)
+        keep_events(below(&steps.seed, below(&steps.seed, 2) == 0 ? 4 : 40));
+    if (is_directed || below(&steps.seed, 2) == 0)
+        keep_part(below(&steps.seed, is_directed ? 60 : 12));
+    steps.loads = 1 + below(&steps.seed, most_words);
+    steps.goes = COPY;
+}
+
+static void after_word(const PIE_RING_WORD *word, int is_stored) {
+    if (steps.goes == WRITER && is_stored && steps.stores-- == 0)
+        longjmp(steps.stopped, 1);
+    if (steps.goes != COPY || is_stored || word < steps.begin || word >= steps.end || steps.stops == 0)
+        return;
+    if (steps.at != NULL ? word == steps.at : --steps.loads == 0) {
+        steps.stops--;
+        change_over();
+    }
+}
+
+/* A dump while the writer goes on; answers whether it was made in time. */
+static int one_dump(void *memory, size_t bytes, void *scratch, uint64_t wanted, int is_directed) {
+    uint64_t first = 0, last, started;
+    int answer;
+    text.count = 0;
+    steps.at = is_directed ? up_to_a_snapshot() : NULL;
+    started = writer.flight.count;
+    steps.begin = (const PIE_RING_WORD *)memory;
+    steps.end = steps.begin + bytes / 8;
+    steps.loads = 1 + below(&steps.seed, most_words);
+    steps.stops = 1 + below(&steps.seed, STOPS);
+    meanwhile = 0;
+    steps.goes = COPY;
+    answer = pie_flight_dump(memory, bytes, scratch, take, &text);
+    steps.goes = NOBODY;
+    if (answer == PIE_FLIGHT_GONE) {
+        expect(meanwhile > wanted / 8 + 1, "too late, though few events came meanwhile", meanwhile);
+        return 0;
+    }
+    expect(answer == PIE_FLIGHT_DONE, "a dump answers", (uint64_t)answer);
+    last = decide_again(&text, &first);
+    expect(last != 0 || (first == 0 && started == 0), "a text of a copy that was stopped differs", started);
+    expect(last >= started && last <= started + meanwhile, "another last event than one of those meanwhile", last);
+    expect(meanwhile > wanted / 8 + 1 || first == 0 || last - first >= wanted, "fewer events than wanted", last - first);
+    return 1;
+}
+
+static uint64_t one_round(uint64_t seed) {
+    uint64_t wanted = 1 + below(&seed, 20), dumps = 0, i;
+    size_t bytes;
+    static uint64_t memory[MOST_WORDS], scratch[MOST_WORDS];
+    open_queue(&writer.queue, word_of(&seed));
+    writer.queue.opening.packets = 1 + below(&seed, 12);
+    bytes = pie_flight_bytes(wanted, writer.queue.opening.packets);
+    expect(bytes <= sizeof memory, "too small for this test", bytes);
+    memset(memory, 0x5a, sizeof memory);
+    expect(pie_flight_open(&writer.flight, memory, bytes, wanted, &writer.queue.opening, &writer.queue.pie), "a recorder opens", bytes);
+    most_words = bytes / 8 + 20;
+    is_within = 0;
+    for (i = 0; i < 40; i++) {
+        keep_events(below(&seed, 60));
+        dumps += (uint64_t)one_dump(memory, bytes, scratch, wanted, below(&seed, 2) == 0);
+    }
+    return dumps;
+}
+
+int main(int count, char **words) {
+    uint64_t seed = count == 3 ? strtoull(words[1], NULL, 10) : 1, rounds = count == 3 ? strtoull(words[2], NULL, 10) : 200, dumps = 0, i;
+    text.bytes = (char *)malloc(MOST_TEXT);
+    steps.seed = seed;
+    for (i = 0; i < rounds; i++)
+        dumps += one_round(seed * 1000 + i);
+    printf("flight: %" PRIu64 " dumps of %" PRIu64 " whose copy and writer were stopped between two words, each decided again; the others too late\n",
+           dumps, 40 * rounds);
+    expect(dumps > 10 * rounds, "too few dumps in time", dumps);
+    free(text.bytes);
+    return 0;
+}

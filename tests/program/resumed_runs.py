@@ -1,0 +1,166 @@
+#!/usr/bin/env python3
+"""Runs traces that go on from the middle of a history: random histories, in each choice of the optional elements, resumed at places all over them by
+tests/shared/reference_resumed.py, and behind that the commands from there, without their answers. What `pie run` writes is the beginning as it was
+read, and then line for line what it writes of the whole trace from there on, with the whole's registers, statistics and number of events. Then
+other commands in place of those, parameters that are changed from there on, folds, and requests that are refused, in bounded and rolling books whose
+tail or whose limit of events is nearly full: each line is that of the look-backs of reference.py, over the history and what came after it, where the
+tail begins empty. What was written is found clean. And with a change in the text: its fault, and how far the history text goes.
+
+usage: tests/program/resumed_runs.py [PROGRAM [FIRST_SEED [RUNS]]]      PROGRAM: crates/pie/out/pie where none is given
+needs: program
+"""
+import random
+import subprocess
+import sys
+from pathlib import Path
+
+sys.path.insert(0, str(Path(__file__).resolve().parents[1] / "shared"))
+from checks import check, finish  # noqa: E402
+from reference import PROFILES, Book, random_command, record_of  # noqa: E402
+from reference_resumed import begun, random_book, resumed_at  # noqa: E402
+from reference_texts import Fault, answered, error_of, records, request, text_of, up_to_fault  # noqa: E402
+from running import PROGRAM  # noqa: E402
+
+FIRST, RUNS = ([int(word) for word in sys.argv[2:4]] + [1, 16][len(sys.argv[2:4]) :])[:2]
+# How many commands a history has at most, and how many places lie between two at which it is resumed.
+STEPS, STEP = 60, 7
+# How many records behind the beginnings were refused, by their codes, and how many changed texts had which kind of fault.
+refused, faults = {}, {"beginning": 0, "later": 0, "none": 0}
+
+
+def ran(rows):
+    """What `pie run --count` ends with of these records: the status, its output and its error stream."""
+    text = "".join(map(text_of, rows))
+    done = subprocess.run([PROGRAM, "run", "--count"], input=text, capture_output=True, text=True, check=False)
+    return done.returncode, done.stdout, done.stderr
+
+
+def check_clean(seed, n, text, events):
+    """Whether what a run wrote is found clean, with the number of the whole's last event."""
+    done = subprocess.run([PROGRAM, "audit"], input=text, capture_output=True, text=True, check=False)
+    check(done.stdout == f"clean,{events}\n", f"seed {seed}, resumed after event {n}: the audit of what was run says {done.stdout}{done.stderr}")
+
+
+def gone_on(whole, n, tail, most, is_rolling):
+    """A book after the first n events of another one, with an empty tail and limits of its own."""
+    book = Book(whole.packets, tail, most, list(whole.opened.values()), whole.start, is_rolling, whole.profile, whole.elements)
+    book.events = list(whole.events[:n])
+    return book
+
+
+def counted(book, refusals):
+    return f"pie: {len(book.events)} events, {refusals} refused records\n"
+
+
+def check_same(seed, whole, n, of_whole):
+    """Whether the commands after n events are answered as in the run of the whole, of which these are the lines."""
+    beginning = resumed_at(whole, n, n % 2 == 0)
+    rows = [*beginning, *(record_of(caller, command) for caller, command, _ in whole.events[n:]), ["show"], ["tally"]]
+    later = of_whole[len(of_whole) - len(rows) + len(beginning) :]
+    want = 0, "".join([*map(text_of, beginning), *later]), counted(whole, 0)
+    check(ran(rows) == want, f"seed {seed}, resumed after event {n}: run otherwise than the whole")
+    check_clean(seed, n, want[1], len(whole.events))
+    return len(later)
+
+
+def other_row(chance, book, tag):
+    """A record that is no command of the history, for a book that stands so: it is answered or refused."""
+    kind = chance.randrange(10)
+    if kind == 0:
+        return ["fold", chance.choice((0, 1, 3, book.held, book.held + 1))]
+    if kind == 1:
+        return ["params", 9, book.moment(len(book.events)), *chance.choice(PROFILES)[:8], chance.choice((1000, 1024, 65536))]
+    if kind == 2:
+        return [chance.choice(("show", "tally"))]
+    if kind == 3:
+        return ["depart", 9, 2**60]
+    if kind == 4:
+        return ["arrive", 9, 0, tag, chance.choice((0, 65536)), "not", 0]
+    return record_of(chance.randrange(1, 4), random_command(chance, book, tag))
+
+
+def check_other(seed, whole, n, chance):
+    """Whether other commands after n events are answered as the look-backs over those events and what came after them say."""
+    tail, is_rolling = chance.choice((1, 4, 40)), chance.randrange(3) == 0
+    book = gone_on(whole, n, tail, n + chance.choice((3, 10, 1000)), is_rolling)
+    beginning = resumed_at(book, n, n % 2 == 0)
+    rows = [list(map(str, row)) for row in beginning]
+    # The parameters are other ones from here on.
+    later = [["params", 9, book.moment(n), *chance.choice(PROFILES)]]
+    wanted, refusals = [], 0
+    for place in range(24):
+        row = later[0] if place == 0 else other_row(chance, book, 1000 + place)
+        number = len(rows) + 1
+        rows.append(list(map(str, row)))
+        told = answered(book, 3, number, rows[-1], request(number, rows[-1]))
+        wanted.append(told)
+        if told[0] == "refused":
+            refusals += 1
+            refused[told[2]] = refused.get(told[2], 0) + 1
+    want = 0, "".join(map(text_of, [*beginning, *wanted])), counted(book, refusals)
+    got = ran(rows)
+    check(got == want, f"seed {seed}, resumed after event {n}: {got} of other commands, where the look-backs say {want}")
+    check_clean(seed, n, got[1], len(book.events))
+    return rows, len(beginning)
+
+
+def changed(rows, beginning, chance):
+    """The records with one field changed, one record left out, or two exchanged."""
+    rows = [list(row) for row in rows]
+    kind, place = chance.randrange(4), chance.choice((0, chance.randrange(beginning), chance.randrange(len(rows))))
+    if kind == 0:
+        return rows[:place] + rows[place + 1 :]
+    if kind == 1:
+        other = chance.randrange(len(rows))
+        rows[place], rows[other] = rows[other], rows[place]
+        return rows
+    at = chance.randrange(len(rows[place]))
+    rows[place][at] = chance.choice(["0", "1", "65536", str(2**64 - 1), str(2**64), "", "x", str(chance.randrange(2**20))])
+    return rows
+
+
+def check_changed(seed, n, rows):
+    """Whether the fault of these records is the reference's, and the history text ends where it does."""
+    rows = records("".join(map(text_of, rows)))
+    status, output, error = ran(rows)
+    try:
+        _, read, _ = begun(rows)
+    except Fault as fault:
+        faults["beginning"] += 1
+        want = 1, "", error_of(fault)
+        got = status, output, error
+        check(got == want, f"seed {seed}, after event {n}: {got} of a beginning with a fault; wanted {want}")
+        return
+    good, fault = up_to_fault(rows[read - 1 :], lambda number, row: request(number + read - 1, row))
+    faults["later" if fault else "none"] += 1
+    lines = output.splitlines(keepends=True)
+    check(lines[:read] == list(map(text_of, rows[:read])), f"seed {seed}, after event {n}: the beginning was not written as it was read")
+    check(len(lines) == read + len(good), f"seed {seed}, after event {n}: {len(lines)} lines of {read + len(good)} records without a fault")
+    is_told = (status, error) == (1, error_of(fault)) if fault else (status, error[:5], error[-17:]) == (0, "pie: ", " refused records\n")
+    check(is_told, f"seed {seed}, after event {n}: {status}, {error}, wanted {fault}")
+
+
+def main():
+    texts, lines = 0, 0
+    for seed in range(FIRST, FIRST + RUNS):
+        whole, chance = random_book(seed, STEPS), random.Random(seed)
+        opening = ["open3", *resumed_at(whole, 0)[0][1:20]]
+        trace = [opening, *(record_of(caller, command) for caller, command, _ in whole.events), ["show"], ["tally"]]
+        status, output, _ = ran(trace)
+        of_whole = output.splitlines(keepends=True)
+        check((status, len(of_whole)) == (0, len(trace)), f"seed {seed}: the run of the whole ended with {status}, {len(of_whole)} lines")
+        for n in range(seed % STEP, len(whole.events) + 1, STEP):
+            lines += check_same(seed, whole, n, of_whole)
+            rows, beginning = check_other(seed, whole, n, chance)
+            for _ in range(3):
+                check_changed(seed, n, changed(rows, beginning, chance))
+            texts += 1
+    check(lines > 0 and set(refused) == set(range(1, 8)), f"not each refusal was met: {refused}")
+    check(min(faults.values()) > 0, f"the changes showed too little: {faults}")
+    told = ", ".join(f"{count} with the code {code}" for code, count in sorted(refused.items()))
+    print(f"{texts} traces that go on, {lines} lines of them as in the whole's run; of other commands there were refused {told}")
+    print(f"with a change: {faults['beginning']} with a fault of the beginning, {faults['later']} with a later one, {faults['none']} with none")
+    finish()
+
+
+main()

@@ -68,7 +68,7 @@ pub(crate) fn command<'a>(alloc: Global) -> Result<Command<'a>, AllocError>
         Argument {
             name: "around",
             takes: Takes::Number(0, u64::MAX),
-            help: "With --event: so many events before and after it too",
+            help: "With an event: so many before and after it too",
         },
         Argument {
             name: "last",

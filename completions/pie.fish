@@ -30,6 +30,8 @@ complete -c pie -n '__fish_seen_subcommand_from cut' -l from -x -d 'the events a
 complete -c pie -n '__fish_seen_subcommand_from cut' -l to -x -d 'the events at this moment and earlier'
 complete -c pie -n '__fish_seen_subcommand_from cut' -l event -x -d 'the event with this number, from 1'
 complete -c pie -n '__fish_seen_subcommand_from cut' -l around -x -d 'so many before and after it too'
+complete -c pie -n '__fish_seen_subcommand_from cut' -l last -x -d 'the last events of a file'
+complete -c pie -n '__fish_seen_subcommand_from cut' -l every -x -d 'all events, in segments of so many'
 complete -c pie -n '__fish_seen_subcommand_from storm' -l senders -x -d 'how many senders, 2 to 8'
 complete -c pie -n '__fish_seen_subcommand_from storm' -l packets -x -d 'how many packets each sender has, 1 to 10000'
 complete -c pie -n '__fish_seen_subcommand_from storm' -l burst -x -d 'how many packets a sender hands in at once, 1 to 1024'

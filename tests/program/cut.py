@@ -2,8 +2,8 @@
 """Cuts histories by `pie cut` and holds each excerpt to the whole: the histories of examples/, those of the worked rows, and random ones, in each
 choice of the optional elements; small ones at each event, and others at random ones. An excerpt is clean, with the number of the whole's event with
 which it ends; its explanations are those of the whole, number for number, and its sums those of the whole at these moments. Of a random history it
-is, byte for byte, the text that tests/shared/reference_resumed.py makes of look-backs over the whole. Then faults, events that differ, choices of
-which there is no event, and what becomes of the file that -o names.
+is, byte for byte, the text that tests/shared/reference_resumed.py makes of look-backs over the whole. Then faults, events that differ, choices
+of which there is no event, and what becomes of the file that -o names.
 
 usage: tests/program/cut.py [PROGRAM [FIRST_SEED [RUNS]]]      PROGRAM: crates/pie/out/pie where none is given
 needs: program
@@ -24,7 +24,7 @@ FIRST, RUNS = ([int(word) for word in sys.argv[2:4]] + [1, 12][len(sys.argv[2:4]
 EVENTS, SMALL, PLACES = 60, 12, 6
 NOTES = ("refused,", "folded,", "shown,", "tallied,")
 DIFFERS = "event {} is not what the rules give there, so what comes after it is not cut"
-tried = {"excerpts": 0, "summed up": 0, "cut again": 0}
+tried = {"excerpts": 0, "summed up": 0, "cut again": 0, "segments": 0}
 
 
 def cut(text, *words):
@@ -95,11 +95,77 @@ def check_part(history, words, first, last):
 
 
 def hold(history, chance):
-    parts = [(check_part(history, words, first, last), words, last) for words, first, last in choices(history, chance)]
+    chosen = list(choices(history, chance))
+    parts = [(check_part(history, words, first, last), words, last) for words, first, last in chosen]
     status, found = audited([part for part, *_ in parts])
     check(status == 0, f"{history.name}: status {status} of excerpts that are clean")
     for (_, words, last), got in zip(parts, found):
         check(got == (f"clean,{last}", ""), f"{history.name}: cut {' '.join(words)}: its audit is {got}")
+    hold_again(history, chance, [(it, first) for it, (_, first, _) in zip(parts, chosen)])
+
+
+def hold_again(history, chance, parts):
+    """An excerpt of an excerpt is that of the whole; of one that doesn't tell what set the probability, it is so told as far as that has it."""
+    for (part, words, last), first in parts:
+        event = chance.randrange(first, last + 1)
+        words = ["--event", str(event), "--around", str(chance.choice((0, 1, 5)))]
+        start, end = max(first, event - int(words[3])), min(last, event + int(words[3]))
+        around = (end - start) // 2
+        middle = ["--event", str(start + around), "--around", str(around)]
+        if end - start == 2 * around:
+            tried["cut again"] += 1
+            check(cut(part, *words) == cut(history.text, *middle), f"{history.name}: events {first} to {last} cut again {' '.join(words)}")
+
+
+def named(text, *words):
+    """The same of a file that has a name."""
+    with tempfile.TemporaryDirectory() as folder:
+        file = Path(folder) / "history"
+        file.write_bytes(text.encode())
+        status, output, errors = run(["cut", *words, str(file)], b"")
+        return status, output.decode(), errors.decode().removeprefix("pie: ").rstrip("\n")
+
+
+def hold_last(history, chance):
+    """The last events of a file, also where there are fewer; also of an excerpt."""
+    for many in (1, chance.randrange(1, history.count + 1), history.count, history.count + 5, 2**64 - 1):
+        first = max(1, history.count - many + 1)
+        wanted = cut(history.text, "--event", str(history.count), "--around", str(history.count - first))
+        check(named(history.text, "--last", str(many)) == wanted, f"{history.name}: --last {many}")
+        part = cut(history.text, "--event", str(history.count), "--around", str(history.count // 2))[1]
+        first = max(first, history.count - history.count // 2)
+        wanted = cut(part, "--event", str(history.count), "--around", str(history.count - first))
+        check(named(part, "--last", str(many)) == wanted, f"{history.name}: --last {many} of an excerpt")
+
+
+def segments_of(text):
+    """The texts that csplit makes of segments: each begins with a record that resumes."""
+    parts = []
+    for line in text.splitlines(keepends=True):
+        if line.startswith("resume,"):
+            parts.append("")
+        parts[-1] += line
+    return parts
+
+
+def hold_segments(history, chance):
+    """Segments are the excerpts of their events, one after another, and an audit says that they follow each other."""
+    for every in sorted({1, chance.randrange(1, history.count + 1), history.count, history.count + 1} - ({1} if history.count > SMALL else set())):
+        status, text, errors = cut(history.text, "--every", str(every))
+        what = f"{history.name}: --every {every}"
+        check((status, errors) == (0, ""), f"{what}: status {status}, {errors}")
+        parts = segments_of(text)
+        check(len(parts) == -(-history.count // every), f"{what}: {len(parts)} segments")
+        ends = [min(history.count, every * (place + 1)) for place in range(len(parts))]
+        for place, (part, last) in enumerate(zip(parts, ends)):
+            tried["segments"] += 1
+            first = every * place + 1
+            if history.book:
+                check(part == history.part(first, last), f"{what}: segment {place} is another excerpt than the reference's")
+            elif place in (0, len(parts) - 1):
+                from_first, around = [cut(history.text, "--event", str(last), "--around", str(last - first)), last - first]
+                check(from_first[1].startswith(part) and around >= 0, f"{what}: segment {place} is another excerpt")
+        check(audited(parts) == (0, [(f"clean,{last}", "") for last in ends]), f"{what}: {audited(parts)}")
 
 
 def check_differing(history, chance):
@@ -157,6 +223,8 @@ def main():
     for history in histories():
         if history.count:
             hold(history, chance)
+            hold_last(history, chance)
+            hold_segments(history, chance)
             check_differing(history, chance)
             check_nothing(history)
     check_file(History("overload", (ROOT / "examples/overload.history").read_text()))

@@ -68,11 +68,18 @@ mistake "error: invalid value '0' for '--event <N>': 0 is not in 1..184467440737
 mistake "error: a value is required for '--from <MOMENT>' but none was supplied" cut --from
 mistake "error: unexpected argument 'more' found" cut one more
 # Words that choose no events, or choose in two ways.
-unchosen='pie: cut takes --from, --to or both, or --event N, which may have --around M; see pie cut --help'
-for words in '' '--around 3' '--event 3 --from 2' '--event 3 --to 2' '--around 3 --from 2' '--event 3 --around 1 --from 1 --to 2'; do
+unchosen='pie: cut takes --from, --to or both, or --event N, which may have --around M, or --last N, or --every N; see pie cut --help'
+for words in '' '--around 3' '--event 3 --from 2' '--event 3 --to 2' '--around 3 --from 2' '--event 3 --around 1 --from 1 --to 2' \
+    '--last 3 --event 3' '--last 3 --every 3' '--every 3 --to 1s' '--last 3 --around 1' '--every 3 --around 1' '--last 3 --from 0'; do
     mistake "$unchosen" cut $words
 done
 mistake 'pie: --from is after --to: no event is at both' cut --from 2 --to 1ns
+for words in '' -; do
+    mistake 'pie: cut --last reads a file twice, so it takes one that has a name' cut --last 3 $words
+done
+mistake "error: invalid value '0' for '--last <N>': 0 is not in 1..18446744073709551615" cut --last 0
+mistake "error: invalid value '0' for '--every <N>': 0 is not in 1..18446744073709551615" cut --every 0
+mistake 'pie: one: No such file or directory (os error 2)' cut --last 3 one
 mistake 'pie: --from: a moment is whole nanoseconds, or a number with ns, us, ms or s, such as 1500000, 1.5ms or 2s' cut --from soon
 mistake "error: invalid value '1' for '--senders <N>': 1 is not in 2..=8" storm --senders 1
 mistake "error: invalid value '9' for '--senders <N>': 9 is not in 2..=8" storm --senders 9

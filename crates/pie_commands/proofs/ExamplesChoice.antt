@@ -12,7 +12,8 @@ use Rattle.pie_units.specs.Scale.{is_word, time_scale}
 use Rattle.pie_units.specs.Written.{digit_count, number_after}
 use Rattle.pie_options.specs.Words.{options_in}
 use Rattle.pie_commands.specs.Choice.{choice_of}
-use Rattle.pie_commands.specs.CutEnds.{around, between, span_of}
+use Rattle.pie_commands.specs.declared.cut.Wanted.TheVariants.{Part, Last, Every}
+use Rattle.pie_commands.specs.CutEnds.{around, between, wanted_of}
 
 -- these events, at every moment
 abbrev at_all_moments : Which → Choice
@@ -51,18 +52,32 @@ two-chosen name = refl
 
 -- ---- `pie cut`
 
-around-cut : (name : Text) → span_of (options_in (name ∷ codes "cut" ∷ codes "--event" ∷ codes "10" ∷ codes "--around=3" ∷ [])) ≡ Some (around 10 3)
+around-cut : (name : Text) → wanted_of (options_in (name ∷ codes "cut" ∷ codes "--event" ∷ codes "10" ∷ codes "--around=3" ∷ []))
+    ≡ Some (Part (around 10 3))
 unfolding clap_on_literals
 around-cut name = refl
 
-from-cut : (name : Text) → span_of (options_in (name ∷ codes "cut" ∷ codes "--from" ∷ codes "2s" ∷ [])) ≡ Some (between 2_000_000_000 (2 ^ 64 - 1))
+from-cut : (name : Text) → wanted_of (options_in (name ∷ codes "cut" ∷ codes "--from" ∷ codes "2s" ∷ []))
+    ≡ Some (Part (between 2_000_000_000 (2 ^ 64 - 1)))
 unfolding clap_on_literals digit_count number_after is_word time_scale
 from-cut name = refl
 
-late-cut : (name : Text) → span_of (options_in (name ∷ codes "cut" ∷ codes "--from=2" ∷ codes "--to=1" ∷ [])) ≡ None
+late-cut : (name : Text) → wanted_of (options_in (name ∷ codes "cut" ∷ codes "--from=2" ∷ codes "--to=1" ∷ [])) ≡ None
 unfolding clap_on_literals digit_count number_after is_word time_scale
 late-cut name = refl
 
-around_nothing-cut : (name : Text) → span_of (options_in (name ∷ codes "cut" ∷ codes "--around" ∷ codes "3" ∷ [])) ≡ None
+last-cut : (name : Text) → wanted_of (options_in (name ∷ codes "cut" ∷ codes "--last" ∷ codes "7" ∷ codes "a" ∷ [])) ≡ Some (Last 7)
+unfolding clap_on_literals
+last-cut name = refl
+
+every-cut : (name : Text) → wanted_of (options_in (name ∷ codes "cut" ∷ codes "--every" ∷ codes "1000" ∷ [])) ≡ Some (Every 1000)
+unfolding clap_on_literals
+every-cut name = refl
+
+around_nothing-cut : (name : Text) → wanted_of (options_in (name ∷ codes "cut" ∷ codes "--around" ∷ codes "3" ∷ [])) ≡ None
 unfolding clap_on_literals
 around_nothing-cut name = refl
+
+two_ways-cut : (name : Text) → wanted_of (options_in (name ∷ codes "cut" ∷ codes "--last=3" ∷ codes "--every=3" ∷ [])) ≡ None
+unfolding clap_on_literals
+two_ways-cut name = refl

@@ -32,7 +32,7 @@ EndsAs-failed Run options input files before now same = EndsRun-failed (text_giv
 EndsAs-failed Audit options input files before now same = EndsAudits-failed input files (files_in options) before now same
 EndsAs-failed Explain options input files before now same =
     EndsExplain-failed options (text_given input files (file_in options)) 1 before now refl same
-EndsAs-failed Cut options input files before now same = EndsCut-failed options (text_given input files (file_in options)) before now same
+EndsAs-failed Cut options input files before now same = EndsCut-failed options (file_in options) (text_given input files (file_in options)) before now same
 EndsAs-failed Migrate options input files before now same = EndsMigrate-failed (text_given input files (file_in options)) before now same
 EndsAs-failed Storm options input files before now same = inl refl
 EndsAs-failed Params options input files before now same = inl refl
@@ -98,7 +98,7 @@ EndsAs-kept Audit options input old new end before now keeps ended = audits-kept
 EndsAs-kept Explain options input old new end before now keeps ended =
     text-kept input old new (file_in options) (λ text. EndsExplain options text (status_of end) before now) keeps ended
 EndsAs-kept Cut options input old new end before now keeps ended =
-    text-kept input old new (file_in options) (λ text. EndsCut options text end before now) keeps ended
+    text-kept input old new (file_in options) (λ text. EndsCut options (file_in options) text end before now) keeps ended
 EndsAs-kept Migrate options input old new end before now keeps ended =
     text-kept input old new (file_in options) (λ text. EndsMigrate text end before now) keeps ended
 EndsAs-kept Storm options input old new end before now keeps ended = ended

@@ -1,16 +1,24 @@
--- `pie cut`: which events the words choose, and how it ends.
-use Rattle.std.specs.Prelude.{ℕ, ◌≡◌, ◌⊎◌, ◌+◌, ◌-◌, ◌^◌, Bool, true, List, Option, Some, None, Result, Ok, Err, codes, if◌then◌else◌, min, nat_le}
-use Rattle.std.specs.Io.KnownBytes.{Appends}
-use Rattle.clap.specs.Words.{Row}
+-- `pie cut`: what the words choose, and how it ends.
+use Rattle.std.specs.Prelude.{ℕ, ◌≡◌, ◌==◌, ◌⊎◌, ◌+◌, ◌-◌, ◌^◌, ◌<◌, List, Bool, true, false, Option, Some, None, Result, Ok, Err, ⊤, codes, min, not, nat_le}
+use Rattle.std.specs.Prelude.{if◌then◌else◌}
+use Rattle.std.specs.Str.{bytes_eq}
+use Rattle.clap.specs.Words.{Row, Text}
+use Rattle.pie_record.specs.declared.fault.TraceFault.{TraceFault}
 use Rattle.pie_record.specs.Text.{Row as Fields, records_of}
+use Rattle.pie_excerpt.specs.Beginning.{is_resumed}
 use Rattle.pie_cut.specs.declared.fault.CutFault.{CutFault}
 use Rattle.pie_cut.specs.declared.fault.CutFault.TheVariants as fault
 use Rattle.pie_cut.specs.declared.span.Span.{Span}
-use Rattle.pie_cut.specs.Answer.{IsExcerpt, IsTold, answer}
+use Rattle.pie_cut.specs.Answer.{CutsEither}
+use Rattle.pie_cut.specs.Last.{LastEither}
+use Rattle.pie_cut.specs.Segment.{IsInSegments, every_answer}
+use Rattle.pie_cut.specs.Told.{TextTold}
 use Rattle.pie_units.specs.declared.moment.MomentFault.{MomentFault}
 use Rattle.pie_options.specs.Words.{number_given}
 use Rattle.pie_commands.specs.declared.end.End.{End}
 use Rattle.pie_commands.specs.declared.end.End.TheVariants.{Done, Differs, Fault, Failed}
+use Rattle.pie_commands.specs.declared.cut.Wanted.{Wanted}
+use Rattle.pie_commands.specs.declared.cut.Wanted.TheVariants.{Part, Last, Every}
 use Rattle.pie_commands.specs.Choice.{moment_given}
 
 -- ---- the choice
@@ -23,14 +31,29 @@ around event more = record { first = event - more; last = min (event + more) (2 
 abbrev pub between : ℕ → ℕ → Span
 between from to = record { first = 0; last = 2 ^ 64 - 1; from = from; to = to }
 
--- the events that are chosen, where it is in exactly one way: an event, with some around it or none; or those at moments
-abbrev pub chosen : Option ℕ → Option ℕ → Option ℕ → Option ℕ → Option Span
-chosen (Some event) None None None = Some (around event 0)
-chosen (Some event) (Some more) None None = Some (around event more)
-chosen None None (Some from) None = Some (between from (2 ^ 64 - 1))
-chosen None None None (Some to) = Some (between 0 to)
-chosen None None (Some from) (Some to) = Some (between from to)
-chosen _ _ _ _ = None
+-- the last so many of the events up to this number
+abbrev pub last_of : ℕ → ℕ → Span
+last_of number many = record { first = min (number - many + 1) (2 ^ 64 - 1); last = number; from = 0; to = 2 ^ 64 - 1 }
+
+-- the events at given moments, where there is one
+abbrev pub at_moments : Option ℕ → Option ℕ → Option Span
+at_moments None None = None
+at_moments (Some from) None = Some (between from (2 ^ 64 - 1))
+at_moments None (Some to) = Some (between 0 to)
+at_moments (Some from) (Some to) = Some (between from to)
+
+-- segments of some events
+abbrev pub segments : ℕ → Option Wanted
+segments every = if every == 0 then None else Some (Every every)
+
+-- what is chosen, where it is in exactly one way: an event, with some around it or none; the last ones; segments; or those at moments
+abbrev pub chosen : Option ℕ → Option ℕ → Option ℕ → Option ℕ → Option Span → Option Wanted
+chosen (Some event) None None None None = Some (Part (around event 0))
+chosen (Some event) (Some more) None None None = Some (Part (around event more))
+chosen None None (Some many) None None = Some (Last many)
+chosen None None None (Some every) None = segments every
+chosen None None None None (Some span) = Some (Part span)
+chosen _ _ _ _ _ = None
 
 -- the one moment isn't after the other, where there are both
 abbrev pub are_in_order : Option ℕ → Option ℕ → Bool
@@ -38,14 +61,20 @@ are_in_order (Some from) (Some to) = nat_le from to
 are_in_order _ _ = true
 
 -- .. where both moments can be read, and the one isn't after the other
-abbrev pub span_at : Option ℕ → Option ℕ → Result (Option ℕ) MomentFault → Result (Option ℕ) MomentFault → Option Span
-span_at event more (Ok from) (Ok to) = if are_in_order from to then chosen event more from to else None
-span_at _ _ _ _ = None
+abbrev pub wanted_at : Option ℕ → Option ℕ → Option ℕ → Option ℕ → Result (Option ℕ) MomentFault → Result (Option ℕ) MomentFault → Option Wanted
+wanted_at event more last every (Ok from) (Ok to) = if are_in_order from to then chosen event more last every (at_moments from to) else None
+wanted_at _ _ _ _ _ _ = None
 
--- the events that these options choose; nothing where they don't say it as they have to
-abbrev pub span_of : List Row → Option Span
-span_of options = span_at (number_given (codes "event") options) (number_given (codes "around") options) (moment_given (codes "from") options)
-    (moment_given (codes "to") options)
+-- what these options choose; nothing where they don't say it as they have to
+abbrev pub wanted_of : List Row → Option Wanted
+wanted_of options = wanted_at (number_given (codes "event") options) (number_given (codes "around") options) (number_given (codes "last") options)
+    (number_given (codes "every") options) (moment_given (codes "from") options) (moment_given (codes "to") options)
+
+-- segments have some events each
+abbrev pub HasSome : Wanted → Type 0
+HasSome (Part span) = ⊤
+HasSome (Last many) = ⊤
+HasSome (Every every) = 0 < every
 
 -- ---- the end
 
@@ -56,17 +85,39 @@ end_of_cut (Err (fault.Trace why)) = Fault why
 end_of_cut (Err (fault.Differs event)) = Differs
 end_of_cut (Err fault.NoEvents) = Failed
 
--- a cut of a history of these records answers so, and has written so much; where the reader, the writer or memory failed, it says that
-pub record Cuts (span : Span) (rows : List Fields) (given : Result ℕ CutFault) (before now : Option (List ℕ)) : Type 0 where
-  pub answers : IsTold given → given ≡ answer span rows
-  pub writes : IsTold given → (excerpt : List ℕ) × IsExcerpt span rows excerpt × Appends before now excerpt
+-- it never began, or ended by what it answered
+abbrev pub EndsBy : (Result ℕ CutFault → Option (List ℕ) → Option (List ℕ) → Type 0) → End → Option (List ℕ) → Option (List ℕ) → Type 0
+EndsBy cuts end before now = ((end ≡ Failed) × (now ≡ before)) ⊎ ((given : Result ℕ CutFault) × (end ≡ end_of_cut given) × cuts given before now)
 
--- a history is cut, and the end is that of its answer; options that choose no events fail, and nothing is written, as where it never began
-abbrev pub cut_ends : Option Span → List ℕ → End → Option (List ℕ) → Option (List ℕ) → Type 0
-cut_ends None input end before now = (end ≡ Failed) × (now ≡ before)
-cut_ends (Some span) input end before now = ((end ≡ Failed) × (now ≡ before))
-    ⊎ ((given : Result ℕ CutFault) × (end ≡ end_of_cut given) × Cuts span (records_of input) given before now)
+-- into segments
+abbrev pub CutsSegments : ℕ → List Fields → Result ℕ CutFault → Option (List ℕ) → Option (List ℕ) → Type 0
+CutsSegments every rows given before now = TextTold every_answer (IsInSegments every) (is_resumed rows) rows given before now
 
--- .. what is chosen being what these options say
-abbrev pub EndsCut : List Row → List ℕ → End → Option (List ℕ) → Option (List ℕ) → Type 0
-EndsCut options = cut_ends (span_of options)
+-- the last so many events, once this was found to be the number of the last, or a fault was found
+abbrev pub CutsUpTo : ℕ → Result ℕ TraceFault → List Fields → Result ℕ CutFault → Option (List ℕ) → Option (List ℕ) → Type 0
+CutsUpTo many (Ok last) rows given before now = CutsEither (last_of last many) rows given before now
+CutsUpTo many (Err why) rows given before now = (given ≡ Err (fault.Trace why)) × (now ≡ before)
+
+abbrev pub CutsLast : ℕ → List Fields → Result ℕ CutFault → Option (List ℕ) → Option (List ℕ) → Type 0
+CutsLast many rows given before now = (last : Result ℕ TraceFault) × LastEither rows last × CutsUpTo many last rows given before now
+
+-- a file has a name that can be read twice
+abbrev pub is_named : Option Text → Bool
+is_named None = false
+is_named (Some name) = not (bytes_eq name (codes "-"))
+
+-- the last events are those of such a file, which is read twice
+abbrev pub ends_last : Bool → ℕ → List Fields → End → Option (List ℕ) → Option (List ℕ) → Type 0
+ends_last false many rows end before now = (end ≡ Failed) × (now ≡ before)
+ends_last true many rows end before now = EndsBy (CutsLast many rows) end before now
+
+-- a text of these records is cut, and the end is that of the answer; options that choose nothing fail, and nothing is written
+abbrev pub cut_ends : Option Wanted → Bool → List Fields → End → Option (List ℕ) → Option (List ℕ) → Type 0
+cut_ends None named rows end before now = (end ≡ Failed) × (now ≡ before)
+cut_ends (Some (Part span)) named rows end before now = EndsBy (CutsEither span rows) end before now
+cut_ends (Some (Last many)) named rows end before now = ends_last named many rows end before now
+cut_ends (Some (Every every)) named rows end before now = EndsBy (CutsSegments every rows) end before now
+
+-- .. what is chosen being what these options say, and the file that they name
+abbrev pub EndsCut : List Row → Option Text → List ℕ → End → Option (List ℕ) → Option (List ℕ) → Type 0
+EndsCut options file input end before now = cut_ends (wanted_of options) (is_named file) (records_of input) end before now

@@ -21,7 +21,7 @@ EndsAs Run options input files end before now = IfSome (text_given input files (
 EndsAs Audit options input files end before now = EndsAudits input files (files_in options) end before now
 EndsAs Explain options input files end before now =
     IfSome (text_given input files (file_in options)) (λ text. EndsExplain options text (status_of end) before now)
-EndsAs Cut options input files end before now = IfSome (text_given input files (file_in options)) (λ text. EndsCut options text end before now)
+EndsAs Cut options input files end before now = IfSome (text_given input files (file_in options)) (λ text. EndsCut options (file_in options) text end before now)
 EndsAs Migrate options input files end before now = IfSome (text_given input files (file_in options)) (λ text. EndsMigrate text end before now)
 EndsAs Storm options input files end before now = EndsStorm options (status_of end) before now
 EndsAs Params options input files end before now = EndsParams options (status_of end) before now

@@ -1,48 +1,97 @@
-//! `pie cut`: which events the words choose, and how cutting them out ends.
-ghost use Rattle.std.specs.Prelude.{◌≡◌, IfSome};
+//! `pie cut`: what the words choose, and how cutting it out ends.
+ghost use Rattle.std.specs.Prelude.{◌≡◌, ◌<◌, false, Some, IfSome, codes, option_map};
+ghost use Rattle.std.specs.Str.{bytes_eq};
 ghost use Rattle.clap.specs.Words.{found_of, rows_of};
+ghost use Rattle.pie_record.specs.Text.{records_of};
+ghost use Rattle.pie_cut.specs.Answer.{CutsEither};
+ghost use Rattle.pie_cut.specs.Last.{LastEither};
 ghost use Rattle.pie_files.specs.Files.{text_given};
 ghost use Rattle.pie_options.specs.Words.{file_in};
-ghost use Rattle.pie_commands.specs.CutEnds.{EndsCut, chosen, end_of_cut, span_of};
+ghost use Rattle.pie_commands.specs.CutEnds.{CutsLast, CutsSegments, EndsBy, EndsCut, HasSome, at_moments, chosen, cut_ends, end_of_cut};
+ghost use Rattle.pie_commands.specs.CutEnds.{ends_last, is_named, segments, wanted_of};
 
 use crate::end::{End, failed, fault, faulted};
 use crate::moments::{NO_ORDER, are_in_order, moment_of};
 use crate::screen::{Screen, shows_progress};
 use clap::ArgMatches;
-use pie_cut::{CutFault, Span};
-use pie_files::{NamedFiles, reader_of};
+use pie_cut::{CutFault, Span, cut_either, cut_every, last_number};
+use pie_files::{NamedFiles, named_fault, reader_of};
 use pie_options::{file, number};
 use pie_progress::Watched;
+use pie_trace::TraceFault;
 use std::alloc::Global;
 use std::io::{Read, Write};
 use std::time::Clock;
 
+/// What is to be cut out of a text.
+#[derive(Clone, Copy)]
+pub(crate) enum Wanted {
+    /// These events.
+    Part(Span),
+    /// The last so many.
+    Last(u64),
+    /// All, in segments of so many.
+    Every(u64),
+}
+
 /// What is said where the words don't choose events in exactly one way.
 const NO_PART: &str =
-    "cut takes --from, --to or both, or --event N, which may have --around M; see pie cut --help";
+    "cut takes --from, --to or both, or --event N, which may have --around M, or --last N, or --every N; see pie cut --help";
 
-/// The events that are chosen, where it is in exactly one way.
+/// What is said where the last events are asked of what can't be read twice.
+const NO_NAME: &str = "cut --last reads a file twice, so it takes one that has a name";
+
+/// The events at these moments, where there is one.
+fn at_moments(from: Option<u64>, to: Option<u64>) -> Option<Span>
+    ensures { result ≡ at_moments from to }
+{
+    match (from, to) {
+        (None, None) => None,
+        (Some(from), None) => Some(Span::between(from, u64::MAX)),
+        (None, Some(to)) => Some(Span::between(0, to)),
+        (Some(from), Some(to)) => Some(Span::between(from, to)),
+    }
+}
+
+/// Segments of so many events, where these are some.
+fn segments(every: u64) -> Option<Wanted>
+    ensures segments { result ≡ segments every }
+    ensures some { IfSome result HasSome }
+{
+    if every == 0 {
+        None
+    } else {
+        Some(Wanted::Every(every))
+    }
+}
+
+/// What is chosen, where it is in exactly one way.
 fn chosen(
     event: Option<u64>,
     around: Option<u64>,
-    from: Option<u64>,
-    to: Option<u64>,
-) -> Option<Span>
-    ensures { result ≡ chosen event around from to }
+    last: Option<u64>,
+    every: Option<u64>,
+    span: Option<Span>,
+) -> Option<Wanted>
+    ensures chosen { result ≡ chosen event around last every span }
+    ensures some { IfSome result HasSome }
 {
-    match (event, around, from, to) {
-        (Some(event), None, None, None) => Some(Span::around(event, 0)),
-        (Some(event), Some(more), None, None) => Some(Span::around(event, more)),
-        (None, None, Some(from), None) => Some(Span::between(from, u64::MAX)),
-        (None, None, None, Some(to)) => Some(Span::between(0, to)),
-        (None, None, Some(from), Some(to)) => Some(Span::between(from, to)),
+    match (event, around, last, every, span) {
+        (Some(event), None, None, None, None) => Some(Wanted::Part(Span::around(event, 0))),
+        (Some(event), Some(more), None, None, None) => {
+            Some(Wanted::Part(Span::around(event, more)))
+        }
+        (None, None, Some(many), None, None) => Some(Wanted::Last(many)),
+        (None, None, None, Some(every), None) => segments(every),
+        (None, None, None, None, Some(span)) => Some(Wanted::Part(span)),
         _ => None,
     }
 }
 
-/// The events that these options choose, with a line on `errors` where they don't say it as they have to.
-fn span_of<E: Write>(options: &ArgMatches<'_>, errors: &mut E) -> Option<Span>
-    ensures { result ≡ span_of (rows_of (found_of options.now)) }
+/// What these options choose, with a line on `errors` where they don't say it as they have to.
+fn wanted_of<E: Write>(options: &ArgMatches<'_>, errors: &mut E) -> Option<Wanted>
+    ensures chosen { result ≡ wanted_of (rows_of (found_of options.now)) }
+    ensures some { IfSome result HasSome }
 {
     let Ok(from) = moment_of(options, "from", errors) else {
         return None;
@@ -55,11 +104,12 @@ fn span_of<E: Write>(options: &ArgMatches<'_>, errors: &mut E) -> Option<Span>
         return None;
     }
     let (event, around) = (number(options, "event"), number(options, "around"));
-    let span = chosen(event, around, from, to);
-    if span.is_none() {
+    let (last, every) = (number(options, "last"), number(options, "every"));
+    let wanted = chosen(event, around, last, every, at_moments(from, to));
+    if wanted.is_none() {
         let _ = fault(errors, NO_PART);
     }
-    span
+    wanted
 }
 
 /// The end of a cut with this answer, with a line on `errors` where it is no `Ok`.
@@ -77,26 +127,191 @@ fn ended<E: Write>(errors: &mut E, given: Result<u64, CutFault>) -> End
     }
 }
 
-/// `pie cut`: writes the excerpt that the options choose of a history. Each way to end it otherwise is told on `errors`, as is progress where it
-/// `is_shown`.
-fn cut_input<H: Clock, R: Read + Drop, W: Write, E: Write>(
+/// Cuts these events out of what is handed in. Progress is told on `errors` where it `is_shown`.
+fn cut_part<H: Clock, R: Read + Drop, W: Write, E: Write>(
     rt: &H,
     alloc: Global,
-    options: &ArgMatches<'_>,
     is_shown: bool,
+    span: Span,
     input: R,
     output: &mut W,
     errors: &mut E,
 ) -> End
-    ensures cuts { IfSome (R.remaining input) (λ text. EndsCut (rows_of (found_of options.now)) text result (W.contents output.old)
+    ensures { IfSome (R.remaining input) (λ text. EndsBy (CutsEither span (records_of text)) result (W.contents output.old)
         (W.contents output.new)) }
 {
-    let Some(span) = span_of(options, errors) else {
-        return End::Failed;
-    };
     let watched = Watched::new(input, &mut *errors, rt, is_shown);
-    let given = pie_cut::cut(alloc, watched, output, span);
+    let given = cut_either(alloc, watched, output, span);
     ended(errors, given)
+}
+
+/// .. these events out of what the options name.
+fn cut_part_of<H: NamedFiles + Clock, R: Read + Drop, W: Write, E: Write>(
+    rt: &H,
+    alloc: Global,
+    is_shown: bool,
+    span: Span,
+    name: Option<&str>,
+    input: R,
+    output: &mut W,
+    errors: &mut E,
+) -> End
+    ensures { IfSome (text_given (R.remaining input) (H.holds rt.now) (option_map (λ name. name.now) name.entry))
+        (λ text. EndsBy (CutsEither span (records_of text)) result (W.contents output.old) (W.contents output.new)) }
+{
+    match reader_of(rt, name, input, errors) {
+        Some(reader) => cut_part(rt, alloc, is_shown, span, reader, output, errors),
+        None => End::Failed,
+    }
+}
+
+/// Cuts what is handed in into segments of so many events.
+fn cut_segments<H: Clock, R: Read + Drop, W: Write, E: Write>(
+    rt: &H,
+    alloc: Global,
+    is_shown: bool,
+    every: u64,
+    input: R,
+    output: &mut W,
+    errors: &mut E,
+) -> End
+    requires { 0 < every }
+    ensures { IfSome (R.remaining input) (λ text. EndsBy (CutsSegments every (records_of text)) result (W.contents output.old)
+        (W.contents output.new)) }
+{
+    let watched = Watched::new(input, &mut *errors, rt, is_shown);
+    let given = cut_every(alloc, watched, output, every);
+    ended(errors, given)
+}
+
+/// .. what the options name.
+fn cut_segments_of<H: NamedFiles + Clock, R: Read + Drop, W: Write, E: Write>(
+    rt: &H,
+    alloc: Global,
+    is_shown: bool,
+    every: u64,
+    name: Option<&str>,
+    input: R,
+    output: &mut W,
+    errors: &mut E,
+) -> End
+    requires { 0 < every }
+    ensures { IfSome (text_given (R.remaining input) (H.holds rt.now) (option_map (λ name. name.now) name.entry))
+        (λ text. EndsBy (CutsSegments every (records_of text)) result (W.contents output.old) (W.contents output.new)) }
+{
+    match reader_of(rt, name, input, errors) {
+        Some(reader) => cut_segments(rt, alloc, is_shown, every, reader, output, errors),
+        None => End::Failed,
+    }
+}
+
+/// The number of the last event of the text that a reader has, or its fault.
+fn last_in<H: Clock, R: Read + Drop, E: Write>(
+    rt: &H,
+    alloc: Global,
+    is_shown: bool,
+    reader: R,
+    errors: &mut E,
+) -> Result<u64, TraceFault>
+    ensures { IfSome (R.remaining reader) (λ text. LastEither (records_of text) result) }
+{
+    let watched = Watched::new(reader, &mut *errors, rt, is_shown);
+    last_number(alloc, watched)
+}
+
+/// The number of the last event of the text in the file of this name, or its fault; or none, with a line on `errors`, where the file can't be
+/// opened.
+fn last_named<H: NamedFiles + Clock, E: Write>(
+    rt: &H,
+    alloc: Global,
+    is_shown: bool,
+    name: &str,
+    errors: &mut E,
+) -> Option<Result<u64, TraceFault>>
+    ensures { IfSome result (λ last. IfSome (H.holds rt.now name.now) (λ text. LastEither (records_of text) last)) }
+{
+    match rt.open_named(name) {
+        Ok(reader) => Some(last_in(rt, alloc, is_shown, reader, errors)),
+        Err(why) => {
+            named_fault(errors, name, why);
+            None
+        }
+    }
+}
+
+/// Cuts the last so many events out of the file of this name, which is read twice.
+fn cut_last<H: NamedFiles + Clock, R: Read + Drop, W: Write, E: Write>(
+    rt: &H,
+    alloc: Global,
+    is_shown: bool,
+    many: u64,
+    name: &str,
+    input: R,
+    output: &mut W,
+    errors: &mut E,
+) -> End
+    ensures { bytes_eq name.now (codes "-") ≡ false → IfSome (H.holds rt.now name.now)
+        (λ text. EndsBy (CutsLast many (records_of text)) result (W.contents output.old) (W.contents output.new)) }
+{
+    match last_named(rt, alloc, is_shown, name, errors) {
+        None => End::Failed,
+        Some(Err(why)) => faulted(errors, why),
+        Some(Ok(number)) => {
+            let span = Span::last(number, many);
+            cut_part_of(rt, alloc, is_shown, span, Some(name), input, output, errors)
+        }
+    }
+}
+
+/// Cuts the last so many events out of a file that has a name. Standard input has none, which is told on `errors`.
+fn cut_last_of<H: NamedFiles + Clock, R: Read + Drop, W: Write, E: Write>(
+    rt: &H,
+    alloc: Global,
+    is_shown: bool,
+    many: u64,
+    name: Option<&str>,
+    input: R,
+    output: &mut W,
+    errors: &mut E,
+) -> End
+    ensures { IfSome (text_given (R.remaining input) (H.holds rt.now) (option_map (λ name. name.now) name.entry))
+        (λ text. ends_last (is_named (option_map (λ name. name.now) name.entry)) many (records_of text) result (W.contents output.old)
+        (W.contents output.new)) }
+{
+    match name {
+        Some(name) => {
+            if name == "-" {
+                return failed(errors, NO_NAME);
+            }
+            cut_last(rt, alloc, is_shown, many, name, input, output, errors)
+        }
+        None => failed(errors, NO_NAME),
+    }
+}
+
+/// Cuts this out of the file of this name, or with none out of what is handed in.
+fn cut_wanted<H: NamedFiles + Clock, R: Read + Drop, W: Write, E: Write>(
+    rt: &H,
+    alloc: Global,
+    is_shown: bool,
+    wanted: Wanted,
+    name: Option<&str>,
+    input: R,
+    output: &mut W,
+    errors: &mut E,
+) -> End
+    requires { HasSome wanted }
+    ensures { IfSome (text_given (R.remaining input) (H.holds rt.now) (option_map (λ name. name.now) name.entry))
+        (λ text. cut_ends (Some wanted) (is_named (option_map (λ name. name.now) name.entry)) (records_of text) result (W.contents output.old)
+        (W.contents output.new)) }
+{
+    match wanted {
+        Wanted::Part(span) => cut_part_of(rt, alloc, is_shown, span, name, input, output, errors),
+        Wanted::Every(every) => {
+            cut_segments_of(rt, alloc, is_shown, every, name, input, output, errors)
+        }
+        Wanted::Last(many) => cut_last_of(rt, alloc, is_shown, many, name, input, output, errors),
+    }
 }
 
 /// `pie cut` of what the options name.
@@ -109,11 +324,21 @@ pub(crate) fn cut<H: NamedFiles + Screen, R: Read + Drop, W: Write, E: Write>(
     errors: &mut E,
 ) -> End
     ensures cuts { IfSome (text_given (R.remaining input) (H.holds rt.now) (file_in (rows_of (found_of options.now))))
-        (λ text. EndsCut (rows_of (found_of options.now)) text result (W.contents output.old) (W.contents output.new)) }
+        (λ text. EndsCut (rows_of (found_of options.now)) (file_in (rows_of (found_of options.now))) text result (W.contents output.old)
+        (W.contents output.new)) }
 {
+    let Some(wanted) = wanted_of(options, errors) else {
+        return End::Failed;
+    };
     let is_shown = shows_progress(rt, options, true);
-    match reader_of(rt, file(options), input, errors) {
-        Some(reader) => cut_input(rt, alloc, options, is_shown, reader, output, errors),
-        None => End::Failed,
-    }
+    cut_wanted(
+        rt,
+        alloc,
+        is_shown,
+        wanted,
+        file(options),
+        input,
+        output,
+        errors,
+    )
 }

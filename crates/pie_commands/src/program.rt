@@ -61,7 +61,8 @@ use std::thread::Threads;
 /// where the reader, the writer or memory fails.
 ///
 /// For any words that ask for `pie cut`, they choose events in exactly one way; or the end is `Failed` and nothing is written. The excerpt of these
-/// events is written, up to the first that differs, at which it ends; at a fault it ends as a run does, and where no event is chosen it has `Failed`.
+/// events is written, or all segments are, up to the first that differs, at which it ends so; at a fault it ends at that, and where no event is
+/// chosen it has failed. What can't be read twice has no last events: then it has failed, and nothing is written.
 ///
 /// For any words that ask for `pie storm`, the threads of the runtime make a storm of the plan that the options ask for. Its
 /// history is written, which is legal and clean, and the status is 0; or it is 1, where memory, a thread or the writer fails.
@@ -110,7 +111,7 @@ pub fn command<H: Threads + Wait + Sync + NamedFiles + Screen, R: Read + Drop, W
         → EndsIn (output_in (options_in (map string_bytes words.now))) (file_in (options_in (map string_bytes words.now)))
         (is_forced (options_in (map string_bytes words.now))) (H.holds rt.old) (H.holds rt.new)
         (λ end before now. IfSome (text_given (R.remaining input) (H.holds rt.old) (file_in (options_in (map string_bytes words.now))))
-        (λ text. EndsCut (options_in (map string_bytes words.now)) text end before now)) result (W.contents output.old) (W.contents output.new) }
+        (λ text. EndsCut (options_in (map string_bytes words.now)) (file_in (options_in (map string_bytes words.now))) text end before now)) result (W.contents output.old) (W.contents output.new) }
     ensures storms { Asks (codes "storm") (map string_bytes words.now)
         → EndsStorm (options_in (map string_bytes words.now)) (status_of result) (W.contents output.old) (W.contents output.new) }
     ensures params { Asks (codes "params") (map string_bytes words.now)

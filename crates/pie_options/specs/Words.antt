@@ -60,7 +60,8 @@ rules_for Explain = number_rule (codes "event") 1 (2 ^ 64 - 1) ∷ number_rule (
     ∷ text_rule (codes "every") ∷ flag_rule (codes "digest") ∷ flag_rule (codes "csv") ∷ flag_rule (codes "wall") ∷ progress_rule ∷ output_rule
     ∷ force_rule ∷ file_rule ∷ []
 rules_for Cut = text_rule (codes "from") ∷ text_rule (codes "to") ∷ number_rule (codes "event") 1 (2 ^ 64 - 1)
-    ∷ number_rule (codes "around") 0 (2 ^ 64 - 1) ∷ progress_rule ∷ output_rule ∷ force_rule ∷ file_rule ∷ []
+    ∷ number_rule (codes "around") 0 (2 ^ 64 - 1) ∷ number_rule (codes "last") 1 (2 ^ 64 - 1) ∷ number_rule (codes "every") 1 (2 ^ 64 - 1)
+    ∷ progress_rule ∷ output_rule ∷ force_rule ∷ file_rule ∷ []
 rules_for Migrate = progress_rule ∷ output_rule ∷ force_rule ∷ file_rule ∷ []
 rules_for Storm = number_rule (codes "senders") 2 8 ∷ number_rule (codes "packets") 1 10_000 ∷ number_rule (codes "burst") 1 1024
     ∷ number_rule (codes "seed") 0 (2 ^ 64 - 1) ∷ number_rule (codes "load") 50 200 ∷ number_rule (codes "changes") 0 100 ∷ number_rule (codes "folds") 0 100

@@ -23,18 +23,27 @@ whole: clean,<events> names the last one.
 With --from and --to, or with one of them, the excerpt has the events whose effective moments are within, both ends included; a
 --from that is after its --to is refused. A moment is written as for pie explain: 1500000, 1500us, 1.5ms and 0.0015s are the same.
 
-With --event N it has the event with this number, and with --around M so many events before and after it too, as far as there
-are any.
+With --event N it has the event with this number, and with --around M so many events before and after it too; with --last N the
+last N events, as far as there are so many. The latter reads a file twice, so standard input won't do for it.
 
-The history is decided again, as pie audit does, up to the excerpt's end. Where an event until there is not what the rules give,
-the excerpt ends with it, standard error names it, and the status is 2. A record that cannot be read ends with status 1, wherever
-it is, and so does a choice of which the history has no event. With -o FILE the excerpt goes to FILE, once all of it was written,
-also with status 2; pie run --help says what becomes of FILE at a fault, and where it is there already.
+With --every N all events are cut into segments of N, the last of which may be shorter. They are written one after another; each
+is an excerpt of its own, which begins where the one before it ends.
 
-Example: why were packets lost, and what came before? With the history of a day in the file day:
+What is cut may be an excerpt itself. It is decided again, as pie audit does, up to the end of what is cut out. Where an event
+until there is not what the rules give, the excerpt ends with it, standard error names it, and the status is 2. A record that
+cannot be read ends with status 1, wherever it is, and so does a choice of which there is no event. With -o FILE the excerpt goes
+to FILE, once all of it was written, also with status 2; pie run --help says what becomes of FILE at a fault, and where it is
+there already.
+
+Example: why were packets lost in one minute of a day? With the history of the day in the file day:
 
   pie cut --from 72000s --to 72060s -o minute day
-  pie explain --lost minute";
+  pie explain --lost minute
+
+Files of a million events each, day.0000 and so on, and their audit:
+
+  pie cut --every 1000000 day | csplit -z -n 4 -f day. - '/^resume,/' '{*}'
+  pie audit day.*";
 
 /// The subcommand `cut`.
 pub(crate) fn command<'a>(alloc: Global) -> Result<Command<'a>, AllocError>
@@ -60,6 +69,16 @@ pub(crate) fn command<'a>(alloc: Global) -> Result<Command<'a>, AllocError>
             name: "around",
             takes: Takes::Number(0, u64::MAX),
             help: "With an event: so many before and after it too",
+        },
+        Argument {
+            name: "last",
+            takes: Takes::Number(1, u64::MAX),
+            help: "Cut out the last N events of a file",
+        },
+        Argument {
+            name: "every",
+            takes: Takes::Number(1, u64::MAX),
+            help: "Cut all events into segments of N, one after another",
         },
         PROGRESS,
         OUTPUT,

@@ -1,25 +1,22 @@
-use Rattle.std.proofs.Common.{◌≡◌, ◌∙◌, ℕ, List, Option, ap, refl, subst}
-use Rattle.std.specs.Prelude.{IfSome}
-use Rattle.either.specs.Either.{either}
-use Rattle.clap.specs.Words.{found_of, rows_of}
-use Rattle.pie_files.specs.Files.{Name, text_given}
+use Rattle.std.proofs.Common.{◌≡◌, ℕ, List, Option, Some, refl, subst}
+use Rattle.std.specs.Prelude.{IfSome, option_map}
+use Rattle.clap.specs.Words.{Text, found_of, rows_of}
+use Rattle.pie_record.specs.Text.{records_of}
+use Rattle.pie_files.specs.Files.{text_given}
 use Rattle.pie_options.specs.Words.{file_in}
-use Rattle.pie_commands.specs.CutEnds.{EndsCut}
-use Rattle.pie_commands.proofs.CutFacts.{EndsCut-failed}
+use Rattle.pie_commands.specs.declared.cut.Wanted.{Wanted}
+use Rattle.pie_commands.specs.CutEnds.{cut_ends, is_named, wanted_of}
 use Rattle.pie_commands.proofs.cut.cut.Goals as goal
 
-pub returns-in-Some : goal.returns-in-Some
-returns-in-Some g c =
+pub returns-clause-cuts : goal.returns-clause-cuts
+returns-clause-cuts g c =
     let options = rows_of (found_of c.args.options.now) in
     let input = g.R.Read.remaining c.args.input in
     let held = g.H.NamedFiles.holds c.args.rt.now in
-    let same : either g.R.Read.remaining g.H.File.Read.remaining c.in-Some.reader ≡ text_given input held (file_in options) =
-    c.in-Some.ensures ∙ ap (λ (name : Option Name). text_given input held name) c.file.ensures in
-    subst (λ (known : Option (List ℕ)). IfSome known (λ text. EndsCut options text c.cut_input.result (g.W.Write.contents c.args.output.now)
-    (g.W.Write.contents c.cut_input.new.output))) same c.cut_input.ensures
-
-pub returns-in-None : goal.returns-in-None
-returns-in-None g c =
-    let options = rows_of (found_of c.args.options.now) in
-    EndsCut-failed options (text_given (g.R.Read.remaining c.args.input) (g.H.NamedFiles.holds c.args.rt.now) (file_in options))
-    (g.W.Write.contents c.args.output.now) (g.W.Write.contents c.args.output.now) refl
+    let before = g.W.Write.contents c.args.output.now in
+    let now = g.W.Write.contents c.cut_wanted.new.output in
+    subst (λ (file : Option Text). IfSome (text_given input held file) (λ text. cut_ends (wanted_of options) (is_named file) (records_of text)
+    c.cut_wanted.result before now)) c.file.ensures
+    (subst (λ (wanted : Option Wanted). IfSome (text_given input held (option_map (λ name. name.now) c.file.result)) (λ text. cut_ends wanted
+    (is_named (option_map (λ name. name.now) c.file.result)) (records_of text) c.cut_wanted.result before now)) c.in-Some.ensures.chosen
+    c.cut_wanted.ensures)

@@ -1,0 +1,21 @@
+use Rattle.std.proofs.Common.{ℕ, List, Option}
+use Rattle.pie_record.specs.Text.{records_of}
+use Rattle.pie_commands.specs.CutEnds.{CutsLast}
+use Rattle.pie_commands.proofs.CutFacts.{failed-by, last-faulted, last-told}
+use Rattle.pie_commands.proofs.cut.cut_last.Goals as goal
+
+pub returns-in-None : goal.returns-in-None
+returns-in-None g c other =
+    failed-by (λ text. CutsLast c.args.many (records_of text)) (g.H.NamedFiles.holds c.args.rt.now c.args.name.now)
+    (g.W.Write.contents c.args.output.now)
+
+pub returns-in-Some-Err : goal.returns-in-Some-Err
+returns-in-Some-Err g c other =
+    rw c.faulted.ensures (last-faulted c.args.many (g.H.NamedFiles.holds c.args.rt.now c.args.name.now) c.in-Some-Err.why
+    (g.W.Write.contents c.args.output.now) c.in-Some-Err.ensures)
+
+pub returns-in-Some-Ok : goal.returns-in-Some-Ok
+returns-in-Some-Ok g c other =
+    last-told c.args.many c.in-Some-Ok.number (g.R.Read.remaining c.args.input) (g.H.NamedFiles.holds c.args.rt.now) c.args.name.now
+    c.cut_part_of.result (g.W.Write.contents c.args.output.now) (g.W.Write.contents c.cut_part_of.new.output) other c.in-Some-Ok.ensures
+    (rw c.last-span.ensures at c.cut_part_of.ensures)

@@ -96,7 +96,7 @@ answers : (cut (numbers 2 3) (codes "empty") ≡ Ok 2) × (cut (numbers 0 9) (co
     × (cut (numbers 4 9) (codes "empty") ≡ Err NoEvents)
     × (cut (moments 26 39) (codes "empty") ≡ Ok 2) × (cut (moments 0 29) (codes "empty") ≡ Err NoEvents)
     × (cut (numbers 1 2) (codes "left,8,100,not") ≡ Ok 2) × (cut (numbers 1 3) (codes "left,8,100,not") ≡ Err (Differs 3))
-    × (cut (numbers 1 1) (codes "full") ≡ Err (Trace (fault.Fields 5)))
+    × (cut (numbers 1 1) (codes "full") ≡ Err (Trace (fault.Word 5)))
 unfolding held_after shown held_of now_of params_of active_of departures_shown updates_shown arrivals_shown verdict records_from next_record
     strip_bom field_at number ecn_of params_at first_kind version_of profile_of which_of limits_at draft_at version_one_fields
     version_two_fields opening_of verdict_of command_at packet_at command_kind arrival_at event_line answer_at departure_at update_at
@@ -113,7 +113,7 @@ abbrev every : List ℕ → Result ℕ CutFault
 every last = whole_answer every_answer (records_of (history last)) (history_opening (records_of (history last)))
 
 every-answers : (every (codes "empty") ≡ Ok 3) × (every (codes "left,8,100,not") ≡ Err (Differs 3))
-    × (every (codes "full") ≡ Err (Trace (fault.Fields 5)))
+    × (every (codes "full") ≡ Err (Trace (fault.Word 5)))
 unfolding held_after shown held_of now_of params_of active_of departures_shown updates_shown arrivals_shown verdict records_from next_record
     strip_bom field_at number ecn_of params_at first_kind version_of profile_of which_of limits_at draft_at version_one_fields
     version_two_fields opening_of verdict_of command_at packet_at command_kind arrival_at event_line answer_at departure_at update_at
@@ -129,7 +129,7 @@ every-answers = (refl, refl, refl)
 abbrev last : List ℕ → Result ℕ TraceFault
 last text = last_after (records_of (history text)) (history_opening (records_of (history text)))
 
-last-numbers : (last (codes "empty") ≡ Ok 3) × (last (codes "left,8,100,not") ≡ Ok 3) × (last (codes "full") ≡ Err (fault.Fields 5))
+last-numbers : (last (codes "empty") ≡ Ok 3) × (last (codes "left,8,100,not") ≡ Ok 3) × (last (codes "full") ≡ Err (fault.Word 5))
 unfolding held_after shown held_of now_of params_of active_of departures_shown updates_shown arrivals_shown verdict records_from next_record
     strip_bom field_at number ecn_of params_at first_kind version_of profile_of which_of limits_at draft_at version_one_fields
     version_two_fields opening_of verdict_of command_at packet_at command_kind arrival_at event_line answer_at departure_at update_at

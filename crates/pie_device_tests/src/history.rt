@@ -26,8 +26,7 @@ depart,2,30,empty
 ";
 
 /// A trace that goes on from it, after the arrival.
-pub(crate) const RESUMED: &[u8] =
-    b"resume,1,rate,derandomized,capped,unscaled,bounded,0,4,16,100,\
+pub(crate) const RESUMED: &[u8] = b"resume,1,rate,derandomized,capped,unscaled,bounded,0,4,16,100,\
     15000000,15000000,150000000,125,1250,1024,262144,100000000000,16384,\
     15000000,15000000,150000000,125,1250,1024,262144,100000000000,16384,\
     1,0,1,1500,10,0,0,0,150000000,0,0,0,0,0,0,1,1,1,0,0,0,0,0,0,0,0,0,0,1500,0,0
@@ -37,8 +36,7 @@ depart,2,30
 ";
 
 /// Its history text.
-pub(crate) const GONE_ON: &[u8] =
-    b"resume,1,rate,derandomized,capped,unscaled,bounded,0,4,16,100,\
+pub(crate) const GONE_ON: &[u8] = b"resume,1,rate,derandomized,capped,unscaled,bounded,0,4,16,100,\
     15000000,15000000,150000000,125,1250,1024,262144,100000000000,16384,\
     15000000,15000000,150000000,125,1250,1024,262144,100000000000,16384,\
     1,0,1,1500,10,0,0,0,150000000,0,0,0,0,0,0,1,1,1,0,0,0,0,0,0,0,0,0,0,1500,0,0

@@ -12,10 +12,10 @@ returns-in-None g c other =
 pub returns-in-Some-Err : goal.returns-in-Some-Err
 returns-in-Some-Err g c other =
     rw c.faulted.ensures (last-faulted c.args.many (g.H.NamedFiles.holds c.args.rt.now c.args.name.now) c.in-Some-Err.why
-    (g.W.Write.contents c.args.output.now) c.in-Some-Err.ensures)
+    (g.W.Write.contents c.args.output.now) (rw c.in-Some-Err.field-0-is at c.in-Some-Err.ensures))
 
 pub returns-in-Some-Ok : goal.returns-in-Some-Ok
 returns-in-Some-Ok g c other =
     last-told c.args.many c.in-Some-Ok.number (g.R.Read.remaining c.args.input) (g.H.NamedFiles.holds c.args.rt.now) c.args.name.now
-    c.cut_part_of.result (g.W.Write.contents c.args.output.now) (g.W.Write.contents c.cut_part_of.new.output) other c.in-Some-Ok.ensures
+    c.cut_part_of.result (g.W.Write.contents c.args.output.now) (g.W.Write.contents c.cut_part_of.new.output) other (rw c.in-Some-Ok.field-0-is at c.in-Some-Ok.ensures)
     (rw c.last-span.ensures at c.cut_part_of.ensures)

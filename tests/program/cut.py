@@ -22,7 +22,8 @@ from running import run  # noqa: E402
 FIRST, RUNS = ([int(word) for word in sys.argv[2:4]] + [1, 12][len(sys.argv[2:4]) :])[:2]
 # How many events a random history has at most; up to how many a history is small; and at how many places another is cut.
 EVENTS, SMALL, PLACES = 60, 12, 6
-NOTES = ("refused,", "folded,", "shown,", "tallied,")
+NOTES = ("refused,", "folded,", "shown,", "tallied,", "clock,")
+LATEST = 2**60 - 1
 DIFFERS = "event {} is not what the rules give there, so what comes after it is not cut"
 tried = {"excerpts": 0, "summed up": 0, "cut again": 0, "segments": 0}
 
@@ -195,7 +196,8 @@ def check_nothing(history):
     """Choices of which there is no event, and a fault, wherever it is."""
     nothing = (1, "", "no event of the text is wanted")
     check(cut(history.text, "--event", str(history.count + 1)) == nothing, f"{history.name}: an event that is not there")
-    check(cut(history.text, "--from", str(history.moments[-1] + 1)) == nothing, f"{history.name}: a moment after all events")
+    if history.moments[-1] < LATEST:
+        check(cut(history.text, "--from", str(history.moments[-1] + 1)) == nothing, f"{history.name}: a moment after all events")
     damaged = history.text + "depart,1,x,empty\n"
     status, part, errors = cut(damaged, "--event", "1")
     check((status, errors) == (1, audited([damaged])[1][0][1]), f"{history.name}: status {status}, {errors} of a text with a fault")

@@ -92,7 +92,7 @@ def check_other(seed, whole, n, chance):
         row = later[0] if place == 0 else other_row(chance, book, 1000 + place)
         number = len(rows) + 1
         rows.append(list(map(str, row)))
-        told = answered(book, 3, number, rows[-1], request(number, rows[-1]))
+        told = answered(book, 3, number, rows[-1], request(number, rows[-1], 3))
         wanted.append(told)
         if told[0] == "refused":
             refusals += 1
@@ -131,7 +131,7 @@ def check_changed(seed, n, rows):
         got = status, output, error
         check(got == want, f"seed {seed}, after event {n}: {got} of a beginning with a fault; wanted {want}")
         return
-    good, fault = up_to_fault(rows[read - 1 :], lambda number, row: request(number + read - 1, row))
+    good, fault = up_to_fault(rows[read - 1 :], lambda number, row: request(number + read - 1, row, 3))
     faults["later" if fault else "none"] += 1
     lines = output.splitlines(keepends=True)
     check(lines[:read] == list(map(text_of, rows[:read])), f"seed {seed}, after event {n}: the beginning was not written as it was read")

@@ -31,6 +31,8 @@ The first record opens the controller:
       first: <delay> is rate (by the departure rate, section 5.2) or stamp (what the packet that departed last had waited,
       4.3: it stands still while the link does), <picking> derandomized (5.4) or random, <step> capped (5.5) or uncapped,
       <size> unscaled, or scaled: packets below mean_pkt are picked less often
+  resume,..  and then queued,.. for each packet that waits: the run goes on from the middle of a history, with other commands
+      than there, or other parameters. pie cut writes such a beginning; docs/FORMATS.md has its fields
 
 <nine> is target,t_update,max_burst,alpha,beta,mean_pkt,limit_bytes,mark_ecnth,dq_threshold (RFC 8033):
   target        the wanted queueing delay in ns, 2 to 10^10                      (default 15000000)
@@ -60,6 +62,7 @@ Then, in any order:
           <average>,<measuring>; and from version two on <active>, 1 while the controller is on and else 0
   tally   tallied,<arrivals>,<enqueued>,<marked>,<early>,<over bytes>,<over packets>,<left>,<left bytes>,<empty>,
           <updates>,<resets>,<parameter changes>,<largest queue>,<largest delay>,<time waited>
+  clock,<moment>,<unix>  in version three: the time of day, in nanoseconds since 1970, at that moment; decides nothing
 
 A record that is refused gives refused,<record>,<code>, and the run goes on:
   1 the moment is above 2^60 - 1     2 the size is out of range     3 the update comes too soon

@@ -474,24 +474,26 @@ def run_ssh(work, names):
     ssh, hosts = f"{work}/ssh", [f"127.0.0.{number}" for number in (2, 3, 4)]
     os.makedirs(ssh, mode=0o700)
     os.mkdir(f"{work}/there")
+    # (--cleanup takes empty folders away, and one that a file is on its way to: a host's home is not empty)
+    open(f"{work}/there/home", "w").close()
     servers = start_servers(ssh, hosts)
     words = ["parallel", "--ssh", f"ssh -F {ssh}/config", "--sshlogin", ",".join(f"2/{host}" for host in hosts), "--joblog", f"{work}/joblog"]
     try:
-        by_parallel("over SSH", work, hosts, [*words, "-X", "pie", "audit", "{}"], sorted(names))
+        by_parallel("over SSH", work, work, hosts, [*words, "-X", "pie", "audit", "{}"], sorted(names))
         # (files are sent to a folder of their own there, since all hosts are this machine, and are removed from it behind the audit)
         sent = [*words, "--workdir", f"{work}/there", "--transferfile", "{}", "--cleanup", "pie", "audit", "{}"]
-        by_parallel("sent over SSH", work, hosts, sent, [os.path.relpath(name, work) for name in sorted(names)[:15]])
-        check("sent over SSH: removed there", not any(files for _, _, files in os.walk(f"{work}/there")))
+        by_parallel("sent over SSH", work, os.path.dirname(names[0]), hosts, sent, [os.path.basename(name) for name in sorted(names)[:15]])
+        check("sent over SSH: removed there", os.listdir(f"{work}/there") == ["home"])
     finally:
         for server in servers:
             server.terminate()
             server.wait()
 
 
-def by_parallel(what, work, hosts, words, names):
-    """Whether a command of GNU parallel finds of some histories what one process finds, and each host had a part."""
-    alone = subprocess.run([PROGRAM, "audit", *names], capture_output=True, text=True, cwd=work)
-    ended = subprocess.run([*words, ":::", *names], capture_output=True, text=True, cwd=work, stdin=subprocess.DEVNULL, timeout=PATIENCE)
+def by_parallel(what, work, folder, hosts, words, names):
+    """Whether a command of GNU parallel finds of some histories what one process finds, both within a folder, and each host had a part."""
+    alone = subprocess.run([PROGRAM, "audit", *names], capture_output=True, text=True, cwd=folder)
+    ended = subprocess.run([*words, ":::", *names], capture_output=True, text=True, cwd=folder, stdin=subprocess.DEVNULL, timeout=PATIENCE)
     check(f"{what}: the findings", sorted(ended.stdout.splitlines()) == sorted(alone.stdout.splitlines()), ended.stderr[-2000:])
     told = [line for line in ended.stderr.splitlines() if line.startswith("pie: ")]
     check(f"{what}: the faults", sorted(told) == sorted(alone.stderr.splitlines()), ended.stderr[-2000:])

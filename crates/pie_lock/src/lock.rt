@@ -10,6 +10,7 @@ use crate::view::{LockOpening, Place};
 use atomic_table::{Refused, Seat, Table};
 use crossbeam_utils::Backoff;
 use std::alloc::Global;
+use std::hint;
 use std::marker::{Brand, Model};
 use std::snapshot::Snapshot;
 use std::sync::Wait;
@@ -31,6 +32,9 @@ const NOT_AWAITED: u64 = 0;
 
 // A pass may sleep until a put.
 const AWAITED: u64 = 1;
+
+// How often who waits looks at the word before it waits longer: for some two microseconds, a turn of a burst or two.
+const LOOKS: usize = 32;
 
 /// A state that one pass at a time may have.
 ///
@@ -228,11 +232,23 @@ impl<S: Kept> RuledLock<S> {
             };
             if backoff.is_completed() {
                 self.awaited.park(rt, AWAITED as u32);
-            } else {
+            } else if !self.seen_free() {
                 backoff.snooze();
             }
         }
         unreachable!()
+    }
+
+    // Whether one of some looks finds that no pass has the state. A look shares the word with the processor of who has the state, from which an
+    // exchange that is refused would take it away.
+    fn seen_free(&self) -> bool {
+        for _ in 0..LOOKS {
+            if self.table.shared.peek(WORD) == FREE {
+                return true;
+            }
+            hint::spin_loop();
+        }
+        false
     }
 
     /// Gives the state back, with the entries that this turn adds to the history, in their order. It never blocks.

@@ -80,7 +80,7 @@ pub(crate) fn wait_and_arrive_all<R: Wait>(
         return (pass, replies);
     }
     let caller = pass.first();
-    let held = link.lock.take(rt, pass);
+    let held = link.lock.take_for(rt, pass, arrivals.len());
     let pass = arrive_all_and_put(link, held, caller, arrivals, &mut replies);
     (pass, replies)
 }
@@ -132,7 +132,7 @@ pub(crate) fn wait_and_depart_all<R: Wait>(
         return (pass, replies);
     }
     let caller = pass.first();
-    let held = link.lock.take(rt, pass);
+    let held = link.lock.take_for(rt, pass, most);
     let pass = depart_all_and_put(link, held, caller, moment, most, &mut replies);
     (pass, replies)
 }

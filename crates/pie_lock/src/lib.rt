@@ -19,12 +19,12 @@
 //!   that are not adjacent (`beside`). Gathered passes have both ranges and the longer front, which begins with the shorter.
 //! - `close` gives back a state that tells a history which goes on from the pass's front (`told`). With all numbers it never
 //!   refuses, and the state tells exactly that front (`alone`, `same`). A refusal hands lock and pass back as they were.
-//! - Every call but `take` returns, and none but `new` takes memory.
+//! - Every call but `take` and `take_for` returns, and none but `new` takes memory.
 //!
 //! `LockRule`, the rule that the lock's table keeps, is exported with what it speaks of (`Place`, `LockOpening`), so that a crate above
 //! can name in a contract what its lock keeps. No value of them is made outside.
 //!
-//! Not promised: that `take` ever returns, that any caller is served before another, that the lock is fair, or how long anything
+//! Not promised: that these two ever return, that any caller is served before another, that the lock is fair, or how long anything
 //! lasts; that `try_take` and `close` refuse only where another caller has the state (a test shows that they succeed on a free
 //! lock); in which order two callers acted that never gathered; what the holder of a dropped pass had seen; that only one
 //! history is told (a `Counter` tells every list of as many entries with the same sum, and the lock works the same).

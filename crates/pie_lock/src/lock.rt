@@ -33,7 +33,10 @@ const NOT_AWAITED: u64 = 0;
 // A pass may sleep until a put.
 const AWAITED: u64 = 1;
 
-// How often who waits looks at the word before it waits longer: for some two microseconds, a turn of a burst or two.
+// A turn of so many calls or more is a long one.
+const LONG: usize = 16;
+
+// How often who waits for a long turn looks at the word before it waits longer: for some two microseconds, which such a turn takes.
 const LOOKS: usize = 32;
 
 /// A state that one pass at a time may have.
@@ -203,13 +206,31 @@ impl<S: Kept> RuledLock<S> {
     {
         match self.try_take(pass) {
             Ok(held) => held,
-            Err(pass) => self.wait_and_take(rt, pass),
+            Err(pass) => self.wait_and_take(rt, pass, 0),
         }
     }
 
-    // The same where another pass was seen to have the state. A function of its own: what waiting takes costs nothing where nobody waits.
+    /// Takes the state as [`RuledLock::take`] does, for a turn of so many calls. Who waits for a long turn takes the state sooner after a put: then
+    /// the state changes hands more often, which pays where turns are long, and costs where they are short. The history is that of either.
+    pub fn take_for<R: Wait>(&self, rt: &R, pass: Pass<S>, calls: usize) -> Held<S>
+        requires own { pass.lock ≡ self.now }
+        ensures pass { IsOfPass pass result }
+        ensures front { GoesOn S.number_of pass.first pass.limit pass.front result.front }
+        ensures origin { result.lock.origin ≡ Some (S.origin_of result.state) }
+        ensures told { S.tells result.state result.front }
+        ensures numbered { All (λ e. S.number_of e < pass.lock.numbers) result.front }
+        ensures same { HoldsAll pass → result.front ≡ pass.front }
+    {
+        match self.try_take(pass) {
+            Ok(held) => held,
+            Err(pass) => self.wait_and_take(rt, pass, looks_for(calls)),
+        }
+    }
+
+    // The same where another pass was seen to have the state, with so many looks. A function of its own: what waiting takes costs nothing where
+    // nobody waits.
     #[inline(never)]
-    fn wait_and_take<R: Wait>(&self, rt: &R, pass: Pass<S>) -> Held<S>
+    fn wait_and_take<R: Wait>(&self, rt: &R, pass: Pass<S>, looks: usize) -> Held<S>
         requires own { pass.lock ≡ self.now }
         ensures pass { IsOfPass pass result }
         ensures front { GoesOn S.number_of pass.first pass.limit pass.front result.front }
@@ -232,17 +253,17 @@ impl<S: Kept> RuledLock<S> {
             };
             if backoff.is_completed() {
                 self.awaited.park(rt, AWAITED as u32);
-            } else if !self.seen_free() {
+            } else if !self.seen_free(looks) {
                 backoff.snooze();
             }
         }
         unreachable!()
     }
 
-    // Whether one of some looks finds that no pass has the state. A look shares the word with the processor of who has the state, from which an
-    // exchange that is refused would take it away.
-    fn seen_free(&self) -> bool {
-        for _ in 0..LOOKS {
+    // Whether one of so many looks finds that no pass has the state. A look shares the word with the processor of who has the state, from which
+    // an exchange that is refused would take it away.
+    fn seen_free(&self, looks: usize) -> bool {
+        for _ in 0..looks {
             if self.table.shared.peek(WORD) == FREE {
                 return true;
             }
@@ -367,6 +388,11 @@ impl<S: Kept> RuledLock<S> {
             Err(pass) => Err(StillHeld { lock: self, pass }),
         }
     }
+}
+
+// How often who waits for a turn of so many calls looks at the word.
+fn looks_for(calls: usize) -> usize {
+    if calls < LONG { 0 } else { LOOKS }
 }
 
 // The state that lies in the one slot.

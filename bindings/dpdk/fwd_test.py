@@ -98,7 +98,7 @@ def audited(path):
     text = Path(path).read_bytes()
     first = text.split(NEWLINE, 1)[0].split(b",")
     before = int(first[29]) if first[0] == b"resume" else 0
-    last = before + text.count(NEWLINE) - 1 - len(re.findall(rb"^queued,", text, re.M))
+    last = before + text.count(NEWLINE) - 1 - len(re.findall(rb"^(?:queued|clock),", text, re.M))
     gap = re.search(rb"^lost,", text, re.M)
     wanted = f"pie: {path}: record {1 + text.count(NEWLINE, 0, gap.start())}: unknown kind\n" if gap else f"{path}: clean,{last}\n"
     done = subprocess.run([PIE, "audit", path], stdout=subprocess.PIPE, stderr=subprocess.STDOUT, text=True, check=False)
@@ -130,7 +130,7 @@ def full_speed():
         numbers = told(printed)
         events = events_of(numbers)
         assert forward.returncode == 0 and numbers["events lost to the history"] == lost, printed
-        assert lines == 1 + events - lost + gaps, (lines, events, lost, gaps)
+        assert lines == 2 + events - lost + gaps, (lines, events, lost, gaps)
         audited(str(first))
         return f"{events} events at full speed, {lost} of them told as lost"
 

@@ -264,7 +264,7 @@ struct resumed {
 static bool is_now(const char *line) {
     const char *time_of_day = strchr(strchr(line, ',') + 1, ',') + 1;
     uint64_t seconds = strtoull(time_of_day, NULL, 10) / 1000000000u, now = (uint64_t)time(NULL);
-    return seconds <= now && now - seconds < 300;
+    return seconds <= now + 1 && now < seconds + 300; // (`time` may be some milliseconds late)
 }
 
 static struct resumed read_resumed(const char *name) {

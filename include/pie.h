@@ -329,12 +329,17 @@ uint32_t pie_set_params_event(struct pie_state *state, const struct pie_params *
  *                      `tail` of them (1 to 2^20)
  *   pie_write_refused  that the record with this number was refused, counted from 1 for the opening; `code` is PIE_BAD_MOMENT, PIE_BAD_SIZE,
  *                      PIE_TOO_SOON or PIE_BAD_PARAMS, the refusals that histories know
+ *   pie_write_clock    the time of day: it was `unix_time` (nanoseconds since 1970-01-01T00:00:00Z, as CLOCK_REALTIME has them) when the caller's
+ *                      clock showed `moment`, at most 2^60 - 1. It decides nothing; by the last one before an event `pie explain --wall` tells
+ *                      the event's time of day. It stands anywhere behind an opening `open3`, which pie_write_opening writes of `events` above
+ *                      2^40 always, and in a text that resumes anywhere behind the packets that wait; behind `open` and `open2` it is a fault
  *   pie_write_lost     that so many events were not kept, one at least. That is no record of a history: an audit ends there with a fault */
 size_t pie_write_event(const struct pie_event *event, unsigned char *out, size_t room);
 size_t pie_write_params(const struct pie_event *event, const struct pie_params *params, unsigned char *out, size_t room);
 size_t pie_write_opening(const struct pie_params *params, uint64_t moment, uint32_t profile, uint32_t choices, uint64_t packets,
                          uint64_t tail, uint64_t events, unsigned char *out, size_t room);
 size_t pie_write_refused(uint64_t record, uint32_t code, unsigned char *out, size_t room);
+size_t pie_write_clock(uint64_t moment, uint64_t unix_time, unsigned char *out, size_t room);
 size_t pie_write_lost(uint64_t count, unsigned char *out, size_t room);
 
 /* Write the records with which a text begins that goes on from the middle of a history (docs/FORMATS.md, "A text that resumes"), as the calls

@@ -1,6 +1,7 @@
 #!/usr/bin/env bash
 # Audits the history that the example in C prints (check.sh compares it with the stored one): it is clean, and with one answer
-# changed it differs there. Where a C compiler and the static library are there, the same of random events that the library writes (events.c).
+# changed it differs there; its events are told by their times of day. Where a C compiler and the static library are there, the same of random
+# events that the library writes (events.c).
 # usage: bindings/c/audit.sh [PROGRAM]      PROGRAM: crates/pie/out/pie where none is given
 # needs: library, program
 set -u
@@ -26,6 +27,12 @@ if [ "$found" != "differs,$event" ] || [ "$status" != 2 ]; then
     exit 1
 fi
 echo "bindings/c: the audit finds the example's history clean ($events events), and a changed answer in it"
+times=$("$program" explain --all --csv --wall < "$history" | awk -F, 'NR == 2 { first = $NF } END { print first, $NF }')
+if [ "$times" != '2026-11-24T20:00:00.000000300Z 2026-11-24T20:00:00.120000000Z' ]; then
+    echo "bindings/c/audit.sh: the times of day of the example's first and last event are told as $times"
+    exit 1
+fi
+echo "bindings/c: the example's first and last event are told at $times"
 cc=${CC:-cc}
 lib=$here/../../crates/pie_c/out/libpie_c.a
 if ! command -v "$cc" > /dev/null || [ ! -e "$lib" ]; then
@@ -36,7 +43,7 @@ fi
 changed=0
 for seed in 1 2 3 4 5 6 7 8 9 10 11 12 13 14 15 16; do
     "$work/events" $seed 3000 > "$work/history" || exit 1
-    events=$(grep -c -v -E '^(open|refused)' "$work/history")
+    events=$(grep -c -v -E '^(open|clock|refused)' "$work/history")
     found=$("$program" audit < "$work/history")
     if [ "$found" != "clean,$events" ]; then
         echo "bindings/c/audit.sh: the random events of seed $seed are not clean: $found"

@@ -118,6 +118,31 @@ static void try_events(void) {
     CHECK(memcmp(text, "refused,5,3\n", 12) == 0);
 }
 
+/* The record of the time of day into each room, where no other byte changes; "" where it cannot be. */
+static void try_clock(uint64_t moment, uint64_t unix_time, const char *wanted) {
+    unsigned char text[PIE_RECORD_ROOM], before[PIE_RECORD_ROOM];
+    size_t length = strlen(wanted), room;
+    memset(before, '?', sizeof before);
+    for (room = 0; room <= sizeof text; room++) {
+        size_t count = room < length ? 0 : length;
+        memset(text, '?', sizeof text);
+        CHECK(pie_write_clock(moment, unix_time, text, room) == count);
+        CHECK(memcmp(text, wanted, count) == 0);
+        CHECK(memcmp(text + count, before, sizeof text - count) == 0);
+    }
+}
+
+/* .. at both ends of its numbers, at each other and at themselves. */
+static void try_clocks(void) {
+    try_clock(0, 0, "clock,0,0\n");
+    try_clock(0, UINT64_MAX, "clock,0,18446744073709551615\n");
+    try_clock(PIE_MAX_MOMENT, 0, "clock,1152921504606846975,0\n");
+    try_clock(PIE_MAX_MOMENT, UINT64_MAX, "clock,1152921504606846975,18446744073709551615\n");
+    try_clock(1, UINT64_C(1795550400000000000), "clock,1,1795550400000000000\n");
+    try_clock(PIE_MAX_MOMENT + 1, 0, "");
+    try_clock(UINT64_MAX, UINT64_MAX, "");
+}
+
 static void step(struct pie_state *pie, uint64_t *now, uint64_t tag) {
     uint64_t word = random_word();
     struct pie_event event;
@@ -180,6 +205,7 @@ int main(int count, char **words) {
     steps = strtoull(words[2], NULL, 10);
     changed = count > 3 ? strtoull(words[3], NULL, 10) : 0;
     try_events();
+    try_clocks();
     pie_default_params(&params);
     if (random_word() % 2)
         params.limit_bytes = 20000;
@@ -195,6 +221,10 @@ int main(int count, char **words) {
     CHECK(pie_write_opening(&params, now, profile, choices, RING, 1048577, steps + 1, text, sizeof text) == 0);
     fwrite(text, 1, length, stdout);
     records = 1;
+    if (choices != PIE_USUAL) { /* (an opening of version three) */
+        fwrite(text, 1, pie_write_clock(now, UINT64_C(1795550400000000000), text, sizeof text), stdout);
+        records = 2;
+    }
     for (i = 0; i < steps; i++)
         step(&pie, &now, i);
     return 0;

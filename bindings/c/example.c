@@ -2,8 +2,8 @@
  * tenth of a second, after a burst that overruns the ring. Prints the history in the format of docs/FORMATS.md, which the library
  * writes: caller 1 is the sender, 2 the link, 3 the timer.
  *
- * There is no clock and no entropy in it, so each run prints the same. A scheduler hands in its own clock, and random
- * words of a good generator. */
+ * There is no clock and no entropy in it, so each run prints the same. A scheduler hands in its own clock, its time of day, and
+ * random words of a good generator. */
 #include "pie.h"
 
 #include <inttypes.h>
@@ -16,6 +16,8 @@ enum { SENDER = 1, LINK = 2, TIMER = 3 };
 #define BYTE_TIME 500   /* nanoseconds a byte on the link: 16 Mbit/s */
 #define END 120000000u  /* nanoseconds */
 #define QUIET 100000000u /* the sender stops here */
+#define UNIX_TIME UINT64_C(1795550400000000000) /* nanoseconds since 1970 at the moment 0: it is 2026-11-24, 20:00:00 UTC */
+#define EVENTS (UINT64_C(1) << 47) /* that the history may have: above 2^40 it is of version three, which tells the time of day */
 
 struct packet {
     uint64_t tag;
@@ -30,8 +32,8 @@ struct link {
     struct pie_state pie;
 };
 
-/* How many records there are, and how many of them are events: the `open` record is the first. */
-static uint64_t records = 1, events;
+/* How many records there are, and how many of them are events: the first are the opening and the time of day. */
+static uint64_t records = 2, events;
 
 /* With the argument `trace` the records are printed as they are asked, without the answers. */
 static int is_trace;
@@ -117,9 +119,9 @@ static void show(const struct link *link) {
         return;
     }
     printf("shown,%" PRIu64 ",%" PRIu64 ",%" PRIu32 ",%" PRIu64 ",%" PRIu64 ",%" PRIu64 ",%" PRIu64 ",%" PRIu64 ",%" PRIu64
-           ",%" PRIu64 ",%" PRIu64 "\n",
+           ",%" PRIu64 ",%" PRIu64 ",%" PRIu64 "\n",
            events, pie->moment, link->packets, link->bytes, pie->prob, pie->old_delay, pie->accu, pie->burst, pie->last,
-           pie->average, pie->measuring);
+           pie->average, pie->measuring, pie->active);
 }
 
 int main(int count, char **words) {
@@ -139,7 +141,8 @@ int main(int count, char **words) {
     if (pie_check_params(&params) != 0 || pie_open(&link.pie, &params, 0) != PIE_DONE)
         return 1;
     unsigned char text[PIE_RECORD_ROOM];
-    fwrite(text, 1, pie_write_opening(&params, 0, PIE_ALWAYS_ON, PIE_USUAL, RING, 1048576, 1048576, text, sizeof text), stdout);
+    fwrite(text, 1, pie_write_opening(&params, 0, PIE_ALWAYS_ON, PIE_USUAL, RING, 1048576, EVENTS, text, sizeof text), stdout);
+    fwrite(text, 1, pie_write_clock(0, UNIX_TIME, text, sizeof text), stdout);
 
     uint64_t sent = 0, next_packet = 1000, next_free = 2000, next_update = params.t_update;
     while (next_update < END) {

@@ -12,6 +12,7 @@ import subprocess
 import sys
 import tempfile
 from concurrent.futures import ThreadPoolExecutor
+from datetime import datetime, timezone
 from pathlib import Path
 
 PIE_FWD, PIE = sys.argv[1:3]
@@ -98,12 +99,24 @@ def audited(path):
     text = Path(path).read_bytes()
     first = text.split(NEWLINE, 1)[0].split(b",")
     before = int(first[29]) if first[0] == b"resume" else 0
-    last = before + text.count(NEWLINE) - 1 - len(re.findall(rb"^queued,", text, re.M))
+    last = before + text.count(NEWLINE) - 1 - len(re.findall(rb"^(?:queued|clock),", text, re.M))
     gap = re.search(rb"^lost,", text, re.M)
     wanted = f"pie: {path}: record {1 + text.count(NEWLINE, 0, gap.start())}: unknown kind\n" if gap else f"{path}: clean,{last}\n"
     done = subprocess.run([PIE, "audit", path], stdout=subprocess.PIPE, stderr=subprocess.STDOUT, text=True, check=False)
     assert done.stdout == wanted, (done.stdout, wanted)
     return before, None if gap else last
+
+
+def now():
+    return f"{datetime.now(timezone.utc):%Y-%m-%dT%H:%M:%S.%f}"
+
+
+def tells_time(path, since):
+    """Each event of a text is told by a time of day that isn't earlier than this one, nor later than now; each text has one record of it."""
+    done = subprocess.run([PIE, "explain", "--all", "--csv", "--wall", path], stdout=subprocess.PIPE, text=True, check=True)
+    times = [line.rpartition(",")[2] for line in done.stdout.splitlines()[1:]]
+    assert times and since <= min(times) and max(times) <= now(), (since, min(times), max(times), now())
+    assert len(re.findall(rb"^clock,", Path(path).read_bytes(), re.M)) == 1
 
 
 def events_of(numbers):
@@ -130,7 +143,7 @@ def full_speed():
         numbers = told(printed)
         events = events_of(numbers)
         assert forward.returncode == 0 and numbers["events lost to the history"] == lost, printed
-        assert lines == 1 + events - lost + gaps, (lines, events, lost, gaps)
+        assert lines == 2 + events - lost + gaps, (lines, events, lost, gaps)
         audited(str(first))
         return f"{events} events at full speed, {lost} of them told as lost"
 
@@ -161,10 +174,12 @@ def paced():
     """The history of some seconds of real time is whole."""
     with tempfile.TemporaryDirectory() as work:
         path = f"{work}/history"
+        since = now()
         status, printed, errors = run(PACED, "--rate", "20mbit", "--receive", "24mbit", "--for", "3s", "--history", path)
         events = events_of(told(printed))
-        assert status == 0 and Path(path).read_bytes().count(NEWLINE) == events + 1, (status, printed, errors)
+        assert status == 0 and Path(path).read_bytes().count(NEWLINE) == events + 2, (status, printed, errors)
         audited(path)
+        tells_time(path, since)
         return f"{events} events in real time"
 
 
@@ -190,9 +205,11 @@ def flight():
         assert all(one[1] <= other[1] for one, other in zip(texts, texts[1:])), texts
         assert len(texts) < 2 or audited(f"{path}.before") == texts[-2]
         words = ["--rate", "20mbit", "--receive", "40mbit", "--flight-wait", "30ms", "--for", "2s", "--flight", path, "--packets", "400"]
+        since = now()
         status, printed, errors = run(PACED, *words)
         assert status == 0 and errors.startswith(f"pie-fwd: --flight {path}: written\n"), (printed, errors)
         audited(path)
+        tells_time(path, since)
         status, printed, errors = run(PACED, *words, "--flight-events", "0")
         assert status == 0 and errors == "", (printed, errors)
         return f"the last {min(last - before for before, last in texts)} events or more at full speed"
@@ -201,7 +218,7 @@ def flight():
 def segments():
     """A history in segments, of which the last ones are kept: each stands alone, and begins where the one before ends."""
     with tempfile.TemporaryDirectory() as work:
-        path = Path(work, "history")
+        path, since = Path(work, "history"), now()
         status, printed, errors = run(PACED, "--rate", "20mbit", "--receive", "24mbit", "--for", "3s", "--history", str(path), "--rotate", "64kb",
                                       "--segments", "3")
         events = events_of(told(printed))
@@ -209,6 +226,8 @@ def segments():
         assert status == 0 and len(names) == 3 and names[0] != "history.1", (names, printed, errors)
         ends = [audited(str(path.with_name(name))) for name in names]
         assert all(one[1] == other[0] for one, other in zip(ends, ends[1:])) and ends[-1][1] == events, (ends, events)
+        for name in names:
+            tells_time(path.with_name(name), since)
         assert all(64 << 10 <= path.with_name(name).stat().st_size for name in names[:-1])
         return f"{names[-1].rpartition('.')[2]} segments"
 

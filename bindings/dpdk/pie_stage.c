@@ -16,6 +16,7 @@
 #include <rte_ring_elem.h>
 #include <rte_ring_peek_zc.h>
 #include <rte_spinlock.h>
+#include <time.h>
 
 #define BURST 32u    /* packets looked at before the lock is taken, and moved at once */
 #define SHIFT 50     /* of the factor of the clock */
@@ -89,6 +90,7 @@ struct pie_stage {
     bool ecn, hands_back;
 
     struct pie_text text __rte_cache_aligned; /* of who writes the history, and its first line */
+    bool is_timed;                            /* the text has told the time of day */
     unsigned char first[PIE_RECORD_ROOM];
     size_t first_size;
     struct pie_opening opening; /* (of the flight recorder too) */
@@ -121,6 +123,13 @@ uint64_t pie_stage_nanoseconds(const struct pie_stage *stage, uint64_t cycles) {
 /* Nanoseconds since the stage was made. A TSC that lies before that counts as the start. */
 static uint64_t moment_of(const struct pie_stage *stage, uint64_t now) {
     return now > stage->start ? nanoseconds_of(stage, now - stage->start) : 0;
+}
+
+/* Nanoseconds since 1970. */
+static uint64_t unix_time(void) {
+    struct timespec now = {0};
+    clock_gettime(CLOCK_REALTIME, &now);
+    return (uint64_t)now.tv_sec * 1000000000u + (uint64_t)now.tv_nsec;
 }
 
 void pie_stage_default_params(struct pie_stage_params *params, uint64_t rate) {
@@ -584,6 +593,7 @@ static size_t begin_text(struct pie_stage *stage, unsigned char *text, size_t ro
         if (size == 0)
             return 0;
         stage->text.records = 1;
+        stage->is_timed = false;
         cut->state = BEGUN;
     }
     for (; cut->told < cut->packets && room - size >= PIE_RECORD_ROOM; cut->told++, stage->text.records++) {
@@ -618,6 +628,10 @@ size_t pie_stage_history(struct pie_stage *stage, unsigned char *text, size_t ro
     if (stage->text.records == 0) {
         size = pie_text_opening(&stage->text, stage->first_size);
         memcpy(text, stage->first, size);
+    }
+    if (!stage->is_timed && room - size >= PIE_RECORD_ROOM) {
+        size += pie_text_clock(&stage->text, moment_of(stage, rte_rdtsc()), unix_time(), text + size, room - size);
+        stage->is_timed = true;
     }
     while (room - size >= PIE_RECORD_ROOM && !(cut->state == AHEAD_OF_US && stage->events.tail == cut->at) &&
            pie_ring_take(&stage->events, &event, &unused))
@@ -685,6 +699,7 @@ static void hand_over(void *owner, PIE_RING_WORD *queued, uint64_t places) {
 int pie_stage_flight(struct pie_stage *stage, pie_flight_write write, void *user) {
     if (stage->memory == NULL)
         return PIE_FLIGHT_NONE;
+    pie_flight_clock(stage->memory, moment_of(stage, rte_rdtsc()), unix_time());
     return pie_flight_dump_of(stage->memory, stage->memory_bytes, stage->scratch, hand_over, stage, write, user);
 }
 

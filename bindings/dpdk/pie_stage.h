@@ -33,7 +33,8 @@
  *   while ((size = pie_stage_history(stage, text, sizeof text)) != 0)            // on one lcore, again and again
  *       fwrite(text, 1, size, file);
  *
- * A packet's tag is its number, in the order of arrivals, and the caller is the lcore (65535 of a thread that is none).
+ * A packet's tag is its number, in the order of arrivals, and the caller is the lcore (65535 of a thread that is none). Each text begins with the
+ * time of day (CLOCK_REALTIME) beside the stage's clock, by which `pie explain --wall` tells when its events were.
  */
 #ifndef PIE_STAGE_H
 #define PIE_STAGE_H

@@ -21,6 +21,7 @@
 #include <sched.h>
 #include <stdio.h>
 #include <stdlib.h>
+#include <time.h>
 
 #define MBUFS 8191u
 #define EXPECT(what)                                                              \
@@ -215,7 +216,8 @@ static struct pie_stage *stage_of(struct pie_stage_params *params) {
 
 /* What a history has. */
 struct told {
-    uint64_t lines, lost, gaps; /* lines; events that its lines `lost` tell, and these lines */
+    uint64_t lines, lost, gaps; /* lines but that of the time of day; events that its lines `lost` tell, and these lines */
+    uint64_t clocks;            /* lines of the time of day */
 };
 
 /* Takes out what the history has now, or to its end, into a file. */
@@ -225,7 +227,9 @@ static void take_history(struct pie_stage *stage, FILE *file, bool is_end, struc
     while ((size = (is_end ? pie_stage_history_end : pie_stage_history)(stage, text, sizeof text)) != 0) {
         EXPECT(size <= sizeof text && text[size - 1] == '\n' && fwrite(text, 1, size, file) == size);
         for (unsigned char *line = text; line < text + size; line = (unsigned char *)memchr(line, '\n', size) + 1) {
-            told->lines++;
+            bool is_clock = memcmp(line, "clock,", 6) == 0;
+            told->lines += !is_clock;
+            told->clocks += is_clock;
             if (memcmp(line, "lost,", 5) == 0) {
                 told->gaps++;
                 told->lost += strtoull((const char *)line + 5, NULL, 10);
@@ -251,10 +255,17 @@ static int write_to(void *user, const unsigned char *bytes, size_t count) {
     return fwrite(bytes, 1, count, user) == count ? 0 : 1;
 }
 
-/* Of a text that resumes: the events before it, the packets that wait then, and its events. */
+/* Of a text that resumes: the events before it, the packets that wait then, its lines of the time of day, and its events. */
 struct resumed {
-    uint64_t before, queued, events;
+    uint64_t before, queued, clocks, events;
 };
+
+/* Whether a line `clock,<moment>,<unix>` was written in the last minutes. */
+static bool is_now(const char *line) {
+    const char *time_of_day = strchr(strchr(line, ',') + 1, ',') + 1;
+    uint64_t seconds = strtoull(time_of_day, NULL, 10) / 1000000000u, now = (uint64_t)time(NULL);
+    return seconds <= now + 1 && now < seconds + 300; // (`time` may be some milliseconds late)
+}
 
 static struct resumed read_resumed(const char *name) {
     struct resumed resumed = {0};
@@ -267,11 +278,15 @@ static struct resumed read_resumed(const char *name) {
         at = strchr(at, ',') + 1;
     resumed.before = strtoull(at, NULL, 10);
     while (fgets(line, sizeof line, file) != NULL) {
-        bool is_queued = strncmp(line, "queued,", 7) == 0;
-        EXPECT(!is_queued || resumed.events == 0);
+        bool is_queued = strncmp(line, "queued,", 7) == 0, is_clock = strncmp(line, "clock,", 6) == 0;
+        EXPECT(!is_queued || resumed.clocks == 0);
+        EXPECT(is_clock == (!is_queued && resumed.clocks == 0)); // (once, behind the packets that wait)
+        EXPECT(!is_clock || is_now(line));
         resumed.queued += is_queued;
-        resumed.events += !is_queued;
+        resumed.clocks += is_clock;
+        resumed.events += !is_queued && !is_clock;
     }
+    EXPECT(resumed.clocks == 1);
     fclose(file);
     return resumed;
 }
@@ -294,7 +309,7 @@ static void expect_told(struct pie_stage *stage, const struct told *told) {
     pie_stage_read(stage, &stats);
     uint64_t events = events_of(&stats);
     EXPECT(stats.refused == 0 && told->lost == stats.lost && (told->lost == 0) == (told->gaps == 0));
-    EXPECT(told->lines == 1 + events - told->lost + told->gaps);
+    EXPECT(told->lines == 1 + events - told->lost + told->gaps && told->clocks == 1);
 }
 
 static void test_clock(void) {
@@ -655,7 +670,7 @@ static void test_cut(void) {
         } else {
             last = told.lines - 1;
         }
-        EXPECT((told.gaps != 0) == (round == 250) && told.lost >= lost);
+        EXPECT((told.gaps != 0) == (round == 250) && told.lost >= lost && told.clocks == 1);
         told = (struct told){0};
         snprintf(name, sizeof name, "cut-%d", round + 1);
         file = open_history(name);

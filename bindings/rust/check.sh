@@ -27,10 +27,16 @@ if [ "$found" != "clean,$events" ]; then
     echo "bindings/rust/check.sh: the recorded queue's history is not clean: $found of $events events"
     exit 1
 fi
-echo "bindings/rust: the audit finds the recorded queue's history clean ($events events)"
+times=$("$program" explain --all --csv --wall < "$history" | awk -F, 'NR == 2 { first = $NF } END { print first, $NF }')
+if [ "$times" != '2026-11-24T20:00:00.000500000Z 2026-11-24T20:00:01.000000002Z' ]; then
+    echo "bindings/rust/check.sh: the times of day of the recorded queue's first and last event are told as $times"
+    exit 1
+fi
+echo "bindings/rust: the audit finds the recorded queue's history clean ($events events, at $times)"
 
-# clean TEXT: audits a text that resumes, and sets found to the number of its last event
+# clean TEXT: audits a text that resumes, and sets found to the number of its last event; it tells the time of day
 clean() {
+    [ "$(grep -c '^clock,0,1795550400000000000$' "$1")" = 1 ] || { echo "bindings/rust/check.sh: a text without the time of day" && exit 1; }
     found=$("$program" audit < "$1")
     case $found in
         clean,*) found=${found#clean,} ;;

@@ -89,16 +89,16 @@ static void die_refused(const char *call, uint64_t code) {
     exit(1);
 }
 
-static uint64_t clock_now(void) {
+static uint64_t clock_now(clockid_t clock) {
     struct timespec now;
-    if (clock_gettime(CLOCK_MONOTONIC, &now) != 0)
-        die("CLOCK_MONOTONIC");
+    if (clock_gettime(clock, &now) != 0)
+        die("clock_gettime");
     return (uint64_t)now.tv_sec * 1000000000u + (uint64_t)now.tv_nsec;
 }
 
 /* Nanoseconds since the start of the run. */
 static uint64_t moment_of(const struct bottleneck *link) {
-    return clock_now() - link->start;
+    return clock_now(CLOCK_MONOTONIC) - link->start;
 }
 
 static uint64_t random_word(void) {
@@ -267,9 +267,11 @@ static void step(struct bottleneck *link) {
 }
 
 /* Writes what the flight recorder holds, where somebody asked for it. */
-static void write_if_asked(const struct flight_file *flight) {
+static void write_if_asked(const struct bottleneck *link) {
+    const struct flight_file *flight = &link->flight;
     if (!atomic_exchange(&is_asked, false) || flight->name == NULL)
         return;
+    tell_flight(flight, moment_of(link), clock_now(CLOCK_REALTIME));
     int answer = write_flight(flight);
     fprintf(stderr, "link: %s.history: %s\n", flight->name, flight_text(answer));
 }
@@ -279,11 +281,11 @@ static void *write_history(void *argument) {
     struct bottleneck *link = argument;
     const struct timespec pause = {.tv_nsec = LOOK_TIME};
     while (!atomic_load(&link->is_closed)) {
-        write_if_asked(&link->flight);
+        write_if_asked(link);
         if (!write_events(&link->history))
             nanosleep(&pause, NULL);
     }
-    write_if_asked(&link->flight);
+    write_if_asked(link);
     return NULL;
 }
 
@@ -305,16 +307,18 @@ static void open_link(struct bottleneck *link, const struct options *options) {
     link->options = options;
     link->from = open_device(options->from);
     link->to = open_device(options->to);
-    link->start = clock_now();
+    link->start = clock_now(CLOCK_MONOTONIC);
     link->next_update = options->control.params.t_update;
     const struct control *control = &options->control;
     uint32_t code = pie_open_with(&link->pie, &control->params, 0, (uint32_t)control->profile, control->choices);
     if (code != PIE_DONE)
         die_refused("pie_open_with", code);
-    if (!open_history(&link->history, options->history, control, 0))
+    uint64_t moment = moment_of(link), unix_time = clock_now(CLOCK_REALTIME);
+    if (!open_history(&link->history, options->history, control, 0) || !write_time(&link->history, moment, unix_time))
         die(options->history);
     if (!open_flight(&link->flight, options->flight, control, 0, &link->pie))
         die(options->flight);
+    tell_flight(&link->flight, moment, unix_time);
     if (pthread_create(&link->writer, NULL, write_history, link) != 0)
         die("a thread for the history");
 }

@@ -189,6 +189,8 @@ static bool take(struct replay *replay, struct capture *capture, const struct pc
         capture->start = capture->last = stamp;
     if (header->ts.tv_sec < 0 || stamp > capture->last + LONGEST_GAP)
         return false;
+    if (replay->counts.frames == 1 && !write_time(&replay->history, 0, stamp))
+        die(replay->options.history, "could not be written");
     replay->counts.backwards += stamp < capture->last;
     capture->last = stamp > capture->last ? stamp : capture->last;
     int kind = read_frame(capture->link, bytes, header->caplen, header->len, &packet);

@@ -28,6 +28,12 @@ static inline void keep_event(struct flight_file *file, const struct pie_state *
         pie_flight_keep(&file->flight, state, event);
 }
 
+/* Tells the recorder that it was `unix_time` (nanoseconds since 1970) at this moment: its texts begin with that. One thread at a time. */
+static inline void tell_flight(const struct flight_file *file, uint64_t moment, uint64_t unix_time) {
+    if (file->name != NULL)
+        pie_flight_clock(file->memory, moment, unix_time);
+}
+
 /* Writes the recorder's text to NAME.history, while other threads may keep events; one thread at a time. Answers as pie_flight_dump. */
 int write_flight(const struct flight_file *file);
 

@@ -19,6 +19,14 @@ bool open_history(struct history *history, const char *name, const struct contro
     return fwrite(line, 1, pie_text_opening(&history->text, count), history->file) == count && count != 0;
 }
 
+bool write_time(struct history *history, uint64_t moment, uint64_t unix_time) {
+    unsigned char line[PIE_RECORD_ROOM];
+    if (history->file == NULL)
+        return true;
+    size_t count = pie_text_clock(&history->text, moment, unix_time, line, sizeof line);
+    return count != 0 && fwrite(line, 1, count, history->file) == count;
+}
+
 bool write_events(struct history *history) {
     unsigned char bytes[64 * PIE_RECORD_ROOM];
     bool is_any = false;

@@ -18,6 +18,20 @@
 
 static struct text text;
 static uint64_t dumps, changes; /* that were tried */
+static uint64_t unix_time;      /* that the recorder was told last, at the moment 0; 0: none */
+
+/* Tells a recorder the time of day, or what it doesn't take. */
+static void tell_time(void *memory, uint64_t *seed) {
+    uint64_t moment = below(seed, PIE_MAX_MOMENT + 1), wanted = 1 + below(seed, UINT64_MAX - PIE_MAX_MOMENT);
+    expect(!pie_flight_clock(memory, moment, moment), "a time that is its moment", moment);
+    expect(!pie_flight_clock(memory, moment, below(seed, moment + 1)), "a time before its moment", moment);
+    expect(!pie_flight_clock(memory, PIE_MAX_MOMENT + 1, UINT64_MAX), "a moment out of its range", 0);
+    if (below(seed, 2) == 0)
+        return;
+    moment = below(seed, 2) == 0 ? 0 : moment;
+    expect(pie_flight_clock(memory, moment, moment + wanted) == 1, "the time of day", wanted);
+    unix_time = wanted;
+}
 
 /* Who has the packets that wait, of a recorder of bursts: so many left so far. */
 struct owner {
@@ -34,6 +48,14 @@ static void hand_over(void *user, PIE_RING_WORD *queued, uint64_t places) {
     }
 }
 
+/* Whether the text has no event: the record that resumes, and the time of day or nothing. */
+static int has_no_event(void) {
+    const char *end = text.bytes + text.count, *at = (const char *)memchr(text.bytes, '\n', text.count);
+    if (at != NULL && end - at > 7 && strncmp(at + 1, "clock,", 6) == 0)
+        at = (const char *)memchr(at + 1, '\n', (size_t)(end - at) - 1);
+    return at != NULL && at + 1 == end;
+}
+
 /* Dumps, decides again, and answers the number of the last event. */
 static uint64_t dump(const void *memory, size_t bytes, void *scratch, struct owner *owner, uint64_t *first) {
     uint64_t last;
@@ -46,7 +68,7 @@ static uint64_t dump(const void *memory, size_t bytes, void *scratch, struct own
         answer = pie_flight_dump(memory, bytes, scratch, take, &text);
     expect(answer == PIE_FLIGHT_DONE, "a dump answers", (uint64_t)answer);
     last = decide_again(&text, first);
-    if (last == 0 && text.count > 0 && *first == 0 && memchr(text.bytes, '\n', text.count) == text.bytes + text.count - 1)
+    if (last == 0 && text.count > 0 && *first == 0 && has_no_event())
         return 0;
     if (last == 0) {
         FILE *file = fopen("flight.text", "w");
@@ -54,6 +76,7 @@ static uint64_t dump(const void *memory, size_t bytes, void *scratch, struct own
         fclose(file);
     }
     expect(last != 0, "a text differs; it is in flight.text", dumps);
+    expect(told_unix == unix_time, "another time of day", told_unix);
     dumps++;
     return last;
 }
@@ -85,7 +108,7 @@ static void change_a_byte(uint64_t *seed) {
     for (start = at; start > 0 && text.bytes[start - 1] != '\n'; start--)
         ;
     was = text.bytes[at];
-    if (at + 1 >= text.count || was == '\n' || start == 0 || text.bytes[start] == 'q')
+    if (at + 1 >= text.count || was == '\n' || start == 0 || text.bytes[start] == 'q' || text.bytes[start] == 'c')
         return;
     text.bytes[at] = (char)(was == '9' || was == 'z' ? was - 1 : was + 1);
     expect(decide_again(&text, &first) == 0, "a changed answer isn't found", at);
@@ -105,9 +128,12 @@ static void random_events(uint64_t seed, uint64_t events) {
     memory = aligned(bytes);
     scratch = aligned(bytes);
     expect(pie_flight_open(&flight, memory, bytes, wanted, &queue.opening, &queue.pie), "a recorder opens", bytes);
+    unix_time = 0;
     for (i = 0; i < events; i++) {
         step(&queue, &event);
         pie_flight_keep(&flight, &queue.pie, &event);
+        if (below(&seed, 1000) == 0)
+            tell_time(memory, &seed);
         number_of_events += event.answer <= 100;
         expect(flight.count == number_of_events && flight.packets == queue.count && flight.bytes == queue.bytes, "counted otherwise", i);
         if (below(&seed, 400) == 0) {
@@ -154,6 +180,7 @@ static void random_bursts(uint64_t seed, uint64_t events) {
     memory = aligned(bytes);
     scratch = aligned(bytes);
     expect(pie_flight_open_bulk(&flight, memory, bytes, wanted, longest, &queue.opening, &queue.pie), "a recorder of bursts opens", bytes);
+    unix_time = 0;
     for (i = 0; i < events;) {
         struct pie_flight_burst burst = pie_flight_begin(&flight);
         for (rest = 1 + below(&seed, longest); rest != 0; rest--, i++) {
@@ -169,6 +196,8 @@ static void random_bursts(uint64_t seed, uint64_t events) {
             flight.bytes = queue.bytes;
             pie_flight_snapshot(&flight, &queue.pie);
         }
+        if (below(&seed, 300) == 0)
+            tell_time(memory, &seed);
         if (below(&seed, 100) == 0) {
             last = dump(memory, bytes, below(&seed, 2) == 0 ? scratch : NULL, &owner, &first);
             expect(last == flight.count || (last == 0 && flight.count == 0), "not the last event of a burst", last);
@@ -300,6 +329,7 @@ static void threads(uint64_t seed, uint64_t events) {
         before = last;
     }
     pthread_join(writer, NULL);
+    unix_time = 0;
     last = dump(memory, bytes, NULL, NULL, &first);
     expect(tries - gone > 3, "too few dumps beside the writer", tries - gone);
     events = shared_flight.count;
@@ -312,6 +342,7 @@ static void threads(uint64_t seed, uint64_t events) {
 
 static void killed(uint64_t seed, uint64_t rounds) {
     uint64_t first = 0, last, sum = 0, round;
+    unix_time = 1795550400;
     for (round = 0; round < rounds; round++) {
         struct timespec pause = {0, (long)below(&seed, 20000000)};
         uint64_t wanted = 1 + below(&seed, 2000);
@@ -321,6 +352,7 @@ static void killed(uint64_t seed, uint64_t rounds) {
         int status;
         open_queue(&shared_queue, word_of(&seed));
         expect(pie_flight_open(&shared_flight, memory, bytes, wanted, &shared_queue.opening, &shared_queue.pie), "a recorder opens", bytes);
+        expect(pie_flight_clock(memory, 7, 7 + unix_time) == 1, "the time of day", unix_time);
         child = fork();
         if (child == 0) {
             shared_events = UINT64_MAX;
@@ -378,10 +410,12 @@ static void texts(uint64_t seed, const char *folder) {
         bytes = pie_flight_bytes(wanted, queue.opening.packets);
         memory = aligned(bytes);
         expect(pie_flight_open(&flight, memory, bytes, wanted, &queue.opening, &queue.pie), "a recorder opens", bytes);
+        unix_time = 0;
         for (events = 200 + below(&seed, 5000); events != 0; events--) {
             step(&queue, &event);
             pie_flight_keep(&flight, &queue.pie, &event);
         }
+        tell_time(memory, &seed);
         last = dump(memory, bytes, NULL, NULL, &first);
         write_file(folder, round, "history");
         if (change_a_verdict())

@@ -2,7 +2,7 @@
 # Builds the tests of include/pie_flight.h (flight.c and flight_steps.c beside this) as C11, C++11 and C++17 with warnings as errors, and with the
 # thread sanitizer and the address and undefined behaviour sanitizers, and runs them: random events through the library's calls, also in bursts, with
 # dumps at random places, each of which is decided again; dumps beside a writer; processes that are killed; damaged memory; a copy and a writer that
-# are stopped between two words. Then fourteen wrong recorders, each of which is found.
+# are stopped between two words. Then sixteen wrong recorders, each of which is found.
 # What cannot be tried here is told on a line that begins with NOT RUN.
 #
 # usage: tests/libraries/flight.sh [EVENTS]      EVENTS: 100000 where none are given
@@ -45,6 +45,12 @@ wrong "a packet that waits, told by its neighbour's place" \
 wrong "parameters a bit too narrow" "{34, 34, 40, 20, 20, 16, 31, 40, 5}" "{34, 34, 40, 20, 19, 16, 31, 40, 5}"
 wrong "a snapshot of the newest alone" "count >= oldest)" "count <= oldest && found != NULL)"
 wrong "the numbers begun anew" "PIE_RING_LOAD(snapshot[PIE_FLIGHT_COUNT]), PIE_UNKNOWN" "UINT64_C(0), PIE_UNKNOWN"
+wrong "a time of day at its own moment" "PIE_FLIGHT_CLOCK], unix_time - moment" "PIE_FLIGHT_CLOCK], unix_time"
+wrong "a time of day before the packets that wait" "    pie_flight_text_queue(text, words, layout, snapshot);
+    if (unix_time != 0)
+        pie_flight_written(text, pie_write_clock(0, unix_time, pie_flight_next(text), PIE_RESUME_ROOM));" "    if (unix_time != 0)
+        pie_flight_written(text, pie_write_clock(0, unix_time, pie_flight_next(text), PIE_RESUME_ROOM));
+    pie_flight_text_queue(text, words, layout, snapshot);"
 wrong "a snapshot that changed during its copy" "(PIE_RING_LOAD(from[at]) != PIE_RING_LOAD(to[at]))" "(from == to)" flight_steps 200
 wrong "a snapshot that is one while it is written" "    PIE_RING_STORE(to[PIE_FLIGHT_NUMBER], 0);
     PIE_RING_STORE(to[PIE_FLIGHT_COUNT]" "    PIE_RING_STORE(to[PIE_FLIGHT_COUNT]" flight_steps 200

@@ -297,6 +297,9 @@ static int is_next(struct again *again, const struct row *row, const char *line)
 static struct packet ended[MOST_WAITING];
 static uint64_t ended_count;
 
+/* The time of day at the moment 0 that the text told behind the packets that wait, 0 where it told none. */
+static uint64_t told_unix;
+
 /* Decides a text again: answers the number of the last event, and 0 where an event differs or the text is none; `first` is the number of events
  * before it. */
 static uint64_t decide_again(const struct text *text, uint64_t *first) {
@@ -323,6 +326,13 @@ static uint64_t decide_again(const struct text *text, uint64_t *first) {
     }
     if (bytes != again.bytes)
         goto done;
+    told_unix = 0;
+    if (at < end && strncmp(at, "clock,0,", 8) == 0) {
+        at = next_row(at, end, &row);
+        told_unix = number(&row, 2);
+        if (at == NULL || row.count != 3 || told_unix == 0)
+            goto done;
+    }
     while (at < end) {
         const char *line = text->bytes + (at - copy);
         at = next_row(at, end, &row);

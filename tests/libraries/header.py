@@ -18,7 +18,8 @@ TYPES = {"PieParams": "pie_params", "PieState": "pie_state", "PieUpdated": "pie_
          "PieStats": "pie_stats", "usize": "size_t"}
 RUST_TYPES = {"Params": "pie_params", "State": "pie_state", "RawUpdated": "pie_updated", "RawEvent": "pie_event", "RawOpening": "pie_opening",
               "Stats": "pie_stats", "usize": "size_t"}
-PARAMETERS = {("pie_arrive", "bits"): "ecn", ("pie_write_refused", "number"): "record", ("pie_write_queued", "bits"): "ecn"}
+PARAMETERS = {("pie_arrive", "bits"): "ecn", ("pie_write_refused", "number"): "record", ("pie_write_queued", "bits"): "ecn",
+              ("pie_write_clock", "unix"): "unix_time"}  # (compilers of C may define `unix`)
 # a slice is a pointer and a length
 SLICES = {"&[u8]": ("&char", "length"), "&mut [u8]": ("&mut unsigned char", "room")}
 CODES = {"DONE": ["PIE_DONE", "PIE_ENQUEUE"], "OVER_BYTES": ["PIE_BYTES"], "OVER_PACKETS": ["PIE_PACKETS"]}

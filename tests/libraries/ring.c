@@ -85,7 +85,7 @@ static void alone(void) {
 
 /* What the text says, also of what no history has and of a gap at the end. */
 static void text(void) {
-    static const char wanted[] = "refused,2,3\nlost,1\nrefused,4,1\nlost,3\n";
+    static const char wanted[] = "clock,7,8\nrefused,3,3\nlost,1\nrefused,5,1\nlost,3\n";
     static struct pie_event few[4];
     unsigned char bytes[1024];
     struct pie_text text = {0, 0, 0};
@@ -101,11 +101,13 @@ static void text(void) {
     }
     pie_ring_publish(&ring);
     expect(pie_ring_text(&ring, &text, bytes, PIE_RECORD_ROOM - 1) == 0, "written without room", 0);
-    count = pie_ring_text(&ring, &text, bytes, sizeof bytes);
+    expect(pie_text_clock(&text, PIE_MAX_MOMENT + 1, 8, bytes, sizeof bytes) == 0, "the time of day of a moment that can't be", 0);
+    count = pie_text_clock(&text, 7, 8, bytes, sizeof bytes);
+    count += pie_ring_text(&ring, &text, bytes + count, sizeof bytes - count);
     count += pie_ring_last_gap(&ring, &text, bytes + count, sizeof bytes - count);
     expect(pie_ring_last_gap(&ring, &text, bytes, sizeof bytes) == 0, "the last gap is told twice", 0);
     expect(count == sizeof wanted - 1 && memcmp(bytes, wanted, count) == 0, "another text", count);
-    expect(text.records == 5 && text.untold == 1 && text.lost == 4, "counted otherwise", text.records);
+    expect(text.records == 6 && text.untold == 1 && text.lost == 4, "counted otherwise", text.records);
 }
 
 /* The writer: in bursts of 32, one by one, and then in bursts that no ring holds. New parameters now and then. */

@@ -26,6 +26,8 @@ EDITS = [
     ("another code of a text", HEADER, "PIE_TOO_GREAT = 116 ", "PIE_TOO_GREAT = 117 "),
     ("a comment: more decimals", HEADER, "or has more than 18 decimals */", "or has more than 19 decimals */"),
     ("left and moment exchanged", HEADER, "uint64_t left, uint64_t moment", "uint64_t moment, uint64_t left"),
+    ("the time of day and its moment exchanged", HEADER, "pie_write_clock(uint64_t moment, uint64_t unix_time,",
+     "pie_write_clock(uint64_t unix_time, uint64_t moment,"),
     ("queued and word exchanged", HEADER, ARRIVE, ARRIVE.replace("queued", "it").replace("word", "queued").replace("it,", "word,")),
     ("ECT values exchanged", HEADER, "PIE_ECT1 = 1, PIE_ECT0 = 2", "PIE_ECT1 = 2, PIE_ECT0 = 1"),
     ("an ecn of 8 bits", HEADER, "uint32_t ecn,", "uint8_t ecn,"),

@@ -1,8 +1,9 @@
 #!/usr/bin/env bash
 # Real TCP through the link in user space (examples/link), some seconds by tail drop and some by PIE: both histories are clean, and by
 # PIE packets wait less in the mean. Then the link is killed in the middle of a transfer: what its flight recorder wrote
-# when it was asked, and what its file holds, is decided again. Before that the test of its packets: marks in IPv4 and IPv6 headers, and checksums. Where this
-# machine lacks something that it takes, a line that begins with NOT RUN says so.
+# when it was asked, and what its file holds, is decided again. Each of these texts tells when its events were, by the time of day. Before that
+# the test of its packets: marks in IPv4 and IPv6 headers, and checksums. Where this machine lacks something that it takes, a line that begins
+# with NOT RUN says so.
 # usage: tests/program/link.sh [PROGRAM]      PROGRAM: crates/pie/out/pie where none is given
 # needs: program, library, root, quiet
 . "$(dirname "$0")/../shared/script.sh"
@@ -43,6 +44,16 @@ done <<'END'
 --mark-below|10mb|--mark-below 10mb: refused: no number with a unit of its kind
 --queue|red|--queue red: not a value of this option
 END
+# tells_time TEXT SINCE: each event of a text is told by a time of day that isn't earlier than this one, nor later than now
+tells_time() {
+    local first last now
+    now=$(date -u +%Y-%m-%dT%H:%M:%S.%NZ)
+    read -r first last < <("$program" explain --all --csv --wall < "$1" | awk -F, 'NR == 2 { first = $NF } END { print first, $NF }')
+    [[ ! $first < $2 && ! $last < $first && ! $now < $last ]] && return
+    echo "$script: $1 tells its first and last event at $first and $last, and not between $2 and $now"
+    return 1
+}
+since=$(date -u +%Y-%m-%dT%H:%M:%S.%NZ)
 for queue in tail pie; do
     measure "$work/$queue" "$seconds" 4 --rate 10mbit --delay 20ms --limit 256kb --queue "$queue" || exit 1
     events=$(grep -c -E '^(arrive|depart|update),' "$work/$queue/history")
@@ -52,6 +63,7 @@ for queue in tail pie; do
         cat "$work/$queue/link"
         exit 1
     fi
+    tells_time "$work/$queue/history" "$since" || exit 1
     read -r packets mean _ < <(waits "$work/$queue/history")
     echo "$script: $queue: $packets packets left, mean wait $mean ms, history clean ($events events)"
     # less than a tenth of what the link can carry is no test
@@ -76,4 +88,5 @@ if [[ $asked != clean,* || $left != clean,* || ${asked#clean,} -lt 200 || ${left
     echo "$script: of a killed link: asked before, $asked; left behind, $left"
     exit 1
 fi
+tells_time "$work/killed/flight.history" "$since" && tells_time "$work/killed/text" "$since" || exit 1
 echo "$script: killed: the text that was asked for is clean ($asked), and what the killed link left too ($left)"

@@ -165,6 +165,7 @@ def each_kind(tool):
         wanted = [(m, i, size, ECN[ecn]) for i, (m, _, size, ecn) in enumerate(packets, 1)]
         if exact:
             expect(told == wanted, f"{name}: other arrivals than the capture's packets")
+            expect(lines[1] == f"clock,0,{START}", f"{name}: another time of day: {lines[1]}")
             first = first or lines
             expect(lines == first, f"{name}: another history of the same packets")
         else:

@@ -27,6 +27,7 @@ const BYTE: u64 = 800; // nanoseconds on the link
 const RING: u32 = 200; // packets
 const SIZE: u32 = 1000; // bytes
 const CALLERS: [u16; 3] = [1, 2, 3]; // the sender, the link, the timer
+const UNIX_TIME: u64 = 1_795_550_400_000_000_000; // of the moment 0: 2026-11-24, 20:00:00 UTC
 
 fn main() -> Result<(), Box<dyn Error>> {
     let words: Vec<String> = env::args().skip(1).collect();
@@ -48,6 +49,7 @@ fn keep(file: &str) -> Result<Infallible, Box<dyn Error>> {
     }
     let memory = mapped::new_file(Path::new(file), flight::words(KEPT, limits.packets).ok_or("out of range")?)?;
     let mut recorder = Flight::open(memory, KEPT, &opening, &pie)?;
+    assert!(flight::clock(memory, 0, UNIX_TIME));
     let history = format!("{file}.history");
     thread::spawn(move || write_now_and_then(memory, &history));
 

@@ -15,13 +15,15 @@ const BYTE: u64 = 800; // nanoseconds on the link
 const RING: u32 = 200; // packets
 const SIZE: u32 = 1000; // bytes
 const CALLERS: [u16; 3] = [1, 2, 3]; // the sender, the link, the timer
+const UNIX_TIME: u64 = 1_795_550_400_000_000_000; // of the moment 0: 2026-11-24, 20:00:00 UTC
 
 fn main() -> Result<(), Box<dyn Error>> {
     let params = Params { max_burst: 50_000_000, mark_ecnth: 300_000_000_000, ..Params::default() };
     let choices = Choices { delay_stamp: true, ..Choices::default() };
     let mut pie = State::open_with(&params, 0, Profile::Two, choices)?;
-    let limits = Limits { packets: u64::from(RING), tail: 1024, events: 1 << 40 };
+    let limits = Limits { packets: u64::from(RING), tail: 1024, events: 1 << 47 };
     let mut history = Recorder::open(io::stdout().lock(), &params, 0, Profile::Two, choices, limits)?;
+    history.clock(0, UNIX_TIME)?;
     let [sender, link, timer] = CALLERS;
     let (mut ring, mut free_at, mut word) = (VecDeque::<(Packet, u64)>::new(), 0, 1_u64);
     for tag in 1..=2000 {

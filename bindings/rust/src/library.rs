@@ -98,6 +98,8 @@ unsafe extern "C" {
     #[cfg(feature = "std")]
     pub(crate) fn pie_write_refused(record: u64, code: u32, out: *mut u8, room: usize) -> usize;
     #[cfg(feature = "std")]
+    pub(crate) fn pie_write_clock(moment: u64, unix_time: u64, out: *mut u8, room: usize) -> usize;
+    #[cfg(feature = "std")]
     pub(crate) fn pie_write_lost(count: u64, out: *mut u8, room: usize) -> usize;
     pub(crate) fn pie_check_state(state: &State) -> u32;
     pub(crate) fn pie_write_resume(

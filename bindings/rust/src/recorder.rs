@@ -3,7 +3,7 @@
 use std::io::{self, Write};
 
 use crate::event::Text;
-use crate::library::{pie_write_lost, pie_write_opening, pie_write_refused};
+use crate::library::{pie_write_clock, pie_write_lost, pie_write_opening, pie_write_refused};
 use crate::{Choices, Event, Limits, Params, ParamsEvent, Profile};
 
 impl Text {
@@ -20,6 +20,12 @@ impl Text {
     fn refused(record: u64, code: u32) -> Option<Text> {
         // SAFETY: as `library` says, and `out` has `room` bytes.
         Text::of(|out, room| unsafe { pie_write_refused(record, code, out, room) })
+    }
+
+    /// That it was this time of day at this moment; none where the moment is above 2^60 - 1.
+    pub(crate) fn clock(moment: u64, unix_time: u64) -> Option<Text> {
+        // SAFETY: as `library` says, and `out` has `room` bytes.
+        Text::of(|out, room| unsafe { pie_write_clock(moment, unix_time, out, room) })
     }
 
     /// That so many events are missing.
@@ -55,6 +61,8 @@ impl Text {
 #[derive(Debug)]
 pub struct Recorder<W: Write> {
     out: W,
+    /// Whether it is of version three, which tells the time of day.
+    has_clock: bool,
     records: u64,
     untold: u64,
 }
@@ -69,7 +77,8 @@ impl<W: Write> Recorder<W> {
             None => Err(io::Error::new(io::ErrorKind::InvalidInput, "an opening that no history has")),
             Some(text) => {
                 out.write_all(text.bytes())?;
-                Ok(Recorder { out, records: 1, untold: 0 })
+                let has_clock = text.bytes().starts_with(b"open3,");
+                Ok(Recorder { out, has_clock, records: 1, untold: 0 })
             }
         }
     }
@@ -88,6 +97,30 @@ impl<W: Write> Recorder<W> {
     /// As of [`Recorder::record`].
     pub fn record_params(&mut self, event: &ParamsEvent) -> io::Result<()> {
         self.put(event.refused(), || event.text())
+    }
+
+    /// Writes the time of day: it was `unix_time` (nanoseconds since 1970-01-01T00:00:00Z) when the caller's clock showed `moment`. It decides
+    /// nothing; by the last one before an event `pie explain --wall` tells that event's time of day.
+    ///
+    /// ```
+    /// # use juniperbowls::{Choices, Limits, Params, Profile, Recorder};
+    /// # use std::time::{SystemTime, UNIX_EPOCH};
+    /// # fn main() -> Result<(), Box<dyn std::error::Error>> {
+    /// let limits = Limits { packets: 1000, tail: 1024, events: 1 << 47 };
+    /// let mut history = Recorder::open(Vec::new(), &Params::default(), 0, Profile::One, Choices::default(), limits)?;
+    /// history.clock(0, u64::try_from(SystemTime::now().duration_since(UNIX_EPOCH)?.as_nanos())?)?;
+    /// # Ok(())
+    /// # }
+    /// ```
+    ///
+    /// # Errors
+    /// `InvalidInput`, with nothing written, where the moment is above 2^60 - 1, or the history is of a version before the third, which has no
+    /// such record: with `events` above 2^40 in its [`Limits`] it is of the third. Else as of [`Recorder::record`].
+    pub fn clock(&mut self, moment: u64, unix_time: u64) -> io::Result<()> {
+        match Text::clock(moment, unix_time) {
+            Some(text) if self.has_clock => self.put(None, || Some(text)),
+            _ => Err(io::Error::new(io::ErrorKind::InvalidInput, "a time of day that this history cannot have")),
+        }
     }
 
     /// Writes that so many events are missing. No audit of the text is clean then.

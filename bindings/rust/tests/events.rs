@@ -75,6 +75,33 @@ fn refusals_and_gaps() {
     assert_eq!(text.split_once('\n').unwrap().1, "refused,2,3\nrefused,3,1\nrefused,4,7\nrefused,5,2\nlost,17\n");
 }
 
+#[test]
+fn the_time_of_day() {
+    let (mut pie, params) = opened();
+    let limits = Limits { events: (1 << 40) + 1, ..LIMITS };
+    let mut history = Recorder::open(Vec::new(), &params, 0, Profile::One, Choices::default(), limits).unwrap();
+    for (moment, unix_time) in [(0, 0), (0, u64::MAX), (MAX_MOMENT, 0), (MAX_MOMENT, u64::MAX), (1, 1_795_550_400_000_000_000)] {
+        history.clock(moment, unix_time).unwrap();
+    }
+    for moment in [MAX_MOMENT + 1, u64::MAX] {
+        assert_eq!(history.clock(moment, 7).unwrap_err().kind(), ErrorKind::InvalidInput);
+    }
+    history.record(&pie.update_event(0, 3, 1).0).unwrap();
+    assert_eq!((history.records(), history.untold()), (7, 0));
+    let text = String::from_utf8(history.into_inner()).unwrap();
+    let (opening, rest) = text.split_once('\n').unwrap();
+    assert_eq!(opening, "open3,1,rate,derandomized,capped,unscaled,bounded,0,64,1024,1099511627777");
+    let most = format!("clock,{MAX_MOMENT},0\nclock,{MAX_MOMENT},{}\n", u64::MAX);
+    assert_eq!(rest, format!("clock,0,0\nclock,0,{}\n{most}clock,1,1795550400000000000\nrefused,7,3\n", u64::MAX));
+    // histories of earlier versions have none
+    for profile in [Profile::One, Profile::Two] {
+        let limits = Limits { events: 1 << 40, ..LIMITS };
+        let mut history = Recorder::open(Vec::new(), &params, 0, profile, Choices::default(), limits).unwrap();
+        assert_eq!(history.clock(1, 7).unwrap_err().kind(), ErrorKind::InvalidInput);
+        assert_eq!((history.records(), history.into_inner().split(|it| *it == b'\n').count()), (1, 2));
+    }
+}
+
 /// A writer that takes nothing.
 #[derive(Debug)]
 struct Full;

@@ -47,7 +47,9 @@ fn numbers(text: &[u8]) -> (u64, u64) {
         (packets + 1, bytes + it.split(',').nth(2).unwrap().parse::<u64>().unwrap())
     });
     assert_eq!((packets, bytes), (number(31), number(32)));
-    (number(29), number(29) + rest.lines().count() as u64 - packets)
+    let clocks = rest.lines().filter(|it| it.starts_with("clock,")).count() as u64;
+    assert!(clocks == 0 || clocks == 1 && rest.lines().nth(packets as usize).unwrap().starts_with("clock,0,"));
+    (number(29), number(29) + rest.lines().count() as u64 - packets - clocks)
 }
 
 /// A text has at least the last `wanted` events, or all.
@@ -88,6 +90,37 @@ fn refused_openings() {
     let (mut scratch, mut text) = (Vec::new(), Vec::new());
     assert!(matches!(flight::dump(&memory, &mut scratch, &mut text), Err(DumpFault::NoRecorder)));
     assert!(text.is_empty());
+}
+
+#[test]
+fn the_time_of_day() {
+    let mut queue = Queue::open(12);
+    let memory = zeros(flight::words(500, queue.opening.limits.packets).unwrap());
+    assert!(!flight::clock(&memory, 0, 1) && !flight::clock(&memory[..39], 0, 1));
+    assert!(memory.iter().all(|it| it.load(Ordering::Relaxed) == 0));
+    let mut recorder = Flight::open(&*memory, 500, &queue.opening, &queue.pie).unwrap();
+    for _ in 0..3000 {
+        queue.step().keep(&mut recorder, &queue.pie);
+    }
+    let text = || {
+        let (dumped, text) = left(&bytes_of(&memory));
+        dumped.unwrap();
+        String::from_utf8(text).unwrap()
+    };
+    let before = text();
+    assert!(!flight::clock(&memory, MAX_MOMENT + 1, u64::MAX) && !flight::clock(&memory, 5, 5) && !flight::clock(&memory, 5, 4));
+    assert_eq!(text(), before);
+    let packets = before.lines().filter(|it| it.starts_with("queued,")).count();
+    for (moment, unix_time) in [(0, 1), (MAX_MOMENT, u64::MAX), (0, u64::MAX), (7, 1_795_550_400_000_000_000)] {
+        assert!(flight::clock(&memory, moment, unix_time));
+        let at_zero = unix_time - moment;
+        let mut lines: Vec<String> = before.lines().map(str::to_owned).collect();
+        lines.insert(1 + packets, format!("clock,0,{at_zero}"));
+        assert_eq!(text().lines().collect::<Vec<_>>(), lines);
+    }
+    // another recorder in the same memory knows none
+    Flight::open(&*memory, 500, &queue.opening, &Queue::open(12).pie).unwrap();
+    assert_eq!(text().lines().count(), 1);
 }
 
 /// What packets waited takes more than 64 bits.
@@ -193,11 +226,15 @@ fn damaged(bytes: &[u8], random: &mut Random) -> Vec<u8> {
     changed
 }
 
+/// The time of day of the moment 0 that small recorders are told.
+const UNIX_TIME: u64 = 1_795_550_400_000_000_000;
+
 /// A small recorder's memory, and what C is told of the same events.
 fn small(seed: u64, wanted: u64, events: u64) -> (Vec<u8>, Told) {
     let mut queue = Queue::open(seed);
     let memory = zeros(flight::words(wanted, queue.opening.limits.packets).unwrap());
     let mut recorder = Flight::open(&*memory, wanted, &queue.opening, &queue.pie).unwrap();
+    assert!(flight::clock(&memory, seed, seed + UNIX_TIME));
     let mut told = Told::open(&queue.opening, &queue.pie);
     for _ in 0..events {
         let made = queue.step();
@@ -235,7 +272,7 @@ fn the_memory_and_the_text_are_those_of_c() {
     for round in 0..30 {
         let (wanted, events) = (1 + random.below(600), random.below(6000));
         let (memory, told) = small(1000 + round, wanted, events);
-        assert!(told.memory_of_c(wanted) == memory, "C keeps otherwise, of seed {}", 1000 + round);
+        assert!(told.memory_of_c(wanted, UNIX_TIME) == memory, "C keeps otherwise, of seed {}", 1000 + round);
         let (dumped, text) = left(&memory);
         dumped.unwrap();
         assert_eq!(text_of_c(&memory), (0, text.clone()));
@@ -262,7 +299,7 @@ fn an_audit_finds_a_changed_answer() {
     let text = String::from_utf8(left(&small(8, 500, 3000).0).1).unwrap();
     let (first, _) = numbers(text.as_bytes());
     let lines: Vec<&str> = text.lines().collect();
-    let begin = lines.iter().position(|it| !it.starts_with("resume") && !it.starts_with("queued")).unwrap();
+    let begin = lines.iter().position(|it| !["resume", "queued", "clock"].contains(&it.split(',').next().unwrap())).unwrap();
     let at = (begin + 200..).find(|at| lines[*at].ends_with(",enqueue")).unwrap();
     let changed = text.replace(lines[at], &lines[at].replace(",enqueue", ",packets"));
     assert_eq!(audited(changed.as_bytes()), format!("differs,{}", first + (at - begin) as u64 + 1));

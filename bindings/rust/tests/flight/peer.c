@@ -1,13 +1,14 @@
 /* The recorder in C (include/pie_flight.h) beside that in Rust: what it keeps of the same events, and the text that it writes of memory.
- * usage: peer keep EVENTS    reads a struct pie_opening and a struct pie_state, and then of each event the state that it left and the event;
- *                            writes the memory of a recorder that keeps at least so many
- *        peer text           reads memory, and writes its text; the status is what pie_flight_dump answers */
+ * usage: peer keep EVENTS UNIX_TIME    reads a struct pie_opening and a struct pie_state, and then of each event the state that it left and the
+ *                                      event; writes the memory of a recorder that keeps at least so many, and that is told the time of day at
+ *                                      the moment 0
+ *        peer text                     reads memory, and writes its text; the status is what pie_flight_dump answers */
 #include "pie_flight.h"
 
 #include <stdio.h>
 #include <stdlib.h>
 
-static int keep(uint64_t events) {
+static int keep(uint64_t events, uint64_t unix_time) {
     struct pie_opening opening;
     struct pie_state state;
     struct pie_event event;
@@ -16,7 +17,7 @@ static int keep(uint64_t events) {
         return 100;
     size_t bytes = pie_flight_bytes(events, opening.packets);
     void *memory = calloc(1, bytes + 1);
-    if (memory == NULL || !pie_flight_open(&flight, memory, bytes, events, &opening, &state))
+    if (memory == NULL || !pie_flight_open(&flight, memory, bytes, events, &opening, &state) || !pie_flight_clock(memory, 0, unix_time))
         return 101;
     while (fread(&state, sizeof state, 1, stdin) == 1 && fread(&event, sizeof event, 1, stdin) == 1)
         pie_flight_keep(&flight, &state, &event);
@@ -39,8 +40,8 @@ static int text(void) {
 
 int main(int count, char **words) {
     int answer = 104;
-    if (count == 3 && strcmp(words[1], "keep") == 0)
-        answer = keep(strtoull(words[2], NULL, 10));
+    if (count == 4 && strcmp(words[1], "keep") == 0)
+        answer = keep(strtoull(words[2], NULL, 10), strtoull(words[3], NULL, 10));
     else if (count == 2 && strcmp(words[1], "text") == 0)
         answer = text();
     return fflush(stdout) == 0 ? answer : 105;

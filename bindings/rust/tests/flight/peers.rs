@@ -96,9 +96,9 @@ impl Told {
         self.0.extend(event_bytes(made));
     }
 
-    /// The memory of a recorder in C that keeps at least so many events.
-    pub fn memory_of_c(&self, events: u64) -> Vec<u8> {
-        let (status, memory) = run(peer(), &["keep", &events.to_string()], &self.0);
+    /// The memory of a recorder in C that keeps at least so many events, and that is told the time of day at the moment 0.
+    pub fn memory_of_c(&self, events: u64, unix_time: u64) -> Vec<u8> {
+        let (status, memory) = run(peer(), &["keep", &events.to_string(), &unix_time.to_string()], &self.0);
         assert_eq!(status, 0);
         memory
     }

@@ -1,5 +1,5 @@
 -- Excerpts of a small history, from its bytes: each theorem computes.
-use Rattle.std.specs.Prelude.{◌≡◌, ℕ, List, [], ◌∷◌, ◌++◌, Result, Ok, Err, Option, Some, None, true, false, codes, map, option_map, refl, ⊤}
+use Rattle.std.specs.Prelude.{◌≡◌, ℕ, List, [], ◌++◌, Result, Ok, Err, Option, Some, None, true, false, codes, refl, ⊤}
 use Rattle.std.specs.Fmt.{digits}
 use Rattle.std.specs.List.{flat_map}
 use Rattle.csv.specs.Machine.{next_record}
@@ -37,13 +37,10 @@ use Rattle.pie_record.specs.Text.{records_of}
 use Rattle.pie_record.specs.HistoryLines.{event_count, latest_clock}
 use Rattle.pie_record.specs.Write.{command_fields}
 use Rattle.pie_audit.specs.Finding.{LinePlace, agrees, events_of, finding, first_difference, line_places}
-use Rattle.std.specs.Option.{is_some}
-use Rattle.pie_book.specs.declared.command.Event.{Event}
 use Rattle.pie_book.specs.declared.opening.Opening.{Opening}
 use Rattle.pie_record.specs.HistoryLines.{history_lines}
 use Rattle.pie_record.specs.declared.fault.TraceFault.{TraceFault}
 use Rattle.pie_record.specs.declared.fault.TraceFault.TheVariants as fault
-use Rattle.pie_explain.specs.Start.{from_opening}
 use Rattle.pie_cut.specs.declared.fault.CutFault.{CutFault}
 use Rattle.pie_cut.specs.declared.fault.CutFault.TheVariants.{Differs, NoEvents, Trace}
 use Rattle.pie_cut.specs.declared.span.Span.{Span}

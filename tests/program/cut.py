@@ -1,9 +1,11 @@
 #!/usr/bin/env python3
 """Cuts histories by `pie cut` and holds each excerpt to the whole: the histories of examples/, those of the worked rows, and random ones, in each
-choice of the optional elements; small ones at each event, and others at random ones. An excerpt is clean, with the number of the whole's event with
-which it ends; its explanations are those of the whole, number for number, and its sums those of the whole at these moments. Of a random history it
-is, byte for byte, the text that tests/shared/reference_resumed.py makes of look-backs over the whole. Then faults, events that differ, choices
-of which there is no event, and what becomes of the file that -o names.
+choice of the optional elements, with records of the time of day; small ones at each event, and others at random ones. An excerpt is clean, with the
+number of the whole's event with which it ends; its explanations are those of the whole, number for number, also with times of day (--wall), and its
+sums those of the whole at these moments. Of a random history it is, byte for byte, the text that tests/shared/reference_resumed.py makes of
+look-backs over the whole, with the last time of day before its first event behind its beginning, and those between its events in their places. So
+are excerpts of excerpts, and segments. Then faults, events that differ, choices of which there is no event, and what becomes of the file that -o
+names.
 
 usage: tests/program/cut.py [PROGRAM [FIRST_SEED [RUNS]]]      PROGRAM: crates/pie/out/pie where none is given
 needs: program
@@ -22,10 +24,11 @@ from running import run  # noqa: E402
 FIRST, RUNS = ([int(word) for word in sys.argv[2:4]] + [1, 12][len(sys.argv[2:4]) :])[:2]
 # How many events a random history has at most; up to how many a history is small; and at how many places another is cut.
 EVENTS, SMALL, PLACES = 60, 12, 6
-NOTES = ("refused,", "folded,", "shown,", "tallied,", "clock,")
+NOTES = ("refused,", "folded,", "shown,", "tallied,")
+COMMANDS = ("arrive,", "depart,", "update,", "reset,", "params,")
 LATEST = 2**60 - 1
 DIFFERS = "event {} is not what the rules give there, so what comes after it is not cut"
-tried = {"excerpts": 0, "summed up": 0, "cut again": 0, "segments": 0}
+tried = {"excerpts": 0, "summed up": 0, "cut again": 0, "segments": 0, "with times of day": 0}
 
 
 def cut(text, *words):
@@ -33,19 +36,45 @@ def cut(text, *words):
     return status, output.decode(), errors.decode().removeprefix("pie: ").rstrip("\n")
 
 
+def times_after(text):
+    """The records of the time of day behind so many events of a text, and before the next: from 0 on."""
+    found = [[]]
+    for line in text.splitlines(keepends=True):
+        if line.startswith("clock,"):
+            found[-1].append(line)
+        elif line.startswith(COMMANDS):
+            found.append([])
+    return found
+
+
+def timed(text, chance):
+    """A history of version three with records of the time of day behind its first record: none, some or many."""
+    often, (first, *records) = chance.choice((0, 0.1, 0.5)), text.splitlines(keepends=True)
+    out = [first]
+    for line in [*records, ""]:
+        while chance.random() < often:
+            out.append(f"clock,{chance.randrange(2**40)},{chance.randrange(2**64)}\n")
+        out.append(line)
+    return "".join(out)
+
+
 class History:
-    """A history, and the records of its explanations."""
+    """A history, the records of its explanations, also with times of day, and its records of these."""
 
     def __init__(self, name, text, book=None):
         self.name, self.text, self.book = name, text, book
-        self.rows = explained(text, "--all")[1]
+        self.rows, self.walls, self.times = explained(text, "--all")[1], explained(text, "--all", "--wall")[1], times_after(text)
         self.moments = [int(row[self.rows[0].index("effective_moment")]) for row in self.rows[1:]]
         self.count = len(self.moments)
 
     def part(self, first, last):
-        """The excerpt of these events by the reference."""
+        """The excerpt of these events by the reference: with the last time of day before them, and the times behind each of them."""
         lines = reference_resumed.excerpt(self.book, first - 1).splitlines(keepends=True)
-        return "".join(lines[: len(lines) - (self.count - last)])
+        begun = len(lines) - (self.count - first + 1)
+        out = lines[:begun] + [time for times in self.times[:first] for time in times][-1:]
+        for number, line in enumerate(lines[begun : len(lines) - (self.count - last)], first):
+            out += [line, *self.times[number]]
+        return "".join(out)
 
 
 def histories():
@@ -56,7 +85,7 @@ def histories():
             yield History(path.stem, path.read_bytes().decode())
     for seed in range(FIRST, FIRST + RUNS):
         book = reference_resumed.random_book(seed, EVENTS)
-        yield History(f"seed {seed}", reference_resumed.whole_text(book), book)
+        yield History(f"seed {seed}", timed(reference_resumed.whole_text(book), random.Random(seed)), book)
 
 
 def choices(history, chance):
@@ -79,6 +108,12 @@ def summed(text, *words):
     return explained(text, "--summary", *words), explained(text, "--every", "1ms", *words)
 
 
+def check_times(what, history, part, first, last):
+    """Whether the events of an excerpt have the times of day that they have in the whole."""
+    tried["with times of day"] += "\nclock," in part
+    check(explained(part, "--all", "--wall") == (0, rows_within(history.walls, first - 1, last)), f"{what}: other times of day than in the whole")
+
+
 def check_part(history, words, first, last):
     """Whether the words cut out the events from first to last of a history; the excerpt."""
     what = f"{history.name}: cut {' '.join(words)}"
@@ -86,6 +121,7 @@ def check_part(history, words, first, last):
     check((status, errors) == (0, ""), f"{what}: status {status}, {errors}")
     check(explained(part, "--all") == (0, rows_within(history.rows, first - 1, last)), f"{what}: explained otherwise than the whole")
     check(not any(line.startswith(NOTES) for line in part.splitlines()), f"{what}: a note in the excerpt")
+    check_times(what, history, part, first, last)
     if history.book:
         check(part == history.part(first, last), f"{what}: another excerpt than the reference's")
     if words[0] != "--event":
@@ -115,7 +151,9 @@ def hold_again(history, chance, parts):
         middle = ["--event", str(start + around), "--around", str(around)]
         if end - start == 2 * around:
             tried["cut again"] += 1
-            check(cut(part, *words) == cut(history.text, *middle), f"{history.name}: events {first} to {last} cut again {' '.join(words)}")
+            again, what = cut(part, *words), f"{history.name}: events {first} to {last} cut again {' '.join(words)}"
+            check(again == cut(history.text, *middle), what)
+            check_times(what, history, again[1], start, end)
 
 
 def named(text, *words):
@@ -161,6 +199,7 @@ def hold_segments(history, chance):
         for place, (part, last) in enumerate(zip(parts, ends)):
             tried["segments"] += 1
             first = every * place + 1
+            check_times(f"{what}: segment {place}", history, part, first, last)
             if history.book:
                 check(part == history.part(first, last), f"{what}: segment {place} is another excerpt than the reference's")
             elif place in (0, len(parts) - 1):
@@ -175,10 +214,11 @@ def check_differing(history, chance):
     if not verdicts:
         return
     event = chance.choice(verdicts)
-    lines = [line for line in history.text.splitlines(keepends=True) if not line.startswith(NOTES)]
-    fields = lines[event].rstrip("\r\n").split(",")
+    lines = history.text.splitlines(keepends=True)
+    place = [place for place, line in enumerate(lines) if line.startswith(COMMANDS)][event - 1]
+    fields = lines[place].rstrip("\r\n").split(",")
     fields[7] = "mark" if fields[7] == "enqueue" else "enqueue"
-    lines[event] = ",".join(fields) + "\n"
+    lines[place] = ",".join(fields) + "\n"
     changed, what = "".join(lines), f"{history.name}: event {event} changed"
     if event > 1:
         words = ["--event", str(chance.randrange(1, event))]
@@ -187,6 +227,7 @@ def check_differing(history, chance):
     around = (event - first + 1) // 2
     status, part, errors = cut(changed, "--event", str(first + around), "--around", str(around))
     check((status, errors) == (2, DIFFERS.format(event)), f"{what}: status {status}, {errors}")
+    check(part.endswith("\n" + lines[place]), f"{what}: something behind it")
     check(audited([part]) == (2, [(f"differs,{event}", "")]), f"{what}: {audited([part])}")
     if event < history.count:
         check(cut(changed, "--event", str(event + 1)) == (2, "", DIFFERS.format(event)), f"{what}: cut after it")

@@ -1,15 +1,16 @@
 //! A part of a saved history, as a text of its own: what the controller stood on before the first event that is wanted, the packets that
-//! waited then, and the events up to the last one that is wanted.
+//! waited then, and the events up to the last one that is wanted. Times of day go along: the last that was told before, and those between the
+//! events.
 //!
 //! `cut_either` reads a history, or a text that goes on from the middle of one, as an audit does, and decides each event again up to the last
 //! that is wanted. `cut_every` cuts all of it into excerpts of so many events each. The definitions that the contracts cite stand in `specs/`:
-//! wherever no reader, writer or memory failed, `cut_either` answers exactly what `answer` says of the text, and has written exactly the
-//! excerpt (`IsExcerpt`); of a text that resumes, what the whole history gives from there on (`CutsEither`).
+//! wherever no reader, writer or memory failed, `cut_either` answers exactly what `answer_since` says of the text, and has written exactly the
+//! excerpt (`IsCut`); of a text that resumes, what the whole history gives from there on (`CutsEither`).
 #![tactic(auto)]
 
 mod beginning;
 mod begun;
-pub mod cutter;
+mod cutter;
 mod either;
 pub mod fault;
 mod follower;
@@ -18,7 +19,6 @@ mod part;
 mod segments;
 pub mod span;
 
-pub use cutter::cut;
 pub use either::cut_either;
 pub use fault::CutFault;
 pub use last::last_number;

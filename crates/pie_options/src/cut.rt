@@ -15,10 +15,10 @@ const ABOUT: &str =
 
 /// What `pie cut --help` says below its options.
 const HELP: &str =
-    "What is cut out is an excerpt: it begins with what the controller held before its first event, in a record resume, and with the
-packets that waited then, in records queued; then come its events as they were read, without the notes between them. So pie
-audit and pie explain take it as they take the whole, and say the same of its events, each by the number that it has in the
-whole: clean,<events> names the last one.
+    "What is cut out is an excerpt: it begins with what the controller held before its first event, in a record resume, with the packets
+that waited then, in records queued, and with the last time of day that was told before, in a record clock; then come its events, and
+the times of day between them, as they were read, without the notes. So pie audit and pie explain take it as they take the whole, and
+say the same of its events, each by the number that it has in the whole: clean,<events> names the last one.
 
 With --from and --to, or with one of them, the excerpt has the events whose effective moments are within, both ends included; a
 --from that is after its --to is refused. A moment is written as for pie explain: 1500000, 1500us, 1.5ms and 0.0015s are the same.

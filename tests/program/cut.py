@@ -205,7 +205,8 @@ def hold_segments(history, chance):
             elif place in (0, len(parts) - 1):
                 from_first, around = [cut(history.text, "--event", str(last), "--around", str(last - first)), last - first]
                 check(from_first[1].startswith(part) and around >= 0, f"{what}: segment {place} is another excerpt")
-        check(audited(parts) == (0, [(f"clean,{last}", "") for last in ends]), f"{what}: {audited(parts)}")
+        wanted = [(f"clean,{last}{' follows' if place else ''}", "") for place, last in enumerate(ends)]
+        check(audited(parts, "--joined") == (0, wanted), f"{what}: {audited(parts, '--joined')}")
 
 
 def check_differing(history, chance):

@@ -34,7 +34,7 @@ or-false true = refl
 or-false false = refl
 
 -- whether one of a list passes, with one more at its end
-any-more : {X : Type 0} (test : X → Bool) (xs : List X) (x : X) (before : Bool) → before ≡ list_any test xs
+pub any-more : {X : Type 0} (test : X → Bool) (xs : List X) (x : X) (before : Bool) → before ≡ list_any test xs
     → (before || test x) ≡ list_any test (xs ++ x ∷ [])
 any-more test xs x before is = sym (list_any-append test xs (x ∷ []) ∙ ap (λ (b : Bool). list_any test xs || b) (or-false (test x))
     ∙ ap (λ (b : Bool). b || test x) (sym is))

@@ -15,7 +15,7 @@ use Rattle.pie_audit.specs.declared.auditor.Finding.{Finding}
 use Rattle.pie_audit.specs.declared.auditor.Finding.TheVariants as finding
 use Rattle.pie_audit.specs.Text.{FindsEither, finding_line}
 use Rattle.pie_commands.specs.declared.end.End.TheVariants.{Done, Differs, Fault, Failed}
-use Rattle.pie_commands.specs.AuditEnds.{EndsAudits}
+use Rattle.pie_commands.specs.JointEnds.{EndsEither, EndsOfFiles}
 use Rattle.pie_commands.specs.Ends.{EndsAudit, EndsMigrate, EndsRun, end_of, run_ends, run_ends_by}
 
 -- ---- before a subcommand begins
@@ -112,7 +112,12 @@ EndsAudit-faulted (Some text) why before faults = (λ told. faults, inl refl)
 
 -- ---- of files
 
-pub EndsAudits-failed : (input : Option (List ℕ)) (files : Text → Option (List ℕ)) (names : List Text) (before now : Option (List ℕ)) → now ≡ before
-    → EndsAudits input files names Failed before now
-EndsAudits-failed input files [] before now same = EndsAudit-failed input before now same
-EndsAudits-failed input files (name ∷ names) before now same = inr (inl (refl, same))
+files-failed : (joined : Bool) (input : Option (List ℕ)) (files : Text → Option (List ℕ)) (names : List Text) (before now : Option (List ℕ))
+    → now ≡ before → EndsOfFiles joined input files names Failed before now
+files-failed false input files names before now same = inr (inl (refl, same))
+files-failed true input files names before now same = inr (inl (refl, same))
+
+pub EndsEither-failed : (joined : Bool) (input : Option (List ℕ)) (files : Text → Option (List ℕ)) (names : List Text)
+    (before now : Option (List ℕ)) → now ≡ before → EndsEither joined input files names Failed before now
+EndsEither-failed joined input files [] before now same = EndsAudit-failed input before now same
+EndsEither-failed joined input files (name ∷ names) before now same = files-failed joined input files (name ∷ names) before now same

@@ -3,6 +3,7 @@ mod CutFacts
 mod EndFacts
 mod ExamplesChoice
 mod ExplainFacts
+mod JointFacts
 mod MomentFacts
 mod OutputFacts
 mod StormEndFacts

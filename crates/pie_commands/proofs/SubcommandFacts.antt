@@ -11,17 +11,20 @@ use Rattle.pie_commands.specs.declared.end.End.{End}
 use Rattle.pie_commands.specs.declared.end.End.TheVariants.{Failed}
 use Rattle.pie_options.specs.declared.subcommand.Subcommand.{Subcommand}
 use Rattle.pie_options.specs.declared.subcommand.Subcommand.TheVariants.{Run, Audit, Explain, Cut, Migrate, Storm, Params}
-use Rattle.pie_options.specs.Words.{file_in, files_in, is_forced}
+use Rattle.pie_options.specs.Words.{file_in, files_in, is_forced, is_joined}
 use Rattle.pie_options.specs.Subcommands.{word_of}
+use Rattle.pie_cut.specs.declared.joined.Joined.{Joined}
+use Rattle.pie_cut.specs.Joined.{EndView, JoinsText}
 use Rattle.pie_files.specs.Files.{text_given}
 use Rattle.pie_files.specs.Output.{Held, Keeps}
-use Rattle.pie_commands.specs.AuditEnds.{EndsAudits, IsFound, Told}
+use Rattle.pie_commands.specs.AuditEnds.{EndsFiles, IsFound, Told}
 use Rattle.pie_commands.specs.CutEnds.{EndsCut}
 use Rattle.pie_commands.specs.Ends.{EndsMigrate, EndsRun, status_of}
 use Rattle.pie_commands.specs.ExplainEnds.{EndsExplain}
+use Rattle.pie_commands.specs.JointEnds.{AreJoined, EndsEither, EndsJoined, EndsOfFiles, JoinsFile, ToldJoined}
 use Rattle.pie_commands.specs.Subcommands.{EndsAs, EndsTo, output_for}
 use Rattle.pie_commands.proofs.CutFacts.{EndsCut-failed}
-use Rattle.pie_commands.proofs.EndFacts.{EndsAudits-failed, EndsMigrate-failed, EndsRun-failed}
+use Rattle.pie_commands.proofs.EndFacts.{EndsEither-failed, EndsMigrate-failed, EndsRun-failed}
 use Rattle.pie_commands.proofs.ExplainFacts.{EndsExplain-failed}
 use Rattle.pie_commands.proofs.OutputFacts.{ends-failed}
 
@@ -29,7 +32,7 @@ use Rattle.pie_commands.proofs.OutputFacts.{ends-failed}
 EndsAs-failed : (subcommand : Subcommand) (options : List Row) (input : Option (List ℕ)) (files : Held) (before now : Option (List ℕ)) → now ≡ before
     → EndsAs subcommand options input files Failed before now
 EndsAs-failed Run options input files before now same = EndsRun-failed (text_given input files (file_in options)) before now same
-EndsAs-failed Audit options input files before now same = EndsAudits-failed input files (files_in options) before now same
+EndsAs-failed Audit options input files before now same = EndsEither-failed (is_joined options) input files (files_in options) before now same
 EndsAs-failed Explain options input files before now same =
     EndsExplain-failed options (text_given input files (file_in options)) 1 before now refl same
 EndsAs-failed Cut options input files before now same = EndsCut-failed options (file_in options) (text_given input files (file_in options)) before now same
@@ -69,11 +72,10 @@ all-kept input old new keeps told all =
     All-weaker (IsFound input new) (IsFound input old) (λ (one : Told) is. found-kept input old new keeps one.0 one.1 is) told all
 
 audits-kept : (input : Option (List ℕ)) (old new : Held) (names : List Text) (end : End) (before now : Option (List ℕ)) → Keeps old new
-    → EndsAudits input new names end before now → EndsAudits input old names end before now
-audits-kept input old new [] end before now keeps ended = ended
-audits-kept input old new (name ∷ names) end before now keeps (inl unwritten) = inl unwritten
-audits-kept input old new (name ∷ names) end before now keeps (inr (inl failed)) = inr (inl failed)
-audits-kept input old new (name ∷ names) end before now keeps (inr (inr worst)) =
+    → EndsFiles input new names end before now → EndsFiles input old names end before now
+audits-kept input old new names end before now keeps (inl unwritten) = inl unwritten
+audits-kept input old new names end before now keeps (inr (inl failed)) = inr (inl failed)
+audits-kept input old new names end before now keeps (inr (inr worst)) =
     let audits = worst.3 in
     inr (inr (
       worst.0,
@@ -89,12 +91,60 @@ audits-kept input old new (name ∷ names) end before now keeps (inr (inr worst)
       },
     ))
 
+joint-kept : (input : Option (List ℕ)) (old new : Held) → Keeps old new → (name : Text) (before : Option EndView) (told : Option Joined)
+    (after : Option EndView) → JoinsFile input new name before told after → JoinsFile input old name before told after
+joint-kept input old new keeps name before None after joins = joins
+joint-kept input old new keeps name before (Some joined) after joins =
+    (joins.0, text-kept input old new (Some name) (λ text. JoinsText (records_of text) before joined after) keeps joins.1)
+
+all-joined-kept : (input : Option (List ℕ)) (old new : Held) → Keeps old new → (before : Option EndView) (told : List ToldJoined)
+    (after : Option EndView) → AreJoined input new before told after → AreJoined input old before told after
+all-joined-kept input old new keeps before [] after joined = joined
+all-joined-kept input old new keeps before (one ∷ more) after joined = (
+  joined.0,
+  joint-kept input old new keeps one.0 before one.1 joined.0 joined.1,
+  all-joined-kept input old new keeps joined.0 more after joined.2,
+)
+
+joins-kept : (input : Option (List ℕ)) (old new : Held) (names : List Text) (end : End) (before now : Option (List ℕ)) → Keeps old new
+    → EndsJoined input new names end before now → EndsJoined input old names end before now
+joins-kept input old new names end before now keeps (inl unwritten) = inl unwritten
+joins-kept input old new names end before now keeps (inr (inl failed)) = inr (inl failed)
+joins-kept input old new names end before now keeps (inr (inr worst)) =
+    let joins = worst.4 in
+    inr (inr (
+      worst.0,
+      worst.1,
+      worst.2,
+      worst.3,
+      record {
+        told = joins.told;
+        in_order = joins.in_order;
+        joined = all-joined-kept input old new keeps None joins.told worst.2 joins.joined;
+        written = joins.written;
+        any_unfound = joins.any_unfound;
+        any_broken = joins.any_broken;
+      },
+    ))
+
+files-kept : (joined : Bool) (input : Option (List ℕ)) (old new : Held) (names : List Text) (end : End) (before now : Option (List ℕ))
+    → Keeps old new → EndsOfFiles joined input new names end before now → EndsOfFiles joined input old names end before now
+files-kept false input old new names end before now keeps ended = audits-kept input old new names end before now keeps ended
+files-kept true input old new names end before now keeps ended = joins-kept input old new names end before now keeps ended
+
+either-kept : (joined : Bool) (input : Option (List ℕ)) (old new : Held) (names : List Text) (end : End) (before now : Option (List ℕ))
+    → Keeps old new → EndsEither joined input new names end before now → EndsEither joined input old names end before now
+either-kept joined input old new [] end before now keeps ended = ended
+either-kept joined input old new (name ∷ names) end before now keeps ended =
+    files-kept joined input old new (name ∷ names) end before now keeps ended
+
 pub EndsAs-kept : (subcommand : Subcommand) (options : List Row) (input : Option (List ℕ)) (old new : Held) (end : End)
     (before now : Option (List ℕ)) → Keeps old new → EndsAs subcommand options input new end before now
     → EndsAs subcommand options input old end before now
 EndsAs-kept Run options input old new end before now keeps ended =
     text-kept input old new (file_in options) (λ text. EndsRun text end before now) keeps ended
-EndsAs-kept Audit options input old new end before now keeps ended = audits-kept input old new (files_in options) end before now keeps ended
+EndsAs-kept Audit options input old new end before now keeps ended =
+    either-kept (is_joined options) input old new (files_in options) end before now keeps ended
 EndsAs-kept Explain options input old new end before now keeps ended =
     text-kept input old new (file_in options) (λ text. EndsExplain options text (status_of end) before now) keeps ended
 EndsAs-kept Cut options input old new end before now keeps ended =

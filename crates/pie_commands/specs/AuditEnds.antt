@@ -1,5 +1,5 @@
 -- How an audit of any number of files ends, and what it writes.
-use Rattle.std.specs.Prelude.{ℕ, ◌≡◌, ◌⊎◌, ◌++◌, List, [], ◌∷◌, Bool, true, false, Option, Some, None, Ok, All, IfSome, codes, map}
+use Rattle.std.specs.Prelude.{ℕ, ◌≡◌, ◌⊎◌, ◌++◌, List, [], Bool, true, false, Option, Some, None, Ok, All, IfSome, codes, map}
 use Rattle.std.specs.List.{flat_map, list_any}
 use Rattle.std.specs.Fmt.{decimal}
 use Rattle.std.specs.Io.KnownBytes.{Appends}
@@ -11,7 +11,6 @@ use Rattle.pie_audit.specs.declared.auditor.Finding.TheVariants as finding
 use Rattle.pie_audit.specs.Text.{FindsEither}
 use Rattle.pie_commands.specs.declared.end.End.{End}
 use Rattle.pie_commands.specs.declared.end.End.TheVariants.{Done, Differs, Fault, Failed}
-use Rattle.pie_commands.specs.Ends.{EndsAudit}
 use Rattle.pie_files.specs.Files.{text_given}
 
 -- a file's name, and its finding; or none, where it has a fault, or could not be opened or read
@@ -65,8 +64,3 @@ abbrev pub EndsFiles : Option (List ℕ) → (Text → Option (List ℕ)) → Li
 EndsFiles input files names end before now =
     (end ≡ Fault trace_fault.Write) ⊎ ((end ≡ Failed) × (now ≡ before))
     ⊎ ((unfound : Bool) × (different : Bool) × (end ≡ worst unfound different) × AuditsFiles input files names unfound different before now)
-
--- with no file it is the audit of the reader that is handed in
-abbrev pub EndsAudits : Option (List ℕ) → (Text → Option (List ℕ)) → List Text → End → Option (List ℕ) → Option (List ℕ) → Type 0
-EndsAudits input files [] end before now = IfSome input (λ text. EndsAudit text end before now)
-EndsAudits input files (name ∷ names) end before now = EndsFiles input files (name ∷ names) end before now

@@ -3,14 +3,14 @@ use Rattle.std.specs.Prelude.{ℕ, List, Option, None, IfSome}
 use Rattle.clap.specs.Words.{Row, Text}
 use Rattle.pie_options.specs.declared.subcommand.Subcommand.{Subcommand}
 use Rattle.pie_options.specs.declared.subcommand.Subcommand.TheVariants.{Run, Audit, Explain, Cut, Migrate, Storm, Params}
-use Rattle.pie_options.specs.Words.{file_in, files_in, is_forced, output_in}
+use Rattle.pie_options.specs.Words.{file_in, files_in, is_forced, is_joined, output_in}
 use Rattle.pie_files.specs.Files.{text_given}
 use Rattle.pie_files.specs.Output.{Held}
 use Rattle.pie_commands.specs.declared.end.End.{End}
-use Rattle.pie_commands.specs.AuditEnds.{EndsAudits}
 use Rattle.pie_commands.specs.CutEnds.{EndsCut}
 use Rattle.pie_commands.specs.Ends.{EndsMigrate, EndsRun, status_of}
 use Rattle.pie_commands.specs.ExplainEnds.{EndsExplain}
+use Rattle.pie_commands.specs.JointEnds.{EndsEither}
 use Rattle.pie_commands.specs.Outputs.{EndsIn}
 use Rattle.pie_commands.specs.StormEnds.{EndsStorm}
 use Rattle.pie_commands.specs.Tuning.{EndsParams}
@@ -18,7 +18,7 @@ use Rattle.pie_commands.specs.Tuning.{EndsParams}
 -- a subcommand with these options, over a reader of which this is known and files of which that is known, by what it writes
 abbrev pub EndsAs : Subcommand → List Row → Option (List ℕ) → Held → End → Option (List ℕ) → Option (List ℕ) → Type 0
 EndsAs Run options input files end before now = IfSome (text_given input files (file_in options)) (λ text. EndsRun text end before now)
-EndsAs Audit options input files end before now = EndsAudits input files (files_in options) end before now
+EndsAs Audit options input files end before now = EndsEither (is_joined options) input files (files_in options) end before now
 EndsAs Explain options input files end before now =
     IfSome (text_given input files (file_in options)) (λ text. EndsExplain options text (status_of end) before now)
 EndsAs Cut options input files end before now = IfSome (text_given input files (file_in options)) (λ text. EndsCut options (file_in options) text end before now)

@@ -4,16 +4,19 @@ ghost use Rattle.std.specs.Io.KnownBytes.{Appends};
 ghost use Rattle.clap.specs.Words.{found_of, rows_of};
 ghost use Rattle.pie_record.specs.Text.{records_of};
 ghost use Rattle.pie_audit.specs.Text.{FindsEither};
-ghost use Rattle.pie_commands.specs.AuditEnds.{EndsAudits, EndsFiles, is_different, is_unfound, line_of, named_line, worst};
+ghost use Rattle.pie_commands.specs.AuditEnds.{EndsFiles, is_different, is_unfound, line_of, named_line, worst};
 ghost use Rattle.pie_commands.specs.Ends.{EndsAudit};
+ghost use Rattle.pie_commands.specs.JointEnds.{EndsEither};
 ghost use Rattle.pie_files.specs.Files.{ReadsNamed};
-ghost use Rattle.pie_options.specs.Words.{files_in};
+ghost use Rattle.pie_options.specs.Words.{files_in, is_joined};
 
 use crate::end::{End, faulted};
+use crate::joined::join_files;
 use crate::screen::{Screen, shows_progress};
 use clap::ArgMatches;
 use pie_audit::{Finding, write_finding};
 use pie_files::{NamedFiles, named_fault, reader_named};
+use pie_options::flag;
 use pie_progress::Watched;
 use pie_trace::TraceFault;
 use std::alloc::Global;
@@ -88,7 +91,7 @@ fn finding_named<H: NamedFiles + Clock, R: Read + Drop, E: Write>(
 }
 
 /// Writes the line of a finding, behind the name of its file, and flushes the writer.
-fn write_named<W: Write>(name: &str, found: Finding, output: &mut W) -> io::Result<()>
+pub(crate) fn write_named<W: Write>(name: &str, found: Finding, output: &mut W) -> io::Result<()>
     ensures { OnOk result (Appends (W.contents output.old) (W.contents output.new) (named_line name.now found)) }
 {
     match found {
@@ -123,7 +126,7 @@ fn audit_named<H: NamedFiles + Clock, R: Read + Drop, W: Write, E: Write>(
 }
 
 /// Whether nothing was found of one of the files before, or of this one.
-fn any_unfound(before: bool, told: Option<Finding>) -> bool
+pub(crate) fn any_unfound(before: bool, told: Option<Finding>) -> bool
     ensures { result ≡ (before || is_unfound told) }
 {
     before || told.is_none()
@@ -137,7 +140,7 @@ fn any_different(before: bool, told: Option<Finding>) -> bool
 }
 
 /// The worst end, where these say whether a file could not be audited, and whether an event of one differs.
-fn worst(unfound: bool, different: bool) -> End
+pub(crate) fn worst(unfound: bool, different: bool) -> End
     ensures { result ≡ worst unfound different }
 {
     match (unfound, different) {
@@ -148,7 +151,7 @@ fn worst(unfound: bool, different: bool) -> End
 }
 
 /// The name at this place.
-fn name_at<'a>(names: &[&'a str], place: usize) -> &'a str
+pub(crate) fn name_at<'a>(names: &[&'a str], place: usize) -> &'a str
     requires { place < length names.now }
     ensures { result.now ≡ get_or (map (λ name. name.now) names.now) place [] }
 {
@@ -184,21 +187,25 @@ fn audit_files<H: NamedFiles + Clock, R: Read + Drop, W: Write, E: Write>(
     worst(unfound, different)
 }
 
-/// Audits these files, or with none what is handed in.
+/// Audits these files, which are those of one history or any, or with none what is handed in.
 fn audit_any<H: NamedFiles + Clock, R: Read + Drop, W: Write, E: Write>(
     rt: &H,
     alloc: Global,
     is_shown: bool,
+    are_joined: bool,
     names: &[&str],
     input: R,
     output: &mut W,
     errors: &mut E,
 ) -> End
-    ensures { EndsAudits (R.remaining input) (H.holds rt.now) (map (λ name. name.now) names.now) result (W.contents output.old)
+    ensures { EndsEither are_joined (R.remaining input) (H.holds rt.now) (map (λ name. name.now) names.now) result (W.contents output.old)
         (W.contents output.new) }
 {
     if names.is_empty() {
         return audit_input(rt, alloc, is_shown, input, output, errors);
+    }
+    if are_joined {
+        return join_files(rt, alloc, is_shown, names, input, output, errors);
     }
     audit_files(rt, alloc, is_shown, names, input, output, errors)
 }
@@ -212,12 +219,15 @@ pub(crate) fn audit<H: NamedFiles + Screen, R: Read + Drop, W: Write, E: Write>(
     output: &mut W,
     errors: &mut E,
 ) -> End
-    ensures { EndsAudits (R.remaining input) (H.holds rt.now) (files_in (rows_of (found_of options.now))) result (W.contents output.old)
-        (W.contents output.new) }
+    ensures { EndsEither (is_joined (rows_of (found_of options.now))) (R.remaining input) (H.holds rt.now)
+        (files_in (rows_of (found_of options.now))) result (W.contents output.old) (W.contents output.new) }
 {
     let is_shown = shows_progress(rt, options, false);
+    let are_joined = flag(options, "joined");
     match options.get_strs("file") {
-        Some(names) => audit_any(rt, alloc, is_shown, names, input, output, errors),
+        Some(names) => audit_any(
+            rt, alloc, is_shown, are_joined, names, input, output, errors,
+        ),
         None => audit_input(rt, alloc, is_shown, input, output, errors),
     }
 }

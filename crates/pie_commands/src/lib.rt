@@ -8,6 +8,7 @@ mod audit;
 mod cut;
 mod end;
 mod explain;
+mod joined;
 mod migrate;
 mod moments;
 mod params;

@@ -1,10 +1,10 @@
 //! The whole program over a list of words, a reader, files and two writers.
-ghost use Rattle.std.specs.Prelude.{◌≡◌, ◌≤◌, ◌⊎◌, ◌∷◌, List, IfSome, Some, codes, map, string_bytes};
+ghost use Rattle.std.specs.Prelude.{◌≡◌, ◌≤◌, ◌⊎◌, ◌∷◌, List, IfSome, Some, codes, false, true, map, string_bytes};
 ghost use Rattle.clap.specs.Words.{Text, kind_of};
 ghost use Rattle.clap.specs.declared.error.kind.ErrorKind.{ErrorKind};
 ghost use Rattle.pie_options.specs.declared.subcommand.Subcommand.{Subcommand};
 ghost use Rattle.pie_options.specs.Subcommands.{word_of};
-ghost use Rattle.pie_options.specs.Words.{AskFor, Asks, file_in, files_in, is_forced, options_in, output_in, subcommand_in};
+ghost use Rattle.pie_options.specs.Words.{AskFor, Asks, file_in, files_in, is_forced, is_joined, options_in, output_in, subcommand_in};
 ghost use Rattle.pie_files.specs.Files.{text_given};
 ghost use Rattle.pie_files.specs.Output.{Keeps};
 ghost use Rattle.pie_commands.specs.declared.end.End.{End};
@@ -12,6 +12,7 @@ ghost use Rattle.pie_commands.specs.AuditEnds.{EndsFiles};
 ghost use Rattle.pie_commands.specs.CutEnds.{EndsCut};
 ghost use Rattle.pie_commands.specs.Ends.{EndsAudit, EndsMigrate, EndsRun, status_of};
 ghost use Rattle.pie_commands.specs.ExplainEnds.{EndsExplain};
+ghost use Rattle.pie_commands.specs.JointEnds.{EndsJoined};
 ghost use Rattle.pie_commands.specs.Outputs.{EndsIn};
 ghost use Rattle.pie_commands.specs.StormEnds.{EndsStorm};
 ghost use Rattle.pie_commands.specs.Subcommands.{EndsTo};
@@ -93,9 +94,12 @@ pub fn command<H: Threads + Wait + Sync + NamedFiles + Screen, R: Read + Drop, W
         (is_forced (options_in (map string_bytes words.now))) (H.holds rt.old) (H.holds rt.new)
         (λ end before now. IfSome (text_given (R.remaining input) (H.holds rt.old) (file_in (options_in (map string_bytes words.now))))
         (λ text. EndsRun text end before now)) result (W.contents output.old) (W.contents output.new) }
-    ensures audits_files { Asks (codes "audit") (map string_bytes words.now) → (name : Text) (names : List Text)
-        → files_in (options_in (map string_bytes words.now)) ≡ name ∷ names
+    ensures audits_files { Asks (codes "audit") (map string_bytes words.now) → is_joined (options_in (map string_bytes words.now)) ≡ false
+        → (name : Text) (names : List Text) → files_in (options_in (map string_bytes words.now)) ≡ name ∷ names
         → EndsFiles (R.remaining input) (H.holds rt.old) (name ∷ names) result (W.contents output.old) (W.contents output.new) }
+    ensures joins_files { Asks (codes "audit") (map string_bytes words.now) → is_joined (options_in (map string_bytes words.now)) ≡ true
+        → (name : Text) (names : List Text) → files_in (options_in (map string_bytes words.now)) ≡ name ∷ names
+        → EndsJoined (R.remaining input) (H.holds rt.old) (name ∷ names) result (W.contents output.old) (W.contents output.new) }
     ensures migrates_file { Asks (codes "migrate") (map string_bytes words.now)
         → EndsIn (output_in (options_in (map string_bytes words.now))) (file_in (options_in (map string_bytes words.now)))
         (is_forced (options_in (map string_bytes words.now))) (H.holds rt.old) (H.holds rt.new)

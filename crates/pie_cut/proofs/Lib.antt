@@ -10,3 +10,4 @@ mod SegmentFacts
 mod SegmentEnds
 mod LastFacts
 mod Examples
+mod JoinedFacts

@@ -6,3 +6,4 @@ pub mod Begun
 pub mod Lines
 pub mod Segment
 pub mod Last
+pub mod Joined

@@ -8,12 +8,14 @@
 //! excerpt (`IsCut`); of a text that resumes, what the whole history gives from there on (`CutsEither`).
 #![tactic(auto)]
 
+mod alike;
 mod beginning;
 mod begun;
 mod cutter;
 mod either;
 pub mod fault;
 mod follower;
+pub mod joined;
 mod last;
 mod part;
 mod segments;
@@ -21,6 +23,7 @@ pub mod span;
 
 pub use either::cut_either;
 pub use fault::CutFault;
+pub use joined::{Joined, Joint, TextEnd, audit_joined, texts_that_follow_are_one_history};
 pub use last::last_number;
 pub use segments::cut_every;
 pub use span::Span;

@@ -1,8 +1,9 @@
-//! The calls that cut a history, over memory. They write to a writer that takes none.
+//! The calls that cut a history, over memory, and the one that joins what was cut. They write to a writer that takes none.
 
 use crate::failing::{FailingWriter, Fault};
 use crate::history::HISTORY;
-use pie_cut::{CutFault, Span, cut_either, cut_every, last_number};
+use pie_cut::{CutFault, Joined, Span, audit_joined, cut_either, cut_every, last_number};
+use pie_trace::TraceFault;
 use std::alloc::Global;
 use std::io;
 
@@ -14,6 +15,11 @@ const EXCERPT: &[u8] = b"resume,1,rate,derandomized,capped,unscaled,bounded,0,4,
 queued,7,1500,ect0,10
 depart,2,25,left,7,1500,ect0
 depart,2,30,empty
+";
+
+/// The history's first event.
+const FIRST: &[u8] = b"open,0,4,16,100
+arrive,1,10,7,1500,ect0,0,enqueue
 ";
 
 /// The last event of either, with what it stands on: the packet left after 15 nanoseconds.
@@ -44,7 +50,8 @@ pub(crate) fn all(rt: &impl Print, alloc: Global) -> io::Result<()> {
     let last = Span::last(3, 1);
     cut(rt, alloc, "cut_either of an excerpt", EXCERPT, last, LAST)?;
     segments(rt, alloc)?;
-    number(rt, alloc)
+    number(rt, alloc)?;
+    joined(rt, alloc)
 }
 
 /// Prints how many events were written, or why not, and whether all that is wanted was.
@@ -87,5 +94,20 @@ fn number(rt: &impl Print, alloc: Global) -> io::Result<()> {
     match last_number(alloc, EXCERPT) {
         Ok(number) => println!(rt; "last_number: {number}"),
         Err(why) => println!(rt; "last_number: {why:?}"),
+    }
+}
+
+/// The audit of the second of two texts that follow each other.
+fn second(alloc: Global) -> Result<Joined, TraceFault> {
+    let mut end = None;
+    audit_joined(alloc, FIRST, &mut end)?;
+    audit_joined(alloc, EXCERPT, &mut end)
+}
+
+fn joined(rt: &impl Print, alloc: Global) -> io::Result<()> {
+    println!(rt; "begin audit_joined")?;
+    match second(alloc) {
+        Ok(joined) => println!(rt; "audit_joined: {joined:?}"),
+        Err(why) => println!(rt; "audit_joined: {why:?}"),
     }
 }

@@ -1,8 +1,8 @@
 -- Which words ask for which subcommand, and what they give its options, worked out.
-use Rattle.std.proofs.Common.{◌≡◌, [], ◌∷◌, Some, codes, refl}
+use Rattle.std.proofs.Common.{◌≡◌, [], ◌∷◌, Some, codes, refl, true}
 use Rattle.clap.specs.Words.{Text}
 use Rattle.clap.proofs.OnLiterals.{clap_on_literals}
-use Rattle.pie_options.specs.Words.{Asks, file_in, files_in, options_in, packets_in, seed_in, senders_in}
+use Rattle.pie_options.specs.Words.{Asks, file_in, files_in, is_joined, options_in, packets_in, seed_in, senders_in}
 
 -- ---- files
 
@@ -13,6 +13,10 @@ audited name = record { taken = refl; found = refl }
 audited-files : (name : Text) → files_in (options_in (name ∷ codes "audit" ∷ codes "a" ∷ codes "-" ∷ [])) ≡ codes "a" ∷ codes "-" ∷ []
 unfolding clap_on_literals
 audited-files name = refl
+
+audited-joined : (name : Text) → is_joined (options_in (name ∷ codes "audit" ∷ codes "--joined" ∷ codes "a" ∷ codes "b" ∷ [])) ≡ true
+unfolding clap_on_literals
+audited-joined name = refl
 
 run-file : (name : Text) → file_in (options_in (name ∷ codes "run" ∷ codes "a" ∷ codes "--count" ∷ [])) ≡ Some (codes "a")
 unfolding clap_on_literals

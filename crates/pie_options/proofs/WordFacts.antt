@@ -1,5 +1,5 @@
 -- What `clap` makes of the words that ask for a subcommand.
-use Rattle.std.proofs.Common.{◌≡◌, ◌∙◌, List, [], ◌∷◌, Option, Some, None, true, codes, refl, sym, subst, ap}
+use Rattle.std.proofs.Common.{◌≡◌, ◌∙◌, List, [], ◌∷◌, Option, Some, None, true, false, codes, refl, sym, subst, ap}
 use Rattle.std.specs.Prelude.{option_and_then, option_map, unwrap_or, if◌then◌else◌}
 use Rattle.std.specs.Str.{bytes_eq}
 use Rattle.std.specs.Box.{box_value}
@@ -11,7 +11,7 @@ use Rattle.clap.proofs.OnLiterals.{clap_on_literals}
 use Rattle.pie_options.specs.declared.subcommand.Subcommand.{Subcommand}
 use Rattle.pie_options.specs.declared.subcommand.Subcommand.TheVariants.{Run, Audit, Explain, Cut, Migrate, Storm, Params}
 use Rattle.pie_options.specs.Subcommands.{word_of}
-use Rattle.pie_options.specs.Words.{AskFor, Asks, file_in, files_in, options_in, output_in, pie_app, subcommand_in}
+use Rattle.pie_options.specs.Words.{AskFor, Asks, file_in, files_in, is_joined, options_in, output_in, pie_app, subcommand_in}
 
 -- ---- they are taken, whatever the program's own name is, ask for their subcommand and name no file
 
@@ -34,6 +34,10 @@ run_words-file name = refl
 audit_words-files : (name : Text) → files_in (options_in (name ∷ codes "audit" ∷ [])) ≡ []
 unfolding clap_on_literals
 audit_words-files name = refl
+
+audit_words-joined : (name : Text) → is_joined (options_in (name ∷ codes "audit" ∷ [])) ≡ false
+unfolding clap_on_literals
+audit_words-joined name = refl
 
 migrate_words-file : (name : Text) → file_in (options_in (name ∷ codes "migrate" ∷ [])) ≡ None
 unfolding clap_on_literals
@@ -67,6 +71,9 @@ run-file words asks = rw asks.1 (run_words-file asks.0)
 
 pub audit-files : (words : List Text) → AskFor (codes "audit") words → files_in (options_in words) ≡ []
 audit-files words asks = rw asks.1 (audit_words-files asks.0)
+
+pub audit-joined : (words : List Text) → AskFor (codes "audit") words → is_joined (options_in words) ≡ false
+audit-joined words asks = rw asks.1 (audit_words-joined asks.0)
 
 pub migrate-file : (words : List Text) → AskFor (codes "migrate") words → file_in (options_in words) ≡ None
 migrate-file words asks = rw asks.1 (migrate_words-file asks.0)

@@ -54,7 +54,7 @@ with_rules app (rule ∷ rules) = with_rules (with_rule app rule) rules
 -- what each subcommand takes
 abbrev pub rules_for : Subcommand → List Rule
 rules_for Run = flag_rule (codes "count") ∷ progress_rule ∷ output_rule ∷ force_rule ∷ file_rule ∷ []
-rules_for Audit = progress_rule ∷ files_rule ∷ []
+rules_for Audit = flag_rule (codes "joined") ∷ progress_rule ∷ files_rule ∷ []
 rules_for Explain = number_rule (codes "event") 1 (2 ^ 64 - 1) ∷ number_rule (codes "tag") 0 (2 ^ 64 - 1) ∷ flag_rule (codes "lost")
     ∷ flag_rule (codes "marked") ∷ flag_rule (codes "all") ∷ text_rule (codes "from") ∷ text_rule (codes "to") ∷ flag_rule (codes "summary")
     ∷ text_rule (codes "every") ∷ flag_rule (codes "digest") ∷ flag_rule (codes "csv") ∷ flag_rule (codes "wall") ∷ progress_rule ∷ output_rule
@@ -127,6 +127,10 @@ file_in options = first_of (codes "file") options
 -- the files that they name, where it takes any number
 abbrev pub files_in : List Row → List Text
 files_in options = unwrap_or (all_of (codes "file") options) []
+
+-- the files that they name are those of one history
+abbrev pub is_joined : List Row → Bool
+is_joined options = flag_given (codes "joined") options
 
 -- a file that is there may be replaced
 abbrev pub is_forced : List Row → Bool

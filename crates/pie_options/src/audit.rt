@@ -36,6 +36,15 @@ With files all are looked at, in the order of the words. One that cannot be open
 read, is told on standard error, as pie: NAME: record 12: unknown kind, and the next is audited. The status is the worst of
 all: 1 where a file could not be audited, else 2 where an event of one differs, and else 0.
 
+With --joined the files are those of one history, in its order, as pie cut --every makes them. Behind the line of each but the
+first stands one more, where the file before it is clean:
+  NAME: follows             it goes on with exactly what the one before it ended with
+  NAME: gap,<last>,<first>  the one before it ended with the event <last>, and the first event of this one has the number
+                            <first>, or would have it: events are missing between them, or are in both; status 2
+  NAME: unlike,<last>       the numbers meet behind the event <last>, but this one stands on something else: another opening,
+                            register, statistic or packet; status 2
+Where all are clean and follow one another, they are one history, whose opening is that of the first file.
+
 Example: what pie run writes is clean, and the line is clean,2:
 
   printf 'open,0,4,16,100\\narrive,1,10,7,1500,ect0,0\\ndepart,2,25\\n' | pie run | pie audit
@@ -49,6 +58,11 @@ pub(crate) fn command<'a>(alloc: Global) -> Result<Command<'a>, AllocError>
     ensures { IfOk result (λ command. app_of command ≡ app_for Subcommand.Audit) }
 {
     let arguments = [
+        Argument {
+            name: "joined",
+            takes: Takes::Nothing,
+            help: "The files are of one history, in order: tell whether each goes on where the one before it ends",
+        },
         PROGRESS,
         Argument {
             name: "file",

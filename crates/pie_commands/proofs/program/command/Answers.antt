@@ -1,14 +1,15 @@
-use Rattle.std.proofs.Common.{List, Option, map, string_bytes, subst}
+use Rattle.std.proofs.Common.{List, Option, false, map, string_bytes, subst, true}
 use Rattle.std.specs.Prelude.{IfSome}
 use Rattle.clap.specs.Words.{Text}
 use Rattle.pie_options.specs.declared.subcommand.Subcommand.TheVariants.{Run, Audit, Explain, Cut, Migrate, Storm, Params}
-use Rattle.pie_options.specs.Words.{file_in, is_forced, options_in}
+use Rattle.pie_options.specs.Words.{file_in, files_in, is_forced, is_joined, options_in}
 use Rattle.pie_options.proofs.WordFacts.{audit-asks, audit-files, migrate-asks, migrate-file, migrate-output, run-asks, run-file, run-output}
 use Rattle.pie_files.specs.Files.{text_given}
-use Rattle.pie_commands.specs.AuditEnds.{EndsAudits}
 use Rattle.pie_commands.specs.Ends.{EndsMigrate, EndsRun}
+use Rattle.pie_commands.specs.JointEnds.{EndsEither}
 use Rattle.pie_commands.specs.Outputs.{EndsIn}
 use Rattle.pie_commands.specs.Subcommands.{EndsAs}
+use Rattle.pie_commands.proofs.JointFacts.{ends-of-files}
 use Rattle.pie_commands.proofs.program.command.Goals as goal
 
 -- ---- with no file
@@ -28,8 +29,8 @@ returns-clause-runs g c asks =
 pub returns-clause-audits : goal.returns-clause-audits
 returns-clause-audits g c asks =
     let words = map string_bytes c.args.words.now in
-    subst (λ (files : List Text). EndsAudits (g.R.Read.remaining c.args.input) (g.H.NamedFiles.holds c.args.rt.now) files c.answer.result
-    (g.W.Write.contents c.args.output.now) (g.W.Write.contents c.answer.new.output))
+    subst (λ (files : List Text). EndsEither (is_joined (options_in words)) (g.R.Read.remaining c.args.input) (g.H.NamedFiles.holds c.args.rt.now)
+    files c.answer.result (g.W.Write.contents c.args.output.now) (g.W.Write.contents c.answer.new.output))
     (audit-files words asks) (c.answer.ensures.ends Audit (audit-asks words asks)).1
 
 pub returns-clause-migrates : goal.returns-clause-migrates
@@ -51,9 +52,18 @@ pub returns-clause-runs_file : goal.returns-clause-runs_file
 returns-clause-runs_file g c asks = c.answer.ensures.ends Run asks
 
 pub returns-clause-audits_files : goal.returns-clause-audits_files
-returns-clause-audits_files g c asks name names are =
-    subst (λ (files : List Text). EndsAudits (g.R.Read.remaining c.args.input) (g.H.NamedFiles.holds c.args.rt.now) files c.answer.result
-    (g.W.Write.contents c.args.output.now) (g.W.Write.contents c.answer.new.output)) are (c.answer.ensures.ends Audit asks).1
+returns-clause-audits_files g c asks apart name names are =
+    let words = map string_bytes c.args.words.now in
+    ends-of-files (is_joined (options_in words)) false (g.R.Read.remaining c.args.input) (g.H.NamedFiles.holds c.args.rt.now)
+    (files_in (options_in words)) name names c.answer.result (g.W.Write.contents c.args.output.now) (g.W.Write.contents c.answer.new.output) apart
+    are (c.answer.ensures.ends Audit asks).1
+
+pub returns-clause-joins_files : goal.returns-clause-joins_files
+returns-clause-joins_files g c asks joined name names are =
+    let words = map string_bytes c.args.words.now in
+    ends-of-files (is_joined (options_in words)) true (g.R.Read.remaining c.args.input) (g.H.NamedFiles.holds c.args.rt.now)
+    (files_in (options_in words)) name names c.answer.result (g.W.Write.contents c.args.output.now) (g.W.Write.contents c.answer.new.output) joined
+    are (c.answer.ensures.ends Audit asks).1
 
 pub returns-clause-migrates_file : goal.returns-clause-migrates_file
 returns-clause-migrates_file g c asks = c.answer.ensures.ends Migrate asks

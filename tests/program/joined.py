@@ -1,0 +1,212 @@
+#!/usr/bin/env python3
+"""Audits the segments of random histories by `pie audit --joined`, in order and out of it: each follows the one before it, or the gap is told, or
+that it stands on something else. Segments are left out, exchanged and repeated, and come from another history with the same numbers; each field of a
+beginning is changed, and each field of the packets that wait there, beside tests/shared/reference_resumed.py, which says what is found of such a
+text. Then whole histories among them, files with a fault and files that differ, one file, and standard input.
+
+usage: tests/program/joined.py [PROGRAM [FIRST_SEED [RUNS]]]      PROGRAM: crates/pie/out/pie where none is given
+needs: program
+"""
+import random
+import subprocess
+import sys
+import tempfile
+from pathlib import Path
+
+sys.path.insert(0, str(Path(__file__).resolve().parents[1] / "shared"))
+import reference_resumed  # noqa: E402
+from checks import check, finish  # noqa: E402
+from excerpts import audited  # noqa: E402
+from running import PROGRAM, run  # noqa: E402
+
+FIRST, RUNS = ([int(word) for word in sys.argv[2:4]] + [1, 16][len(sys.argv[2:4]) :])[:2]
+EVENTS = 40
+# The places of a record that resumes: how many events there were, what set the probability, and the first statistic.
+COUNT, SET_BY, STATISTICS = 29, 30, 45
+tried = {"follow": 0, "gaps": 0, "unlike": 0, "faults": 0, "differ": 0, "statistics": 0, "packets": 0}
+
+
+class Part:
+    """The events of a history from a first to a last one, as a text that resumes; of the first also as a whole history."""
+
+    def __init__(self, book, first, last, is_whole=False):
+        text = reference_resumed.whole_text(book) if is_whole else reference_resumed.excerpt(book, first - 1)
+        lines = text.splitlines(keepends=True)
+        self.book, self.first, self.last = book, first, last
+        self.lines = lines[: len(lines) - (len(book.events) - last)]
+        self.text = "".join(self.lines)
+
+
+def parts_of(book, every):
+    count = len(book.events)
+    return [Part(book, first, min(count, first + every - 1)) for first in range(1, count + 1, every)]
+
+
+def stands_on(part):
+    """The beginning of a text, without what set the probability, on which no later answer stands."""
+    beginning = reference_resumed.resumed_at(part.book, part.first - 1, False)
+    return [list(map(str, row)) for row in beginning]
+
+
+def end_of(part):
+    """What a text that goes on behind the part would stand on."""
+    return [list(map(str, row)) for row in reference_resumed.resumed_at(part.book, part.last, False)]
+
+
+def joint(before, part):
+    if before.last + 1 != part.first:
+        tried["gaps"] += 1
+        return f"gap,{before.last},{part.first}"
+    if end_of(before) == stands_on(part):
+        tried["follow"] += 1
+        return "follows"
+    tried["unlike"] += 1
+    return f"unlike,{before.last}"
+
+
+def hold(what, parts):
+    """Audits clean parts in this order."""
+    wanted = [f"clean,{parts[0].last}", *(f"clean,{part.last} {joint(before, part)}" for before, part in zip(parts, parts[1:]))]
+    is_met = all(line.endswith("follows") for line in wanted[1:])
+    got = audited([part.text for part in parts], "--joined")
+    check(got == (0 if is_met else 2, [(line, "") for line in wanted]), f"{what}: wanted {wanted}, got {got}")
+
+
+def hold_orders(what, parts, chance):
+    hold(what, parts)
+    place = chance.randrange(len(parts))
+    hold(f"{what}, without {place}", [*parts[:place], *parts[place + 1 :]] or parts)
+    hold(f"{what}, {place} twice", [*parts[: place + 1], *parts[place:]])
+    mixed = parts[:]
+    chance.shuffle(mixed)
+    hold(f"{what}, mixed", mixed)
+    whole = Part(parts[0].book, 1, parts[0].last, True)
+    hold(f"{what}, a whole history first", [whole, *parts[1:]])
+    hold(f"{what}, a whole history among them", [parts[0], whole, *parts[1:]])
+
+
+def hold_others(what, parts, others):
+    """A part of another history has the same numbers."""
+    for place, other in enumerate(others):
+        hold(f"{what}, {place} of another history", [*parts[:place], other, *parts[place + 1 :]])
+
+
+def found_of(text):
+    status, finding, error = reference_resumed.audit(text)
+    return status, finding.rstrip("\n"), error.removeprefix("pie: ").rstrip("\n")
+
+
+def hold_changed(what, before, text, wanted):
+    """A text that was changed, behind a part: it has a fault, or else the joint that is wanted."""
+    status, finding, error = found_of(text)
+    tried["faults"] += status == 1
+    tried["differ"] += status == 2
+    line = "" if status == 1 else f"{finding} {wanted}"
+    is_met = status == 0 and wanted == "follows"
+    got = audited([before.text, text], "--joined")
+    check(got == (status or (0 if is_met else 2), [(f"clean,{before.last}", ""), (line, error)]), f"{what}: wanted {line or error}, got {got}")
+
+
+def other_number(field, chance):
+    number = int(field or 0)
+    return str(chance.choice([number + 1, number - 1] if number else [1]))
+
+
+def hold_fields(what, before, part, chance):
+    """Each field of the beginning is another."""
+    row, *rest = part.lines
+    fields = row.rstrip("\n").split(",")
+    for place in range(7, len(fields)):
+        other = fields[:]
+        other[place] = other_number(fields[place], chance)
+        wanted = f"unlike,{before.last}"
+        if place == COUNT:
+            wanted = f"gap,{before.last},{int(other[place]) + 1}"
+        if place == SET_BY:
+            wanted = "follows"
+        tried["statistics"] += place >= STATISTICS
+        hold_changed(f"{what}: field {place}", before, ",".join(other) + "\n" + "".join(rest), wanted)
+    for words in ({"1", "2"}, {"bounded", "rolling"}, {"rate", "stamp"}, {"derandomized", "random"}, {"capped", "uncapped"}, {"unscaled", "scaled"}):
+        place = next(place for place, field in enumerate(fields) if field in words)
+        word, other = fields[place], fields[:]
+        other[place] = next(iter(words - {word}))
+        hold_changed(f"{what}: {word}", before, ",".join(other) + "\n" + "".join(rest), f"unlike,{before.last}")
+
+
+def hold_packets(what, before, part, chance):
+    """Each packet that waits is another."""
+    for number, line in enumerate(part.lines):
+        kind, *fields = line.rstrip("\n").split(",")
+        for place in range(len(fields) if kind == "queued" else 0):
+            other = fields[:]
+            other[place] = "ect1" if other[place] in ("not", "ect0", "ce") else "ce" if place == 2 else other_number(fields[place], chance)
+            tried["packets"] += 1
+            text = "".join([*part.lines[:number], ",".join([kind, *other]) + "\n", *part.lines[number + 1 :]])
+            hold_changed(f"{what}: packet {number}, field {place + 1}", before, text, f"unlike,{before.last}")
+
+
+def hold_broken(what, parts, chance):
+    """A text with a fault, or that differs, has no end: nothing is told of the next one's joint, which then begins anew."""
+    place = chance.randrange(len(parts))
+    texts = [part.text for part in parts]
+    lines = [f"clean,{part.last}{' follows' if number else ''}" for number, part in enumerate(parts)]
+    after = [line.removesuffix(" follows") if number == place + 1 else line for number, line in enumerate(lines)]
+    faulty = [*texts[:place], texts[place] + "x\n", *texts[place + 1 :]]
+    got = audited(faulty, "--joined")
+    row = faulty[place].count("\n")
+    wanted = [("", f"record {row}: unknown kind") if number == place else (line, "") for number, line in enumerate(after)]
+    check(got == (1, wanted), f"{what}: a fault in {place}: {got}")
+    part = parts[place]
+    different = [*texts[:place], texts[place] + f"depart,1,{2**59},left,1,1,ce\n", *texts[place + 1 :]]
+    found = f"differs,{part.last + 1}" + (" follows" if place else "")
+    got = audited(different, "--joined")
+    check(got == (2, [(found if number == place else line, "") for number, line in enumerate(after)]), f"{what}: {place} differs: {got}")
+
+
+def told(words, text=b""):
+    status, output, errors = run(["audit", "--joined", *words], text)
+    return status, output.decode(), errors.decode()
+
+
+def hold_words(parts):
+    """One file, standard input alone and among files, a file that is not there."""
+    one, *others = parts
+    check(told([], one.text.encode()) == (0, f"clean,{one.last}\n", ""), "standard input alone")
+    check(told(["-"], one.text.encode()) == (0, f"-: clean,{one.last}\n", ""), "- alone")
+    with tempfile.TemporaryDirectory() as folder:
+        names = [f"{folder}/{place}" for place in range(len(parts))]
+        for name, part in zip(names, parts):
+            Path(name).write_text(part.text)
+        check(told(names[:1]) == (0, f"{names[0]}: clean,{one.last}\n", ""), "one file")
+        wanted = f"{names[0]}: clean,{one.last}\n-: clean,{others[0].last}\n-: follows\n"
+        check(told([names[0], "-"], others[0].text.encode()) == (0, wanted, ""), "standard input behind a file")
+        status, output, errors = told([names[0], f"{folder}/none", names[1]])
+        check((status, output) == (1, f"{names[0]}: clean,{one.last}\n{names[1]}: clean,{others[0].last}\n"), "a file that is not there")
+        check(errors == f"pie: {folder}/none: No such file or directory (os error 2)\n", f"a file that is not there: {errors}")
+        with open("/dev/full", "wb") as full:
+            ran = subprocess.run([PROGRAM, "audit", "--joined", *names[:2]], stdout=full, stderr=subprocess.PIPE, check=False)
+        check((ran.returncode, ran.stderr) == (1, b"pie: cannot write the output\n"), f"a full device: {ran}")
+
+
+def main():
+    chance = random.Random(FIRST)
+    for seed in range(FIRST, FIRST + RUNS):
+        book, other = (reference_resumed.random_book(it, EVENTS) for it in (seed, seed + 1000))
+        count = min(len(book.events), len(other.events))
+        every = chance.randrange(1, max(2, count // 2))
+        what, parts = f"seed {seed}, every {every}", parts_of(book, every)
+        if len(parts) < 3:
+            continue
+        hold_orders(what, parts, chance)
+        hold_others(what, parts, [part for part in parts_of(other, every) if part.last <= count and part.last - part.first == every - 1])
+        place = chance.randrange(1, len(parts))
+        hold_fields(what, parts[place - 1], parts[place], chance)
+        hold_packets(what, parts[place - 1], parts[place], chance)
+        hold_broken(what, parts, chance)
+        hold_words(parts)
+    print(", ".join(f"{number} {what}" for what, number in tried.items()))
+    check(all(tried.values()), "something was never tried")
+    finish()
+
+
+main()

@@ -1,17 +1,16 @@
 -- An audit of the files of one history, one after another.
-use Rattle.std.proofs.Common.{◌≡◌, ◌∙◌, ◌+◌, ◌<◌, ℕ, List, [], ◌∷◌, ◌++◌, add-one, get_or, length, take, Bool, true, false, Option, Some, None, refl}
-use Rattle.std.proofs.Common.{sym, subst, ap}
+use Rattle.std.proofs.Common.{◌≡◌, ◌∙◌, ◌+◌, ◌<◌, ℕ, List, [], ◌∷◌, ◌++◌, add-one, get_or, length, take, Bool, false, Option, Some, None, refl}
+use Rattle.std.proofs.Common.{subst, ap}
 use Rattle.std.proofs.Math.Seq.{take-suc}
-use Rattle.std.specs.Prelude.{◌||◌, IfSome}
-use Rattle.std.specs.List.{flat_map, list_any}
+use Rattle.std.specs.Prelude.{◌||◌}
+use Rattle.std.specs.List.{flat_map}
 use Rattle.std.specs.Io.KnownBytes.{Appends}
 use Rattle.std.proofs.lemmas.List.{append-nil, map-append}
 use Rattle.std.proofs.lemmas.Grind.{flat_map-append}
 use Rattle.clap.specs.Words.{Text}
-use Rattle.pie_record.specs.Text.{records_of}
 use Rattle.pie_record.proofs.Laws.{Appends-both, Appends-nothing}
 use Rattle.pie_cut.specs.declared.joined.Joined.{Joined}
-use Rattle.pie_cut.specs.Joined.{EndView, JoinsText}
+use Rattle.pie_cut.specs.Joined.{EndView}
 use Rattle.pie_files.specs.Files.{ReadsNamed}
 use Rattle.pie_files.proofs.FileFacts.{Stays, reads-given}
 use Rattle.pie_commands.specs.declared.end.End.{End}

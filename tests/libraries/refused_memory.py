@@ -57,6 +57,7 @@ REFUSED = {
         "cut_either of an excerpt": r"cut_either of an excerpt: Trace\(Memory\), other bytes: false\n",
         "cut_every": r"cut_every: Trace\(Memory\), other bytes: false\n",
         "last_number": r"last_number: Memory\n",
+        "audit_joined": r"audit_joined: Memory\n",
     },
 }
 # What each of these calls requests at the most at once, in bytes, and what is not enough for it: an event that is handed out takes 64 bytes, however

@@ -6,8 +6,8 @@ use Rattle.std.specs.Option.{is_some, option_to_list}
 use Rattle.std.proofs.lemmas.List.{append-nil, append_assoc, map-append}
 use Rattle.std.proofs.lemmas.List.Elements.{All-append, All-cons, All-head, All-nil, All-tail}
 use Rattle.std.proofs.lemmas.List.Sums.{sum_by-append}
-use Rattle.pie_book.specs.Types.{Packet, Waiting, One, Arrival, Verdict, Held, Command, Arrive, Depart, Update, Reset, SetParams, Answer, Enqueued}
-use Rattle.pie_book.specs.Types.{Event, Opening, Stats, Registers}
+use Rattle.pie_event.specs.Types.{Packet, Waiting, One, Arrival, Verdict, Held, Command, Arrive, Depart, Update, Reset, SetParams, Answer, Enqueued}
+use Rattle.pie_event.specs.Types.{Event, Opening, Stats, Registers}
 use Rattle.pie_queue.specs.Queue.{bytes_of}
 use Rattle.pie_aqm.specs.declared.verdict.Verdict.TheVariants as verdict
 use Rattle.pie_aqm.specs.Calls.{after_call, shown_by}
@@ -21,11 +21,11 @@ use Rattle.pie_aqm.proofs.Laws.{Shows-arrive, Shows-change, Shows-depart, Shows-
 use Rattle.pie_aqm.proofs.Looks.{one_is_active}
 use Rattle.pie_aqm.proofs.Places.{place_of, places-push}
 use Rattle.pie_book.specs.Beside.{opened_by}
-use Rattle.pie_book.specs.Call.{answer_of, arrival_of, departure_call}
+use Rattle.pie_event.specs.Call.{answer_of, arrival_of, departure_call}
 use Rattle.pie_book.specs.Cause.{cause_after}
 use Rattle.pie_book.specs.Core.{CoreView, Shows, closed, counted, refusal_of, registers_of, with_queue}
 use Rattle.pie_book.specs.Decision.{IsLegal, IsLegalAt, answer_by, answer_to_departure, decision, refusal_by_rule, refusal_with}
-use Rattle.pie_book.specs.Deed.{Deed, admission, arrival_deed, deed, departure, departure_deed, fits, handed_in, set, updated, was_reset, with_ce}
+use Rattle.pie_event.specs.Deed.{Deed, admission, arrival_deed, deed, departure, departure_deed, fits, handed_in, set, updated, was_reset, with_ce}
 use Rattle.pie_book.specs.Estimates.{active_after, delay_after, delay_answered, due_after, held_after}
 use Rattle.pie_book.specs.History.{admitted, bytes_after, departed_count, effective_moment, waiting_after}
 use Rattle.pie_book.specs.Registers.{registers_after}

@@ -4,17 +4,17 @@ use Rattle.std.specs.Prelude.{ℕ, ◌≡◌, List, [], ◌∷◌, Some, None, t
 use Rattle.std.proofs.Common.{refl}
 use Rattle.pie_params.specs.Profile.{default_profile}
 use Rattle.pie_params.specs.Elements.{usual}
-use Rattle.pie_book.specs.Types.{RawParams, Packet, Waiting, One, Command, Arrive, Depart, Update, Reset, SetParams, Answer, Enqueued, Marked}
-use Rattle.pie_book.specs.Types.{DroppedEarly, DroppedBytes, DroppedPackets, Empty, Left, Updated, Done, Event, Mode, Bounded, Opening}
+use Rattle.pie_event.specs.Types.{RawParams, Packet, Waiting, One, Command, Arrive, Depart, Update, Reset, SetParams, Answer, Enqueued, Marked}
+use Rattle.pie_event.specs.Types.{DroppedEarly, DroppedBytes, DroppedPackets, Empty, Left, Updated, Done, Event, Mode, Bounded, Opening}
 use Rattle.pie_queue.specs.declared.ecn.Ecn.TheVariants.{NotEct, Ect0, Ce}
 use Rattle.pie_rate.specs.Departures.{Departure}
 use Rattle.pie_control.specs.Events.{ControlEvent}
 use Rattle.pie_early.specs.Events.{EarlyEvent}
-use Rattle.pie_book.specs.declared.opening.Limits.{Limits}
-use Rattle.pie_book.specs.declared.refusal.OpenRefusal.TheVariants as open_refusal
-use Rattle.pie_book.specs.Opening.{are_in_range, are_of_version_two, opening_refusal}
-use Rattle.pie_book.specs.Deed.{Deed, deed, fits, handed_in, admission, departure, is_update, queued, marked, dropped_early, dropped_bytes}
-use Rattle.pie_book.specs.Deed.{dropped_packets, departed, found_none, updated, was_reset, set, nothing}
+use Rattle.pie_event.specs.declared.opening.Limits.{Limits}
+use Rattle.pie_event.specs.declared.refusal.OpenRefusal.TheVariants as open_refusal
+use Rattle.pie_event.specs.Opening.{are_in_range, are_of_version_two, opening_refusal}
+use Rattle.pie_event.specs.Deed.{Deed, deed, fits, handed_in, admission, departure, is_update, queued, marked, dropped_early, dropped_bytes}
+use Rattle.pie_event.specs.Deed.{dropped_packets, departed, found_none, updated, was_reset, set, nothing}
 use Rattle.pie_aqm.specs.History.{active_of, arrivals_shown, control_of, delay_noted, departures_of, departures_shown, early_of, held_of}
 use Rattle.pie_aqm.specs.History.{waited_noted, waited_of}
 use Rattle.pie_aqm.specs.History.{is_active, noted, noted_after, now_of, params_of, updates_shown}

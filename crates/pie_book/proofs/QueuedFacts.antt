@@ -11,15 +11,15 @@ use Rattle.std.proofs.lemmas.List.Sums.{sum_by-append, sum_by-cons}
 use Rattle.pie_params.specs.Range.{first_bad}
 use Rattle.pie_queue.specs.Queue.{HasSize, IsSize, bytes_of}
 use Rattle.pie_aqm.specs.Steps.{due, now_at}
-use Rattle.pie_book.specs.Types.{Packet, Waiting, Command, Arrive, Depart, Answer, Enqueued, Marked, Event, Opening, Refusal}
-use Rattle.pie_book.specs.declared.refusal.Refusal.TheVariants as refusal
+use Rattle.pie_event.specs.Types.{Packet, Waiting, Command, Arrive, Depart, Answer, Enqueued, Marked, Event, Opening, Refusal}
+use Rattle.pie_event.specs.declared.refusal.Refusal.TheVariants as refusal
 use Rattle.pie_book.specs.declared.standing.Standing.{Standing}
 use Rattle.pie_book.specs.Core.{CoreView, refusal_of}
 use Rattle.pie_book.specs.Decision.{IsLegal, answer_to_departure, has_bad_size, is_bad_size, is_too_soon}
-use Rattle.pie_book.specs.Deed.{Deed, arrival_deed, deed, departed, departure_deed, handed_in, marked, queued}
+use Rattle.pie_event.specs.Deed.{Deed, arrival_deed, deed, departed, departure_deed, handed_in, marked, queued}
 use Rattle.pie_book.specs.History.{effective_moment, waiting_after}
-use Rattle.pie_book.specs.Opening.{last_moment}
-use Rattle.pie_book.specs.Ranges.{CommandFits}
+use Rattle.pie_event.specs.Opening.{last_moment}
+use Rattle.pie_event.specs.Ranges.{CommandFits}
 use Rattle.pie_book.specs.Standing.{StandsFor, begun_with, core_of, end_refusal, newest_since, queue_refusal}
 use Rattle.pie_book.specs.Step.{answer_in}
 use Rattle.pie_book.proofs.HistoryFacts.{effective_moment-push, waiting_next}

@@ -1,12 +1,8 @@
-pub mod Types
-pub mod Opening
-pub mod Deed
 pub mod History
 pub mod Shown
 pub mod Estimates
 pub mod Registers
 pub mod Statistics
-pub mod Call
 pub mod Decision
 pub mod Cause
 pub mod Core
@@ -14,7 +10,6 @@ pub mod Tally
 pub mod Book
 pub mod Run
 pub mod Recorded
-pub mod Ranges
 pub mod Step
 pub mod Beside
 pub mod Standing

@@ -1,6 +1,6 @@
 -- What a tally of events holds: how many there were, and the statistics, each of which these many events can reach.
 use Rattle.std.specs.Prelude.{ℕ, ◌*◌, ◌^◌, ◌≤◌}
-use Rattle.pie_book.specs.declared.stats.Stats.{Stats}
+use Rattle.pie_event.specs.declared.stats.Stats.{Stats}
 
 pub record TallyView : Type 0 where
   pub count : ℕ

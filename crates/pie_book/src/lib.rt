@@ -26,38 +26,28 @@ mod book_excerpt;
 mod book_folds;
 mod book_readers;
 mod book_standing;
-pub mod cause;
-pub mod command;
 mod core_commands;
 mod core_readers;
 mod core_steps;
 mod deciding_core;
 pub mod excerpt;
 pub mod law;
-pub mod opening;
 pub mod ranges;
 mod recorded;
-pub mod refusal;
-pub mod registers;
-pub mod resume_refusal;
 pub mod resuming;
 pub mod standing;
-pub mod stats;
 mod tally;
 
 pub use beside::{parts_decide_as_a_core, runs_decide_as_a_core};
 pub use book::Book;
-pub use cause::{Cause, Fate};
-pub use command::{Answer, Command, Event};
 pub use deciding_core::Core;
 pub use excerpt::Excerpt;
 pub use law::{folds_change_no_answer, profile_one_is_always_active, registers_look_back};
-pub use opening::{Choices, Elements, Limits, Mode, Opening, Profile};
+pub use pie_event::{
+    Answer, Cause, Choices, Command, Elements, EndRefusal, Event, Fate, FoldRefusal, Limits, Mode,
+    OpenRefusal, Opening, Profile, QueueRefusal, Refusal, Registers, ResumeRefusal, Stats, TooSmall,
+};
 pub use ranges::all_numbers_are_held;
 pub use recorded::Recorded;
-pub use refusal::{FoldRefusal, OpenRefusal, Refusal, TooSmall};
-pub use registers::Registers;
-pub use resume_refusal::{EndRefusal, QueueRefusal, ResumeRefusal};
 pub use resuming::{Resuming, packets_that_waited_are_taken};
 pub use standing::{Standing, excerpts_are_legal_after_any_history};
-pub use stats::Stats;

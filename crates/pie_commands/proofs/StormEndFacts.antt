@@ -2,7 +2,7 @@
 use Rattle.std.proofs.Common.{◌≡◌, ℕ, List, Option, Some, subst, inr, refl}
 use Rattle.clap.specs.Words.{Row}
 use Rattle.pie_params.specs.declared.elements.Elements.{Elements}
-use Rattle.pie_book.specs.declared.command.Event.{Event}
+use Rattle.pie_event.specs.declared.command.Event.{Event}
 use Rattle.pie_book.specs.Decision.{IsLegal}
 use Rattle.pie_storm.specs.declared.numbers.StormNumbers.{StormNumbers}
 use Rattle.pie_storm.specs.declared.plan.Plan.{Plan}

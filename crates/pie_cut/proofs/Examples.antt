@@ -37,7 +37,7 @@ use Rattle.pie_record.specs.Text.{records_of}
 use Rattle.pie_record.specs.HistoryLines.{event_count, latest_clock}
 use Rattle.pie_record.specs.Write.{command_fields}
 use Rattle.pie_audit.specs.Finding.{LinePlace, agrees, events_of, finding, first_difference, line_places}
-use Rattle.pie_book.specs.declared.opening.Opening.{Opening}
+use Rattle.pie_event.specs.declared.opening.Opening.{Opening}
 use Rattle.pie_record.specs.HistoryLines.{history_lines}
 use Rattle.pie_record.specs.declared.fault.TraceFault.{TraceFault}
 use Rattle.pie_record.specs.declared.fault.TraceFault.TheVariants as fault

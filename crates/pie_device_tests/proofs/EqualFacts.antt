@@ -1,11 +1,11 @@
 -- Where a derived `==` says yes, the two are the same.
 use Rattle.std.proofs.Common.{rules, ◌≡◌, ◌==◌, true, false, Bool}
 use Rattle.std.specs.Prelude.{◌&&◌}
-use Rattle.pie_book.specs.declared.command.Answer.{Answer}
-use Rattle.pie_book.specs.declared.command.Event.{Event}
-use Rattle.pie_book.specs.contracts.command.EventPartialEq.TheImpl as event_eq
-use Rattle.pie_book.specs.contracts.command.CommandPartialEq.TheImpl as command_eq
-use Rattle.pie_book.specs.contracts.command.AnswerPartialEq.TheImpl as answer_eq
+use Rattle.pie_event.specs.declared.command.Answer.{Answer}
+use Rattle.pie_event.specs.declared.command.Event.{Event}
+use Rattle.pie_event.specs.contracts.command.EventPartialEq.TheImpl as event_eq
+use Rattle.pie_event.specs.contracts.command.CommandPartialEq.TheImpl as command_eq
+use Rattle.pie_event.specs.contracts.command.AnswerPartialEq.TheImpl as answer_eq
 
 answer-same : (a b : Answer) → (answer_eq.ghosts).eq a b ≡ true → a ≡ b
 answer-same a b e = search rules

@@ -1,7 +1,7 @@
 //! Equality of events, lines, faults and findings: where `==` says yes, the two values are the same in every field, as in `equal` of pie_memory_tests,
 //! which has the other public types. These functions are there for their contracts.
 ghost use Rattle.std.specs.Prelude.{◌≡◌, true};
-ghost use Rattle.pie_book.specs.contracts.command.EventPartialEq.TheImpl as event_eq;
+ghost use Rattle.pie_event.specs.contracts.command.EventPartialEq.TheImpl as event_eq;
 
 use pie_audit::Finding;
 use pie_book::Event;

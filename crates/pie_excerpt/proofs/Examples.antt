@@ -9,7 +9,7 @@ use Rattle.pie_params.specs.declared.elements.Picking.TheVariants.{Random}
 use Rattle.pie_params.specs.declared.elements.Size.TheVariants.{Scaled}
 use Rattle.pie_params.specs.declared.elements.Step.TheVariants.{Uncapped}
 use Rattle.pie_aqm.specs.declared.profile.Profile.TheVariants.{Two}
-use Rattle.pie_book.specs.declared.opening.Mode.TheVariants.{Rolling}
+use Rattle.pie_event.specs.declared.opening.Mode.TheVariants.{Rolling}
 use Rattle.pie_record.specs.Text.{text_of}
 use Rattle.pie_excerpt.specs.Rows.{queued_row, resume_row}
 use Rattle.pie_excerpt.specs.declared.resume.Resume.{Resume}

@@ -2,10 +2,10 @@
 use Rattle.std.proofs.Common.{◌≡◌, ◌∙◌, ◌+◌, ℕ, List, [], ◌∷◌, ◌++◌, Bool, true, false, refl, sym, ap, subst}
 use Rattle.std.specs.Prelude.{Option, Some, None, Result, Ok, Err, IfSome, map, option_map}
 use Rattle.std.specs.Io.KnownBytes.{Appends}
-use Rattle.pie_book.specs.declared.command.Event.{Event}
-use Rattle.pie_book.specs.declared.opening.Opening.{Opening}
+use Rattle.pie_event.specs.declared.command.Event.{Event}
+use Rattle.pie_event.specs.declared.opening.Opening.{Opening}
 use Rattle.pie_book.specs.Core.{Shows}
-use Rattle.pie_book.specs.Opening.{opening_refusal}
+use Rattle.pie_event.specs.Opening.{opening_refusal}
 use Rattle.pie_record.specs.declared.fault.TraceFault.{TraceFault}
 use Rattle.pie_record.specs.declared.fault.TraceFault.TheVariants as trace
 use Rattle.pie_record.specs.declared.history_record.Line.{Line}

@@ -1,12 +1,12 @@
 -- The parts of an explanation make it.
 use Rattle.std.proofs.Common.{◌≡◌, ℕ, List, ap, length, refl, ◌∙◌}
 use Rattle.std.specs.Prelude.{Option, max}
-use Rattle.pie_book.specs.declared.opening.Opening.{Opening}
+use Rattle.pie_event.specs.declared.opening.Opening.{Opening}
 use Rattle.pie_aqm.specs.declared.cause.Cause.{Cause}
-use Rattle.pie_book.specs.declared.command.Event.{Event}
-use Rattle.pie_book.specs.declared.registers.Registers.{Registers}
+use Rattle.pie_event.specs.declared.command.Event.{Event}
+use Rattle.pie_event.specs.declared.registers.Registers.{Registers}
 use Rattle.pie_book.specs.Cause.{cause_after}
-use Rattle.pie_book.specs.Deed.{deed_of, handed_in, is_update}
+use Rattle.pie_event.specs.Deed.{deed_of, handed_in, is_update}
 use Rattle.pie_book.specs.Estimates.{active_after, delay_after}
 use Rattle.pie_book.specs.History.{effective_moment, waiting_after}
 use Rattle.pie_book.specs.Registers.{registers_after}

@@ -3,7 +3,7 @@ use Rattle.std.specs.Prelude.{ℕ, ◌≡◌, ◌^◌, ◌==◌, ◌≤◌, nat_
 use Rattle.std.specs.Prelude.{length, Bool, true, false, Option, Some, None, Result, Ok, Err, ⊤}
 use Rattle.std.specs.Prelude.{if◌then◌else◌}
 use Rattle.std.specs.Io.KnownBytes.{Appends}
-use Rattle.pie_book.specs.declared.opening.Opening.{Opening}
+use Rattle.pie_event.specs.declared.opening.Opening.{Opening}
 use Rattle.pie_record.specs.declared.fault.TraceFault.{TraceFault}
 use Rattle.pie_record.specs.declared.history_record.Line.{Line}
 use Rattle.pie_record.specs.Fault.{is_device}

@@ -1,6 +1,6 @@
 -- Which events of a history are explained: those that are chosen, with an effective moment that is wanted.
 use Rattle.std.specs.Prelude.{ℕ, Bool, true, false, not, ◌&&◌, ◌||◌, Option, Some, None, nat_le, is_some}
-use Rattle.pie_book.specs.declared.command.Event.{Event}
+use Rattle.pie_event.specs.declared.command.Event.{Event}
 use Rattle.pie_record.specs.declared.clock.Clock.{Clock}
 use Rattle.pie_record.specs.Clock.{unix_at}
 use Rattle.pie_explain.specs.declared.choice.Choice.{Choice}

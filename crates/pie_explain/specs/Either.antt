@@ -1,8 +1,8 @@
 -- What explaining a text answers and writes: a whole history, or one that goes on from the middle of a history.
 use Rattle.std.specs.Prelude.{ℕ, ◌≡◌, List, [], ◌++◌, Bool, true, false, Option, Result, Ok, Err, map}
 use Rattle.std.specs.Io.KnownBytes.{Appends}
-use Rattle.pie_book.specs.declared.command.Event.{Event}
-use Rattle.pie_book.specs.declared.opening.Opening.{Opening}
+use Rattle.pie_event.specs.declared.command.Event.{Event}
+use Rattle.pie_event.specs.declared.opening.Opening.{Opening}
 use Rattle.pie_record.specs.declared.fault.TraceFault.{TraceFault}
 use Rattle.pie_record.specs.declared.history_record.Line.TheVariants.{Made}
 use Rattle.pie_record.specs.Text.{Row}

@@ -1,12 +1,12 @@
 -- Which events are explained.
 use Rattle.std.specs.Prelude.{ℕ, ◌==◌, Bool, true, false, Option, Some, None}
 use Rattle.pie_queue.specs.declared.packet.Packet.{Packet}
-use Rattle.pie_book.specs.declared.command.Command.{Command}
-use Rattle.pie_book.specs.declared.command.Command.TheVariants.{Arrive}
-use Rattle.pie_book.specs.declared.command.Answer.{Answer}
-use Rattle.pie_book.specs.declared.command.Answer.TheVariants.{DroppedEarly, DroppedBytes, DroppedPackets, Left}
-use Rattle.pie_book.specs.declared.command.Answer.TheVariants as answer
-use Rattle.pie_book.specs.declared.command.Event.{Event}
+use Rattle.pie_event.specs.declared.command.Command.{Command}
+use Rattle.pie_event.specs.declared.command.Command.TheVariants.{Arrive}
+use Rattle.pie_event.specs.declared.command.Answer.{Answer}
+use Rattle.pie_event.specs.declared.command.Answer.TheVariants.{DroppedEarly, DroppedBytes, DroppedPackets, Left}
+use Rattle.pie_event.specs.declared.command.Answer.TheVariants as answer
+use Rattle.pie_event.specs.declared.command.Event.{Event}
 use Rattle.pie_explain.specs.declared.which.Which.{Which}
 use Rattle.pie_explain.specs.declared.which.Which.TheVariants.{Number, Tag, Lost, Marked, All}
 

@@ -1,9 +1,9 @@
 //! What there is to say of one event.
 ghost use Rattle.std.specs.Prelude.{◌≡◌, List};
-ghost use Rattle.pie_book.specs.declared.command.Event.{Event};
-ghost use Rattle.pie_book.specs.declared.opening.Opening.{Opening};
+ghost use Rattle.pie_event.specs.declared.command.Event.{Event};
+ghost use Rattle.pie_event.specs.declared.opening.Opening.{Opening};
 ghost use Rattle.pie_book.specs.Core.{Shows};
-ghost use Rattle.pie_book.specs.Deed.{deed_of, is_update};
+ghost use Rattle.pie_event.specs.Deed.{deed_of, is_update};
 ghost use Rattle.pie_book.specs.History.{waiting_after};
 ghost use Rattle.pie_book.specs.Statistics.{count_of, wait_of};
 ghost use Rattle.pie_explain.specs.Explanation.{moment_of};

@@ -1,7 +1,7 @@
 //! How the explanations of an excerpt are those of the whole history.
 ghost use Rattle.std.specs.Prelude.{◌≡◌, ◌++◌, List, length, map, true, false};
-ghost use Rattle.pie_book.specs.declared.command.Event.{Event};
-ghost use Rattle.pie_book.specs.declared.opening.Opening.{Opening};
+ghost use Rattle.pie_event.specs.declared.command.Event.{Event};
+ghost use Rattle.pie_event.specs.declared.opening.Opening.{Opening};
 ghost use Rattle.pie_record.specs.declared.history_record.Line.{Line};
 ghost use Rattle.pie_record.specs.declared.history_record.Line.TheVariants.{Made};
 ghost use Rattle.pie_explain.specs.declared.choice.Choice.{Choice};

@@ -3,13 +3,13 @@ use Rattle.std.specs.Prelude.{ℕ, ◌≡◌, List, [], ◌∷◌, Some, None}
 use Rattle.std.proofs.Common.{refl}
 use Rattle.pie_lock.specs.declared.view.Shown.{Shown}
 use Rattle.pie_lock.specs.declared.view.Place.TheVariants.{Spent, Waits, Meets}
-use Rattle.pie_book.specs.declared.command.Command.TheVariants.{Depart}
-use Rattle.pie_book.specs.declared.command.Answer.TheVariants.{Empty}
-use Rattle.pie_book.specs.declared.command.Event.{Event}
-use Rattle.pie_book.specs.declared.opening.Limits.{Limits}
-use Rattle.pie_book.specs.declared.opening.Mode.TheVariants.{Bounded}
-use Rattle.pie_book.specs.declared.opening.Opening.{Opening}
-use Rattle.pie_book.specs.declared.refusal.OpenRefusal.TheVariants as of_book
+use Rattle.pie_event.specs.declared.command.Command.TheVariants.{Depart}
+use Rattle.pie_event.specs.declared.command.Answer.TheVariants.{Empty}
+use Rattle.pie_event.specs.declared.command.Event.{Event}
+use Rattle.pie_event.specs.declared.opening.Limits.{Limits}
+use Rattle.pie_event.specs.declared.opening.Mode.TheVariants.{Bounded}
+use Rattle.pie_event.specs.declared.opening.Opening.{Opening}
+use Rattle.pie_event.specs.declared.refusal.OpenRefusal.TheVariants as of_book
 use Rattle.pie_link.specs.declared.refusal.LinkRefusal.TheVariants.{Book, NoCallers}
 use Rattle.pie_link.specs.Opening.{link_refusal}
 use Rattle.pie_link.specs.declared.entry.Entry.{Entry}

@@ -13,13 +13,13 @@ use Rattle.pie_aqm.specs.declared.profile.Profile.TheVariants.{One}
 use Rattle.pie_book.specs.Estimates.{held_after}
 use Rattle.pie_book.specs.History.{effective_moment, admitted, departed_count, waiting_after}
 use Rattle.pie_book.specs.Shown.{shown}
-use Rattle.pie_book.specs.declared.command.Command.{Command}
-use Rattle.pie_book.specs.declared.command.Command.TheVariants.{Arrive, Depart}
-use Rattle.pie_book.specs.declared.command.Answer.{Answer}
-use Rattle.pie_book.specs.declared.command.Answer.TheVariants.{DroppedBytes, Enqueued, Empty, Left}
-use Rattle.pie_book.specs.declared.opening.Mode.TheVariants.{Bounded}
-use Rattle.pie_book.specs.declared.opening.Opening.{Opening}
-use Rattle.pie_book.specs.declared.refusal.Refusal.TheVariants.{HistoryFull, Size}
+use Rattle.pie_event.specs.declared.command.Command.{Command}
+use Rattle.pie_event.specs.declared.command.Command.TheVariants.{Arrive, Depart}
+use Rattle.pie_event.specs.declared.command.Answer.{Answer}
+use Rattle.pie_event.specs.declared.command.Answer.TheVariants.{DroppedBytes, Enqueued, Empty, Left}
+use Rattle.pie_event.specs.declared.opening.Mode.TheVariants.{Bounded}
+use Rattle.pie_event.specs.declared.opening.Opening.{Opening}
+use Rattle.pie_event.specs.declared.refusal.Refusal.TheVariants.{HistoryFull, Size}
 use Rattle.pie_link.specs.declared.entry.Entry.{Entry}
 use Rattle.pie_link.specs.declared.entry.Entry.TheVariants.{Made}
 use Rattle.pie_link.specs.Bursts.{Reply, always, departures, entries_to, has_left, replies_to}

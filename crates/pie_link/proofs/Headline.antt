@@ -8,9 +8,9 @@ use Rattle.pie_lock.specs.declared.view.Shown.{Shown}
 use Rattle.pie_lock.specs.declared.view.Place.{Place}
 use Rattle.pie_lock.specs.declared.view.Place.TheVariants.{Spent, Waits, Holds, Meets}
 use Rattle.pie_lock.specs.Rule.{EachPass, Follows, Agreed, Ruled, WhileFree}
-use Rattle.pie_book.specs.declared.command.Event.{Event}
-use Rattle.pie_book.specs.declared.opening.Mode.TheVariants.{Bounded}
-use Rattle.pie_book.specs.declared.opening.Opening.{Opening}
+use Rattle.pie_event.specs.declared.command.Event.{Event}
+use Rattle.pie_event.specs.declared.opening.Mode.TheVariants.{Bounded}
+use Rattle.pie_event.specs.declared.opening.Opening.{Opening}
 use Rattle.pie_book.specs.Book.{BookView}
 use Rattle.pie_book.specs.Core.{CoreView, Shows, registers_of}
 use Rattle.pie_book.specs.History.{waiting_after}

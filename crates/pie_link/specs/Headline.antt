@@ -12,8 +12,8 @@ use Rattle.pie_lock.specs.declared.view.Place.{Place}
 use Rattle.pie_lock.specs.declared.view.Place.TheVariants.{Spent, Waits, Holds, Meets}
 use Rattle.pie_lock.specs.Own.{own}
 use Rattle.pie_lock.specs.declared.view.LockOpening.{LockOpening}
-use Rattle.pie_book.specs.declared.opening.Mode.TheVariants.{Bounded}
-use Rattle.pie_book.specs.declared.opening.Opening.{Opening}
+use Rattle.pie_event.specs.declared.opening.Mode.TheVariants.{Bounded}
+use Rattle.pie_event.specs.declared.opening.Opening.{Opening}
 use Rattle.pie_book.specs.Book.{BookView, Tells, last_events}
 use Rattle.pie_book.specs.Decision.{IsLegal}
 use Rattle.pie_book.specs.Core.{registers_of}

@@ -1,9 +1,9 @@
 -- Why a link is not opened.
 use Rattle.std.specs.Prelude.{◌≡◌, ◌==◌, ◌⊎◌, ℕ, Option, Some, None, if◌then◌else◌}
-use Rattle.pie_book.specs.declared.opening.Limits.{Limits}
-use Rattle.pie_book.specs.declared.refusal.OpenRefusal.{OpenRefusal}
-use Rattle.pie_book.specs.declared.refusal.OpenRefusal.TheVariants as of_book
-use Rattle.pie_book.specs.Opening.{opening_refusal}
+use Rattle.pie_event.specs.declared.opening.Limits.{Limits}
+use Rattle.pie_event.specs.declared.refusal.OpenRefusal.{OpenRefusal}
+use Rattle.pie_event.specs.declared.refusal.OpenRefusal.TheVariants as of_book
+use Rattle.pie_event.specs.Opening.{opening_refusal}
 use Rattle.pie_link.specs.declared.refusal.LinkRefusal.{LinkRefusal}
 use Rattle.pie_link.specs.declared.refusal.LinkRefusal.TheVariants.{Book, NoCallers, Memory}
 

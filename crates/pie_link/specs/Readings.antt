@@ -1,8 +1,8 @@
 -- What a caller reads.
 use Rattle.std.specs.Prelude.{◌≡◌, List, length, Some, Result, Ok, Err}
-use Rattle.pie_book.specs.declared.command.Event.{Event}
-use Rattle.pie_book.specs.declared.opening.Opening.{Opening}
-use Rattle.pie_book.specs.declared.refusal.Refusal.{Refusal}
+use Rattle.pie_event.specs.declared.command.Event.{Event}
+use Rattle.pie_event.specs.declared.opening.Opening.{Opening}
+use Rattle.pie_event.specs.declared.refusal.Refusal.{Refusal}
 use Rattle.pie_link.specs.declared.entry.Entry.{Entry}
 use Rattle.pie_link.specs.Entries.{events_in}
 use Rattle.pie_link.specs.Views.{LinkView, CallerView, shown, IsHistoryFor, WasBusy}

@@ -2,7 +2,7 @@
 use Rattle.std.specs.Prelude.{◌≡◌, List}
 use Rattle.pie_lock.specs.Views.{LockView, PassView, HoldsAll}
 use Rattle.pie_lock.specs.Steps.{GoesOn}
-use Rattle.pie_book.specs.declared.opening.Opening.{Opening}
+use Rattle.pie_event.specs.declared.opening.Opening.{Opening}
 use Rattle.pie_book.specs.Decision.{IsLegal}
 use Rattle.pie_link.specs.declared.entry.Entry.{Entry}
 use Rattle.pie_link.specs.Entries.{number_of, events_in}

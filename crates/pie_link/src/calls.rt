@@ -3,7 +3,7 @@
 //! Moments are nanoseconds from a start of the callers' choosing, at most `2^60 - 1`. Between calls of two callers it is
 //! the lock that decides which comes first.
 ghost use Rattle.std.specs.Prelude.{◌≡◌};
-ghost use Rattle.pie_book.specs.declared.command.Command.TheVariants.{Arrive, Depart, Update, Reset, SetParams};
+ghost use Rattle.pie_event.specs.declared.command.Command.TheVariants.{Arrive, Depart, Update, Reset, SetParams};
 ghost use Rattle.pie_book.specs.Registers.{registers_after};
 ghost use Rattle.pie_book.specs.Statistics.{stats_after};
 ghost use Rattle.pie_link.specs.Commands.{Answers, TriesToAnswer};

@@ -6,7 +6,7 @@ use Rattle.std.specs.Option.{option_or}
 use Rattle.std.proofs.lemmas.Bool.{eqb-true}
 use Rattle.std.proofs.lemmas.List.Elements.{filter_map-append}
 use Rattle.csv.specs.Records.{field_at}
-use Rattle.pie_book.specs.declared.command.Event.{Event}
+use Rattle.pie_event.specs.declared.command.Event.{Event}
 use Rattle.pie_record.specs.declared.clock.Clock.{Clock}
 use Rattle.pie_record.specs.declared.command.Asked.{Asked}
 use Rattle.pie_record.specs.declared.command.Asked.TheVariants as asked

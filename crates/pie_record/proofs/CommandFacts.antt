@@ -8,9 +8,9 @@ use Rattle.pie_params.specs.Range.{first_bad}
 use Rattle.pie_params.specs.declared.raw.Field.{Field}
 use Rattle.pie_params.specs.declared.raw.RawParams.{RawParams}
 use Rattle.pie_queue.specs.declared.packet.Packet.{Packet}
-use Rattle.pie_book.specs.declared.command.Command.{Command}
-use Rattle.pie_book.specs.declared.command.Command.TheVariants.{Arrive, Depart, Update, Reset, SetParams}
-use Rattle.pie_book.specs.Ranges.{CommandFits, PacketFits, ParamsFit}
+use Rattle.pie_event.specs.declared.command.Command.{Command}
+use Rattle.pie_event.specs.declared.command.Command.TheVariants.{Arrive, Depart, Update, Reset, SetParams}
+use Rattle.pie_event.specs.Ranges.{CommandFits, PacketFits, ParamsFit}
 use Rattle.pie_record.specs.declared.clock.Clock.{Clock}
 use Rattle.pie_record.specs.declared.command.Asked.{Asked}
 use Rattle.pie_record.specs.declared.command.Asked.TheVariants as asked

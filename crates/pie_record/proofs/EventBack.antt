@@ -6,12 +6,12 @@ use Rattle.csv.specs.Records.{field_at}
 use Rattle.pie_queue.specs.declared.ecn.Ecn.{Ecn}
 use Rattle.pie_queue.specs.declared.ecn.Ecn.TheVariants as ecn
 use Rattle.pie_queue.specs.declared.packet.Packet.{Packet}
-use Rattle.pie_book.specs.Deed.{fits}
-use Rattle.pie_book.specs.declared.command.Answer.{Answer}
-use Rattle.pie_book.specs.declared.command.Answer.TheVariants.{Enqueued, Marked, DroppedEarly, DroppedBytes, DroppedPackets, Empty, Left, Updated}
-use Rattle.pie_book.specs.declared.command.Answer.TheVariants.{Done}
-use Rattle.pie_book.specs.declared.command.Command.{Command}
-use Rattle.pie_book.specs.declared.command.Command.TheVariants.{Arrive, Depart, Update, Reset, SetParams}
+use Rattle.pie_event.specs.Deed.{fits}
+use Rattle.pie_event.specs.declared.command.Answer.{Answer}
+use Rattle.pie_event.specs.declared.command.Answer.TheVariants.{Enqueued, Marked, DroppedEarly, DroppedBytes, DroppedPackets, Empty, Left, Updated}
+use Rattle.pie_event.specs.declared.command.Answer.TheVariants.{Done}
+use Rattle.pie_event.specs.declared.command.Command.{Command}
+use Rattle.pie_event.specs.declared.command.Command.TheVariants.{Arrive, Depart, Update, Reset, SetParams}
 use Rattle.pie_record.specs.declared.command.Asked.TheVariants as asked
 use Rattle.pie_record.specs.declared.command.CommandKind.{CommandKind}
 use Rattle.pie_record.specs.declared.command.CommandKind.TheVariants as kind
@@ -22,7 +22,7 @@ use Rattle.pie_record.specs.Field.{ecn_of, most_u16, most_u32, most_u64, packet_
 use Rattle.pie_record.specs.HistoryRecord.{answer_at, departure_at, event_line, has_length, line_of, made, update_at, verdict_of}
 use Rattle.pie_record.specs.Number.{number}
 use Rattle.pie_record.specs.TraceRecord.{command_request, request_of}
-use Rattle.pie_book.specs.Ranges.{AnswerFits, CommandFits, PacketFits}
+use Rattle.pie_event.specs.Ranges.{AnswerFits, CommandFits, PacketFits}
 use Rattle.pie_record.specs.Answer.{answer_fields}
 use Rattle.pie_record.specs.Text.{Row}
 use Rattle.pie_record.specs.Words.{ecn_word}

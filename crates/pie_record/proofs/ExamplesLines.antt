@@ -16,15 +16,15 @@ use Rattle.pie_params.specs.declared.raw.RawParams.{RawParams}
 use Rattle.pie_queue.specs.declared.ecn.Ecn.{Ecn}
 use Rattle.pie_queue.specs.declared.ecn.Ecn.TheVariants as ecn
 use Rattle.pie_queue.specs.declared.packet.Packet.{Packet}
-use Rattle.pie_book.specs.declared.command.Answer.{Answer}
-use Rattle.pie_book.specs.declared.command.Answer.TheVariants.{Enqueued, Marked, DroppedEarly, DroppedBytes, DroppedPackets, Empty, Left, Updated}
-use Rattle.pie_book.specs.declared.command.Answer.TheVariants.{Done}
-use Rattle.pie_book.specs.declared.command.Command.{Command}
-use Rattle.pie_book.specs.declared.command.Command.TheVariants.{Arrive, Depart, Update, Reset, SetParams}
-use Rattle.pie_book.specs.declared.command.Event.{Event}
-use Rattle.pie_book.specs.declared.opening.Mode.{Mode}
-use Rattle.pie_book.specs.declared.opening.Mode.TheVariants.{Bounded, Rolling}
-use Rattle.pie_book.specs.declared.opening.Opening.{Opening}
+use Rattle.pie_event.specs.declared.command.Answer.{Answer}
+use Rattle.pie_event.specs.declared.command.Answer.TheVariants.{Enqueued, Marked, DroppedEarly, DroppedBytes, DroppedPackets, Empty, Left, Updated}
+use Rattle.pie_event.specs.declared.command.Answer.TheVariants.{Done}
+use Rattle.pie_event.specs.declared.command.Command.{Command}
+use Rattle.pie_event.specs.declared.command.Command.TheVariants.{Arrive, Depart, Update, Reset, SetParams}
+use Rattle.pie_event.specs.declared.command.Event.{Event}
+use Rattle.pie_event.specs.declared.opening.Mode.{Mode}
+use Rattle.pie_event.specs.declared.opening.Mode.TheVariants.{Bounded, Rolling}
+use Rattle.pie_event.specs.declared.opening.Opening.{Opening}
 use Rattle.pie_aqm.specs.declared.profile.Profile.{Profile}
 use Rattle.pie_aqm.specs.declared.profile.Profile.TheVariants.{One, Two}
 use Rattle.pie_record.specs.declared.fault.OpenFault.TheVariants as open_fault

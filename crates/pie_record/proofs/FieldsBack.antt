@@ -11,8 +11,8 @@ use Rattle.pie_params.specs.declared.raw.Field.{Field}
 use Rattle.pie_params.specs.declared.raw.RawParams.{RawParams}
 use Rattle.pie_queue.specs.declared.ecn.Ecn.{Ecn}
 use Rattle.pie_queue.specs.declared.ecn.Ecn.TheVariants as ecn
-use Rattle.pie_book.specs.declared.command.Command.{Command}
-use Rattle.pie_book.specs.declared.command.Command.TheVariants.{Arrive, Depart, Update, Reset, SetParams}
+use Rattle.pie_event.specs.declared.command.Command.{Command}
+use Rattle.pie_event.specs.declared.command.Command.TheVariants.{Arrive, Depart, Update, Reset, SetParams}
 use Rattle.pie_record.specs.declared.command.Asked.{Asked}
 use Rattle.pie_record.specs.declared.command.Asked.TheVariants as asked
 use Rattle.pie_record.specs.declared.command.CommandKind.{CommandKind}

@@ -5,15 +5,15 @@ use Rattle.std.specs.Io.KnownBytes.{Appends}
 use Rattle.std.proofs.lemmas.Bool.Decides.{nat_tests}
 use Rattle.std.proofs.lemmas.List.Elements.{All-cons, All-head, All-nil, All-tail}
 use Rattle.csv.specs.Records.{field_at}
-use Rattle.pie_book.specs.declared.command.Command.{Command}
-use Rattle.pie_book.specs.declared.command.Command.TheVariants.{Arrive, Depart, Update, Reset, SetParams}
-use Rattle.pie_book.specs.declared.command.Event.{Event}
-use Rattle.pie_book.specs.declared.opening.Mode.{Mode}
-use Rattle.pie_book.specs.declared.opening.Mode.TheVariants.{Bounded, Rolling}
-use Rattle.pie_book.specs.declared.opening.Opening.{Opening}
+use Rattle.pie_event.specs.declared.command.Command.{Command}
+use Rattle.pie_event.specs.declared.command.Command.TheVariants.{Arrive, Depart, Update, Reset, SetParams}
+use Rattle.pie_event.specs.declared.command.Event.{Event}
+use Rattle.pie_event.specs.declared.opening.Mode.{Mode}
+use Rattle.pie_event.specs.declared.opening.Mode.TheVariants.{Bounded, Rolling}
+use Rattle.pie_event.specs.declared.opening.Opening.{Opening}
 use Rattle.pie_aqm.specs.declared.profile.Profile.{Profile}
 use Rattle.pie_aqm.specs.declared.profile.Profile.TheVariants.{One, Two}
-use Rattle.pie_book.specs.Opening.{opening_refusal}
+use Rattle.pie_event.specs.Opening.{opening_refusal}
 use Rattle.pie_record.specs.declared.fault.TraceFault.{TraceFault}
 use Rattle.pie_record.specs.declared.first_record.FirstKind.{FirstKind}
 use Rattle.pie_record.specs.declared.first_record.FirstKind.TheVariants as kinds
@@ -27,7 +27,7 @@ use Rattle.pie_record.specs.HistoryRecord.{line_of}
 use Rattle.pie_record.specs.FirstRecord.{kind_word, version_of}
 use Rattle.pie_record.specs.HistoryLines.{Coming, after_opening, coming_after, coming_from, fault_from, history_opening, history_version, lines_from}
 use Rattle.pie_record.specs.HistoryLines.{told_by}
-use Rattle.pie_book.specs.Ranges.{ParamsFit}
+use Rattle.pie_event.specs.Ranges.{ParamsFit}
 use Rattle.pie_record.specs.ReadBack.{Begins, EventFits, TellEach, TellsHistory}
 use Rattle.pie_record.specs.Write.{command_fields, earlier_row, event_row, is_earlier, opening_row, version_three_row, written_rows}
 use Rattle.pie_record.specs.Words.{mode_word, profile_number}

@@ -8,9 +8,9 @@ use Rattle.std.proofs.lemmas.Fmt.{decimal_by_steps_wide, decimal_digit, decimal_
 use Rattle.std.proofs.lemmas.Str.Parse.{IsNumeralModel, numerals_by_value, tells_all_ascii_digits}
 use lib.ListN.{get_or-append}
 use Rattle.csv.specs.Records.{field_at}
-use Rattle.pie_book.specs.declared.registers.Registers.{Registers}
-use Rattle.pie_book.specs.declared.stats.Stats.{Stats}
-use Rattle.pie_book.specs.Ranges.{RegistersFit, StatsFit}
+use Rattle.pie_event.specs.declared.registers.Registers.{Registers}
+use Rattle.pie_event.specs.declared.stats.Stats.{Stats}
+use Rattle.pie_event.specs.Ranges.{RegistersFit, StatsFit}
 use Rattle.pie_record.specs.declared.history_record.Line.TheVariants as line
 use Rattle.pie_record.specs.declared.version.Version.{Version}
 use Rattle.pie_record.specs.declared.version.Version.TheVariants.{One, Two, Three}

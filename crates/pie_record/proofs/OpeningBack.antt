@@ -18,16 +18,16 @@ use Rattle.pie_params.specs.declared.elements.Step.{Step}
 use Rattle.pie_params.specs.declared.elements.Step.TheVariants.{Capped, Uncapped}
 use Rattle.pie_params.specs.declared.raw.RawParams.{RawParams}
 use Rattle.pie_params.specs.Range.{first_bad}
-use Rattle.pie_book.specs.declared.opening.Choices.{Choices}
-use Rattle.pie_book.specs.declared.opening.Limits.{Limits}
-use Rattle.pie_book.specs.declared.opening.Mode.{Mode}
-use Rattle.pie_book.specs.declared.opening.Mode.TheVariants.{Bounded, Rolling}
-use Rattle.pie_book.specs.declared.opening.Opening.{Opening}
+use Rattle.pie_event.specs.declared.opening.Choices.{Choices}
+use Rattle.pie_event.specs.declared.opening.Limits.{Limits}
+use Rattle.pie_event.specs.declared.opening.Mode.{Mode}
+use Rattle.pie_event.specs.declared.opening.Mode.TheVariants.{Bounded, Rolling}
+use Rattle.pie_event.specs.declared.opening.Opening.{Opening}
 use Rattle.pie_aqm.specs.declared.profile.Profile.{Profile}
 use Rattle.pie_aqm.specs.declared.profile.Profile.TheVariants.{One, Two}
-use Rattle.pie_book.specs.declared.refusal.OpenRefusal.TheVariants as refusal
-use Rattle.pie_book.specs.Opening.{are_in_range, are_of_version_two, last_moment, opening_refusal}
-use Rattle.pie_book.specs.Ranges.{ParamsFit}
+use Rattle.pie_event.specs.declared.refusal.OpenRefusal.TheVariants as refusal
+use Rattle.pie_event.specs.Opening.{are_in_range, are_of_version_two, last_moment, opening_refusal}
+use Rattle.pie_event.specs.Ranges.{ParamsFit}
 use Rattle.pie_record.specs.declared.fault.Flaw.{Flaw}
 use Rattle.pie_record.specs.declared.fault.TraceFault.{TraceFault}
 use Rattle.pie_record.specs.declared.first_record.Draft.{Draft}

@@ -10,12 +10,12 @@ use Rattle.std.proofs.lemmas.Bool.Decides.{nat_tests}
 use mathlib.Core.List.{IsPrefix}
 use Rattle.pie_lock.specs.Own.{is_within}
 use Rattle.pie_lock.proofs.Prefixes.{prefix_self, prefix_trans}
-use Rattle.pie_book.specs.declared.command.Command.{Command}
-use Rattle.pie_book.specs.declared.command.Event.{Event}
-use Rattle.pie_book.specs.declared.command.Answer.{Answer}
-use Rattle.pie_book.specs.declared.opening.Opening.{Opening}
-use Rattle.pie_book.specs.declared.refusal.Refusal.{Refusal}
-use Rattle.pie_book.specs.declared.refusal.Refusal.TheVariants.{TooSoon, HistoryFull}
+use Rattle.pie_event.specs.declared.command.Command.{Command}
+use Rattle.pie_event.specs.declared.command.Event.{Event}
+use Rattle.pie_event.specs.declared.command.Answer.{Answer}
+use Rattle.pie_event.specs.declared.opening.Opening.{Opening}
+use Rattle.pie_event.specs.declared.refusal.Refusal.{Refusal}
+use Rattle.pie_event.specs.declared.refusal.Refusal.TheVariants.{TooSoon, HistoryFull}
 use Rattle.pie_book.specs.Decision.{decision, is_refused_full, or_full, refusal_by_rule, refusal_with}
 use Rattle.pie_book.specs.Run.{event_of}
 use Rattle.pie_book.specs.Estimates.{due_after}

@@ -12,14 +12,14 @@ use mathlib.Core.Logic.{dite}
 use native.Mathlib.Decide.{ℕ_discrete}
 use Rattle.pie_lock.specs.Own.{own, is_within}
 use Rattle.pie_lock.proofs.Owns.{within, within_high, not_within}
-use Rattle.pie_book.specs.declared.command.Command.{Command}
-use Rattle.pie_book.specs.declared.command.Event.{Event}
-use Rattle.pie_book.specs.declared.opening.Opening.{Opening}
-use Rattle.pie_book.specs.declared.command.Command.TheVariants.{Depart, Update}
-use Rattle.pie_book.specs.declared.refusal.Refusal.{Refusal}
-use Rattle.pie_book.specs.declared.refusal.Refusal.TheVariants as refusal
-use Rattle.pie_book.specs.Opening.{last_moment}
-use Rattle.pie_book.specs.Deed.{handed_in}
+use Rattle.pie_event.specs.declared.command.Command.{Command}
+use Rattle.pie_event.specs.declared.command.Event.{Event}
+use Rattle.pie_event.specs.declared.opening.Opening.{Opening}
+use Rattle.pie_event.specs.declared.command.Command.TheVariants.{Depart, Update}
+use Rattle.pie_event.specs.declared.refusal.Refusal.{Refusal}
+use Rattle.pie_event.specs.declared.refusal.Refusal.TheVariants as refusal
+use Rattle.pie_event.specs.Opening.{last_moment}
+use Rattle.pie_event.specs.Deed.{handed_in}
 use Rattle.pie_book.specs.Decision.{has_bad_size, is_too_soon, refusal_by_rule}
 use Rattle.pie_book.specs.History.{effective_moment}
 use Rattle.pie_book.specs.Estimates.{due_after}

@@ -14,13 +14,13 @@ use Rattle.pie_lock.specs.Own.{own, is_within}
 use Rattle.pie_lock.specs.Steps.{GoesOn}
 use Rattle.pie_lock.proofs.Owns.{within}
 use Rattle.pie_lock.proofs.Prefixes.{prefix_self, prefix_trans}
-use Rattle.pie_book.specs.declared.command.Answer.{Answer}
-use Rattle.pie_book.specs.declared.command.Command.{Command}
-use Rattle.pie_book.specs.declared.command.Event.{Event}
-use Rattle.pie_book.specs.declared.opening.Opening.{Opening}
-use Rattle.pie_book.specs.declared.refusal.FoldRefusal.{FoldRefusal}
-use Rattle.pie_book.specs.declared.refusal.FoldRefusal.TheVariants.{TooMany, Memory}
-use Rattle.pie_book.specs.declared.refusal.Refusal.{Refusal}
+use Rattle.pie_event.specs.declared.command.Answer.{Answer}
+use Rattle.pie_event.specs.declared.command.Command.{Command}
+use Rattle.pie_event.specs.declared.command.Event.{Event}
+use Rattle.pie_event.specs.declared.opening.Opening.{Opening}
+use Rattle.pie_event.specs.declared.refusal.FoldRefusal.{FoldRefusal}
+use Rattle.pie_event.specs.declared.refusal.FoldRefusal.TheVariants.{TooMany, Memory}
+use Rattle.pie_event.specs.declared.refusal.Refusal.{Refusal}
 use Rattle.pie_book.specs.Run.{event_of}
 use Rattle.pie_link.specs.declared.entry.Entry.{Entry}
 use Rattle.pie_link.specs.declared.entry.Entry.TheVariants.{Made, Folded}

@@ -10,9 +10,9 @@ use Rattle.pie_lock.specs.Promises.{IsBothOf}
 use Rattle.pie_lock.specs.Steps.{GoesOn}
 use Rattle.pie_lock.proofs.Prefixes.{prefix_trans, prefix_self}
 use Rattle.pie_lock.proofs.Owns.{within, within_high, same_either}
-use Rattle.pie_book.specs.declared.command.Command.{Command}
-use Rattle.pie_book.specs.declared.command.Event.{Event}
-use Rattle.pie_book.specs.declared.opening.Opening.{Opening}
+use Rattle.pie_event.specs.declared.command.Command.{Command}
+use Rattle.pie_event.specs.declared.command.Event.{Event}
+use Rattle.pie_event.specs.declared.opening.Opening.{Opening}
 use Rattle.pie_storm.specs.declared.plan.Plan.{Plan}
 use Rattle.pie_storm.specs.Plans.{commands_of}
 use Rattle.pie_link.specs.declared.entry.Entry.{Entry}

@@ -7,8 +7,8 @@ use Rattle.std.specs.declared.alloc.Global.{Global}
 use Rattle.std.proofs.lemmas.List.{length-map}
 use Rattle.std.proofs.lemmas.Bool.Decides.{nat_tests}
 use Rattle.std.proofs.lemmas.List.Elements.{All-nil, All-cons, All-head, All-tail}
-use Rattle.pie_book.specs.declared.command.Command.{Command}
-use Rattle.pie_book.specs.declared.command.Command.TheVariants.{Depart, Update}
+use Rattle.pie_event.specs.declared.command.Command.{Command}
+use Rattle.pie_event.specs.declared.command.Command.TheVariants.{Depart, Update}
 use Rattle.pie_link.specs.declared.arrival.Arrival.{Arrival}
 use Rattle.pie_link.specs.Bursts.{arrive}
 use Rattle.pie_storm.specs.declared.plan.Change.{Change}

@@ -8,21 +8,21 @@ use Rattle.std.proofs.lemmas.List.Elements.{All-cons, All-head, All-nil, All-tai
 use Rattle.std.proofs.lemmas.List.Sums.{sum_by-cons}
 use Rattle.pie_queue.specs.declared.packet.Packet.{Packet}
 use Rattle.pie_queue.specs.declared.packet.Waiting.{Waiting}
-use Rattle.pie_book.specs.declared.command.Command.{Command}
-use Rattle.pie_book.specs.declared.command.Command.TheVariants.{Arrive, Depart, Update, Reset, SetParams}
-use Rattle.pie_book.specs.Deed.{fits}
+use Rattle.pie_event.specs.declared.command.Command.{Command}
+use Rattle.pie_event.specs.declared.command.Command.TheVariants.{Arrive, Depart, Update, Reset, SetParams}
+use Rattle.pie_event.specs.Deed.{fits}
 use Rattle.pie_queue.specs.declared.ecn.Ecn.{Ecn}
 use Rattle.pie_queue.specs.declared.ecn.Ecn.TheVariants.{NotEct, Ect1, Ect0, Ce}
-use Rattle.pie_book.specs.declared.command.Answer.{Answer}
-use Rattle.pie_book.specs.declared.command.Answer.TheVariants.{Enqueued, Marked, DroppedEarly, DroppedBytes, DroppedPackets, Empty, Left, Updated}
-use Rattle.pie_book.specs.declared.command.Answer.TheVariants.{Done}
-use Rattle.pie_book.specs.declared.command.Event.{Event}
-use Rattle.pie_book.specs.declared.opening.Limits.{Limits}
-use Rattle.pie_book.specs.declared.opening.Opening.{Opening}
-use Rattle.pie_book.specs.Opening.{opening_refusal}
+use Rattle.pie_event.specs.declared.command.Answer.{Answer}
+use Rattle.pie_event.specs.declared.command.Answer.TheVariants.{Enqueued, Marked, DroppedEarly, DroppedBytes, DroppedPackets, Empty, Left, Updated}
+use Rattle.pie_event.specs.declared.command.Answer.TheVariants.{Done}
+use Rattle.pie_event.specs.declared.command.Event.{Event}
+use Rattle.pie_event.specs.declared.opening.Limits.{Limits}
+use Rattle.pie_event.specs.declared.opening.Opening.{Opening}
+use Rattle.pie_event.specs.Opening.{opening_refusal}
 use Rattle.pie_aqm.specs.declared.verdict.Verdict.{Verdict}
 use Rattle.pie_aqm.specs.declared.verdict.Verdict.TheVariants as verdict
-use Rattle.pie_book.specs.Call.{answer_of}
+use Rattle.pie_event.specs.Call.{answer_of}
 use Rattle.pie_book.specs.Decision.{IsLegal, IsLegalAt, answer_to_departure, decision}
 use Rattle.pie_aqm.specs.Places.{Place, after, places}
 use Rattle.pie_record.specs.declared.fault.TraceFault.{TraceFault}

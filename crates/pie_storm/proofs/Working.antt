@@ -12,14 +12,14 @@ use Rattle.pie_lock.specs.Own.{own, is_within}
 use Rattle.pie_lock.specs.Steps.{GoesOn}
 use Rattle.pie_lock.proofs.Prefixes.{prefix_self, prefix_trans}
 use Rattle.pie_lock.proofs.Owns.{within}
-use Rattle.pie_book.specs.declared.command.Command.{Command}
-use Rattle.pie_book.specs.declared.command.Answer.{Answer}
-use Rattle.pie_book.specs.declared.command.Event.{Event}
-use Rattle.pie_book.specs.declared.opening.Mode.{Mode}
-use Rattle.pie_book.specs.declared.opening.Mode.TheVariants.{Bounded, Rolling}
-use Rattle.pie_book.specs.declared.opening.Opening.{Opening}
-use Rattle.pie_book.specs.declared.refusal.Refusal.{Refusal}
-use Rattle.pie_book.specs.declared.refusal.Refusal.TheVariants.{TooSoon, Moment, Size, Exhausted, HistoryFull}
+use Rattle.pie_event.specs.declared.command.Command.{Command}
+use Rattle.pie_event.specs.declared.command.Answer.{Answer}
+use Rattle.pie_event.specs.declared.command.Event.{Event}
+use Rattle.pie_event.specs.declared.opening.Mode.{Mode}
+use Rattle.pie_event.specs.declared.opening.Mode.TheVariants.{Bounded, Rolling}
+use Rattle.pie_event.specs.declared.opening.Opening.{Opening}
+use Rattle.pie_event.specs.declared.refusal.Refusal.{Refusal}
+use Rattle.pie_event.specs.declared.refusal.Refusal.TheVariants.{TooSoon, Moment, Size, Exhausted, HistoryFull}
 use Rattle.pie_book.specs.Decision.{is_refused_full, or_full, refusal_by_rule, refusal_with}
 use Rattle.pie_book.specs.History.{effective_moment}
 use Rattle.pie_book.specs.Estimates.{due_after}

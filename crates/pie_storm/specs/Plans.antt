@@ -2,13 +2,13 @@
 use Rattle.std.specs.Prelude.{◌≡◌, ◌+◌, ◌-◌, ◌==◌, ◌≤◌, nat_le, ℕ, false, List, [], ◌∷◌, Option, Some, None, Vec, map, length, All, slice_get}
 use Rattle.std.specs.Prelude.{if◌then◌else◌}
 use Rattle.std.specs.declared.alloc.Global.{Global}
-use Rattle.pie_book.specs.declared.command.Command.{Command}
-use Rattle.pie_book.specs.declared.command.Command.TheVariants.{Depart, Update, SetParams}
-use Rattle.pie_book.specs.declared.opening.Mode.TheVariants.{Bounded}
-use Rattle.pie_book.specs.declared.opening.Choices.{Choices}
-use Rattle.pie_book.specs.declared.opening.Opening.{Opening}
-use Rattle.pie_book.specs.Opening.{last_moment}
-use Rattle.pie_book.specs.Deed.{handed_in}
+use Rattle.pie_event.specs.declared.command.Command.{Command}
+use Rattle.pie_event.specs.declared.command.Command.TheVariants.{Depart, Update, SetParams}
+use Rattle.pie_event.specs.declared.opening.Mode.TheVariants.{Bounded}
+use Rattle.pie_event.specs.declared.opening.Choices.{Choices}
+use Rattle.pie_event.specs.declared.opening.Opening.{Opening}
+use Rattle.pie_event.specs.Opening.{last_moment}
+use Rattle.pie_event.specs.Deed.{handed_in}
 use Rattle.pie_book.specs.Decision.{has_bad_size}
 use Rattle.pie_link.specs.declared.arrival.Arrival.{Arrival}
 use Rattle.pie_link.specs.Bursts.{arrive}

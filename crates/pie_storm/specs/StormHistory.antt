@@ -1,7 +1,7 @@
 -- The history that a storm leaves, written.
 use Rattle.std.specs.Prelude.{ℕ, ◌≡◌, List, [], length, Option, Some, Ok, IfSome}
 use Rattle.std.specs.Io.KnownBytes.{Appends}
-use Rattle.pie_book.specs.declared.command.Event.{Event}
+use Rattle.pie_event.specs.declared.command.Event.{Event}
 use Rattle.pie_book.specs.Decision.{IsLegal}
 use Rattle.pie_record.specs.Text.{rows_text}
 use Rattle.pie_record.specs.Text.{records_of}

@@ -4,20 +4,20 @@ use Rattle.std.specs.Prelude.{◌≡◌, ◌==◌, ◌+◌, ◌<◌, ◌≤◌, 
 use Rattle.std.specs.Prelude.{min, drop, map, length}
 use mathlib.Core.List.{IsPrefix}
 use Rattle.pie_lock.specs.Own.{own}
-use Rattle.pie_book.specs.declared.command.Command.{Command}
-use Rattle.pie_book.specs.declared.command.Event.{Event}
-use Rattle.pie_book.specs.declared.opening.Opening.{Opening}
-use Rattle.pie_book.specs.declared.command.Answer.{Answer}
-use Rattle.pie_book.specs.declared.refusal.Refusal.{Refusal}
-use Rattle.pie_book.specs.declared.refusal.Refusal.TheVariants.{Moment, Size, TooSoon, Exhausted, HistoryFull}
+use Rattle.pie_event.specs.declared.command.Command.{Command}
+use Rattle.pie_event.specs.declared.command.Event.{Event}
+use Rattle.pie_event.specs.declared.opening.Opening.{Opening}
+use Rattle.pie_event.specs.declared.command.Answer.{Answer}
+use Rattle.pie_event.specs.declared.refusal.Refusal.{Refusal}
+use Rattle.pie_event.specs.declared.refusal.Refusal.TheVariants.{Moment, Size, TooSoon, Exhausted, HistoryFull}
 use Rattle.std.specs.declared.alloc.Global.{Global}
 use Rattle.std.specs.Prelude.{Vec}
-use Rattle.pie_book.specs.declared.refusal.FoldRefusal.{FoldRefusal}
-use Rattle.pie_book.specs.declared.refusal.FoldRefusal.TheVariants.{TooMany, Memory}
+use Rattle.pie_event.specs.declared.refusal.FoldRefusal.{FoldRefusal}
+use Rattle.pie_event.specs.declared.refusal.FoldRefusal.TheVariants.{TooMany, Memory}
 use Rattle.pie_link.specs.declared.told.Told.{Told}
 use Rattle.pie_book.specs.Decision.{refusal_by_rule}
 use Rattle.pie_storm.specs.declared.plan.Plan.{Plan}
-use Rattle.pie_book.specs.declared.command.Command.TheVariants.{Depart, Update}
+use Rattle.pie_event.specs.declared.command.Command.TheVariants.{Depart, Update}
 use Rattle.pie_storm.specs.Plans.{change, commands_of, opening_of, senders, sent}
 use Rattle.pie_link.specs.declared.entry.Entry.{Entry}
 use Rattle.pie_link.specs.declared.entry.Entry.TheVariants.{Made, Folded}

@@ -3,7 +3,7 @@ ghost use Rattle.std.specs.Prelude.{◌≡◌, ◌≤◌, ◌^◌, ◌-◌, ◌�
 ghost use Rattle.pie_link.specs.Bursts.{arrive};
 ghost use Rattle.pie_storm.specs.Plans.{IsMoment, IsSoundArrival, IsSound, change, choices_of, commands_of, count_of, planned, turn_of};
 ghost use Rattle.pie_storm.specs.Plans.{senders};
-ghost use Rattle.pie_book.specs.declared.command.Command.TheVariants.{Depart, Update};
+ghost use Rattle.pie_event.specs.declared.command.Command.TheVariants.{Depart, Update};
 
 use pie_book::{Choices, Command, Elements, Limits, Mode, Profile};
 use pie_fixed::MAX_NANOS;

@@ -1,7 +1,7 @@
 //! The storm: a link under many threads at once, recorded.
 ghost use Rattle.std.specs.Prelude.{vec_capacity, ◌≡◌, ◌+◌, ◌*◌, ◌^◌, ◌≤◌, ◌≢◌, ◌↔◌, ◌++◌, List, [], false, Some, None, Err, IfSome, IfOk, IfErr, OnOk};
 ghost use denote.Param.Send.{IsSync};
-ghost use Rattle.pie_book.specs.declared.command.Event.{Event};
+ghost use Rattle.pie_event.specs.declared.command.Event.{Event};
 ghost use Rattle.pie_book.specs.Book.{Tells};
 ghost use Rattle.pie_book.specs.Decision.{IsLegal};
 ghost use Rattle.pie_book.specs.Registers.{registers_after};

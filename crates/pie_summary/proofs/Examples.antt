@@ -10,12 +10,12 @@ use Rattle.pie_aqm.specs.declared.cause.Cause.TheVariants.{NoProbability, Little
 use Rattle.pie_aqm.specs.declared.cause.Fate.TheVariants as fate
 use Rattle.pie_aqm.specs.CauseName.{word_of_cause}
 use Rattle.pie_aqm.specs.Places.{greatest, last_or, places}
-use Rattle.pie_book.specs.declared.command.Answer.{Answer}
-use Rattle.pie_book.specs.declared.command.Answer.TheVariants.{Enqueued, Marked, DroppedEarly, DroppedBytes, DroppedPackets, Empty, Left, Updated}
-use Rattle.pie_book.specs.declared.command.Answer.TheVariants.{Done}
-use Rattle.pie_book.specs.declared.command.Command.{Command}
-use Rattle.pie_book.specs.declared.command.Command.TheVariants.{Arrive, Depart, Update, Reset}
-use Rattle.pie_book.specs.declared.registers.Registers.{Registers}
+use Rattle.pie_event.specs.declared.command.Answer.{Answer}
+use Rattle.pie_event.specs.declared.command.Answer.TheVariants.{Enqueued, Marked, DroppedEarly, DroppedBytes, DroppedPackets, Empty, Left, Updated}
+use Rattle.pie_event.specs.declared.command.Answer.TheVariants.{Done}
+use Rattle.pie_event.specs.declared.command.Command.{Command}
+use Rattle.pie_event.specs.declared.command.Command.TheVariants.{Arrive, Depart, Update, Reset}
+use Rattle.pie_event.specs.declared.registers.Registers.{Registers}
 use Rattle.pie_explain.specs.declared.setter.Setter.TheVariants as setter
 use Rattle.pie_explain.specs.declared.explainer.Form.TheVariants.{Text, Csv}
 use Rattle.pie_explain.specs.declared.explanation.Explained.{Explained}

@@ -1,7 +1,7 @@
 -- The first record of a history, as bytes.
 use Rattle.std.proofs.Common.{◌≡◌, ℕ, ◌<◌, List, [], ◌∷◌, ◌++◌, length, arith}
 use Rattle.std.specs.Prelude.{true, decimal, map, if◌then◌else◌}
-use Rattle.pie_book.specs.declared.opening.Opening.{Opening}
+use Rattle.pie_event.specs.declared.opening.Opening.{Opening}
 use Rattle.pie_record.specs.Text.{text_of, Row}
 use Rattle.pie_record.specs.Write.{are_default, choices_row, nine_of, opening_row}
 use Rattle.pie_text.specs.Plain.{are_plain, ending, onto}

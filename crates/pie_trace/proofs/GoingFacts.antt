@@ -2,7 +2,7 @@
 use Rattle.std.proofs.Common.{◌≡◌, ◌-◌, List, [], ◌∷◌, ◌++◌, false, refl, ap, ◌∙◌, arith}
 use Rattle.std.specs.Prelude.{nat_lt}
 use Rattle.std.proofs.lemmas.Bool.{le-ltb}
-use Rattle.pie_book.specs.declared.opening.Opening.{Opening}
+use Rattle.pie_event.specs.declared.opening.Opening.{Opening}
 use Rattle.pie_book.specs.Run.{Progress, progress_after, start}
 use Rattle.pie_record.specs.declared.trace_record.Request.{Request}
 use Rattle.pie_record.specs.declared.trace_record.Request.TheVariants.{Ask, Fold}

@@ -8,22 +8,22 @@ use Rattle.csv.specs.Records.{field_at}
 use Rattle.pie_params.specs.Range.{first_bad}
 use Rattle.pie_params.specs.declared.raw.Field.{Field}
 use Rattle.pie_params.specs.declared.raw.RawParams.{RawParams}
-use Rattle.pie_book.specs.declared.command.Command.{Command}
-use Rattle.pie_book.specs.declared.command.Event.{Event}
-use Rattle.pie_book.specs.declared.opening.Mode.{Mode}
-use Rattle.pie_book.specs.declared.opening.Mode.TheVariants.{Bounded, Rolling}
-use Rattle.pie_book.specs.declared.opening.Opening.{Opening}
-use Rattle.pie_book.specs.declared.refusal.FoldRefusal.{FoldRefusal}
-use Rattle.pie_book.specs.declared.refusal.FoldRefusal.TheVariants.{TooMany}
-use Rattle.pie_book.specs.declared.refusal.OpenRefusal.{OpenRefusal}
-use Rattle.pie_book.specs.declared.refusal.OpenRefusal.TheVariants as open_refusal
-use Rattle.pie_book.specs.declared.refusal.Refusal.{Refusal}
-use Rattle.pie_book.specs.declared.refusal.Refusal.TheVariants as refusal
+use Rattle.pie_event.specs.declared.command.Command.{Command}
+use Rattle.pie_event.specs.declared.command.Event.{Event}
+use Rattle.pie_event.specs.declared.opening.Mode.{Mode}
+use Rattle.pie_event.specs.declared.opening.Mode.TheVariants.{Bounded, Rolling}
+use Rattle.pie_event.specs.declared.opening.Opening.{Opening}
+use Rattle.pie_event.specs.declared.refusal.FoldRefusal.{FoldRefusal}
+use Rattle.pie_event.specs.declared.refusal.FoldRefusal.TheVariants.{TooMany}
+use Rattle.pie_event.specs.declared.refusal.OpenRefusal.{OpenRefusal}
+use Rattle.pie_event.specs.declared.refusal.OpenRefusal.TheVariants as open_refusal
+use Rattle.pie_event.specs.declared.refusal.Refusal.{Refusal}
+use Rattle.pie_event.specs.declared.refusal.Refusal.TheVariants as refusal
 use Rattle.pie_book.specs.Book.{last_events}
 use Rattle.pie_book.specs.Decision.{IsLegal, decision, is_refused_full, or_full, refusal_by_rule}
-use Rattle.pie_book.specs.Deed.{fits}
-use Rattle.pie_book.specs.Opening.{opening_refusal}
-use Rattle.pie_book.specs.Ranges.{AnswerFits, CommandFits, ParamsFit, RegistersFit, StatsFit}
+use Rattle.pie_event.specs.Deed.{fits}
+use Rattle.pie_event.specs.Opening.{opening_refusal}
+use Rattle.pie_event.specs.Ranges.{AnswerFits, CommandFits, ParamsFit, RegistersFit, StatsFit}
 use Rattle.pie_book.specs.Registers.{registers_after}
 use Rattle.pie_book.specs.Run.{Progress, event_of, fold_outcome, held_with_one, recorded, refused_or, start}
 use Rattle.pie_book.specs.Statistics.{stats_after}

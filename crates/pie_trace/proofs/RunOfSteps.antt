@@ -1,6 +1,6 @@
 -- What the commands and folds of a trace are answered is what the run of a book answers its steps.
 use Rattle.std.proofs.Common.{◌≡◌, List, [], ◌∷◌, refl, ap}
-use Rattle.pie_book.specs.declared.opening.Opening.{Opening}
+use Rattle.pie_event.specs.declared.opening.Opening.{Opening}
 use Rattle.pie_book.specs.Run.{Outcome, Progress, Step, asked, folded, outcomes, was_asked, was_folded}
 use Rattle.pie_record.specs.declared.trace_record.Request.{Request}
 use Rattle.pie_record.specs.declared.trace_record.Request.TheVariants.{Ask, BadParams, Clock, Fold, Show, Tally}

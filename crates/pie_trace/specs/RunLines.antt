@@ -1,7 +1,7 @@
 -- What is read of a history that was written.
 use Rattle.std.specs.Prelude.{ℕ, List, [], ◌∷◌}
 use Rattle.pie_book.specs.Run.{start}
-use Rattle.pie_book.specs.declared.opening.Opening.{Opening}
+use Rattle.pie_event.specs.declared.opening.Opening.{Opening}
 use Rattle.pie_record.specs.declared.trace_record.Request.{Request}
 use Rattle.pie_record.specs.declared.trace_record.Request.TheVariants.{Ask, Clock}
 use Rattle.pie_record.specs.declared.version.Version.{Version}

@@ -2,9 +2,9 @@
 -- of them do.
 use Rattle.std.specs.Prelude.{ℕ, ◌≡◌, ◌+◌, List, ◌++◌, length, false, Option, Some, None, Result, Ok, Err, cond}
 use Rattle.std.specs.Io.KnownBytes.{Appends}
-use Rattle.pie_book.specs.declared.opening.Opening.{Opening}
+use Rattle.pie_event.specs.declared.opening.Opening.{Opening}
 use Rattle.pie_book.specs.Book.{BookView, Tells}
-use Rattle.pie_book.specs.Opening.{opening_refusal}
+use Rattle.pie_event.specs.Opening.{opening_refusal}
 use Rattle.pie_book.specs.Run.{Progress, progress_after}
 use Rattle.pie_record.specs.declared.fault.TraceFault.{TraceFault}
 use Rattle.pie_record.specs.declared.trace_record.Request.{Request}

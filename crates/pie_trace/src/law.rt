@@ -1,6 +1,6 @@
 //! The laws of history texts, that they are read back, and of traces that go on from the middle of a history.
 ghost use Rattle.std.specs.Prelude.{◌≡◌, ◌<◌, ◌≤◌, ◌^◌, ◌∷◌, ◌++◌, ℕ, List, Ok};
-ghost use Rattle.pie_book.specs.declared.opening.Opening.{Opening};
+ghost use Rattle.pie_event.specs.declared.opening.Opening.{Opening};
 ghost use Rattle.pie_book.specs.Run.{progress_after, start};
 ghost use Rattle.pie_record.specs.declared.trace_record.Request.{Request};
 ghost use Rattle.pie_trace.specs.History.{history_text, progress_at_end, replies, steps_of};

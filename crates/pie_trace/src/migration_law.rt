@@ -1,6 +1,6 @@
 //! The laws of migration.
 ghost use Rattle.std.specs.Prelude.{◌≡◌, ◌≤◌, ◌^◌, ◌∷◌, ℕ, List, None, Ok};
-ghost use Rattle.pie_book.specs.declared.opening.Opening.{Opening};
+ghost use Rattle.pie_event.specs.declared.opening.Opening.{Opening};
 ghost use Rattle.pie_trace.specs.History.{history_text};
 ghost use Rattle.pie_record.specs.HistoryLines.{history_lines, history_opening, history_version};
 ghost use Rattle.pie_trace.specs.Migrate.{TellTheSame, first_in_two, history_fault, migrated_text, migrated_version};

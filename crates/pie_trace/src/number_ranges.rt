@@ -1,9 +1,9 @@
 //! The numbers of an event are those that the types of its fields hold. These functions do nothing: their contracts
 //! say it of values in hand.
 ghost use Rattle.std.specs.Prelude.{◌≡◌, ◌<◌, ◌≤◌, ◌^◌, true};
-ghost use Rattle.pie_book.specs.Deed.{fits};
+ghost use Rattle.pie_event.specs.Deed.{fits};
 ghost use Rattle.pie_record.specs.Field.{most_u16};
-ghost use Rattle.pie_book.specs.Ranges.{AnswerFits, CommandFits, PacketFits, ParamsFit};
+ghost use Rattle.pie_event.specs.Ranges.{AnswerFits, CommandFits, PacketFits, ParamsFit};
 ghost use Rattle.pie_record.specs.ReadBack.{EventFits};
 
 use pie_book::{Answer, Command, Event};

@@ -12,8 +12,8 @@ use Rattle.pie_params.specs.declared.elements.Step.{Step}
 use Rattle.pie_params.specs.declared.elements.Step.TheVariants.{Capped, Uncapped}
 use Rattle.pie_params.specs.declared.raw.RawParams.{RawParams}
 use Rattle.pie_aqm.specs.declared.profile.Profile.TheVariants.{One}
-use Rattle.pie_book.specs.declared.opening.Mode.TheVariants.{Rolling}
-use Rattle.pie_book.specs.declared.opening.Opening.{Opening}
+use Rattle.pie_event.specs.declared.opening.Mode.TheVariants.{Rolling}
+use Rattle.pie_event.specs.declared.opening.Opening.{Opening}
 use Rattle.pie_tuning.specs.declared.asked.Asked.{Asked}
 
 -- 200 ms at this rate, in bytes, but no less than the default and no more than the range allows

@@ -1,9 +1,9 @@
 use Rattle.std.proofs.Common.{◌≡◌, List, length, refl, sym}
 use Rattle.std.specs.Prelude.{None}
-use Rattle.pie_book.specs.declared.command.Event.{Event}
-use Rattle.pie_book.specs.declared.opening.Opening.{Opening}
+use Rattle.pie_event.specs.declared.command.Event.{Event}
+use Rattle.pie_event.specs.declared.opening.Opening.{Opening}
 use Rattle.pie_book.specs.Core.{Shows}
-use Rattle.pie_book.specs.Opening.{opening_refusal}
+use Rattle.pie_event.specs.Opening.{opening_refusal}
 use Rattle.pie_explain.specs.Start.{BeginsAfter, TellsSetter, start_after}
 use Rattle.pie_explain.proofs.ExplanationFacts.{counted-registers}
 use Rattle.pie_explain.proofs.LineFacts.{tells-so}

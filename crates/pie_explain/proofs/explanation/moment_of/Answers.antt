@@ -1,6 +1,6 @@
 use Rattle.std.proofs.Common.{◌≡◌, refl}
 use Rattle.std.specs.Prelude.{max}
-use Rattle.pie_book.specs.Deed.{handed_in}
+use Rattle.pie_event.specs.Deed.{handed_in}
 use Rattle.pie_explain.proofs.ExplanationFacts.{moment-is}
 use Rattle.pie_explain.proofs.explanation.moment_of.Goals as goal
 

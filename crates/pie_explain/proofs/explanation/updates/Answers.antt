@@ -1,5 +1,5 @@
 use Rattle.std.proofs.Common.{ap, ◌∙◌}
-use Rattle.pie_book.specs.declared.stats.Stats.{Stats}
+use Rattle.pie_event.specs.declared.stats.Stats.{Stats}
 use Rattle.pie_explain.proofs.ExplanationFacts.{updates-counted}
 use Rattle.pie_explain.proofs.explanation.updates.Goals as goal
 

@@ -18,7 +18,7 @@ pub struct Limits {
 }
 
 impl Limits {
-    ghost use Rattle.pie_book.specs.Opening.{are_in_range, are_of_version_two};
+    ghost use Rattle.pie_event.specs.Opening.{are_in_range, are_of_version_two};
 
     /// The greatest ring, in packets.
     pub const MOST_PACKETS: u32 = 1_048_576;

@@ -1,0 +1,5 @@
+pub mod Types
+pub mod Opening
+pub mod Deed
+pub mod Call
+pub mod Ranges

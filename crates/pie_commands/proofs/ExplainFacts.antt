@@ -6,10 +6,10 @@ use Rattle.clap.specs.Words.{Row}
 use Rattle.pie_record.specs.declared.fault.TraceFault.{TraceFault}
 use Rattle.pie_record.specs.Text.{Row as Fields, records_of}
 use Rattle.pie_excerpt.specs.Beginning.{is_resumed}
-use Rattle.pie_explain.specs.declared.explanation.Explained.{Explained}
+use Rattle.pie_explanation.specs.declared.explanation.Explained.{Explained}
 use Rattle.pie_explain.specs.declared.fault.ExplainFault.{ExplainFault}
 use Rattle.pie_explain.specs.declared.fault.ExplainFault.TheVariants as fault
-use Rattle.pie_explain.specs.declared.choice.Choice.{Choice}
+use Rattle.pie_explanation.specs.declared.choice.Choice.{Choice}
 use Rattle.pie_explain.specs.Answer.{IsTold as is_told, answer}
 use Rattle.pie_explain.specs.Either.{ExplainsBy, ExplainsEither, excerpt_answer, excerpt_output}
 use Rattle.pie_explain.specs.Output.{output}

@@ -7,10 +7,10 @@ use Rattle.pie_event.specs.declared.opening.Opening.{Opening}
 use Rattle.pie_record.specs.declared.fault.TraceFault.{TraceFault}
 use Rattle.pie_record.specs.Text.{Row as Fields, records_of}
 use Rattle.pie_excerpt.specs.Beginning.{GoesOn, is_resumed, resumed_of}
-use Rattle.pie_explain.specs.declared.explanation.Explained.{Explained}
+use Rattle.pie_explanation.specs.declared.explanation.Explained.{Explained}
 use Rattle.pie_explain.specs.declared.fault.ExplainFault.{ExplainFault}
 use Rattle.pie_explain.specs.declared.fault.ExplainFault.TheVariants as fault
-use Rattle.pie_explain.specs.declared.choice.Choice.{Choice}
+use Rattle.pie_explanation.specs.declared.choice.Choice.{Choice}
 use Rattle.pie_explain.specs.Answer.{answer}
 use Rattle.pie_explain.specs.Either.{excerpt_answer, excerpt_output}
 use Rattle.pie_explain.specs.Output.{output}

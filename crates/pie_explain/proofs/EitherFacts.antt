@@ -21,8 +21,8 @@ use Rattle.pie_record.proofs.Laws.{Appends-nothing, takes-found}
 use Rattle.pie_excerpt.specs.Beginning.{Beginning, GoesOn, is_resumed, resumed_of}
 use Rattle.pie_audit.specs.Text.{excerpt_fault, excerpt_lines, judged}
 use Rattle.pie_audit.proofs.AuditFacts.{excerpt-fault-is, excerpt-lines-are, goes-on-shows, same-beginning, whole-faulted}
-use Rattle.pie_explain.specs.declared.choice.Choice.{Choice}
-use Rattle.pie_explain.specs.declared.explanation.Explained.{Explained}
+use Rattle.pie_explanation.specs.declared.choice.Choice.{Choice}
+use Rattle.pie_explanation.specs.declared.explanation.Explained.{Explained}
 use Rattle.pie_explain.specs.declared.fault.ExplainFault.{ExplainFault}
 use Rattle.pie_explain.specs.declared.fault.ExplainFault.TheVariants.{Trace}
 use Rattle.pie_explain.specs.Answer.{IsAsAudited, IsTold, Told}

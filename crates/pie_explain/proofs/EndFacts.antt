@@ -14,18 +14,18 @@ use Rattle.pie_audit.specs.Auditor.{Audits, AuditorView}
 use Rattle.pie_audit.specs.Text.{judged, text_finding}
 use Rattle.pie_record.specs.HistoryLines.{event_count}
 use Rattle.pie_audit.specs.Finding.{finding, finding_by, first_difference}
-use Rattle.pie_explain.specs.declared.explanation.Explained.{Explained}
+use Rattle.pie_explanation.specs.declared.explanation.Explained.{Explained}
 use Rattle.pie_explain.specs.declared.fault.ExplainFault.{ExplainFault}
 use Rattle.pie_explain.specs.declared.fault.ExplainFault.TheVariants as fault
 use Rattle.pie_explain.specs.declared.fault.ExplainFault.TheVariants.{Trace}
-use Rattle.pie_explain.specs.declared.choice.Choice.{Choice}
-use Rattle.pie_explain.specs.declared.which.Which.{Which}
-use Rattle.pie_explain.specs.declared.which.Which.TheVariants.{Number, Tag, Lost, Marked, All}
-use Rattle.pie_explain.specs.declared.setter.Setter.{Setter}
+use Rattle.pie_explanation.specs.declared.choice.Choice.{Choice}
+use Rattle.pie_explanation.specs.declared.which.Which.{Which}
+use Rattle.pie_explanation.specs.declared.which.Which.TheVariants.{Number, Tag, Lost, Marked, All}
+use Rattle.pie_explanation.specs.declared.setter.Setter.{Setter}
 use Rattle.pie_explain.specs.Answer.{Follows, Heard, IsAsAudited, IsTold, Told, answer, answer_by, answer_since, answered, none_picked}
-use Rattle.pie_explain.specs.Choice.{is_whole}
+use Rattle.pie_explanation.specs.Choice.{is_whole}
 use Rattle.pie_explain.specs.Output.{output}
-use Rattle.pie_explain.specs.Report.{Grows}
+use Rattle.pie_explanation.specs.Report.{Grows}
 use Rattle.pie_explain.specs.Start.{Start, TellsSetter, explanations_since, from_opening}
 use Rattle.pie_explain.proofs.LineFacts.{setter-none, since-opening}
 

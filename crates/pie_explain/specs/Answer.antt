@@ -15,15 +15,15 @@ use Rattle.pie_audit.specs.declared.auditor.Finding.TheVariants as finding
 use Rattle.pie_audit.specs.Auditor.{Audits, AuditorView}
 use Rattle.pie_record.specs.HistoryLines.{event_count}
 use Rattle.pie_audit.specs.Finding.{finding as finding_of}
-use Rattle.pie_explain.specs.declared.explanation.Explained.{Explained}
+use Rattle.pie_explanation.specs.declared.explanation.Explained.{Explained}
 use Rattle.pie_explain.specs.declared.fault.ExplainFault.{ExplainFault}
 use Rattle.pie_explain.specs.declared.fault.ExplainFault.TheVariants.{Trace, Differs, Earlier, NoEvent, NoTag, NoneWithin}
-use Rattle.pie_explain.specs.declared.setter.Setter.{Setter}
-use Rattle.pie_explain.specs.declared.choice.Choice.{Choice}
-use Rattle.pie_explain.specs.declared.which.Which.{Which}
-use Rattle.pie_explain.specs.declared.which.Which.TheVariants.{Number, Tag, Lost, Marked, All}
-use Rattle.pie_explain.specs.Choice.{is_whole}
-use Rattle.pie_explain.specs.Explanation.{explanations, setter_after, setter_by}
+use Rattle.pie_explanation.specs.declared.setter.Setter.{Setter}
+use Rattle.pie_explanation.specs.declared.choice.Choice.{Choice}
+use Rattle.pie_explanation.specs.declared.which.Which.{Which}
+use Rattle.pie_explanation.specs.declared.which.Which.TheVariants.{Number, Tag, Lost, Marked, All}
+use Rattle.pie_explanation.specs.Choice.{is_whole}
+use Rattle.pie_explain.specs.Explanations.{explanations, setter_after, setter_by}
 use Rattle.pie_explain.specs.Start.{Start, explanations_since, setter_told}
 
 -- why an event is not explained that is none of those of a text: so many were before it, and so many are up to its end

@@ -8,8 +8,8 @@ use Rattle.pie_record.specs.declared.history_record.Line.TheVariants.{Made}
 use Rattle.pie_record.specs.Text.{Row}
 use Rattle.pie_excerpt.specs.Beginning.{GoesOn, is_resumed, resumed_of}
 use Rattle.pie_audit.specs.Text.{excerpt_fault, excerpt_lines, judged, text_finding}
-use Rattle.pie_explain.specs.declared.choice.Choice.{Choice}
-use Rattle.pie_explain.specs.declared.explanation.Explained.{Explained}
+use Rattle.pie_explanation.specs.declared.choice.Choice.{Choice}
+use Rattle.pie_explanation.specs.declared.explanation.Explained.{Explained}
 use Rattle.pie_explain.specs.declared.fault.ExplainFault.{ExplainFault}
 use Rattle.pie_explain.specs.declared.fault.ExplainFault.TheVariants.{Trace}
 use Rattle.pie_explain.specs.Answer.{IsAsAudited, IsTold, answer, answer_since}

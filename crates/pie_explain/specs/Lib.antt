@@ -1,10 +1,5 @@
-pub mod Which
-pub mod Choice
-pub mod Explanation
+pub mod Explanations
 pub mod Start
-pub mod Record
-pub mod Words
-pub mod Report
 pub mod Output
 pub mod Answer
 pub mod Either

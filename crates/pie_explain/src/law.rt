@@ -4,8 +4,8 @@ ghost use Rattle.pie_event.specs.declared.command.Event.{Event};
 ghost use Rattle.pie_event.specs.declared.opening.Opening.{Opening};
 ghost use Rattle.pie_record.specs.declared.history_record.Line.{Line};
 ghost use Rattle.pie_record.specs.declared.history_record.Line.TheVariants.{Made};
-ghost use Rattle.pie_explain.specs.declared.choice.Choice.{Choice};
-ghost use Rattle.pie_explain.specs.Explanation.{explanations};
+ghost use Rattle.pie_explanation.specs.declared.choice.Choice.{Choice};
+ghost use Rattle.pie_explain.specs.Explanations.{explanations};
 ghost use Rattle.pie_explain.specs.Start.{as_told, explanations_since};
 
 /// The law of excerpts. A text that goes on after some events of a history, and tells what set the probability before it, gives exactly the

@@ -16,10 +16,10 @@ use Rattle.pie_event.specs.declared.command.Answer.TheVariants.{Done}
 use Rattle.pie_event.specs.declared.command.Command.{Command}
 use Rattle.pie_event.specs.declared.command.Command.TheVariants.{Arrive, Depart, Update, Reset}
 use Rattle.pie_event.specs.declared.registers.Registers.{Registers}
-use Rattle.pie_explain.specs.declared.setter.Setter.TheVariants as setter
-use Rattle.pie_explain.specs.declared.explainer.Form.TheVariants.{Text, Csv}
-use Rattle.pie_explain.specs.declared.explanation.Explained.{Explained}
-use Rattle.pie_explain.specs.Words.{millis, per_cent, share}
+use Rattle.pie_explanation.specs.declared.setter.Setter.TheVariants as setter
+use Rattle.pie_explanation.specs.declared.form.Form.TheVariants.{Text, Csv}
+use Rattle.pie_explanation.specs.declared.explanation.Explained.{Explained}
+use Rattle.pie_explanation.specs.Words.{millis, per_cent, share}
 use Rattle.pie_summary.specs.declared.series.Series.{Series}
 use Rattle.pie_summary.specs.Period.{begins, last_events, last_period, period_of}
 use Rattle.pie_summary.specs.Record.{carried_fields, cause_fields, first_fields, last_fields, later_fields, left_fields, middle_fields, moment_fields, record_of}

@@ -2,10 +2,10 @@
 use Rattle.std.specs.Prelude.{ℕ, Bool, true, false, ◌||◌, List, [], ◌++◌}
 use Rattle.std.specs.List.{flat_map}
 use Rattle.pie_aqm.specs.Places.{Place, places}
-use Rattle.pie_explain.specs.declared.explanation.Explained.{Explained}
-use Rattle.pie_explain.specs.declared.which.Which.TheVariants.{Lost, Marked}
-use Rattle.pie_explain.specs.Which.{chooses}
-use Rattle.pie_explain.specs.Words.{words}
+use Rattle.pie_explanation.specs.declared.explanation.Explained.{Explained}
+use Rattle.pie_explanation.specs.declared.which.Which.TheVariants.{Lost, Marked}
+use Rattle.pie_explanation.specs.Which.{chooses}
+use Rattle.pie_explanation.specs.Words.{words}
 use Rattle.pie_summary.specs.declared.digest.Digest.{Digest}
 use Rattle.pie_summary.specs.declared.period.Period.{Period}
 use Rattle.pie_summary.specs.Period.{last_events}

@@ -2,7 +2,7 @@
 use Rattle.std.specs.Prelude.{ℕ, List, [], ◌∷◌, ◌++◌, map, slice_index, codes}
 use Rattle.std.specs.Fmt.{decimal}
 use Rattle.pie_aqm.specs.CauseName.{cause_names, word_of_cause}
-use Rattle.pie_explain.specs.Words.{joined}
+use Rattle.pie_explanation.specs.Words.{joined}
 use Rattle.pie_summary.specs.declared.series.Series.{Series}
 use Rattle.pie_summary.specs.declared.sums.Sums.{Sums}
 use Rattle.pie_summary.specs.Words.{mean}

@@ -2,10 +2,10 @@
 use Rattle.std.specs.Prelude.{ℕ, ◌≡◌, Bool, true, false, List, [], ◌++◌}
 use Rattle.std.specs.List.{flat_map}
 use Rattle.pie_aqm.specs.Places.{Place, places}
-use Rattle.pie_explain.specs.declared.explainer.Form.{Form}
-use Rattle.pie_explain.specs.declared.explainer.Form.TheVariants.{Text, Csv, TextByWall, CsvByWall}
-use Rattle.pie_explain.specs.declared.explanation.Explained.{Explained}
-use Rattle.pie_explain.specs.Record.{line_of}
+use Rattle.pie_explanation.specs.declared.form.Form.{Form}
+use Rattle.pie_explanation.specs.declared.form.Form.TheVariants.{Text, Csv, TextByWall, CsvByWall}
+use Rattle.pie_explanation.specs.declared.explanation.Explained.{Explained}
+use Rattle.pie_explanation.specs.Record.{line_of}
 use Rattle.pie_summary.specs.declared.period.Period.{Period}
 use Rattle.pie_summary.specs.declared.summary.Summary.{Summary}
 use Rattle.pie_summary.specs.declared.sums.Sums.{Sums}

@@ -2,7 +2,7 @@
 use Rattle.std.specs.Prelude.{ℕ, ◌-◌, ◌/◌, ◌^◌, ◌==◌, min, max, List, [], ◌∷◌, slice_index, codes, if◌then◌else◌}
 use Rattle.std.specs.Fmt.{decimal}
 use Rattle.pie_aqm.specs.CauseName.{place_of_cause, word_of_cause}
-use Rattle.pie_explain.specs.Words.{joined, millis, per_cent, share}
+use Rattle.pie_explanation.specs.Words.{joined, millis, per_cent, share}
 use Rattle.pie_aqm.specs.declared.cause_name.CauseName.{CauseName}
 use Rattle.pie_aqm.specs.declared.cause_name.CauseName.TheVariants.{NoRoomInBytes, NoRoomInPackets, Inactive, BurstAllowed, LowDelay, ShortQueue}
 use Rattle.pie_aqm.specs.declared.cause_name.CauseName.TheVariants.{NoProbability, LittleAccumulated, PickedBySum, PickedBySumNotCapable}

@@ -4,7 +4,7 @@ ghost use Rattle.pie_summary.specs.Digest.{is_lost_or_marked, noted};
 
 use crate::period::{Period, period_of};
 use crate::summary::{Summary, push_ended, push_header, push_said};
-use pie_explain::{Explained, Report, Which, push_words};
+use pie_explanation::{Explained, Report, Which, push_words};
 use pie_page::Page;
 use std::alloc::AllocError;
 

@@ -8,7 +8,7 @@ use crate::ranges::Ranges;
 use crate::record::{HEADER, push_record};
 use crate::sums::Sums;
 use crate::words::{push_words, wait_99};
-use pie_explain::{Explained, Form, Report};
+use pie_explanation::{Explained, Form, Report};
 use pie_page::Page;
 use std::alloc::AllocError;
 

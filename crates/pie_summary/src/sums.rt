@@ -1,11 +1,11 @@
 //! The numbers of a summary.
 ghost use Rattle.std.specs.Prelude.{◌≡◌, ◌+◌, ◌-◌, ◌^◌, ◌<◌, ◌++◌, ◌∷◌, [], List, length, min, slice_index, slice_set};
-ghost use Rattle.pie_explain.specs.declared.explanation.Explained.{Explained};
+ghost use Rattle.pie_explanation.specs.declared.explanation.Explained.{Explained};
 ghost use Rattle.pie_summary.specs.Sums.{above_by, answer_place, carried_by, cause_place, delay_by, size_by, turned_at, wait_by};
 
 use crate::series::Series;
 use pie_book::{Answer, Cause, Command};
-use pie_explain::Explained;
+use pie_explanation::Explained;
 
 /// The numbers of a summary, each over all events that it was shown.
 #[derive(Clone, Copy, Debug)]

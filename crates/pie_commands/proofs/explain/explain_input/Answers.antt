@@ -1,8 +1,8 @@
 use Rattle.std.proofs.Common.{◌≡◌, ℕ, List, Option, Some, refl, subst}
 use Rattle.std.specs.Prelude.{IfSome}
 use Rattle.clap.specs.Words.{found_of, rows_of}
-use Rattle.pie_explain.specs.declared.choice.Choice.{Choice}
-use Rattle.pie_explain.specs.declared.explanation.Explained.{Explained}
+use Rattle.pie_explanation.specs.declared.choice.Choice.{Choice}
+use Rattle.pie_explanation.specs.declared.explanation.Explained.{Explained}
 use Rattle.pie_commands.specs.Choice.{tale_by, tale_of}
 use Rattle.pie_progress.specs.Watched.{remaining_of}
 use Rattle.pie_commands.specs.ExplainEnds.{EndsExplain, explain_ends}

@@ -1,0 +1,430 @@
+//! An explanation in words, of four to nine lines.
+ghost use Rattle.std.specs.Prelude.{◌≡◌, ◌++◌, OnOk, string_bytes};
+ghost use Rattle.pie_explanation.specs.Words.{before_words, burst_words, cause_words, compared_words, considered_words, counted_name, deed_words};
+ghost use Rattle.pie_explanation.specs.Words.{departure_words, never_words, scaled_words, total_words};
+ghost use Rattle.pie_explanation.specs.Words.{ecn_name, last_words, verdict_text, packet_words, picked_words, queue_words, reason_words, setter_words};
+ghost use Rattle.pie_explanation.specs.Words.{sum_words, turned_words, update_words, when_words, words_by};
+
+use crate::explanation::{Explained, Explanation};
+use crate::setter::Setter;
+use crate::units::{Millis, MomentWords, PerCent, Word};
+use pie_book::{Answer, Cause, Command, Fate, Registers};
+use pie_queue::{Ecn, Packet};
+use pie_record::Clock;
+use std::alloc::AllocError;
+
+/// An ECN field as RFC 3168 names it.
+fn ecn_name(ecn: Ecn) -> &'static str
+    ensures { result.now ≡ ecn_name ecn }
+{
+    match ecn {
+        Ecn::NotEct => "Not-ECT",
+        Ecn::Ect1 => "ECT(1)",
+        Ecn::Ect0 => "ECT(0)",
+        Ecn::Ce => "CE",
+    }
+}
+
+/// What became of an arriving packet.
+fn verdict_text(answer: Answer) -> &'static str
+    ensures { result.now ≡ verdict_text answer }
+{
+    match answer {
+        Answer::Enqueued => "queued",
+        Answer::Marked => "queued and marked",
+        Answer::DroppedEarly => "DROPPED early",
+        Answer::DroppedBytes => "DROPPED, no room in bytes",
+        Answer::DroppedPackets => "DROPPED, no room in packets",
+        Answer::Empty | Answer::Left(_) | Answer::Updated { .. } | Answer::Done => "-",
+    }
+}
+
+/// The beginning of the first line of an event about a packet.
+#[tactic(auto, unfolding(crate::specs::Words::packet_words))]
+fn push_packet(page: &mut String, number: u64, packet: Packet) -> Result<(), AllocError>
+    ensures { OnOk result (string_bytes page.new ≡ string_bytes page.old ++ packet_words number packet) }
+{
+    let Packet { tag, size, ecn } = packet;
+    let ecn = ecn_name(ecn);
+    write!(page, "event {number}: packet {tag}, {size} bytes, {ecn}: ")
+}
+
+/// The first lines of a departure.
+#[tactic(auto, unfolding(crate::specs::Words::departure_words))]
+fn push_departure(
+    page: &mut String,
+    number: u64,
+    answer: Answer,
+    waited: u64,
+) -> Result<(), AllocError>
+    ensures { OnOk result (string_bytes page.new ≡ string_bytes page.old ++ departure_words number answer waited) }
+{
+    match answer {
+        Answer::Left(packet) => {
+            let waited = Millis(waited);
+            push_packet(page, number, packet)?;
+            write!(page, "left\n  it had waited {waited}\n")
+        }
+        _ => write!(page, "event {number}: no packet was there to leave\n"),
+    }
+}
+
+/// The first lines of an update.
+#[tactic(auto, unfolding(crate::specs::Words::update_words))]
+fn push_update(
+    page: &mut String,
+    number: u64,
+    active: bool,
+    answer: Answer,
+) -> Result<(), AllocError>
+    ensures { OnOk result (string_bytes page.new ≡ string_bytes page.old ++ update_words number active answer) }
+{
+    if !active {
+        return write!(
+            page,
+            "event {number}: an update\n  the controller is turned off: the update takes no delay, and makes no probability\n"
+        );
+    }
+    match answer {
+        Answer::Updated { delay, prob, burst } => {
+            let (delay, prob, burst) = (Millis(delay), PerCent(prob), Millis(burst));
+            write!(
+                page,
+                "event {number}: an update\n  it took a delay of {delay}, and made the probability {prob}\n  and the burst allowance {burst}\n"
+            )
+        }
+        _ => write!(page, "event {number}: an update\n"),
+    }
+}
+
+/// The first lines: what the event did.
+#[tactic(auto, unfolding(crate::specs::Words::deed_words))]
+fn push_deed(
+    page: &mut String,
+    number: u64,
+    active: bool,
+    command: Command,
+    answer: Answer,
+    waited: u64,
+) -> Result<(), AllocError>
+    ensures { OnOk result (string_bytes page.new ≡ string_bytes page.old ++ deed_words number active command answer waited) }
+{
+    match command {
+        Command::Arrive { packet, .. } => {
+            push_packet(page, number, packet)?;
+            let verdict = verdict_text(answer);
+            write!(page, "{verdict}\n")
+        }
+        Command::Depart { .. } => push_departure(page, number, answer, waited),
+        Command::Update { .. } => push_update(page, number, active, answer),
+        Command::Reset { .. } => write!(page, "event {number}: a reset\n"),
+        Command::SetParams { .. } => write!(page, "event {number}: new parameters\n"),
+    }
+}
+
+/// When the event was, and whose it was.
+#[tactic(auto, unfolding(crate::specs::Words::when_words))]
+fn push_when(
+    page: &mut String,
+    clock: Option<Clock>,
+    moment: u64,
+    caller: u16,
+) -> Result<(), AllocError>
+    ensures { OnOk result (string_bytes page.new ≡ string_bytes page.old ++ when_words clock moment caller) }
+{
+    let now = MomentWords { clock, moment };
+    write!(page, "  at {now}, by caller {caller}\n")
+}
+
+/// Why a picked packet was marked or dropped.
+#[tactic(auto, unfolding(crate::specs::Words::picked_words))]
+fn push_fate(page: &mut String, fate: Fate) -> Result<(), AllocError>
+    ensures { OnOk result (string_bytes page.new ≡ string_bytes page.old ++ picked_words fate) }
+{
+    match fate {
+        Fate::Marked { threshold } => {
+            let threshold = PerCent(threshold);
+            write!(
+                page,
+                "  marked: its endpoints understand a mark, and the probability is below {threshold}\n"
+            )
+        }
+        Fate::NotCapable => write!(page, "  dropped: its endpoints do not understand a mark\n"),
+        Fate::NotBelow { threshold } => {
+            let threshold = PerCent(threshold);
+            write!(
+                page,
+                "  dropped, not marked: the probability is not below {threshold}\n"
+            )
+        }
+    }
+}
+
+/// What the probability comes to for a packet whose size scales it; nothing where that is the probability itself.
+#[tactic(auto, unfolding(crate::specs::Words::scaled_words))]
+fn push_scaled(page: &mut String, prob: u64, counted: u64) -> Result<(), AllocError>
+    ensures { OnOk result (string_bytes page.new ≡ string_bytes page.old ++ scaled_words prob counted) }
+{
+    if counted == prob {
+        return Ok(());
+    }
+    let (prob, counted) = (PerCent(prob), PerCent(counted));
+    write!(
+        page,
+        "  the probability, {prob}, comes to {counted} for a packet of this size\n"
+    )
+}
+
+/// What was accumulated, with what the probability counts as for this arrival.
+#[tactic(auto, unfolding(crate::specs::Words::total_words))]
+fn push_total(page: &mut String, accu: u64, counted: u64) -> Result<(), AllocError>
+    ensures { OnOk result (string_bytes page.new ≡ string_bytes page.old ++ total_words accu counted) }
+{
+    let sum = PerCent(accu.saturating_add(counted));
+    write!(
+        page,
+        "  the accumulated probability, with this one, is {sum}"
+    )
+}
+
+/// The same, below what the probability comes to, where that is not the probability itself.
+#[tactic(auto, unfolding(crate::specs::Words::sum_words))]
+fn push_sum(page: &mut String, prob: u64, accu: u64, counted: u64) -> Result<(), AllocError>
+    ensures { OnOk result (string_bytes page.new ≡ string_bytes page.old ++ sum_words prob accu counted) }
+{
+    push_scaled(page, prob, counted)?;
+    push_total(page, accu, counted)
+}
+
+/// What the random word is compared with.
+#[tactic(auto, unfolding(crate::specs::Words::counted_name))]
+fn counted_name(prob: u64, counted: u64) -> &'static str
+    ensures { result.now ≡ counted_name prob counted }
+{
+    if counted == prob {
+        "the probability"
+    } else {
+        "what that comes to"
+    }
+}
+
+/// How the random word compares with what the probability, by this name, counts as.
+#[tactic(auto, unfolding(crate::specs::Words::compared_words))]
+fn push_word(
+    page: &mut String,
+    name: &str,
+    word: u64,
+    counted: u64,
+    outcome: &str,
+    compares: &str,
+) -> Result<(), AllocError>
+    ensures { OnOk result (string_bytes page.new ≡ string_bytes page.old ++ compared_words name.now word counted outcome.now compares.now) }
+{
+    let (word, counted) = (Word(word), PerCent(counted));
+    write!(
+        page,
+        "\n  {outcome}: its random word, {word}, {compares} {name}, {counted}\n"
+    )
+}
+
+/// Why nothing could pick an arrival: the probability is 0, or comes to it.
+#[tactic(auto, unfolding(crate::specs::Words::never_words))]
+fn push_never(page: &mut String, prob: u64) -> Result<(), AllocError>
+    ensures { OnOk result (string_bytes page.new ≡ string_bytes page.old ++ never_words prob) }
+{
+    if prob == 0 {
+        return write!(page, "  the probability is 0\n");
+    }
+    push_scaled(page, prob, 0)
+}
+
+/// Why an arrival was decided so, at this probability.
+#[tactic(auto, unfolding(crate::specs::Words::cause_words))]
+fn push_cause(page: &mut String, shown: u64, cause: Cause) -> Result<(), AllocError>
+    ensures { OnOk result (string_bytes page.new ≡ string_bytes page.old ++ cause_words shown cause) }
+{
+    match cause {
+        Cause::NoRoomInBytes { bytes, size, limit } => write!(
+            page,
+            "  the queue holds {bytes} bytes: with {size} more it would be above its limit of {limit}\n"
+        ),
+        Cause::NoRoomInPackets { packets } => {
+            write!(page, "  the ring is full: it holds {packets} packets\n")
+        }
+        Cause::Inactive => write!(page, "  the controller is turned off\n"),
+        Cause::BurstAllowed { burst } => {
+            let burst = Millis(burst);
+            write!(page, "  a burst is allowed: {burst} are left of it\n")
+        }
+        Cause::LowDelay {
+            old_delay,
+            target,
+            prob,
+        } => {
+            let (old_delay, target, prob) = (Millis(old_delay), Millis(target), PerCent(prob));
+            write!(
+                page,
+                "  the old delay, {old_delay}, is below half the target of {target},\n  and the probability, {prob}, below 20 %\n"
+            )
+        }
+        Cause::ShortQueue { bytes, two_packets } => write!(
+            page,
+            "  the queue is short: {bytes} bytes, at most two mean packets ({two_packets} bytes)\n"
+        ),
+        Cause::NoProbability => push_never(page, shown),
+        _ => push_considered(page, shown, cause),
+    }
+}
+
+/// Why an arrival was decided so that was considered, where the probability counted as one above 0.
+#[tactic(auto, unfolding(crate::specs::Words::considered_words))]
+fn push_considered(page: &mut String, shown: u64, cause: Cause) -> Result<(), AllocError>
+    ensures { OnOk result (string_bytes page.new ≡ string_bytes page.old ++ considered_words shown cause) }
+{
+    match cause {
+        Cause::LittleAccumulated { accu, prob } => {
+            push_sum(page, shown, accu, prob)?;
+            write!(page, ", below 85 %\n")
+        }
+        Cause::PickedBySum { accu, prob, fate } => {
+            push_sum(page, shown, accu, prob)?;
+            write!(page, ", at least 850 %\n")?;
+            push_fate(page, fate)
+        }
+        Cause::PickedByWord {
+            accu,
+            prob,
+            word,
+            fate,
+        } => {
+            push_sum(page, shown, accu, prob)?;
+            let name = counted_name(shown, prob);
+            push_word(page, name, word, prob, "picked", "is below")?;
+            push_fate(page, fate)
+        }
+        Cause::WordNotBelow { accu, prob, word } => {
+            push_sum(page, shown, accu, prob)?;
+            let name = counted_name(shown, prob);
+            push_word(page, name, word, prob, "not picked", "is not below")
+        }
+        _ => Ok(()),
+    }
+}
+
+/// Why an event was decided so, at this probability; nothing of one that is no arrival.
+#[tactic(auto, unfolding(crate::specs::Words::reason_words))]
+fn push_reason(page: &mut String, prob: u64, cause: Option<Cause>) -> Result<(), AllocError>
+    ensures { OnOk result (string_bytes page.new ≡ string_bytes page.old ++ reason_words prob cause) }
+{
+    match cause {
+        Some(cause) => push_cause(page, prob, cause),
+        None => Ok(()),
+    }
+}
+
+/// The probability before the event, and what set it.
+#[tactic(auto, unfolding(crate::specs::Words::setter_words))]
+fn push_setter(page: &mut String, set_by: Setter, before: &Registers) -> Result<(), AllocError>
+    ensures { OnOk result (string_bytes page.new ≡ string_bytes page.old ++ setter_words set_by before.now) }
+{
+    let prob = PerCent(before.prob);
+    match set_by {
+        Setter::Opening => write!(page, "  probability {prob}, as at the opening;"),
+        Setter::Event(event) => write!(page, "  probability {prob}, set by event {event};"),
+        Setter::Untold => write!(page, "  probability {prob}, set before this text begins;"),
+    }
+}
+
+/// When the last of so many updates was.
+#[tactic(auto, unfolding(crate::specs::Words::last_words))]
+fn push_last(
+    page: &mut String,
+    clock: Option<Clock>,
+    updates: u64,
+    last: u64,
+) -> Result<(), AllocError>
+    ensures { OnOk result (string_bytes page.new ≡ string_bytes page.old ++ last_words clock updates last) }
+{
+    if updates == 0 {
+        return write!(page, " no update so far;");
+    }
+    let last = MomentWords {
+        clock,
+        moment: last,
+    };
+    write!(page, " last update at {last};")
+}
+
+/// Whether the event turned the controller on or off.
+#[tactic(auto, unfolding(crate::specs::Words::turned_words))]
+fn push_turned(page: &mut String, was_active: bool, is_active: bool) -> Result<(), AllocError>
+    ensures { OnOk result (string_bytes page.new ≡ string_bytes page.old ++ turned_words was_active is_active) }
+{
+    match (was_active, is_active) {
+        (false, true) => write!(page, "  this event turned the controller on\n"),
+        (true, false) => write!(page, "  this event turned the controller off\n"),
+        (true, true) | (false, false) => Ok(()),
+    }
+}
+
+/// What waited before the event.
+#[tactic(auto, unfolding(crate::specs::Words::queue_words))]
+fn push_queue(page: &mut String, packets: u64, bytes: u64, delay: u64) -> Result<(), AllocError>
+    ensures { OnOk result (string_bytes page.new ≡ string_bytes page.old ++ queue_words packets bytes delay) }
+{
+    let delay = Millis(delay);
+    write!(
+        page,
+        "  before it: {packets} packets, {bytes} bytes, a delay of {delay}\n"
+    )
+}
+
+/// What was left of the burst allowance before the event.
+#[tactic(auto, unfolding(crate::specs::Words::burst_words))]
+fn push_burst(page: &mut String, burst: u64) -> Result<(), AllocError>
+    ensures { OnOk result (string_bytes page.new ≡ string_bytes page.old ++ burst_words burst) }
+{
+    let burst = Millis(burst);
+    write!(page, " burst allowance {burst}\n")
+}
+
+/// What the controller held before the event.
+#[tactic(auto, unfolding(crate::specs::Words::before_words))]
+fn push_before(
+    page: &mut String,
+    clock: Option<Clock>,
+    told: &Explanation,
+) -> Result<(), AllocError>
+    ensures { OnOk result (string_bytes page.new ≡ string_bytes page.old ++ before_words clock told.now) }
+{
+    let before = &told.before;
+    push_queue(page, before.packets, before.bytes, told.delay)?;
+    push_setter(page, told.set_by, before)?;
+    push_last(page, clock, told.updates, before.last)?;
+    push_burst(page, before.burst)
+}
+
+/// Writes an explanation in words, its moments as times of day where this record tells them.
+#[tactic(auto, unfolding(crate::specs::Words::words_by))]
+pub(crate) fn push_text(
+    page: &mut String,
+    clock: Option<Clock>,
+    all: &Explained,
+) -> Result<(), AllocError>
+    ensures { OnOk result (string_bytes page.new ≡ string_bytes page.old ++ words_by clock all.now) }
+{
+    let told = &all.told;
+    let (event, was_active) = (&told.event, told.before.active);
+    push_deed(
+        page,
+        told.number,
+        was_active,
+        event.command,
+        event.answer,
+        told.waited,
+    )?;
+    push_when(page, clock, told.moment, event.caller)?;
+    push_reason(page, told.before.prob, told.cause)?;
+    push_turned(page, was_active, all.after.active)?;
+    push_before(page, clock, told)
+}

@@ -1,8 +1,6 @@
-pub mod MigrationFinding
 pub mod FindingFacts
 pub mod AuditorFacts
 pub mod AuditFacts
-pub mod RunFindings
 pub mod LegalFacts
 mod Examples
 pub mod Written

@@ -5,17 +5,13 @@
 //! `clean_is_legal`: a text without a fault is found clean exactly where the events that it tells are legal from its opening on, and differs
 //! at the first that is not.
 //!
-//! `runs_are_clean` is the law that ties runs and audits together: the history text of every trace is found clean, with as many events as
-//! the run recorded. `recorded_calls_are_clean` says it of the events of a controller beside its caller's queue.
-//! `migration_keeps_the_finding`: a history in version two is found what it was found before.
+//! `recorded_calls_are_clean` says it of the events of a controller beside its caller's queue. That what a run writes is found clean is a law of pie_trace.
 #![tactic(auto)]
 
 pub mod auditor;
 pub mod law;
-pub mod migration;
 pub mod text;
 
 pub use auditor::{Auditor, Finding};
-pub use law::{clean_is_legal, recorded_calls_are_clean, runs_are_clean};
-pub use migration::migration_keeps_the_finding;
+pub use law::{clean_is_legal, recorded_calls_are_clean};
 pub use text::{audit, audit_either, write_finding};

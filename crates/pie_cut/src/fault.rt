@@ -1,6 +1,6 @@
 //! Why no excerpt was written, or none to its end.
 
-use pie_trace::TraceFault;
+use pie_record::TraceFault;
 use thiserror::Error;
 
 /// Why no excerpt was written, or none to its end (this project's own).

@@ -1,6 +1,6 @@
 //! Why a history was not explained to its end.
 
-use pie_trace::TraceFault;
+use pie_record::TraceFault;
 use thiserror::Error;
 
 /// Why a history was not explained to its end, or nothing was explained (this project's own).

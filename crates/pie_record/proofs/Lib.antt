@@ -15,4 +15,5 @@ mod HistoryBack
 mod NotesBack
 mod ClockBack
 mod ExamplesLines
+pub mod Openings
 pub mod Laws

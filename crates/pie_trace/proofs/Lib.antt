@@ -17,3 +17,5 @@ pub mod MigrateWhole
 pub mod MigrateRun
 pub mod MigrateTrace
 pub mod ExamplesMigration
+pub mod RunFindings
+pub mod MigrationFinding

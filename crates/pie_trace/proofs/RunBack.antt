@@ -53,6 +53,7 @@ use Rattle.pie_record.specs.Answer.{code_of}
 use Rattle.pie_trace.proofs.EndFacts.{history_text-read}
 use Rattle.pie_record.proofs.Laws.{TellEach-cons, TellEach-none, clock-told, folded-note, answered-back, history-told, kind-word, ltb-false}
 use Rattle.pie_record.proofs.Laws.{refused-note}
+use Rattle.pie_record.proofs.Openings.{checked}
 use Rattle.pie_record.proofs.Laws.{request-fits, rows_text-cons, shown-note, tallied-note, told-field}
 use Rattle.pie_trace.proofs.HistoryFacts.{before_fault-later, flawed-record, long-record, requests_of-cons}
 
@@ -339,32 +340,6 @@ begins row kind = by (is_kind row (codes "open")) (is_kind row (codes "rolling")
     by false false true d p q r s e = word-of row kinds.Open2 (codes "open2") refl r
     by false false false true p q r s e = word-of row kinds.Open3 (codes "open3") refl s
     by false false false false p q r s e = cc
-
-pub record Checked (draft : Draft) (opening : Opening) : Type 0 where
-  pub same : opening_in draft ≡ opening
-  pub accepted : opening_refusal draft.limits draft.moment ≡ None
-  pub in_range : first_bad draft.params ≡ None
-
-pub checked : (kind : FirstKind) (draft : Draft) (opening : Opening) → checked_opening kind (first_bad draft.params) draft ≡ Ok opening
-    → Checked draft opening
-checked kind draft opening = by (first_bad draft.params) refl
-  where
-    inner : (why : Option OpenRefusal) → opening_refusal draft.limits draft.moment ≡ why → first_bad draft.params ≡ None
-        → refused_opening why draft ≡ Ok opening → Checked draft opening
-    inner None p q e = record { same = cc; accepted = p; in_range = q }
-    inner (Some open_refusal.BadLimits) p q e = cc
-    inner (Some open_refusal.Moment) p q e = cc
-    inner (Some open_refusal.Memory) p q e = cc
-
-    held : (holds : Bool) → first_bad draft.params ≡ None
-        → (if holds then refused_opening (opening_refusal draft.limits draft.moment) draft else Err (fault.Opening open_fault.Limits)) ≡ Ok opening
-        → Checked draft opening
-    held true q e = inner (opening_refusal draft.limits draft.moment) refl q e
-    held false q e = cc
-
-    by : (bad : Option Field) → first_bad draft.params ≡ bad → checked_opening kind bad draft ≡ Ok opening → Checked draft opening
-    by (Some field) q e = cc
-    by None q e = held (holds_limits kind draft.limits) q e
 
 pub opened : (row : Row) (opening : Opening) → opening_of row ≡ Ok opening → Opened row opening
 unfolding opening_of

@@ -17,10 +17,15 @@
 //! `migrate`: the history in version two, or in version three as it is (`writes`), which tells the same opening and lines (`same`), or the
 //! history's first fault (`faults`). Laws: `migrated_histories_are_read_back`, `migrating_again_changes_nothing`,
 //! `migrated_runs_are_runs_of_version_two`.
+//!
+//! Beside audits: `runs_are_clean` says that the history text of every trace is found clean, with as many events as the run recorded, and
+//! `migration_keeps_the_finding` that a history in version two is found what it was found before.
 #![tactic(auto)]
 
+pub mod finding;
 pub mod law;
 pub mod migration;
+pub mod migration_finding;
 pub mod migration_law;
 mod number_ranges;
 mod resumed;
@@ -28,8 +33,10 @@ pub mod run;
 mod session;
 pub mod write;
 
+pub use finding::runs_are_clean;
 pub use law::{history_texts_are_read_back, resumed_runs_go_on_as_the_whole};
 pub use migration::migrate;
+pub use migration_finding::migration_keeps_the_finding;
 pub use migration_law::{
     migrated_histories_are_read_back, migrated_runs_are_runs_of_version_two,
     migrating_again_changes_nothing,

@@ -1,7 +1,7 @@
 use Rattle.std.proofs.Common.{◌^◌}
 use Rattle.pie_trace.specs.Migrate.{migrated_text}
 use Rattle.pie_record.specs.Text.{records_of}
-use Rattle.pie_audit.proofs.MigrationFinding.{same-finding}
+use Rattle.pie_trace.proofs.MigrationFinding.{same-finding}
 use Rattle.pie_audit.proofs.migration.migration_keeps_the_finding.Goals as goal
 
 pub returns : goal.returns

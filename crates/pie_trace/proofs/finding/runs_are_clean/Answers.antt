@@ -1,4 +1,4 @@
-use Rattle.pie_audit.proofs.RunFindings.{run-clean, whole-clean}
+use Rattle.pie_trace.proofs.RunFindings.{run-clean, whole-clean}
 use Rattle.pie_audit.proofs.law.runs_are_clean.Goals as goal
 
 pub returns-clause-whole : goal.returns-clause-whole

@@ -4,7 +4,7 @@ ghost use Rattle.pie_trace.specs.Migrate.{history_fault, migrated_text};
 ghost use Rattle.pie_record.specs.Text.{records_of};
 ghost use Rattle.pie_audit.specs.Text.{text_finding};
 
-use pie_trace::migrated_histories_are_read_back;
+use crate::migration_law::migrated_histories_are_read_back;
 
 /// The finding of a history without a fault is that of its migrated text, in each version.
 ///

@@ -1,0 +1,41 @@
+-- An opening that was checked: its parts, and what was looked at.
+use Rattle.std.proofs.Common.{◌≡◌, Bool, true, false, refl}
+use Rattle.std.specs.Prelude.{Option, Some, None, Ok, Err, if◌then◌else◌}
+use Rattle.pie_params.specs.Range.{first_bad}
+use Rattle.pie_params.specs.declared.raw.Field.{Field}
+use Rattle.pie_event.specs.declared.opening.Opening.{Opening}
+use Rattle.pie_event.specs.declared.refusal.OpenRefusal.{OpenRefusal}
+use Rattle.pie_event.specs.declared.refusal.OpenRefusal.TheVariants as open_refusal
+use Rattle.pie_event.specs.Opening.{opening_refusal}
+use Rattle.pie_record.specs.declared.fault.OpenFault.TheVariants as open_fault
+use Rattle.pie_record.specs.declared.fault.TraceFault.TheVariants as fault
+use Rattle.pie_record.specs.declared.first_record.Draft.{Draft}
+use Rattle.pie_record.specs.declared.first_record.FirstKind.{FirstKind}
+use Rattle.pie_record.specs.FirstRecord.{holds_limits}
+use Rattle.pie_record.specs.Opening.{checked_opening, opening_in, refused_opening}
+
+pub record Checked (draft : Draft) (opening : Opening) : Type 0 where
+  pub same : opening_in draft ≡ opening
+  pub accepted : opening_refusal draft.limits draft.moment ≡ None
+  pub in_range : first_bad draft.params ≡ None
+
+pub checked : (kind : FirstKind) (draft : Draft) (opening : Opening) → checked_opening kind (first_bad draft.params) draft ≡ Ok opening
+    → Checked draft opening
+checked kind draft opening = by (first_bad draft.params) refl
+  where
+    inner : (why : Option OpenRefusal) → opening_refusal draft.limits draft.moment ≡ why → first_bad draft.params ≡ None
+        → refused_opening why draft ≡ Ok opening → Checked draft opening
+    inner None p q e = record { same = cc; accepted = p; in_range = q }
+    inner (Some open_refusal.BadLimits) p q e = cc
+    inner (Some open_refusal.Moment) p q e = cc
+    inner (Some open_refusal.Memory) p q e = cc
+
+    held : (holds : Bool) → first_bad draft.params ≡ None
+        → (if holds then refused_opening (opening_refusal draft.limits draft.moment) draft else Err (fault.Opening open_fault.Limits)) ≡ Ok opening
+        → Checked draft opening
+    held true q e = inner (opening_refusal draft.limits draft.moment) refl q e
+    held false q e = cc
+
+    by : (bad : Option Field) → first_bad draft.params ≡ bad → checked_opening kind bad draft ≡ Ok opening → Checked draft opening
+    by (Some field) q e = cc
+    by None q e = held (holds_limits kind draft.limits) q e

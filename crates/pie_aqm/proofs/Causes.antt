@@ -11,7 +11,7 @@ use Rattle.pie_aqm.specs.declared.cause.Cause.TheVariants.{NoRoomInBytes, NoRoom
 use Rattle.pie_aqm.specs.declared.cause.Cause.TheVariants.{NoProbability, LittleAccumulated, PickedBySum, PickedByWord, WordNotBelow}
 use Rattle.pie_aqm.specs.declared.cause.Fate.{Fate}
 use Rattle.pie_aqm.specs.declared.cause.Fate.TheVariants.{Marked, NotCapable, NotBelow}
-use Rattle.pie_aqm.specs.declared.verdict.Verdict.TheVariants.{DroppedBytes, DroppedPackets}
+use Rattle.pie_event.specs.declared.verdict.Verdict.TheVariants.{DroppedBytes, DroppedPackets}
 use Rattle.pie_aqm.specs.Cause.{verdict_of, considered_cause, early_cause, cause}
 use Rattle.pie_aqm.specs.Steps.{chosen, offered, verdict}
 

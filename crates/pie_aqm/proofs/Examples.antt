@@ -12,7 +12,7 @@ use Rattle.pie_control.specs.History.{burst_allowance, granted_burst, last_delay
 use Rattle.pie_control.specs.Next.{raw_step, tuning_divisor, tuned_step, decayed, next}
 use Rattle.pie_early.specs.Decision.{is_considered, is_picked}
 use Rattle.pie_early.specs.History.{accumulated}
-use Rattle.pie_aqm.specs.declared.verdict.Verdict.TheVariants.{DroppedBytes, DroppedPackets}
+use Rattle.pie_event.specs.declared.verdict.Verdict.TheVariants.{DroppedBytes, DroppedPackets}
 use Rattle.pie_aqm.specs.Calls.{Arrive, Call, Change, Depart, Restart, Update, after_call, shown_by}
 use Rattle.pie_aqm.specs.History.{active_of, arrivals_shown, control_of, delay_noted, departures_of, departures_shown, early_of, held_of}
 use Rattle.pie_aqm.specs.History.{is_active, noted, noted_after, now_of, params_of, updates_shown, waited_noted, waited_of}

@@ -14,7 +14,7 @@ use Rattle.pie_early.specs.Events.{EarlyEvent, arrival}
 use Rattle.pie_early.specs.History as Early
 use Rattle.pie_early.proofs.Arrivals.{shows_arrival}
 use Rattle.pie_early.proofs.Laws.{shows-clear, shows-unconsidered}
-use Rattle.pie_aqm.specs.declared.verdict.Verdict.TheVariants.{DroppedBytes, DroppedPackets}
+use Rattle.pie_event.specs.declared.verdict.Verdict.TheVariants.{DroppedBytes, DroppedPackets}
 use Rattle.pie_aqm.specs.History.{considered_where, verdict_shown}
 use Rattle.pie_aqm.specs.Steps.{accu_left, chosen, no_estimate, offered, verdict}
 use Rattle.pie_aqm.proofs.InRange.{ltb}

@@ -6,8 +6,8 @@ use Rattle.pie_params.specs.Range.{first_bad}
 use Rattle.pie_aqm.specs.Types.{RawParams, Begun, Profile, One, Two}
 use Rattle.pie_aqm.specs.Held.{Held, IsSound, IsWithin}
 use Rattle.pie_aqm.specs.Sound.{began_by, counts_below, first_unsound, fits_profile, is_sound_at, looked_at}
-use Rattle.pie_aqm.specs.declared.register.Register.{Register}
-use Rattle.pie_aqm.specs.declared.register.Register.TheVariants as register
+use Rattle.pie_event.specs.declared.register.Register.{Register}
+use Rattle.pie_event.specs.declared.register.Register.TheVariants as register
 
 -- a test that holds
 at-most : (a b : ℕ) → nat_le a b ≡ true → a ≤ b

@@ -12,7 +12,7 @@ use Rattle.pie_aqm.specs.declared.cause.Cause.TheVariants.{NoRoomInBytes, NoRoom
 use Rattle.pie_aqm.specs.declared.cause.Cause.TheVariants.{NoProbability, LittleAccumulated, PickedBySum, PickedByWord, WordNotBelow}
 use Rattle.pie_aqm.specs.declared.cause.Fate.{Fate}
 use Rattle.pie_aqm.specs.declared.cause.Fate.TheVariants.{Marked, NotCapable, NotBelow}
-use Rattle.pie_aqm.specs.declared.verdict.Verdict.TheVariants as verdict
+use Rattle.pie_event.specs.declared.verdict.Verdict.TheVariants as verdict
 use Rattle.pie_aqm.specs.Steps.{by_room, offered}
 
 -- ---- what follows from a cause

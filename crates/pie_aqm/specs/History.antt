@@ -19,7 +19,7 @@ use Rattle.pie_early.specs.Decision.{counted_as, is_considered}
 use Rattle.pie_early.specs.Events.{EarlyEvent, arrival, cleared}
 use Rattle.pie_early.specs.History.{accumulated}
 use Rattle.pie_early.specs.History as Early
-use Rattle.pie_aqm.specs.declared.verdict.Verdict.TheVariants.{Enqueued, Marked, DroppedEarly, DroppedBytes, DroppedPackets}
+use Rattle.pie_event.specs.declared.verdict.Verdict.TheVariants.{Enqueued, Marked, DroppedEarly, DroppedBytes, DroppedPackets}
 use Rattle.pie_aqm.specs.Events.{ControllerEvent, Opened, Arrived, Departed, Updated, Reset, Changed, moment_of, params_set}
 use Rattle.pie_aqm.specs.Places.{Place, places, greatest, last_or}
 use Rattle.pie_aqm.specs.Steps.{delay_by, keeps_wait, measures, wait_of, wakes}

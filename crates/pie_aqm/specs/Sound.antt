@@ -3,8 +3,8 @@ use Rattle.std.specs.Prelude.{ℕ, ◌^◌, Bool, true, nat_le, nat_lt, not, is_
 use Rattle.pie_params.specs.Range.{first_bad}
 use Rattle.pie_aqm.specs.Types.{Begun, Profile, One, Two}
 use Rattle.pie_aqm.specs.Held.{Held}
-use Rattle.pie_aqm.specs.declared.register.Register.{Register}
-use Rattle.pie_aqm.specs.declared.register.Register.TheVariants as register
+use Rattle.pie_event.specs.declared.register.Register.{Register}
+use Rattle.pie_event.specs.declared.register.Register.TheVariants as register
 
 -- a cycle that is begun began no later than now, and has counted less than the threshold
 abbrev pub began_by : ℕ → Option Begun → Bool

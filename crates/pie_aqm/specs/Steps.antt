@@ -11,7 +11,8 @@ use Rattle.pie_control.specs.Delay.{delay_of}
 use Rattle.pie_control.specs.History.{burst_after, ends_calm}
 use Rattle.pie_control.specs.Next.{next}
 use Rattle.pie_early.specs.Decision.{accu_after, choice_of}
-use Rattle.pie_aqm.specs.declared.verdict.Verdict.TheVariants.{Enqueued, Marked, DroppedEarly, DroppedBytes, DroppedPackets}
+use Rattle.pie_event.specs.declared.verdict.Verdict.TheVariants.{Enqueued, Marked, DroppedEarly, DroppedBytes, DroppedPackets}
+use Rattle.pie_event.specs.Verdict.{is_queued}
 
 -- the effective moment: the greatest so far
 abbrev pub now_at : Held → ℕ → ℕ
@@ -86,14 +87,6 @@ verdict h a = by_room h.params.limit_bytes a DroppedBytes DroppedPackets (chosen
 -- the accumulated probability after it: 0 after a tail drop, and as it was while the controller is inactive
 unfoldable pub accu_left : Held → Arrival → ℕ
 accu_left h a = by_room h.params.limit_bytes a 0 0 (if h.active then accu_after h.elements h.params h.control (offered a) h.accu else h.accu)
-
--- the packet is queued
-abbrev pub is_queued : Verdict → Bool
-is_queued Enqueued = true
-is_queued Marked = true
-is_queued DroppedEarly = false
-is_queued DroppedBytes = false
-is_queued DroppedPackets = false
 
 -- the bytes in the queue after the verdict
 abbrev pub bytes_with : Verdict → ℕ → ℕ → ℕ

@@ -17,7 +17,7 @@ pub use Rattle.pie_early.specs.Events.{EarlyEvent}
 pub use Rattle.pie_early.specs.declared.decision.Offered.{Offered}
 pub use Rattle.pie_early.specs.declared.early.Choice.{Choice}
 pub use Rattle.pie_early.specs.declared.early.Choice.TheVariants.{Enqueue, Mark, Drop}
-pub use Rattle.pie_aqm.specs.declared.profile.Profile.{Profile}
-pub use Rattle.pie_aqm.specs.declared.profile.Profile.TheVariants.{One, Two}
+pub use Rattle.pie_event.specs.declared.profile.Profile.{Profile}
+pub use Rattle.pie_event.specs.declared.profile.Profile.TheVariants.{One, Two}
 pub use Rattle.pie_aqm.specs.declared.verdict.Arrival.{Arrival}
-pub use Rattle.pie_aqm.specs.declared.verdict.Verdict.{Verdict}
+pub use Rattle.pie_event.specs.declared.verdict.Verdict.{Verdict}

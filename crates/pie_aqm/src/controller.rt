@@ -5,7 +5,8 @@ ghost use Rattle.pie_aqm.specs.Events.{ControllerEvent, Opened};
 ghost use Rattle.pie_aqm.specs.Held.{IsSound, held_by};
 ghost use Rattle.pie_aqm.specs.History.{Shows};
 ghost use Rattle.pie_aqm.specs.Sound.{first_unsound};
-ghost use Rattle.pie_aqm.specs.Steps.{arrived, changed, delay_answered, delay_in, departed, due, is_queued, opened, passed, reset, updated};
+ghost use Rattle.pie_aqm.specs.Steps.{arrived, changed, delay_answered, delay_in, departed, due, opened, passed, reset, updated};
+ghost use Rattle.pie_event.specs.Verdict.{is_queued};
 ghost use Rattle.pie_aqm.specs.Steps.{verdict};
 
 use crate::{Arrival, Profile, RawController, Register, Verdict};

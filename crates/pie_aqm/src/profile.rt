@@ -1,26 +1,14 @@
 ghost use Rattle.std.specs.Prelude.{◌≡◌};
+ghost use Rattle.pie_aqm.specs.Steps.{opens_active};
 
-/// When the controller works (after RFC 8033, section 5.3; what turns it off and on, and what that resets, is this
-/// project's own).
-#[derive(Clone, Copy, Debug, PartialEq, Eq)]
-pub enum Profile {
-    /// It always works.
-    One,
-    /// It is off at the opening. An arrival after which a third of `limit_bytes` waits turns it on, as a reset does; a calm
-    /// update turns it off. While it is off no packet is marked or dropped early, and updates compute nothing.
-    Two,
-}
+pub use pie_event::Profile;
 
-impl Profile {
-    ghost use Rattle.pie_aqm.specs.Steps.{opens_active};
-
-    /// Whether the controller works at the opening.
-    pub(crate) fn opens_active(self) -> bool
-        ensures { result ≡ opens_active self }
-    {
-        match self {
-            Profile::One => true,
-            Profile::Two => false,
-        }
+/// Whether a controller of this profile works at the opening.
+pub(crate) fn opens_active(profile: Profile) -> bool
+    ensures { result ≡ opens_active profile }
+{
+    match profile {
+        Profile::One => true,
+        Profile::Two => false,
     }
 }

@@ -3,9 +3,11 @@ ghost use Rattle.std.specs.Prelude.{◌≡◌, ◌+◌, ◌^◌, ◌<◌, ◌≤
 ghost use Rattle.pie_aqm.specs.Cause.{cause, considered_cause, early_cause, fate_of, verdict_of};
 ghost use Rattle.pie_aqm.specs.Held.{IsSound, held_by};
 ghost use Rattle.pie_aqm.specs.Steps.{accu_left, anew, arrived, capped, changed, count_kept_open, delay_answered, delay_in, departed, due};
-ghost use Rattle.pie_aqm.specs.Steps.{is_queued, is_unmeasured, measures, opened, passed, reset, updated, verdict, wait_of, with_count};
+ghost use Rattle.pie_aqm.specs.Steps.{is_unmeasured, measures, opened, passed, reset, updated, verdict, wait_of, with_count};
+ghost use Rattle.pie_event.specs.Verdict.{is_queued};
 
-use crate::verdict::wakes;
+use crate::profile::opens_active;
+use crate::verdict::{verdict_of, wakes};
 use crate::{Arrival, Cause, Controller, Fate, Profile, Verdict};
 use pie_control::{Control, MAX_DELAY, RawControl};
 use pie_early::{LOW_PROB, NEVER_PICKED, Offered, counted_as, decide};
@@ -58,7 +60,7 @@ impl RawController {
             elements,
             params,
             moment,
-            active: profile.opens_active(),
+            active: opens_active(profile),
             rate: RawRate::cleared(),
             waited: 0,
             control: RawControl::opened(params.max_burst, moment),
@@ -179,7 +181,7 @@ impl RawController {
             arrival.offered(),
             self.accu,
         );
-        (Verdict::of(decision.choice), decision.accu)
+        (verdict_of(decision.choice), decision.accu)
     }
 
     /// Probability, old delay, accumulated probability, rate estimate and the last packet's wait become 0, and the burst allowance

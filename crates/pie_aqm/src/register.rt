@@ -1,44 +1,16 @@
-//! The numbers that a controller holds, by name, and which of them can't be believed.
+//! Which of the numbers that a controller holds can't be believed.
 ghost use Rattle.std.specs.Prelude.{◌≡◌, ◌↔◌, None};
 ghost use Rattle.pie_aqm.specs.Held.{IsSound, held_by};
 ghost use Rattle.pie_aqm.specs.Sound.{first_unsound, is_sound_at};
 
 use crate::{Profile, RawController};
 use pie_control::MAX_DELAY;
+pub use pie_event::Register;
 use pie_fixed::{ALWAYS_PICKED, MAX_NANOS, ONE};
 use pie_params::Params;
 
 /// The greatest burst allowance, in nanoseconds.
 const MAX_BURST: u64 = 1_000_000_000_000;
-
-/// A number that a controller holds, or several that are believed together.
-#[derive(Clone, Copy, Debug, PartialEq, Eq)]
-pub enum Register {
-    /// The parameters in force: each is in its range.
-    Params,
-    /// The effective moment: at most `2^60 - 1`.
-    Moment,
-    /// The probability: at most `10^12`.
-    Prob,
-    /// The old delay: at most `2^40`.
-    OldDelay,
-    /// The accumulated probability: below `85 * 10^11`.
-    Accu,
-    /// The burst allowance: at most `10^12`.
-    Burst,
-    /// The moment of the last update: not after the effective moment.
-    Last,
-    /// The average of the departure rate: at most `2^60 - 1`.
-    Average,
-    /// The moment at which the open cycle of the departure rate began: not after the effective moment.
-    CycleStart,
-    /// The bytes that it has counted: fewer than `dq_threshold`.
-    CycleCount,
-    /// What the packet that departed last had waited: at most `2^40`.
-    Waited,
-    /// Whether the controller works: always in profile one.
-    Active,
-}
 
 /// All of them, in the order in which they are looked at.
 const REGISTERS: [Register; 12] = [

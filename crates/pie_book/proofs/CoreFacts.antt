@@ -6,10 +6,10 @@ use Rattle.std.specs.Option.{is_some, option_to_list}
 use Rattle.std.proofs.lemmas.List.{append-nil, append_assoc, map-append}
 use Rattle.std.proofs.lemmas.List.Elements.{All-append, All-cons, All-head, All-nil, All-tail}
 use Rattle.std.proofs.lemmas.List.Sums.{sum_by-append}
-use Rattle.pie_event.specs.Types.{Packet, Waiting, One, Arrival, Verdict, Held, Command, Arrive, Depart, Update, Reset, SetParams, Answer, Enqueued}
-use Rattle.pie_event.specs.Types.{Event, Opening, Stats, Registers}
+use Rattle.pie_book.specs.Types.{Packet, Waiting, One, Arrival, Verdict, Held, Command, Arrive, Depart, Update, Reset, SetParams, Answer, Enqueued}
+use Rattle.pie_book.specs.Types.{Event, Opening, Stats, Registers}
 use Rattle.pie_queue.specs.Queue.{bytes_of}
-use Rattle.pie_aqm.specs.declared.verdict.Verdict.TheVariants as verdict
+use Rattle.pie_event.specs.declared.verdict.Verdict.TheVariants as verdict
 use Rattle.pie_aqm.specs.Calls.{after_call, shown_by}
 use Rattle.pie_aqm.specs.Cause.{cause}
 use Rattle.pie_aqm.specs.Events.{Arrived}
@@ -21,7 +21,8 @@ use Rattle.pie_aqm.proofs.Laws.{Shows-arrive, Shows-change, Shows-depart, Shows-
 use Rattle.pie_aqm.proofs.Looks.{one_is_active}
 use Rattle.pie_aqm.proofs.Places.{place_of, places-push}
 use Rattle.pie_book.specs.Beside.{opened_by}
-use Rattle.pie_event.specs.Call.{answer_of, arrival_of, departure_call}
+use Rattle.pie_book.specs.Call.{arrival_of, departure_call}
+use Rattle.pie_event.specs.Verdict.{answer_of}
 use Rattle.pie_book.specs.Cause.{cause_after}
 use Rattle.pie_book.specs.Core.{CoreView, Shows, closed, counted, refusal_of, registers_of, with_queue}
 use Rattle.pie_book.specs.Decision.{IsLegal, IsLegalAt, answer_by, answer_to_departure, decision, refusal_by_rule, refusal_with}

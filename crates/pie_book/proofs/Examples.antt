@@ -4,8 +4,8 @@ use Rattle.std.specs.Prelude.{ℕ, ◌≡◌, List, [], ◌∷◌, Some, None, t
 use Rattle.std.proofs.Common.{refl}
 use Rattle.pie_params.specs.Profile.{default_profile}
 use Rattle.pie_params.specs.Elements.{usual}
-use Rattle.pie_event.specs.Types.{RawParams, Packet, Waiting, One, Command, Arrive, Depart, Update, Reset, SetParams, Answer, Enqueued, Marked}
-use Rattle.pie_event.specs.Types.{DroppedEarly, DroppedBytes, DroppedPackets, Empty, Left, Updated, Done, Event, Mode, Bounded, Opening}
+use Rattle.pie_book.specs.Types.{RawParams, Packet, Waiting, One, Command, Arrive, Depart, Update, Reset, SetParams, Answer, Enqueued, Marked}
+use Rattle.pie_book.specs.Types.{DroppedEarly, DroppedBytes, DroppedPackets, Empty, Left, Updated, Done, Event, Mode, Bounded, Opening}
 use Rattle.pie_queue.specs.declared.ecn.Ecn.TheVariants.{NotEct, Ect0, Ce}
 use Rattle.pie_rate.specs.Departures.{Departure}
 use Rattle.pie_control.specs.Events.{ControlEvent}

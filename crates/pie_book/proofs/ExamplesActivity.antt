@@ -1,8 +1,8 @@
 -- A controller that turns itself off and on, on two worked histories: each theorem computes.
 use Rattle.std.proofs.Common.{refl, ℕ, ◌≡◌, List, [], ◌∷◌, take, Some, None, true, false, map}
 use Rattle.pie_params.specs.Elements.{usual}
-use Rattle.pie_event.specs.Types.{Profile, One, Two, Arrive, Depart, Update, Reset, Answer, Enqueued, DroppedBytes, Left, Updated, Done, Event}
-use Rattle.pie_event.specs.Types.{Bounded, Opening}
+use Rattle.pie_book.specs.Types.{Profile, One, Two, Arrive, Depart, Update, Reset, Answer, Enqueued, DroppedBytes, Left, Updated, Done, Event}
+use Rattle.pie_book.specs.Types.{Bounded, Opening}
 use Rattle.pie_event.specs.declared.refusal.Refusal.TheVariants.{TooSoon}
 use Rattle.pie_book.specs.Decision.{decision, refusal_by_rule}
 use Rattle.pie_aqm.specs.Places.{Place, places}

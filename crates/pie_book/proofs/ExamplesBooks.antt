@@ -5,7 +5,7 @@ use Rattle.std.proofs.lemmas.List.Elements.{All-cons, All-head, All-nil, All-tak
 use Rattle.pie_queue.specs.declared.ecn.Ecn.TheVariants.{Ce}
 use Rattle.pie_control.specs.Delay.{delay_of}
 use Rattle.pie_params.specs.Elements.{usual}
-use Rattle.pie_event.specs.Types.{One, Arrive, Depart, Update, Enqueued, Marked, Empty, Left, Updated, Event, Bounded, Rolling, Opening, Stats}
+use Rattle.pie_book.specs.Types.{One, Arrive, Depart, Update, Enqueued, Marked, Empty, Left, Updated, Event, Bounded, Rolling, Opening, Stats}
 use Rattle.pie_event.specs.declared.refusal.Refusal.TheVariants.{Size, TooSoon}
 use Rattle.pie_event.specs.Deed.{Deed, deed_of, queued, marked, dropped_early, dropped_bytes, dropped_packets, departed, found_none, updated}
 use Rattle.pie_event.specs.Deed.{was_reset, set, nothing}

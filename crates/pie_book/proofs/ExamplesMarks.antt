@@ -1,8 +1,8 @@
 -- The definitions on worked histories: each theorem computes. Marks, drops and a lone enqueue: three updates raise the
 -- probability, and three packets meet it.
 use Rattle.std.proofs.Common.{refl, ℕ, ◌≡◌, List, [], ◌∷◌, ◌++◌, Some, None, Bool, true, false, map}
-use Rattle.pie_event.specs.Types.{RawParams, Arrive, Depart, Update, Reset, SetParams, Enqueued, Marked, DroppedEarly, Left, Updated, Done, Event}
-use Rattle.pie_event.specs.Types.{Bounded, Opening, Stats, Registers}
+use Rattle.pie_book.specs.Types.{RawParams, Arrive, Depart, Update, Reset, SetParams, Enqueued, Marked, DroppedEarly, Left, Updated, Done, Event}
+use Rattle.pie_book.specs.Types.{Bounded, Opening, Stats, Registers}
 use Rattle.pie_queue.specs.declared.ecn.Ecn.TheVariants.{Ce}
 use Rattle.pie_rate.specs.Departures.{departure}
 use Rattle.pie_rate.specs.Average.{average}

@@ -1,6 +1,6 @@
 -- The definitions on worked histories: each theorem computes. The rate estimate, and the delay by it.
 use Rattle.std.proofs.Common.{refl, ℕ, ◌≡◌, List, [], ◌∷◌, ◌++◌, true, false, map}
-use Rattle.pie_event.specs.Types.{RawParams, Arrive, Depart, Reset, SetParams, Enqueued, Empty, Left, Done, Event, Bounded, Opening}
+use Rattle.pie_book.specs.Types.{RawParams, Arrive, Depart, Reset, SetParams, Enqueued, Empty, Left, Done, Event, Bounded, Opening}
 use Rattle.pie_rate.specs.Departures.{departure}
 use Rattle.pie_book.specs.Estimates.{average_after, measuring_after, delay_after}
 use Rattle.pie_book.proofs.Examples.{departures_after, limits, opened_with, nine, packet, event, worked}

@@ -2,8 +2,8 @@
 use Rattle.std.proofs.Common.{Bool, refl, ℕ, ◌≡◌, List, [], ◌∷◌, ◌++◌, Some, None, Ok, Err, true, false, map}
 use Rattle.pie_params.specs.Profile.{default_profile}
 use Rattle.pie_params.specs.Elements.{usual}
-use Rattle.pie_event.specs.Types.{RawParams, One, Held, Command, Arrive, Depart, Update, Reset, SetParams, Answer, Enqueued, DroppedBytes}
-use Rattle.pie_event.specs.Types.{DroppedPackets, Empty, Left, Updated, Done, Event, Rolling, Opening, Refusal}
+use Rattle.pie_book.specs.Types.{RawParams, One, Held, Command, Arrive, Depart, Update, Reset, SetParams, Answer, Enqueued, DroppedBytes}
+use Rattle.pie_book.specs.Types.{DroppedPackets, Empty, Left, Updated, Done, Event, Rolling, Opening, Refusal}
 use Rattle.pie_early.specs.Events.{cleared}
 use Rattle.pie_event.specs.declared.refusal.Refusal.TheVariants.{Moment, Size, TooSoon, Exhausted, HistoryFull}
 use Rattle.pie_event.specs.declared.refusal.FoldRefusal.TheVariants.{TooMany}

@@ -4,7 +4,7 @@ use Rattle.std.proofs.lemmas.List.{append-nil, append_assoc}
 use Rattle.std.proofs.lemmas.List.Elements.{All-head, All-tail}
 use Rattle.pie_params.specs.Range.{first_bad}
 use Rattle.pie_aqm.proofs.InRange.{threshold-holds}
-use Rattle.pie_event.specs.Types.{Command, Arrive, Depart, Update, Reset, SetParams, Answer, Event, Opening}
+use Rattle.pie_book.specs.Types.{Command, Arrive, Depart, Update, Reset, SetParams, Answer, Event, Opening}
 use Rattle.pie_book.specs.declared.standing.Standing.{Standing}
 use Rattle.pie_book.specs.Core.{CoreView, Shows, closed}
 use Rattle.pie_book.specs.Decision.{IsLegal, IsLegalAt}

@@ -5,7 +5,7 @@ use Rattle.std.specs.Option.{option_to_list, is_some}
 use Rattle.std.specs.List.{filter_map}
 use Rattle.std.proofs.lemmas.List.{map-append, append-nil, drop-append-le, drop-drop, length-drop}
 use Rattle.std.proofs.lemmas.List.Sums.{sum_by_push}
-use Rattle.pie_event.specs.Types.{Waiting, Event, Opening}
+use Rattle.pie_book.specs.Types.{Waiting, Event, Opening}
 use Rattle.pie_event.specs.Deed.{Deed, handed_in, deed_of, admission, departure, departed}
 use Rattle.pie_book.specs.History.{effective_moment, admitted_at, admitted, departed_count, waiting_after}
 use Rattle.pie_aqm.proofs.Places.{from_places-push, greatest-push}

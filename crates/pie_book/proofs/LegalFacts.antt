@@ -3,13 +3,13 @@ use Rattle.std.proofs.Common.{◌≡◌, ℕ, List, [], ◌∷◌, ◌++◌, Boo
 use Rattle.std.proofs.lemmas.List.{append-nil, append_assoc}
 use Rattle.std.proofs.lemmas.List.Elements.{All-head, All-tail}
 use Rattle.pie_params.specs.Range.{first_bad}
-use Rattle.pie_event.specs.Types.{Waiting, Arrival, Held, Command, Arrive, Depart, Update, Reset, SetParams, Answer, Event, Opening}
+use Rattle.pie_book.specs.Types.{Waiting, Arrival, Held, Command, Arrive, Depart, Update, Reset, SetParams, Answer, Event, Opening}
 use Rattle.pie_aqm.specs.Calls.{after_call}
 use Rattle.pie_aqm.specs.Steps as Steps
 use Rattle.pie_aqm.specs.Steps.{anew, bytes_with, judged}
 use Rattle.pie_aqm.proofs.InRange.{threshold-holds}
 use Rattle.pie_aqm.proofs.Places.{place_of}
-use Rattle.pie_event.specs.Call.{arrival_of, departure_call}
+use Rattle.pie_book.specs.Call.{arrival_of, departure_call}
 use Rattle.pie_book.specs.Core.{CoreView, Shows, closed, refusal_of}
 use Rattle.pie_book.specs.Decision.{IsLegal, IsLegalAt}
 use Rattle.pie_event.specs.Ranges.{CommandFits}

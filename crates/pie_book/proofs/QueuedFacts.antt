@@ -11,7 +11,7 @@ use Rattle.std.proofs.lemmas.List.Sums.{sum_by-append, sum_by-cons}
 use Rattle.pie_params.specs.Range.{first_bad}
 use Rattle.pie_queue.specs.Queue.{HasSize, IsSize, bytes_of}
 use Rattle.pie_aqm.specs.Steps.{due, now_at}
-use Rattle.pie_event.specs.Types.{Packet, Waiting, Command, Arrive, Depart, Answer, Enqueued, Marked, Event, Opening, Refusal}
+use Rattle.pie_book.specs.Types.{Packet, Waiting, Command, Arrive, Depart, Answer, Enqueued, Marked, Event, Opening, Refusal}
 use Rattle.pie_event.specs.declared.refusal.Refusal.TheVariants as refusal
 use Rattle.pie_book.specs.declared.standing.Standing.{Standing}
 use Rattle.pie_book.specs.Core.{CoreView, refusal_of}

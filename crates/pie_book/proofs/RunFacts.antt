@@ -4,7 +4,7 @@ use Rattle.std.proofs.Common.{◌≡◌, ◌≤◌, ◌+◌, ◌==◌, ℕ, List
 use Rattle.std.proofs.Common.{not, Option, Some, None, Result, Ok, Err}
 use Rattle.std.specs.List.{filter_map}
 use Rattle.std.proofs.lemmas.List.{take-take}
-use Rattle.pie_event.specs.Types.{Command, Answer, Event, Mode, Bounded, Rolling, Opening, Refusal}
+use Rattle.pie_book.specs.Types.{Command, Answer, Event, Mode, Bounded, Rolling, Opening, Refusal}
 use Rattle.pie_book.specs.Decision.{decision, refusal_by_rule, or_full, is_refused_full}
 use Rattle.pie_book.specs.Run.{Step, asked, folded, Progress, Asked, event_of, refused_or, recorded, held_after_fold, outcomes, answer_of, answers}
 use Rattle.pie_book.specs.Run.{without_folds, is_full, before_full, AreSameUntilFull}

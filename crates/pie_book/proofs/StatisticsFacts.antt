@@ -5,7 +5,7 @@ use Rattle.std.specs.Option.{is_some, option_map_or}
 use Rattle.std.specs.List.{filter_map}
 use Rattle.std.proofs.lemmas.List.{map-append}
 use Rattle.std.proofs.lemmas.List.Sums.{sum_by_push}
-use Rattle.pie_event.specs.Types.{Packet, Answer, Enqueued, Left, Event, Opening, Stats}
+use Rattle.pie_book.specs.Types.{Packet, Answer, Enqueued, Left, Event, Opening, Stats}
 use Rattle.pie_event.specs.Deed.{Deed, deed_of, departure, is_arrival, is_update, sets_params, arrival_deed, departure_deed}
 use Rattle.pie_book.specs.History.{effective_moment, waiting_after, bytes_after}
 use Rattle.pie_book.specs.Estimates.{delay_answered}

@@ -3,8 +3,8 @@
 use Rattle.std.specs.Prelude.{List, length, Option, Some, None}
 use Rattle.pie_aqm.specs.declared.cause.Cause.{Cause}
 use Rattle.pie_aqm.specs.Cause.{cause}
-use Rattle.pie_event.specs.Types.{Command, Arrive, Event, Opening}
-use Rattle.pie_event.specs.Call.{arrival_of}
+use Rattle.pie_book.specs.Types.{Command, Arrive, Event, Opening}
+use Rattle.pie_book.specs.Call.{arrival_of}
 use Rattle.pie_book.specs.History.{waiting_after}
 use Rattle.pie_book.specs.Estimates.{held_after}
 

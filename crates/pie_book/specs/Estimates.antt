@@ -2,7 +2,7 @@
 -- 5.1 to 5.5).
 use Rattle.std.specs.Prelude.{ℕ, Bool, List}
 use Rattle.std.specs.Option.{is_some}
-use Rattle.pie_event.specs.Types.{RawParams, Held, Event, Opening}
+use Rattle.pie_book.specs.Types.{RawParams, Held, Event, Opening}
 use Rattle.pie_control.specs.Parts.{Parts}
 use Rattle.pie_aqm.specs.History.{held_of}
 use Rattle.pie_aqm.specs.Steps as Steps

@@ -1,9 +1,11 @@
+pub mod Types
 pub mod History
 pub mod Shown
 pub mod Estimates
 pub mod Registers
 pub mod Statistics
 pub mod Decision
+pub mod Call
 pub mod Cause
 pub mod Core
 pub mod Tally

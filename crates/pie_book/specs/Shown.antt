@@ -1,10 +1,10 @@
 -- What the controller was shown by a history: of each event what that did, with the size of an arriving packet, the moment since which
 -- the oldest had waited, the bytes that waited before it and after it, and the moment that was handed in. What the controller holds is what its own definitions look back to over this list.
 use Rattle.std.specs.Prelude.{ℕ, List, [], ◌∷◌, map}
-use Rattle.pie_aqm.specs.declared.verdict.Verdict.TheVariants as verdict
+use Rattle.pie_event.specs.declared.verdict.Verdict.TheVariants as verdict
 use Rattle.pie_aqm.specs.Events.{ControllerEvent, Opened, Arrived, Departed, Passed, Updated, Reset, Changed}
 use Rattle.pie_aqm.specs.Places.{Place, places, up_to}
-use Rattle.pie_event.specs.Types.{Waiting, Command, Arrive, Event, Opening}
+use Rattle.pie_book.specs.Types.{Waiting, Command, Arrive, Event, Opening}
 use Rattle.pie_event.specs.Deed.{Deed, deed_of, handed_in, queued, marked, dropped_early, dropped_bytes, dropped_packets, departed, found_none}
 use Rattle.pie_event.specs.Deed.{updated, was_reset, set, nothing}
 use Rattle.pie_book.specs.History.{bytes_after, waiting_after}

@@ -3,8 +3,8 @@
 ghost use Rattle.std.specs.Prelude.{◌≡◌, ◌==◌, ◌≤◌, ◌<◌, ◌^◌, ◌+◌, ◌++◌, length, true, false};
 ghost use Rattle.std.specs.Option.{option_to_list};
 ghost use Rattle.pie_queue.specs.Queue.{IsSize, bytes_of};
-ghost use Rattle.pie_aqm.specs.Steps.{is_queued};
-ghost use Rattle.pie_event.specs.Types.{Arrive, Depart, Update, Reset, SetParams, Left};
+ghost use Rattle.pie_event.specs.Verdict.{is_queued};
+ghost use Rattle.pie_book.specs.Types.{Arrive, Depart, Update, Reset, SetParams, Left};
 ghost use Rattle.pie_event.specs.Deed.{admission, arrival_deed};
 
 use crate::Answer;
@@ -15,7 +15,8 @@ use pie_params::Params;
 use pie_queue::{Ecn, Packet};
 
 impl Core {
-    ghost use Rattle.pie_event.specs.Call.{answer_of, arrival_of};
+    ghost use Rattle.pie_book.specs.Call.{arrival_of};
+    ghost use Rattle.pie_event.specs.Verdict.{answer_of};
     ghost use Rattle.pie_book.specs.Step.{after_command, answer_in};
 
     /// The verdict on an arriving packet, which is queued where it says so.

@@ -1,7 +1,7 @@
 //! What a core tells of itself.
 ghost use Rattle.std.specs.Prelude.{◌≡◌, List, slice_get, IfSome};
 ghost use Rattle.pie_aqm.specs.Cause.{verdict_of};
-ghost use Rattle.pie_event.specs.Types.{Event, Opening};
+ghost use Rattle.pie_book.specs.Types.{Event, Opening};
 ghost use Rattle.pie_book.specs.Cause.{cause_after};
 ghost use Rattle.pie_book.specs.Decision.{decision};
 ghost use Rattle.pie_book.specs.Estimates.{delay_after};
@@ -14,7 +14,7 @@ use pie_queue::Waiting;
 
 impl Core {
     ghost use Rattle.pie_book.specs.Core.{Shows};
-    ghost use Rattle.pie_event.specs.Call.{answer_of};
+    ghost use Rattle.pie_event.specs.Verdict.{answer_of};
 
     /// What would decide this command here, where it is an arrival: the first case of the rules that holds, with the numbers
     /// that it compares. Nothing is changed. Whether the command would be refused is not looked at.

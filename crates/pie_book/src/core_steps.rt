@@ -1,6 +1,6 @@
 //! A core decides a command.
 ghost use Rattle.std.specs.Prelude.{◌≡◌, ◌<◌, ◌++◌, ◌∷◌, [], ℕ, List, true, None, Some, IfOk, IfErr, OnErr};
-ghost use Rattle.pie_event.specs.Types.{Event, Opening};
+ghost use Rattle.pie_book.specs.Types.{Event, Opening};
 ghost use Rattle.pie_event.specs.Deed.{fits, handed_in};
 ghost use Rattle.pie_book.specs.Decision.{decision, refusal_by_rule};
 ghost use Rattle.pie_book.specs.Run.{event_of, refused_or};

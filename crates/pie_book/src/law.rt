@@ -1,6 +1,6 @@
 //! Laws: folds change no answer, profile one is always active, and the registers are what looking back gives.
 ghost use Rattle.std.specs.Prelude.{◌≡◌, List, true};
-ghost use Rattle.pie_event.specs.Types.{One, Event, Rolling, Opening};
+ghost use Rattle.pie_book.specs.Types.{One, Event, Rolling, Opening};
 ghost use Rattle.pie_book.specs.Core.{CoreView, Shows, registers_of};
 ghost use Rattle.pie_book.specs.Registers.{registers_after};
 ghost use Rattle.pie_book.specs.Estimates.{active_after};

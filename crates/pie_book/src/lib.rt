@@ -43,9 +43,10 @@ pub use book::Book;
 pub use deciding_core::Core;
 pub use excerpt::Excerpt;
 pub use law::{folds_change_no_answer, profile_one_is_always_active, registers_look_back};
+pub use pie_aqm::{Cause, Fate};
 pub use pie_event::{
-    Answer, Cause, Choices, Command, Elements, EndRefusal, Event, Fate, FoldRefusal, Limits, Mode,
-    OpenRefusal, Opening, Profile, QueueRefusal, Refusal, Registers, ResumeRefusal, Stats, TooSmall,
+    Answer, Choices, Command, Elements, EndRefusal, Event, FoldRefusal, Limits, Mode, OpenRefusal,
+    Opening, Profile, QueueRefusal, Refusal, Registers, ResumeRefusal, Stats, TooSmall,
 };
 pub use ranges::all_numbers_are_held;
 pub use recorded::Recorded;

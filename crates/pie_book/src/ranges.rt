@@ -1,6 +1,6 @@
 //! What looking back gives is held by the fields that show it.
 ghost use Rattle.std.specs.Prelude.{◌≡◌, ◌++◌, ◌∷◌, [], ℕ, List, All, None, true};
-ghost use Rattle.pie_event.specs.Types.{RawParams, Command, Event, Opening};
+ghost use Rattle.pie_book.specs.Types.{RawParams, Command, Event, Opening};
 ghost use Rattle.pie_params.specs.Range.{first_bad};
 ghost use Rattle.pie_book.specs.Decision.{IsLegal, decision, refusal_by_rule};
 ghost use Rattle.pie_event.specs.Deed.{fits};

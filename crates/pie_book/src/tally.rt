@@ -1,8 +1,8 @@
 //! How many events there were, and their statistics, added up.
 ghost use Rattle.std.specs.Prelude.{◌≡◌, ◌+◌, ◌<◌, ◌≤◌, ◌^◌, ℕ};
-ghost use Rattle.pie_event.specs.Types.{RawParams, Packet};
+ghost use Rattle.pie_book.specs.Types.{RawParams, Packet};
 ghost use Rattle.pie_event.specs.Deed.{arrival_deed, found_none, updated, was_reset, departed, set};
-ghost use Rattle.pie_event.specs.Call.{answer_of};
+ghost use Rattle.pie_event.specs.Verdict.{answer_of};
 ghost use Rattle.pie_book.specs.Core.{counted, with_queue};
 
 use crate::Stats;

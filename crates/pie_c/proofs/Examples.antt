@@ -10,7 +10,7 @@ use Rattle.pie_params.specs.declared.elements.Delay.TheVariants.{Stamp}
 use Rattle.pie_params.specs.declared.elements.Picking.TheVariants.{Random}
 use Rattle.pie_params.specs.declared.elements.Step.TheVariants.{Uncapped}
 use Rattle.pie_params.specs.declared.elements.Size.TheVariants.{Scaled}
-use Rattle.pie_aqm.specs.declared.profile.Profile.TheVariants.{One}
+use Rattle.pie_event.specs.declared.profile.Profile.TheVariants.{One}
 use Rattle.pie_aqm.specs.Held.{Held}
 use Rattle.pie_aqm.specs.Steps.{accu_left, arrived, capped, departed, opened, updated, verdict}
 use Rattle.pie_c.specs.Calls.{arrival_of, arrival_refusal, packet_refusal, waited_refusal, departure_refusal, moment_refusal, opening_refusal, reset_refusal, state_refusal}

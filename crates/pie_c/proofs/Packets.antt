@@ -4,14 +4,14 @@ use Rattle.std.proofs.Common.{◌++◌, arith, refl, sym, ap, ◌∙◌}
 use Rattle.std.proofs.lemmas.Bool.{eqb-true}
 use Rattle.std.proofs.lemmas.Bool.Decides.{nat_tests}
 use Rattle.pie_aqm.specs.declared.verdict.Arrival.{Arrival}
-use Rattle.pie_aqm.specs.declared.verdict.Verdict.{Verdict}
+use Rattle.pie_event.specs.declared.verdict.Verdict.{Verdict}
 use Rattle.pie_params.specs.declared.elements.Elements.{Elements}
 use Rattle.pie_c.proofs.Choices.{choices-back}
 use Rattle.pie_aqm.specs.Calls.{Arrive, Call, Depart, IsTaken, after_call, shown_by}
 use Rattle.pie_aqm.specs.Events.{ControllerEvent, Opened}
 use Rattle.pie_params.specs.declared.raw.RawParams.{RawParams}
-use Rattle.pie_aqm.specs.declared.profile.Profile.{Profile}
-use Rattle.pie_aqm.specs.declared.profile.Profile.TheVariants.{One, Two}
+use Rattle.pie_event.specs.declared.profile.Profile.{Profile}
+use Rattle.pie_event.specs.declared.profile.Profile.TheVariants.{One, Two}
 use Rattle.pie_aqm.specs.Held.{Held}
 use Rattle.pie_aqm.specs.History.{Shows}
 use Rattle.pie_aqm.specs.Steps.{anew, accu_left, arrived, bytes_with, capped, changed, count_below, count_kept_open, departed, is_unmeasured}

@@ -3,8 +3,8 @@ use Rattle.std.specs.Prelude.{ℕ, ◌≡◌, ◌^◌, ◌==◌, ◌||◌, ◌&&
 use Rattle.pie_queue.specs.declared.ecn.Ecn.{Ecn}
 use Rattle.pie_queue.specs.declared.ecn.Ecn.TheVariants.{NotEct, Ect1, Ect0, Ce}
 use Rattle.pie_aqm.specs.declared.verdict.Arrival.{Arrival}
-use Rattle.pie_aqm.specs.declared.verdict.Verdict.{Verdict}
-use Rattle.pie_aqm.specs.declared.verdict.Verdict.TheVariants.{Enqueued, Marked, DroppedEarly, DroppedBytes, DroppedPackets}
+use Rattle.pie_event.specs.declared.verdict.Verdict.{Verdict}
+use Rattle.pie_event.specs.declared.verdict.Verdict.TheVariants.{Enqueued, Marked, DroppedEarly, DroppedBytes, DroppedPackets}
 use Rattle.pie_aqm.specs.Calls.{Arrive, Call, after_call, shown_by}
 use Rattle.pie_aqm.specs.Events.{ControllerEvent, Opened}
 use Rattle.pie_aqm.specs.Held.{Held}

@@ -12,8 +12,8 @@ use Rattle.pie_params.specs.declared.elements.Size.TheVariants.{Unscaled, Scaled
 use Rattle.pie_params.specs.Range.{first_bad}
 use Rattle.pie_rate.specs.Estimate.{Begun, Estimate}
 use Rattle.pie_control.specs.Parts.{Parts}
-use Rattle.pie_aqm.specs.declared.profile.Profile.{Profile}
-use Rattle.pie_aqm.specs.declared.profile.Profile.TheVariants.{One, Two}
+use Rattle.pie_event.specs.declared.profile.Profile.{Profile}
+use Rattle.pie_event.specs.declared.profile.Profile.TheVariants.{One, Two}
 use Rattle.pie_aqm.specs.Held.{Held}
 use Rattle.pie_c.specs.declared.params.PieParams.{PieParams}
 use Rattle.pie_c.specs.declared.state.PieState.{PieState}

@@ -1,8 +1,8 @@
 -- How `pie storm` ends, and what it writes.
 use Rattle.std.specs.Prelude.{ℕ, ◌≡◌, ◌==◌, ◌⊎◌, List, Option, Some, None, codes, option_and_then, if◌then◌else◌}
 use Rattle.clap.specs.Words.{Row, Text, first_of}
-use Rattle.pie_aqm.specs.declared.profile.Profile.{Profile}
-use Rattle.pie_aqm.specs.declared.profile.Profile.TheVariants.{One, Two}
+use Rattle.pie_event.specs.declared.profile.Profile.{Profile}
+use Rattle.pie_event.specs.declared.profile.Profile.TheVariants.{One, Two}
 use Rattle.pie_params.specs.declared.elements.Elements.{Elements}
 use Rattle.pie_params.specs.declared.elements.Delay.{Delay}
 use Rattle.pie_params.specs.declared.elements.Delay.TheVariants.{Rate, Stamp}

@@ -1,7 +1,7 @@
 //! One history, as bytes and as values, and how lines are read.
 
 ghost use Rattle.std.specs.Prelude.{◌≡◌};
-ghost use Rattle.pie_aqm.specs.declared.profile.Profile.TheVariants.{One};
+ghost use Rattle.pie_event.specs.declared.profile.Profile.TheVariants.{One};
 
 use crate::failing::FailingWriter;
 use pie_book::{Answer, Choices, Command, Event, Limits, Mode, Opening, Profile};

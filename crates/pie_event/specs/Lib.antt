@@ -1,5 +1,5 @@
 pub mod Types
+pub mod Verdict
 pub mod Opening
 pub mod Deed
-pub mod Call
 pub mod Ranges

@@ -3,11 +3,9 @@ pub use Rattle.pie_params.specs.declared.raw.RawParams.{RawParams}
 pub use Rattle.pie_params.specs.declared.elements.Elements.{Elements}
 pub use Rattle.pie_queue.specs.declared.packet.Packet.{Packet}
 pub use Rattle.pie_queue.specs.declared.packet.Waiting.{Waiting}
-pub use Rattle.pie_aqm.specs.declared.profile.Profile.{Profile}
-pub use Rattle.pie_aqm.specs.declared.profile.Profile.TheVariants.{One, Two}
-pub use Rattle.pie_aqm.specs.declared.verdict.Arrival.{Arrival}
-pub use Rattle.pie_aqm.specs.declared.verdict.Verdict.{Verdict}
-pub use Rattle.pie_aqm.specs.Held.{Held}
+pub use Rattle.pie_event.specs.declared.profile.Profile.{Profile}
+pub use Rattle.pie_event.specs.declared.profile.Profile.TheVariants.{One, Two}
+pub use Rattle.pie_event.specs.declared.verdict.Verdict.{Verdict}
 pub use Rattle.pie_event.specs.declared.command.Command.{Command}
 pub use Rattle.pie_event.specs.declared.command.Command.TheVariants.{Arrive, Depart, Update, Reset, SetParams}
 pub use Rattle.pie_event.specs.declared.command.Answer.{Answer}

@@ -2,7 +2,7 @@
 
 ghost use Rattle.std.specs.Prelude.{◌≡◌};
 
-pub use pie_aqm::Profile;
+pub use crate::profile::Profile;
 pub use pie_params::Elements;
 use pie_params::Params;
 

@@ -1,6 +1,6 @@
 //! Why no core goes on from the numbers and packets that were handed in.
 
-use pie_aqm::Register;
+use crate::register::Register;
 use thiserror::Error;
 
 /// Why no core goes on from these numbers (this project's own). The refusals are looked for in this order.

@@ -8,7 +8,7 @@ use Rattle.pie_params.specs.declared.elements.Delay.TheVariants.{Stamp}
 use Rattle.pie_params.specs.declared.elements.Picking.TheVariants.{Random}
 use Rattle.pie_params.specs.declared.elements.Size.TheVariants.{Scaled}
 use Rattle.pie_params.specs.declared.elements.Step.TheVariants.{Uncapped}
-use Rattle.pie_aqm.specs.declared.profile.Profile.TheVariants.{Two}
+use Rattle.pie_event.specs.declared.profile.Profile.TheVariants.{Two}
 use Rattle.pie_event.specs.declared.opening.Mode.TheVariants.{Rolling}
 use Rattle.pie_record.specs.Text.{text_of}
 use Rattle.pie_excerpt.specs.Rows.{queued_row, resume_row}

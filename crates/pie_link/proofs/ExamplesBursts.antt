@@ -9,7 +9,7 @@ use Rattle.pie_aqm.specs.History.{active_of, arrivals_shown, control_of, delay_n
 use Rattle.pie_aqm.specs.History.{is_active, noted, noted_after, now_of, params_of, updates_shown, waited_noted, waited_of}
 use Rattle.pie_aqm.specs.Places.{places, greatest, last_or}
 use Rattle.pie_aqm.specs.Steps.{verdict}
-use Rattle.pie_aqm.specs.declared.profile.Profile.TheVariants.{One}
+use Rattle.pie_event.specs.declared.profile.Profile.TheVariants.{One}
 use Rattle.pie_book.specs.Estimates.{held_after}
 use Rattle.pie_book.specs.History.{effective_moment, admitted, departed_count, waiting_after}
 use Rattle.pie_book.specs.Shown.{shown}

@@ -1,7 +1,7 @@
 //! The link: how it is opened, shared and closed.
 ghost use Rattle.std.specs.Prelude.{◌≡◌, ◌+◌, ◌<◌, ◌↔◌, All, Some, None, IsOk, IsErr, IfOk, IfErr, OnOk, OnErr, List};
 ghost use Rattle.pie_event.specs.declared.opening.Mode.TheVariants.{Bounded};
-ghost use Rattle.pie_aqm.specs.declared.profile.Profile.TheVariants.{One};
+ghost use Rattle.pie_event.specs.declared.profile.Profile.TheVariants.{One};
 ghost use Rattle.pie_params.specs.Elements.{usual};
 ghost use Rattle.pie_link.specs.declared.entry.Entry.{Entry};
 

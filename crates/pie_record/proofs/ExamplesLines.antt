@@ -25,8 +25,8 @@ use Rattle.pie_event.specs.declared.command.Event.{Event}
 use Rattle.pie_event.specs.declared.opening.Mode.{Mode}
 use Rattle.pie_event.specs.declared.opening.Mode.TheVariants.{Bounded, Rolling}
 use Rattle.pie_event.specs.declared.opening.Opening.{Opening}
-use Rattle.pie_aqm.specs.declared.profile.Profile.{Profile}
-use Rattle.pie_aqm.specs.declared.profile.Profile.TheVariants.{One, Two}
+use Rattle.pie_event.specs.declared.profile.Profile.{Profile}
+use Rattle.pie_event.specs.declared.profile.Profile.TheVariants.{One, Two}
 use Rattle.pie_record.specs.declared.fault.OpenFault.TheVariants as open_fault
 use Rattle.pie_record.specs.declared.fault.TraceFault.{TraceFault}
 use Rattle.pie_record.specs.declared.fault.TraceFault.TheVariants as fault

@@ -23,8 +23,8 @@ use Rattle.pie_event.specs.declared.opening.Limits.{Limits}
 use Rattle.pie_event.specs.declared.opening.Mode.{Mode}
 use Rattle.pie_event.specs.declared.opening.Mode.TheVariants.{Bounded, Rolling}
 use Rattle.pie_event.specs.declared.opening.Opening.{Opening}
-use Rattle.pie_aqm.specs.declared.profile.Profile.{Profile}
-use Rattle.pie_aqm.specs.declared.profile.Profile.TheVariants.{One, Two}
+use Rattle.pie_event.specs.declared.profile.Profile.{Profile}
+use Rattle.pie_event.specs.declared.profile.Profile.TheVariants.{One, Two}
 use Rattle.pie_event.specs.declared.refusal.OpenRefusal.TheVariants as refusal
 use Rattle.pie_event.specs.Opening.{are_in_range, are_of_version_two, last_moment, opening_refusal}
 use Rattle.pie_event.specs.Ranges.{ParamsFit}

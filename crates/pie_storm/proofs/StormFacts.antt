@@ -20,9 +20,9 @@ use Rattle.pie_event.specs.declared.command.Event.{Event}
 use Rattle.pie_event.specs.declared.opening.Limits.{Limits}
 use Rattle.pie_event.specs.declared.opening.Opening.{Opening}
 use Rattle.pie_event.specs.Opening.{opening_refusal}
-use Rattle.pie_aqm.specs.declared.verdict.Verdict.{Verdict}
-use Rattle.pie_aqm.specs.declared.verdict.Verdict.TheVariants as verdict
-use Rattle.pie_event.specs.Call.{answer_of}
+use Rattle.pie_event.specs.declared.verdict.Verdict.{Verdict}
+use Rattle.pie_event.specs.declared.verdict.Verdict.TheVariants as verdict
+use Rattle.pie_event.specs.Verdict.{answer_of}
 use Rattle.pie_book.specs.Decision.{IsLegal, IsLegalAt, answer_to_departure, decision}
 use Rattle.pie_aqm.specs.Places.{Place, after, places}
 use Rattle.pie_record.specs.declared.fault.TraceFault.{TraceFault}

@@ -15,8 +15,8 @@ use Rattle.pie_event.specs.declared.command.Command.TheVariants.{Arrive, Depart,
 use Rattle.pie_event.specs.declared.opening.Mode.TheVariants.{Bounded, Rolling}
 use Rattle.pie_event.specs.declared.opening.Mode.{Mode}
 use Rattle.pie_event.specs.declared.opening.Opening.{Opening}
-use Rattle.pie_aqm.specs.declared.profile.Profile.{Profile}
-use Rattle.pie_aqm.specs.declared.profile.Profile.TheVariants.{One, Two}
+use Rattle.pie_event.specs.declared.profile.Profile.{Profile}
+use Rattle.pie_event.specs.declared.profile.Profile.TheVariants.{One, Two}
 use Rattle.pie_event.specs.declared.registers.Registers.{Registers}
 use Rattle.pie_event.specs.declared.refusal.Refusal.TheVariants as refusal
 use Rattle.pie_record.specs.declared.fault.Flaw.TheVariants as flaw

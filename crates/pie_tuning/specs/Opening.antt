@@ -11,7 +11,7 @@ use Rattle.pie_params.specs.declared.elements.Size.TheVariants.{Scaled, Unscaled
 use Rattle.pie_params.specs.declared.elements.Step.{Step}
 use Rattle.pie_params.specs.declared.elements.Step.TheVariants.{Capped, Uncapped}
 use Rattle.pie_params.specs.declared.raw.RawParams.{RawParams}
-use Rattle.pie_aqm.specs.declared.profile.Profile.TheVariants.{One}
+use Rattle.pie_event.specs.declared.profile.Profile.TheVariants.{One}
 use Rattle.pie_event.specs.declared.opening.Mode.TheVariants.{Rolling}
 use Rattle.pie_event.specs.declared.opening.Opening.{Opening}
 use Rattle.pie_tuning.specs.declared.asked.Asked.{Asked}

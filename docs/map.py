@@ -19,7 +19,7 @@ PAGE = DOCS / "ARCHITECTURE.md"
 BEGIN, END = "<!-- by docs/map.py from crates.txt -->", "<!-- to here -->"
 # where a packet comes in from outside, and the crate that takes it
 DOORS = {"a trace": "pie", "a call from C": "pie_c", "a thread at a link": "pie_link"}
-COLOURS = {"rules": "#e8f1e4", "controller": "#cfe5c4", "book": "#dce6f5", "text": "#f5f0d8", "threads": "#f3dfe6", "C": "#e3ddf0",
+COLOURS = {"rules": "#e8f1e4", "words": "#f4f4ec", "controller": "#cfe5c4", "book": "#dce6f5", "text": "#f5f0d8", "threads": "#f3dfe6", "C": "#e3ddf0",
            "program": "#e6eaec", "tests and measures": "#ffffff"}
 
 

@@ -26,8 +26,10 @@ use Rattle.pie_explain.specs.Answer.{Follows, Heard, IsAsAudited, IsTold, Told, 
 use Rattle.pie_explanation.specs.Choice.{is_whole}
 use Rattle.pie_explain.specs.Output.{output}
 use Rattle.pie_explanation.specs.Report.{Grows}
-use Rattle.pie_explain.specs.Start.{Start, TellsSetter, explanations_since, from_opening}
-use Rattle.pie_explain.proofs.LineFacts.{setter-none, since-opening}
+use Rattle.pie_setter.specs.Start.{Start, TellsSetter, from_opening}
+use Rattle.pie_explain.specs.Since.{explanations_since}
+use Rattle.pie_explain.proofs.LineFacts.{since-opening}
+use Rattle.pie_setter.proofs.SetterFacts.{setter-none}
 
 -- what waits on the page is ended, and written out
 appends-ended : (old mid now : Option (List ℕ)) (page ended text more : List ℕ) → Appends old (append_known mid page) text → ended ≡ page ++ more
@@ -259,10 +261,6 @@ pub answer-opening : (opening : Opening) (choice : Choice) (lines : List Line) (
     → answer_since from_opening choice opening lines fault ≡ answer_by choice opening lines fault
 answer-opening opening choice lines (Some why) = refl
 answer-opening opening choice lines None = rw (since-opening opening choice lines) refl
-
--- before it nothing set the probability
-pub tells-opening : (opening : Opening) → TellsSetter (Some 0) opening []
-tells-opening opening = rw (setter-none opening) refl
 
 -- what a call of `explain` promises of a text that opens: that of the lines that come
 pub opened-answers : (opening : Opening) (choice : Choice) (whole : List Explained → List ℕ) (known : Option (List ℕ)) (coming : Option Coming)

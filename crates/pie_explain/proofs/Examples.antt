@@ -6,7 +6,7 @@ use Rattle.pie_explain.specs.declared.fault.ExplainFault.TheVariants.{Earlier, N
 use Rattle.pie_explanation.specs.declared.setter.Setter.TheVariants.{Event, Opening, Untold}
 use Rattle.pie_explain.specs.Answer.{no_event}
 use Rattle.pie_explanation.specs.Record.{setter_number}
-use Rattle.pie_explain.specs.Start.{Start, from_opening, setter_told}
+use Rattle.pie_setter.specs.Start.{Start, from_opening, setter_told}
 use Rattle.pie_explanation.specs.Setter.{setter_from}
 
 -- a text of the events from 101 on, which tells what set the probability before them or not

@@ -23,8 +23,10 @@ use Rattle.pie_explanation.specs.declared.choice.Choice.{Choice}
 use Rattle.pie_explanation.specs.declared.which.Which.{Which}
 use Rattle.pie_explanation.specs.declared.which.Which.TheVariants.{Number, Tag, Lost, Marked, All}
 use Rattle.pie_explanation.specs.Choice.{is_whole}
-use Rattle.pie_explain.specs.Explanations.{explanations, setter_after, setter_by}
-use Rattle.pie_explain.specs.Start.{Start, explanations_since, setter_told}
+use Rattle.pie_explain.specs.Explanations.{explanations}
+use Rattle.pie_setter.specs.Setters.{setter_after, setter_by}
+use Rattle.pie_setter.specs.Start.{Start, setter_told}
+use Rattle.pie_explain.specs.Since.{explanations_since}
 
 -- why an event is not explained that is none of those of a text: so many were before it, and so many are up to its end
 abbrev pub no_event : ℕ → ℕ → ℕ → ExplainFault

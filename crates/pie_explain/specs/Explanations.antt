@@ -1,68 +1,20 @@
--- What there is to say of the events of a history's lines, and which event set the probability.
-use Rattle.std.specs.Prelude.{ℕ, ◌+◌, Bool, true, false, not, ◌&&◌, List, [], ◌∷◌, ◌++◌, Option, Some, None, option_map, if◌then◌else◌}
-use Rattle.std.specs.List.{filter_map, last_or}
-use Rattle.pie_event.specs.declared.command.Command.{Command}
-use Rattle.pie_event.specs.declared.command.Command.TheVariants.{Arrive, Depart, Update, Reset, SetParams}
+-- What there is to say of the events of a history's lines.
+use Rattle.std.specs.Prelude.{ℕ, ◌+◌, Bool, true, false, List, [], ◌∷◌, ◌++◌, Option, Some, None, option_map}
+use Rattle.std.specs.List.{filter_map}
 use Rattle.pie_event.specs.declared.command.Event.{Event}
 use Rattle.pie_event.specs.declared.opening.Opening.{Opening}
-use Rattle.pie_book.specs.Estimates.{active_after}
 use Rattle.pie_record.specs.declared.history_record.Line.{Line}
 use Rattle.pie_record.specs.declared.history_record.Line.TheVariants.{Made, Unmakeable, Note}
 use Rattle.pie_record.specs.declared.history_record.Line.TheVariants as line
 use Rattle.pie_record.specs.HistoryLines.{event_count, latest_clock}
-use Rattle.pie_audit.specs.Finding.{LinePlace, events_of, first_difference, line_places, number_of}
+use Rattle.pie_audit.specs.Finding.{LinePlace, events_of, first_difference, line_places}
 use Rattle.pie_explanation.specs.declared.explanation.Explained.{Explained}
 use Rattle.pie_explanation.specs.declared.explanation.Explanation.{Explanation}
 use Rattle.pie_explanation.specs.declared.choice.Choice.{Choice}
 use Rattle.pie_explanation.specs.declared.setter.Setter.{Setter}
-use Rattle.pie_explanation.specs.declared.setter.Setter.TheVariants as setter
 use Rattle.pie_explanation.specs.Choice.{picks}
 use Rattle.pie_explanation.specs.Explanation.{explanation, moment_of, with_after}
-
--- ---- which event set the probability
-
--- an event sets the probability, where the controller was active before it or not, and is active after it or not: an update
--- while it is active, a reset, and an arrival that turns it on (RFC 8033, section 5.3)
-abbrev pub is_setting : Bool → Command → Bool → Bool
-is_setting was (Arrive moment packet word) is = not was && is
-is_setting was (Depart moment) is = false
-is_setting was (Update moment) is = was
-is_setting was (Reset moment) is = true
-is_setting was (SetParams moment params) is = false
-
--- a line tells such an event
-abbrev pub sets_probability : Bool → Line → Bool → Bool
-sets_probability was (Made event) is = is_setting was event.command is
-sets_probability was Unmakeable is = false
-sets_probability was Note is = false
-sets_probability was (line.Clock clock) is = false
-
--- the controller is active after the events of these lines
-abbrev pub is_active_after : Opening → List Line → Bool
-is_active_after opening lines = active_after opening (events_of lines)
-
--- a line after these sets it
-abbrev pub sets_after : Opening → List Line → Line → Bool
-sets_after opening lines line = sets_probability (is_active_after opening lines) line (is_active_after opening (lines ++ line ∷ []))
-
--- the number of the event of a place, where it sets the probability
-abbrev pub setter_at : Opening → LinePlace → Option ℕ
-setter_at opening place = if sets_after opening place.before place.line then Some (number_of place) else None
-
--- the number of the last such event among these lines
-unfoldable pub setter_after : Opening → List Line → Option ℕ
-setter_after opening lines = last_or None (filter_map (setter_at opening) (line_places lines))
-
--- .. which is none where the probability is still the opening's
-abbrev pub setter_by : Option ℕ → Setter
-setter_by None = setter.Opening
-setter_by (Some number) = setter.Event number
-
--- what set it, with this line, where these events were counted with it
-abbrev pub setter_with : Bool → Line → Bool → ℕ → Setter → Setter
-setter_with was line is events before = if sets_probability was line is then setter.Event events else before
-
--- ---- of the lines of a history
+use Rattle.pie_setter.specs.Setters.{setter_after, setter_by}
 
 -- an explanation where this holds
 abbrev pub told_if : Bool → Explanation → Option Explanation

@@ -1,5 +1,5 @@
 pub mod Explanations
-pub mod Start
+pub mod Since
 pub mod Output
 pub mod Answer
 pub mod Either

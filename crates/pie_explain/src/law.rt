@@ -6,7 +6,7 @@ ghost use Rattle.pie_record.specs.declared.history_record.Line.{Line};
 ghost use Rattle.pie_record.specs.declared.history_record.Line.TheVariants.{Made};
 ghost use Rattle.pie_explanation.specs.declared.choice.Choice.{Choice};
 ghost use Rattle.pie_explain.specs.Explanations.{explanations};
-ghost use Rattle.pie_explain.specs.Start.{as_told, explanations_since};
+ghost use Rattle.pie_explain.specs.Since.{as_told, explanations_since};
 
 /// The law of excerpts. A text that goes on after some events of a history, and tells what set the probability before it, gives exactly the
 /// explanations that the whole history gives after those of these events (`rest`). One that doesn't tell it gives the same, but for what set

@@ -1,0 +1,21 @@
+-- What a text gives that goes on from the middle of a history: the explanations of the whole, of the events after its beginning.
+use Rattle.std.specs.Prelude.{nat_lt, List, Option, Some, None, if◌then◌else◌}
+use Rattle.std.specs.List.{filter_map}
+use Rattle.pie_event.specs.declared.opening.Opening.{Opening}
+use Rattle.pie_record.specs.declared.history_record.Line.{Line}
+use Rattle.pie_explanation.specs.declared.explanation.Explained.{Explained}
+use Rattle.pie_explanation.specs.declared.choice.Choice.{Choice}
+use Rattle.pie_setter.specs.Start.{Start, setter_told}
+use Rattle.pie_explain.specs.Explanations.{explanations}
+
+-- an explanation, as the text gives it
+abbrev pub as_told : Start → Explained → Explained
+as_told start one = record one { told = record one.told { set_by = setter_told start one.told.set_by } }
+
+-- .. where it is of an event of the text
+abbrev pub told_since : Start → Explained → Option Explained
+told_since start one = if nat_lt start.events one.told.number then Some (as_told start one) else None
+
+-- what there is to say of the chosen events of a history of these lines, of those that a text has which begins so
+unfoldable pub explanations_since : Start → Opening → Choice → List Line → List Explained
+explanations_since start opening choice lines = filter_map (told_since start) (explanations opening choice lines)

@@ -2,3 +2,4 @@ pub mod PlainFacts
 pub mod Records
 pub mod Openings
 pub mod LostFacts
+pub mod WriteFacts

@@ -1,17 +1,23 @@
 //! Records of a history as plain bytes: the opening, an event, a refusal, a fold, the registers, the statistics and the time of day, each made from
 //! its last field to its first in a row, with no memory taken. What is written is the text that pie_record's definitions give. Whoever writes a
 //! record calls this crate.
+//!
+//! `write_history`: what was written is the opening's record and a record for each event (clause `written`), and it is read back as the same
+//! opening and events (`read_back`).
 #![tactic(auto)]
 
 mod event;
 pub mod law;
 mod note;
+mod number_ranges;
 mod opening;
 mod params;
 mod words;
+pub mod write;
 
 pub use event::{put_arrival, put_empty, put_event, put_left, put_reset, put_update};
 pub use law::lost_records_are_faults;
 pub use note::{put_clock, put_folded, put_lost, put_refused, put_shown, put_tallied};
 pub use opening::put_opening;
 pub use params::put_params;
+pub use write::write_history;

@@ -5,7 +5,6 @@ pub mod RunFacts
 pub mod EndFacts
 pub mod ResumedFacts
 pub mod GoingFacts
-pub mod WriteFacts
 pub mod RunBack
 pub mod Examples
 pub mod ExamplesRuns

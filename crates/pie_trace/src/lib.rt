@@ -11,8 +11,7 @@
 //! `run_either`: the same of a whole trace; of one that goes on from the middle of a history, for every history that comes to the numbers and
 //! packets with which it begins, what a run of the whole would write and tell from there on, where its tail is empty (`RunsExcerpt`).
 //!
-//! `write_history`: what was written is the opening's record and a record for each event (clause `written`), and it is read back as the same
-//! opening and events (`read_back`). `history_texts_are_read_back` is the same law of what a run writes.
+//! `history_texts_are_read_back`: what a run writes is read back as the same opening and events.
 //!
 //! `migrate`: the history in version two, or in version three as it is (`writes`), which tells the same opening and lines (`same`), or the
 //! history's first fault (`faults`). Laws: `migrated_histories_are_read_back`, `migrating_again_changes_nothing`,
@@ -27,11 +26,9 @@ pub mod law;
 pub mod migration;
 pub mod migration_finding;
 pub mod migration_law;
-mod number_ranges;
 mod resumed;
 pub mod run;
 mod session;
-pub mod write;
 
 pub use finding::runs_are_clean;
 pub use law::{history_texts_are_read_back, resumed_runs_go_on_as_the_whole};
@@ -42,5 +39,5 @@ pub use migration_law::{
     migrating_again_changes_nothing,
 };
 pub use pie_record::{Flaw, HistoryLines, Line, OpenFault, TraceFault, Version};
+pub use pie_text::write_history;
 pub use run::{RunEnd, run_either, run_trace, run_trace_within};
-pub use write::write_history;

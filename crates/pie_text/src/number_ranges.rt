@@ -6,7 +6,7 @@ ghost use Rattle.pie_record.specs.Field.{most_u16};
 ghost use Rattle.pie_event.specs.Ranges.{AnswerFits, CommandFits, PacketFits, ParamsFit};
 ghost use Rattle.pie_record.specs.ReadBack.{EventFits};
 
-use pie_book::{Answer, Command, Event};
+use pie_event::{Answer, Command, Event};
 use pie_params::Params;
 use pie_queue::Packet;
 

@@ -1,6 +1,6 @@
 #!/usr/bin/env python3
 """Holds the documents to the code: docs/MODEL.md names each definition that a clause of a public function cites, and each function,
-definition and must-fail edit of its table of rules exists; map and table of crates in docs/ARCHITECTURE.md are those of crates.txt
+definition and wrong body of its table of rules exists; map and table of crates in docs/ARCHITECTURE.md are those of crates.txt
 (docs/map.py --check). It reads by the layout that `rt fmt` writes. Exit status 1 where something is missing.
 
 usage: tests/documents/model_and_architecture.py
@@ -76,8 +76,8 @@ def missing_of_rules(model):
             if name not in defined:
                 yield f"docs/MODEL.md: {rule}: no definition {name}"
         crate, name = edit.replace("`", "").split()
-        if not (ROOT / "crates" / crate / "must-fail" / f"{name}.edit").exists():
-            yield f"docs/MODEL.md: {rule}: no must-fail edit {name}"
+        if not any((ROOT / "crates" / crate / folder / f"{name}.edit").exists() for folder in ("must-fail", "mutations")):
+            yield f"docs/MODEL.md: {rule}: no wrong body {name}"
 
 
 def main():

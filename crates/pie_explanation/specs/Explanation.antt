@@ -1,8 +1,8 @@
 -- What there is to say of an event after a history: the numbers that it met, and what decided it.
 use Rattle.std.specs.Prelude.{ℕ, max, List, Option}
-use Rattle.pie_book.specs.declared.command.Event.{Event}
-use Rattle.pie_book.specs.declared.opening.Opening.{Opening}
-use Rattle.pie_book.specs.Deed.{deed_of, handed_in, is_update}
+use Rattle.pie_event.specs.declared.command.Event.{Event}
+use Rattle.pie_event.specs.declared.opening.Opening.{Opening}
+use Rattle.pie_event.specs.Deed.{deed_of, handed_in, is_update}
 use Rattle.pie_book.specs.History.{effective_moment, waiting_after}
 use Rattle.pie_book.specs.Estimates.{delay_after}
 use Rattle.pie_book.specs.Registers.{registers_after}

@@ -1,10 +1,11 @@
 -- How a command of `clap` is put together from arguments and subcommands, one after the other.
-use Rattle.std.proofs.Common.{◌≡◌, ◌∙◌, ◌+◌, ◌<◌, ℕ, List, [], ◌∷◌, add-one, drop, drop-cons, get_or, length, Bool, true, false, refl, sym, ap}
+use Rattle.std.proofs.Common.{◌≡◌, ◌∙◌, ◌+◌, ◌<◌, ℕ, List, [], ◌∷◌, IfOk, Result, suc, add-one, drop, drop-cons, get_or, length, Bool, true, false, refl, sym, ap}
 use Rattle.std.specs.Prelude.{◌&&◌, not}
 use Rattle.clap.specs.Words.{AddsSubcommand, App, Rule, app_of, new_rule, with_rule, with_subcommand}
 use Rattle.clap.specs.declared.builder.command.Command.{Command}
 use Rattle.pie_options.specs.declared.subcommand.Subcommand.{Subcommand}
 use Rattle.pie_options.specs.declared.subcommand.Subcommand.TheVariants.{Run, Audit, Explain, Cut, Migrate, Storm, Params}
+use Rattle.pie_options.specs.Building.{WantsRules, WantsSubcommands}
 use Rattle.pie_options.specs.Words.{app_for, with_rules, with_subcommands}
 
 drop-all : {A : Type 0} (xs : List A) → drop (length xs) xs ≡ []
@@ -14,14 +15,16 @@ drop-all (x ∷ xs) = drop-all xs
 -- ---- arguments
 
 -- one more, of those that are left
-pub rules-more : (app new : App) (rules : List Rule) (place : ℕ) (rule : Rule) (whole : App) → place < length rules
-    → rule ≡ get_or rules place (new_rule []) → new ≡ with_rule app rule → with_rules app (drop place rules) ≡ whole
-    → with_rules new (drop (place + 1) rules) ≡ whole
-rules-more app new rules place rule whole within is made so =
-    rw (made, is, add-one) (rw (drop-cons rules place (new_rule [])) at so)
+pub rules-more : {E : Type 0} (begun next : Result Command E) (rules : List Rule) (place : ℕ) (rule : Rule) (whole : App) → place < length rules
+    → rule ≡ get_or rules place (new_rule [])
+    → ((rest : List Rule) (all : App) → WantsRules (rule ∷ rest) all begun → WantsRules rest all next)
+    → WantsRules (drop place rules) whole begun → WantsRules (drop (place + 1) rules) whole next
+rules-more begun next rules place rule whole within is adds so =
+    rw add-one (adds (drop (suc place) rules) whole (rw is (rw (drop-cons rules place (new_rule [])) at so)))
 
-pub rules-all : (app : App) (rules : List Rule) (whole : App) → with_rules app (drop (length rules) rules) ≡ whole → app ≡ whole
-rules-all app rules whole so = rw (drop-all rules) at so
+pub rules-all : {E : Type 0} (made : Result Command E) (rules : List Rule) (whole : App) → WantsRules (drop (length rules) rules) whole made
+    → IfOk made (λ command. app_of command ≡ whole)
+rules-all made rules whole so = rw (drop-all rules) at so
 
 -- ---- subcommands
 
@@ -49,14 +52,18 @@ adds_subcommand {above} {sub} sub_app sub_is plain added =
     added.shape (third _ _ _ _ (ap (λ (a : App). a.top.is_plain) sub_is ∙ plain))
     ∙ ap (λ (a : App). with_subcommand (app_of above) a.top) sub_is
 
-pub subcommands-more : {above sub with_it : Command} (subcommands : List Subcommand) (place : ℕ) (one : Subcommand) (whole : App)
-    → place < length subcommands → one ≡ get_or subcommands place Run → app_of sub ≡ app_for one → AddsSubcommand above sub with_it
-    → with_subcommands (app_of above) (drop place subcommands) ≡ whole
-    → with_subcommands (app_of with_it) (drop (place + 1) subcommands) ≡ whole
-subcommands-more {above} {sub} {with_it} subcommands place one whole within is made added so =
-    let grown = adds_subcommand {above = above} {sub = sub} {with_it = with_it} (app_for one) made (plain-for one) added in
-    rw (grown, is, add-one) (rw (drop-cons subcommands place Run) at so)
+pub subcommands-more : {above sub with_it : Command} (one : Subcommand) (rest : List Subcommand) (whole : App) → app_of sub ≡ app_for one
+    → AddsSubcommand above sub with_it → with_subcommands (app_of above) (one ∷ rest) ≡ whole → with_subcommands (app_of with_it) rest ≡ whole
+subcommands-more {above} {sub} {with_it} one rest whole made added so =
+    rw (adds_subcommand {above = above} {sub = sub} {with_it = with_it} (app_for one) made (plain-for one) added) so
 
-pub subcommands-all : (app : App) (subcommands : List Subcommand) (whole : App)
-    → with_subcommands app (drop (length subcommands) subcommands) ≡ whole → app ≡ whole
-subcommands-all app subcommands whole so = rw (drop-all subcommands) at so
+pub subcommands-left : {E : Type 0} (begun next : Result Command E) (subcommands : List Subcommand) (place : ℕ) (one : Subcommand) (whole : App)
+    → place < length subcommands → one ≡ get_or subcommands place Run
+    → ((rest : List Subcommand) (all : App) → WantsSubcommands (one ∷ rest) all begun → WantsSubcommands rest all next)
+    → WantsSubcommands (drop place subcommands) whole begun → WantsSubcommands (drop (place + 1) subcommands) whole next
+subcommands-left begun next subcommands place one whole within is adds so =
+    rw add-one (adds (drop (suc place) subcommands) whole (rw is (rw (drop-cons subcommands place Run) at so)))
+
+pub subcommands-all : {E : Type 0} (made : Result Command E) (subcommands : List Subcommand) (whole : App)
+    → WantsSubcommands (drop (length subcommands) subcommands) whole made → IfOk made (λ pie. app_of pie ≡ whole)
+subcommands-all made subcommands whole so = rw (drop-all subcommands) at so

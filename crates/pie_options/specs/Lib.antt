@@ -1,3 +1,4 @@
 pub mod Arguments
+pub mod Building
 pub mod Subcommands
 pub mod Words

@@ -1,20 +1,17 @@
 //! The words of `pie audit`: what it takes, and what `--help` says of it.
-ghost use Rattle.std.specs.Prelude.{◌≡◌, IfOk};
-ghost use Rattle.clap.specs.Words.{app_of};
+ghost use Rattle.std.specs.Prelude.{◌≡◌, map};
+ghost use Rattle.pie_options.specs.Arguments.{rule_for};
 ghost use Rattle.pie_options.specs.declared.subcommand.Subcommand.{Subcommand};
-ghost use Rattle.pie_options.specs.Words.{app_for};
+ghost use Rattle.pie_options.specs.Words.{rules_for};
 
 use crate::argument::{Argument, PROGRESS, Takes};
-use crate::command_line::command_of;
-use clap::Command;
-use std::alloc::{AllocError, Global};
 
 /// What `pie audit` is for.
-const ABOUT: &str =
+pub(crate) const ABOUT: &str =
     "Reads histories from files, or one from standard input, and decides each of their events again";
 
 /// What `pie audit --help` says below its options.
-const HELP: &str =
+pub(crate) const HELP: &str =
     "A history is what pie run writes: the first record of a trace, and then one record for each that followed, with what it
 was answered. An audit decides each event again, from the opening and the events before it, and compares.
 
@@ -53,22 +50,24 @@ A verdict that was changed is found, and the line is differs,1:
 
   printf 'open,0,4,16,100\\narrive,1,10,7,1500,ect0,0\\ndepart,2,25\\n' | pie run | sed s/enqueue/mark/ | pie audit";
 
-/// The subcommand `audit`.
-pub(crate) fn command<'a>(alloc: Global) -> Result<Command<'a>, AllocError>
-    ensures { IfOk result (λ command. app_of command ≡ app_for Subcommand.Audit) }
+/// What it takes.
+const ARGUMENTS: &[Argument] = &[
+    Argument {
+        name: "joined",
+        takes: Takes::Nothing,
+        help: "The files are of one history, in order: tell whether each goes on where the one before it ends",
+    },
+    PROGRESS,
+    Argument {
+        name: "file",
+        takes: Takes::Files,
+        help: "The files to audit; -: standard input",
+    },
+];
+
+/// What it takes, as a subcommand of `pie`.
+pub(crate) fn arguments() -> &'static [Argument]
+    ensures { map rule_for result.now ≡ rules_for Subcommand.Audit }
 {
-    let arguments = [
-        Argument {
-            name: "joined",
-            takes: Takes::Nothing,
-            help: "The files are of one history, in order: tell whether each goes on where the one before it ends",
-        },
-        PROGRESS,
-        Argument {
-            name: "file",
-            takes: Takes::Files,
-            help: "The files to audit; -: standard input",
-        },
-    ];
-    command_of(alloc, "audit", ABOUT, HELP, &arguments)
+    ARGUMENTS
 }

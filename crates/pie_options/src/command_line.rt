@@ -1,8 +1,10 @@
 //! The command line of `pie`: the command of `clap`, made from what each subcommand takes.
-ghost use Rattle.std.specs.Prelude.{◌≡◌, ◌<◌, IfOk, [], false, get_or, length, map};
-ghost use Rattle.clap.specs.Words.{app_of, new_app, new_rule, rule_of, with_rule};
+ghost use Rattle.std.specs.Prelude.{◌≡◌, ◌<◌, ◌∷◌, IfOk, List, [], false, get_or, length, map};
+ghost use Rattle.clap.specs.Words.{App, Rule, app_of, new_app, new_rule, rule_of};
 ghost use Rattle.pie_options.specs.Arguments.{rule_for};
-ghost use Rattle.pie_options.specs.Words.{app_for, pie_alone, pie_app, with_rules, with_subcommands};
+ghost use Rattle.pie_options.specs.Building.{WantsRules, WantsSubcommands};
+ghost use Rattle.pie_options.specs.Subcommands.{word_of};
+ghost use Rattle.pie_options.specs.Words.{app_for, pie_alone, pie_app, rules_for, with_rules, with_subcommands};
 
 use crate::argument::{Argument, arg_of};
 use crate::help::PIE_HELP;
@@ -21,16 +23,22 @@ fn plain<'a>(alloc: Global, name: &'a str, about: &'a str, help: &'a str) -> Com
     Command::new(alloc, name).about(about).after_help(help)
 }
 
-/// A command with one more argument.
-fn with_argument<'a>(command: Command<'a>, argument: Arg<'a>) -> Result<Command<'a>, AllocError>
+/// What there is of a command, with one more argument.
+fn with_argument<'a>(
+    begun: Result<Command<'a>, AllocError>,
+    argument: Arg<'a>,
+) -> Result<Command<'a>, AllocError>
     requires { argument.global ≡ false }
-    ensures { IfOk result (λ whole. app_of whole ≡ with_rule (app_of command.entry) (rule_of argument.entry)) }
+    ensures { (rules : List Rule) (whole : App) → WantsRules (rule_of argument.entry ∷ rules) whole begun.entry → WantsRules rules whole result }
 {
-    command.arg(argument)
+    match begun {
+        Ok(command) => command.arg(argument),
+        Err(why) => Err(why),
+    }
 }
 
 /// The argument at this place.
-fn argument_at<'a>(arguments: &[Argument<'a>], place: usize) -> Argument<'a>
+fn argument_at(arguments: &[Argument], place: usize) -> Argument
     requires { place < length arguments.now }
     ensures { rule_for result ≡ get_or (map rule_for arguments.now) place (new_rule []) }
 {
@@ -38,35 +46,90 @@ fn argument_at<'a>(arguments: &[Argument<'a>], place: usize) -> Argument<'a>
 }
 
 /// The subcommand of this name, with what it takes.
-pub(crate) fn command_of<'a>(
+fn command_of<'a>(
     alloc: Global,
     name: &'a str,
     about: &'a str,
     help: &'a str,
-    arguments: &[Argument<'a>],
+    arguments: &[Argument],
 ) -> Result<Command<'a>, AllocError>
     ensures { IfOk result (λ command. app_of command ≡ with_rules (new_app name.now) (map rule_for arguments.now)) }
 {
-    let mut command = plain(alloc, name, about, help);
+    let mut command = Ok(plain(alloc, name, about, help));
     for place in 0..arguments.len() {
-        command = with_argument(command, arg_of(alloc, argument_at(arguments, place)))?;
+        command = with_argument(command, arg_of(alloc, argument_at(arguments, place)));
     }
-    Ok(command)
+    command
+}
+
+/// The word that asks for a subcommand.
+fn name_of<'a>(subcommand: Subcommand) -> &'a str
+    ensures { result.now ≡ word_of subcommand }
+{
+    match subcommand {
+        Subcommand::Run => "run",
+        Subcommand::Audit => "audit",
+        Subcommand::Explain => "explain",
+        Subcommand::Cut => "cut",
+        Subcommand::Migrate => "migrate",
+        Subcommand::Storm => "storm",
+        Subcommand::Params => "params",
+    }
+}
+
+/// What a subcommand is for.
+fn about_of<'a>(subcommand: Subcommand) -> &'a str {
+    match subcommand {
+        Subcommand::Run => run::ABOUT,
+        Subcommand::Audit => audit::ABOUT,
+        Subcommand::Explain => explain::ABOUT,
+        Subcommand::Cut => cut::ABOUT,
+        Subcommand::Migrate => migrate::ABOUT,
+        Subcommand::Storm => storm::ABOUT,
+        Subcommand::Params => params::ABOUT,
+    }
+}
+
+/// What its help says below its options.
+fn help_of<'a>(subcommand: Subcommand) -> &'a str {
+    match subcommand {
+        Subcommand::Run => run::HELP,
+        Subcommand::Audit => audit::HELP,
+        Subcommand::Explain => explain::HELP,
+        Subcommand::Cut => cut::HELP,
+        Subcommand::Migrate => migrate::HELP,
+        Subcommand::Storm => storm::HELP,
+        Subcommand::Params => params::HELP,
+    }
+}
+
+/// What it takes.
+fn arguments_of(subcommand: Subcommand) -> &'static [Argument]
+    ensures { map rule_for result.now ≡ rules_for subcommand }
+{
+    match subcommand {
+        Subcommand::Run => run::arguments(),
+        Subcommand::Audit => audit::arguments(),
+        Subcommand::Explain => explain::arguments(),
+        Subcommand::Cut => cut::arguments(),
+        Subcommand::Migrate => migrate::arguments(),
+        Subcommand::Storm => storm::arguments(),
+        Subcommand::Params => params::arguments(),
+    }
 }
 
 /// What `clap` knows of a subcommand.
 fn command_for<'a>(alloc: Global, subcommand: Subcommand) -> Result<Command<'a>, AllocError>
     ensures { IfOk result (λ command. app_of command ≡ app_for subcommand) }
 {
-    match subcommand {
-        Subcommand::Run => run::command(alloc),
-        Subcommand::Audit => audit::command(alloc),
-        Subcommand::Explain => explain::command(alloc),
-        Subcommand::Cut => cut::command(alloc),
-        Subcommand::Migrate => migrate::command(alloc),
-        Subcommand::Storm => storm::command(alloc),
-        Subcommand::Params => params::command(alloc),
-    }
+    let (about, help) = (about_of(subcommand), help_of(subcommand));
+    command_of(
+        alloc,
+        name_of(subcommand),
+        about,
+        help,
+        arguments_of(subcommand),
+    )
 }
 
 /// `pie` without its subcommands.
@@ -80,16 +143,30 @@ fn alone<'a>(alloc: Global) -> Command<'a>
         .subcommand_required(true)
 }
 
+/// What there is of `pie`, with one more subcommand.
+fn with_subcommand<'a>(
+    alloc: Global,
+    begun: Result<Command<'a>, AllocError>,
+    subcommand: Subcommand,
+) -> Result<Command<'a>, AllocError>
+    ensures { (subcommands : List Subcommand) (whole : App) → WantsSubcommands (subcommand ∷ subcommands) whole begun.entry
+        → WantsSubcommands subcommands whole result }
+{
+    match (begun, command_for(alloc, subcommand)) {
+        (Ok(pie), Ok(command)) => pie.subcommand(command),
+        (_, Err(why)) | (Err(why), _) => Err(why),
+    }
+}
+
 /// `pie` and these subcommands.
 fn with_each<'a>(alloc: Global, subcommands: &[Subcommand]) -> Result<Command<'a>, AllocError>
     ensures { IfOk result (λ pie. app_of pie ≡ with_subcommands pie_alone subcommands.now) }
 {
-    let mut pie = alone(alloc);
+    let mut pie = Ok(alone(alloc));
     for subcommand in subcommands {
-        let command = command_for(alloc, *subcommand)?;
-        pie = pie.subcommand(command)?;
+        pie = with_subcommand(alloc, pie, *subcommand);
     }
-    Ok(pie)
+    pie
 }
 
 /// `pie` and its subcommands.

@@ -1,20 +1,17 @@
 //! The words of `pie cut`: what it takes, and what `--help` says of it.
-ghost use Rattle.std.specs.Prelude.{◌≡◌, IfOk};
-ghost use Rattle.clap.specs.Words.{app_of};
+ghost use Rattle.std.specs.Prelude.{◌≡◌, map};
+ghost use Rattle.pie_options.specs.Arguments.{rule_for};
 ghost use Rattle.pie_options.specs.declared.subcommand.Subcommand.{Subcommand};
-ghost use Rattle.pie_options.specs.Words.{app_for};
+ghost use Rattle.pie_options.specs.Words.{rules_for};
 
 use crate::argument::{Argument, FILE, FORCE, OUTPUT, PROGRESS, Takes};
-use crate::command_line::command_of;
-use clap::Command;
-use std::alloc::{AllocError, Global};
 
 /// What `pie cut` is for.
-const ABOUT: &str =
+pub(crate) const ABOUT: &str =
     "Reads a history from a file or standard input and cuts out some of its events, as a text that stands alone";
 
 /// What `pie cut --help` says below its options.
-const HELP: &str =
+pub(crate) const HELP: &str =
     "What is cut out is an excerpt: it begins with what the controller held before its first event, in a record resume, with the packets
 that waited then, in records queued, and with the last time of day that was told before, in a record clock; then come its events, and
 the times of day between them, as they were read, without the notes. So pie audit and pie explain take it as they take the whole, and
@@ -45,45 +42,47 @@ Files of a million events each, day.0000 and so on, and their audit:
   pie cut --every 1000000 day | csplit -z -n 4 -f day. - '/^resume,/' '{*}'
   pie audit day.*";
 
-/// The subcommand `cut`.
-pub(crate) fn command<'a>(alloc: Global) -> Result<Command<'a>, AllocError>
-    ensures { IfOk result (λ command. app_of command ≡ app_for Subcommand.Cut) }
+/// What it takes.
+const ARGUMENTS: &[Argument] = &[
+    Argument {
+        name: "from",
+        takes: Takes::Value("MOMENT"),
+        help: "Cut out the events at this moment and later, such as 1.5ms",
+    },
+    Argument {
+        name: "to",
+        takes: Takes::Value("MOMENT"),
+        help: "Cut out the events at this moment and earlier",
+    },
+    Argument {
+        name: "event",
+        takes: Takes::Number(1, u64::MAX),
+        help: "Cut out the event with this number, counted from 1",
+    },
+    Argument {
+        name: "around",
+        takes: Takes::Number(0, u64::MAX),
+        help: "With an event: so many before and after it too",
+    },
+    Argument {
+        name: "last",
+        takes: Takes::Number(1, u64::MAX),
+        help: "Cut out the last N events of a file",
+    },
+    Argument {
+        name: "every",
+        takes: Takes::Number(1, u64::MAX),
+        help: "Cut all events into segments of N, one after another",
+    },
+    PROGRESS,
+    OUTPUT,
+    FORCE,
+    FILE,
+];
+
+/// What it takes, as a subcommand of `pie`.
+pub(crate) fn arguments() -> &'static [Argument]
+    ensures { map rule_for result.now ≡ rules_for Subcommand.Cut }
 {
-    let arguments = [
-        Argument {
-            name: "from",
-            takes: Takes::Value("MOMENT"),
-            help: "Cut out the events at this moment and later, such as 1.5ms",
-        },
-        Argument {
-            name: "to",
-            takes: Takes::Value("MOMENT"),
-            help: "Cut out the events at this moment and earlier",
-        },
-        Argument {
-            name: "event",
-            takes: Takes::Number(1, u64::MAX),
-            help: "Cut out the event with this number, counted from 1",
-        },
-        Argument {
-            name: "around",
-            takes: Takes::Number(0, u64::MAX),
-            help: "With an event: so many before and after it too",
-        },
-        Argument {
-            name: "last",
-            takes: Takes::Number(1, u64::MAX),
-            help: "Cut out the last N events of a file",
-        },
-        Argument {
-            name: "every",
-            takes: Takes::Number(1, u64::MAX),
-            help: "Cut all events into segments of N, one after another",
-        },
-        PROGRESS,
-        OUTPUT,
-        FORCE,
-        FILE,
-    ];
-    command_of(alloc, "cut", ABOUT, HELP, &arguments)
+    ARGUMENTS
 }

@@ -1,20 +1,17 @@
 //! The words of `pie explain`: what it takes, and what `--help` says of it.
-ghost use Rattle.std.specs.Prelude.{◌≡◌, IfOk};
-ghost use Rattle.clap.specs.Words.{app_of};
+ghost use Rattle.std.specs.Prelude.{◌≡◌, map};
+ghost use Rattle.pie_options.specs.Arguments.{rule_for};
 ghost use Rattle.pie_options.specs.declared.subcommand.Subcommand.{Subcommand};
-ghost use Rattle.pie_options.specs.Words.{app_for};
+ghost use Rattle.pie_options.specs.Words.{rules_for};
 
 use crate::argument::{Argument, FILE, FORCE, OUTPUT, PROGRESS, Takes};
-use crate::command_line::command_of;
-use clap::Command;
-use std::alloc::{AllocError, Global};
 
 /// What `pie explain` is for.
-const ABOUT: &str =
+pub(crate) const ABOUT: &str =
     "Reads a history from a file or standard input and says why its events went as they did";
 
 /// What `pie explain --help` says below its options.
-const HELP: &str =
+pub(crate) const HELP: &str =
     "One of --event, --tag, --lost, --marked and --all chooses the events; with --summary, --every or --digest none has to. Each
 event of the history is decided again, as pie audit does, and of a chosen one is said which case of the rules decided it, and on
 which numbers: those before the event.
@@ -65,75 +62,77 @@ writes why the last packet of that trace was dropped:
     before it: 3 packets, 2548 bytes, a delay of 2.488281 ms (2488281 ns)
     probability 90.3954 % (903954174169), set by event 9; last update at 1.001002 ms (1001002 ns); burst allowance 0.000000 ms (0 ns)";
 
-/// The subcommand `explain`.
-pub(crate) fn command<'a>(alloc: Global) -> Result<Command<'a>, AllocError>
-    ensures { IfOk result (λ command. app_of command ≡ app_for Subcommand.Explain) }
+/// What it takes.
+const ARGUMENTS: &[Argument] = &[
+    Argument {
+        name: "event",
+        takes: Takes::Number(1, u64::MAX),
+        help: "Explain the event with this number, counted from 1",
+    },
+    Argument {
+        name: "tag",
+        takes: Takes::Number(0, u64::MAX),
+        help: "Explain each event of the packets with this tag",
+    },
+    Argument {
+        name: "lost",
+        takes: Takes::Nothing,
+        help: "Explain each arrival whose packet was dropped",
+    },
+    Argument {
+        name: "marked",
+        takes: Takes::Nothing,
+        help: "Explain each arrival whose packet was marked",
+    },
+    Argument {
+        name: "all",
+        takes: Takes::Nothing,
+        help: "Explain every event",
+    },
+    Argument {
+        name: "from",
+        takes: Takes::Value("MOMENT"),
+        help: "Only the chosen events at this moment or time of day and later, such as 1.5ms",
+    },
+    Argument {
+        name: "to",
+        takes: Takes::Value("MOMENT"),
+        help: "Only the chosen events at this moment or time of day and earlier",
+    },
+    Argument {
+        name: "summary",
+        takes: Takes::Nothing,
+        help: "Sum up the chosen events, in place of each; all of them where none are chosen",
+    },
+    Argument {
+        name: "every",
+        takes: Takes::Value("TIME"),
+        help: "Sum up the events of each period of this length, such as 100ms",
+    },
+    Argument {
+        name: "digest",
+        takes: Takes::Nothing,
+        help: "Sum up, and between the summaries explain each packet that was lost or marked",
+    },
+    Argument {
+        name: "csv",
+        takes: Takes::Nothing,
+        help: "Write CSV, a header and a record an event or a summary, in place of words",
+    },
+    Argument {
+        name: "wall",
+        takes: Takes::Nothing,
+        help: "Tell moments as times of day, in UTC, where the history tells them",
+    },
+    PROGRESS,
+    OUTPUT,
+    FORCE,
+    FILE,
+];
+
+/// What it takes, as a subcommand of `pie`.
+pub(crate) fn arguments() -> &'static [Argument]
+    ensures { map rule_for result.now ≡ rules_for Subcommand.Explain }
 {
-    let arguments = [
-        Argument {
-            name: "event",
-            takes: Takes::Number(1, u64::MAX),
-            help: "Explain the event with this number, counted from 1",
-        },
-        Argument {
-            name: "tag",
-            takes: Takes::Number(0, u64::MAX),
-            help: "Explain each event of the packets with this tag",
-        },
-        Argument {
-            name: "lost",
-            takes: Takes::Nothing,
-            help: "Explain each arrival whose packet was dropped",
-        },
-        Argument {
-            name: "marked",
-            takes: Takes::Nothing,
-            help: "Explain each arrival whose packet was marked",
-        },
-        Argument {
-            name: "all",
-            takes: Takes::Nothing,
-            help: "Explain every event",
-        },
-        Argument {
-            name: "from",
-            takes: Takes::Value("MOMENT"),
-            help: "Only the chosen events at this moment or time of day and later, such as 1.5ms",
-        },
-        Argument {
-            name: "to",
-            takes: Takes::Value("MOMENT"),
-            help: "Only the chosen events at this moment or time of day and earlier",
-        },
-        Argument {
-            name: "summary",
-            takes: Takes::Nothing,
-            help: "Sum up the chosen events, in place of each; all of them where none are chosen",
-        },
-        Argument {
-            name: "every",
-            takes: Takes::Value("TIME"),
-            help: "Sum up the events of each period of this length, such as 100ms",
-        },
-        Argument {
-            name: "digest",
-            takes: Takes::Nothing,
-            help: "Sum up, and between the summaries explain each packet that was lost or marked",
-        },
-        Argument {
-            name: "csv",
-            takes: Takes::Nothing,
-            help: "Write CSV, a header and a record an event or a summary, in place of words",
-        },
-        Argument {
-            name: "wall",
-            takes: Takes::Nothing,
-            help: "Tell moments as times of day, in UTC, where the history tells them",
-        },
-        PROGRESS,
-        OUTPUT,
-        FORCE,
-        FILE,
-    ];
-    command_of(alloc, "explain", ABOUT, HELP, &arguments)
+    ARGUMENTS
 }

@@ -1,20 +1,17 @@
 //! The words of `pie migrate`: what it takes, and what `--help` says of it.
-ghost use Rattle.std.specs.Prelude.{◌≡◌, IfOk};
-ghost use Rattle.clap.specs.Words.{app_of};
+ghost use Rattle.std.specs.Prelude.{◌≡◌, map};
+ghost use Rattle.pie_options.specs.Arguments.{rule_for};
 ghost use Rattle.pie_options.specs.declared.subcommand.Subcommand.{Subcommand};
-ghost use Rattle.pie_options.specs.Words.{app_for};
+ghost use Rattle.pie_options.specs.Words.{rules_for};
 
-use crate::argument::{FILE, FORCE, OUTPUT, PROGRESS};
-use crate::command_line::command_of;
-use clap::Command;
-use std::alloc::{AllocError, Global};
+use crate::argument::{Argument, FILE, FORCE, OUTPUT, PROGRESS};
 
 /// What `pie migrate` is for.
-const ABOUT: &str =
+pub(crate) const ABOUT: &str =
     "Reads a history from a file or standard input and writes the same history in version two";
 
 /// What `pie migrate --help` says below its options.
-const HELP: &str =
+pub(crate) const HELP: &str =
     "A history of version one begins with open or rolling. In version two it begins with open2,1,bounded or open2,1,rolling, each
 shown ends with 1, since its controller is always active, and all else stays. One of version two or three is written as it is.
 pie audit finds the same in both, and pie run --help says how records are written.
@@ -33,10 +30,12 @@ writes
   arrive,1,10,7,1500,ect0,0,enqueue
   shown,1,10,1,1500,0,0,0,150000000,0,0,0,1";
 
-/// The subcommand `migrate`.
-pub(crate) fn command<'a>(alloc: Global) -> Result<Command<'a>, AllocError>
-    ensures { IfOk result (λ command. app_of command ≡ app_for Subcommand.Migrate) }
+/// What it takes.
+const ARGUMENTS: &[Argument] = &[PROGRESS, OUTPUT, FORCE, FILE];
+
+/// What it takes, as a subcommand of `pie`.
+pub(crate) fn arguments() -> &'static [Argument]
+    ensures { map rule_for result.now ≡ rules_for Subcommand.Migrate }
 {
-    let arguments = [PROGRESS, OUTPUT, FORCE, FILE];
-    command_of(alloc, "migrate", ABOUT, HELP, &arguments)
+    ARGUMENTS
 }

@@ -1,20 +1,18 @@
 //! The words of `pie params`: what it takes, and what `--help` says of it.
-ghost use Rattle.std.specs.Prelude.{◌≡◌, IfOk};
-ghost use Rattle.clap.specs.Words.{app_of};
+ghost use Rattle.std.specs.Prelude.{◌≡◌, map};
+ghost use Rattle.pie_options.specs.Arguments.{rule_for};
 ghost use Rattle.pie_options.specs.declared.subcommand.Subcommand.{Subcommand};
-ghost use Rattle.pie_options.specs.Words.{app_for};
+ghost use Rattle.pie_options.specs.Words.{rules_for};
 
 use crate::argument::{Argument, Takes};
-use crate::command_line::command_of;
-use clap::Command;
-use std::alloc::{AllocError, Global};
 
 /// What `pie params` is for.
-const ABOUT: &str =
+pub(crate) const ABOUT: &str =
     "Writes the parameters and choices that tc's options ask for as the first record of a trace";
 
 /// What `pie params --help` says below its options.
-const HELP: &str = "The record opens a rolling book of version three, which may have 2^47 events:
+pub(crate) const HELP: &str =
+    "The record opens a rolling book of version three, which may have 2^47 events:
 open3,1,<delay>,<picking>,<step>,<size>,rolling,0,<packets>,<tail>,<events>, and the nine parameters where they are not the default
 ones, as pie run --help has it. TIME, RATE and PACKETS are written as tc reads them, in letters of any case: TIME is a number of ns, us,
 ms or s, as 20ms or 1.5msec; RATE one of bit, kbit, mbit, gbit or tbit (by 1024: kibit, mibit, gibit, tibit), or of bytes a second, bps,
@@ -39,71 +37,73 @@ writes, in one line,
   open3,1,rate,derandomized,capped,unscaled,rolling,0,1000,1000,140737488355328,
   20000000,15000000,150000000,125,1250,1024,2500000,100000000000,16384";
 
-/// The subcommand `params`.
-pub(crate) fn command<'a>(alloc: Global) -> Result<Command<'a>, AllocError>
-    ensures { IfOk result (λ command. app_of command ≡ app_for Subcommand.Params) }
+/// What it takes.
+const ARGUMENTS: &[Argument] = &[
+    Argument {
+        name: "rate",
+        takes: Takes::Value("RATE"),
+        help: "The link's rate, as 100mbit, of which limit_bytes is 200 ms",
+    },
+    Argument {
+        name: "target",
+        takes: Takes::Value("TIME"),
+        help: "The wanted delay; 15ms by default",
+    },
+    Argument {
+        name: "tupdate",
+        takes: Takes::Value("TIME"),
+        help: "The time between two updates; 15ms by default",
+    },
+    Argument {
+        name: "limit",
+        takes: Takes::Value("PACKETS"),
+        help: "How many packets may wait, as 1000p; 1000 by default",
+    },
+    Argument {
+        name: "alpha",
+        takes: Takes::Number(0, 32),
+        help: "The gain alpha of tc; 2 by default",
+    },
+    Argument {
+        name: "beta",
+        takes: Takes::Number(0, 32),
+        help: "The gain beta of tc; 20 by default",
+    },
+    Argument {
+        name: "ecn",
+        takes: Takes::Nothing,
+        help: "Mark packets of ECN-capable endpoints",
+    },
+    Argument {
+        name: "bytemode",
+        takes: Takes::Nothing,
+        help: "Pick a packet below the MTU less often, in proportion to its size",
+    },
+    Argument {
+        name: "mtu",
+        takes: Takes::Number(1, 65535),
+        help: "The link's MTU in bytes, for --bytemode; 1514 by default",
+    },
+    Argument {
+        name: "dq_rate_estimator",
+        takes: Takes::Nothing,
+        help: "Take delays from the departure rate, not from time stamps",
+    },
+    Argument {
+        name: "no_derandomization",
+        takes: Takes::Nothing,
+        help: "Pick packets by the random word alone",
+    },
+    Argument {
+        name: "no_cap_drop_adjustment",
+        takes: Takes::Nothing,
+        help: "Raise the probability as far as the control law says",
+    },
+];
+
+/// What it takes, as a subcommand of `pie`.
+pub(crate) fn arguments() -> &'static [Argument]
+    ensures { map rule_for result.now ≡ rules_for Subcommand.Params }
 {
-    let arguments = [
-        Argument {
-            name: "rate",
-            takes: Takes::Value("RATE"),
-            help: "The link's rate, as 100mbit, of which limit_bytes is 200 ms",
-        },
-        Argument {
-            name: "target",
-            takes: Takes::Value("TIME"),
-            help: "The wanted delay; 15ms by default",
-        },
-        Argument {
-            name: "tupdate",
-            takes: Takes::Value("TIME"),
-            help: "The time between two updates; 15ms by default",
-        },
-        Argument {
-            name: "limit",
-            takes: Takes::Value("PACKETS"),
-            help: "How many packets may wait, as 1000p; 1000 by default",
-        },
-        Argument {
-            name: "alpha",
-            takes: Takes::Number(0, 32),
-            help: "The gain alpha of tc; 2 by default",
-        },
-        Argument {
-            name: "beta",
-            takes: Takes::Number(0, 32),
-            help: "The gain beta of tc; 20 by default",
-        },
-        Argument {
-            name: "ecn",
-            takes: Takes::Nothing,
-            help: "Mark packets of ECN-capable endpoints",
-        },
-        Argument {
-            name: "bytemode",
-            takes: Takes::Nothing,
-            help: "Pick a packet below the MTU less often, in proportion to its size",
-        },
-        Argument {
-            name: "mtu",
-            takes: Takes::Number(1, 65535),
-            help: "The link's MTU in bytes, for --bytemode; 1514 by default",
-        },
-        Argument {
-            name: "dq_rate_estimator",
-            takes: Takes::Nothing,
-            help: "Take delays from the departure rate, not from time stamps",
-        },
-        Argument {
-            name: "no_derandomization",
-            takes: Takes::Nothing,
-            help: "Pick packets by the random word alone",
-        },
-        Argument {
-            name: "no_cap_drop_adjustment",
-            takes: Takes::Nothing,
-            help: "Raise the probability as far as the control law says",
-        },
-    ];
-    command_of(alloc, "params", ABOUT, HELP, &arguments)
+    ARGUMENTS
 }

@@ -1,20 +1,17 @@
 //! The words of `pie run`: what it takes, and what `--help` says of it.
-ghost use Rattle.std.specs.Prelude.{◌≡◌, IfOk};
-ghost use Rattle.clap.specs.Words.{app_of};
+ghost use Rattle.std.specs.Prelude.{◌≡◌, map};
+ghost use Rattle.pie_options.specs.Arguments.{rule_for};
 ghost use Rattle.pie_options.specs.declared.subcommand.Subcommand.{Subcommand};
-ghost use Rattle.pie_options.specs.Words.{app_for};
+ghost use Rattle.pie_options.specs.Words.{rules_for};
 
 use crate::argument::{Argument, FILE, FORCE, OUTPUT, PROGRESS, Takes};
-use crate::command_line::command_of;
-use clap::Command;
-use std::alloc::{AllocError, Global};
 
 /// What `pie run` is for.
-const ABOUT: &str =
+pub(crate) const ABOUT: &str =
     "Reads a trace from a file or standard input and writes its history to standard output";
 
 /// What `pie run --help` says below its options.
-const HELP: &str =
+pub(crate) const HELP: &str =
     "A trace is a text of CSV records, one a line. Each is written again with what it was answered. Moments and times are
 whole nanoseconds, from a start of your choosing and at most 2^60 - 1; probabilities are in units of 10^-12.
 
@@ -92,20 +89,22 @@ ends with
   arrive,1,1001003,5,500,ect0,0,mark
   arrive,2,1001003,6,500,not,0,early";
 
-/// The subcommand `run`.
-pub(crate) fn command<'a>(alloc: Global) -> Result<Command<'a>, AllocError>
-    ensures { IfOk result (λ command. app_of command ≡ app_for Subcommand.Run) }
+/// What it takes.
+const ARGUMENTS: &[Argument] = &[
+    Argument {
+        name: "count",
+        takes: Takes::Nothing,
+        help: "Say on standard error how many events and refused records there were",
+    },
+    PROGRESS,
+    OUTPUT,
+    FORCE,
+    FILE,
+];
+
+/// What it takes, as a subcommand of `pie`.
+pub(crate) fn arguments() -> &'static [Argument]
+    ensures { map rule_for result.now ≡ rules_for Subcommand.Run }
 {
-    let arguments = [
-        Argument {
-            name: "count",
-            takes: Takes::Nothing,
-            help: "Say on standard error how many events and refused records there were",
-        },
-        PROGRESS,
-        OUTPUT,
-        FORCE,
-        FILE,
-    ];
-    command_of(alloc, "run", ABOUT, HELP, &arguments)
+    ARGUMENTS
 }

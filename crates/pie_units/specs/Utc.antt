@@ -22,11 +22,14 @@ with_zeros digits n = replicate (digits - length (decimal n)) 48 ++ decimal n
 abbrev pub date_text : Date → List ℕ → List ℕ
 date_text date rest = with_zeros 4 date.year ++ codes "-" ++ with_zeros 2 date.month ++ codes "-" ++ with_zeros 2 date.day ++ rest
 
+abbrev pub seconds_text : ℕ → List ℕ → List ℕ
+seconds_text seconds rest = with_zeros 2 (seconds / 3600) ++ codes ":" ++ with_zeros 2 (seconds / 60 % 60) ++ codes ":"
+    ++ with_zeros 2 (seconds % 60) ++ rest
+
 -- so many nanoseconds after 1970-01-01T00:00:00Z
 unfoldable pub utc_text : ℕ → List ℕ
-utc_text unix = let seconds = unix % 86400000000000 / 10 ^ 9 in
-    date_text (date_of (unix / 86400000000000)) (codes "T" ++ with_zeros 2 (seconds / 3600) ++ codes ":" ++ with_zeros 2 (seconds / 60 % 60)
-    ++ codes ":" ++ with_zeros 2 (seconds % 60) ++ codes "." ++ with_zeros 9 (unix % 10 ^ 9) ++ codes "Z")
+utc_text unix = date_text (date_of (unix / 86400000000000)) (codes "T"
+    ++ seconds_text (unix % 86400000000000 / 10 ^ 9) (codes "." ++ with_zeros 9 (unix % 10 ^ 9) ++ codes "Z"))
 
 -- ---- how it is read
 

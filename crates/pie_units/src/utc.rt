@@ -36,6 +36,38 @@ pub enum UtcFault {
 #[derive(Clone, Copy, Debug, PartialEq, Eq)]
 pub struct Utc(pub u64);
 
+/// A date as it is written: `2026-11-24`.
+#[derive(Clone, Copy)]
+struct DateWords(Date);
+
+impl Display for DateWords {
+    ghost use Rattle.std.specs.Prelude.{Some, []};
+    ghost use Rattle.pie_units.specs.Utc.{date_text};
+
+    ghost output = { λ date. Some (date_text date.0 []) };
+
+    fn fmt<W: fmt::Write>(&self, f: &mut fmt::Formatter<W>) -> fmt::Result {
+        let Date { year, month, day } = self.0;
+        write!(f, "{year:04}-{month:02}-{day:02}")
+    }
+}
+
+/// So many seconds of a day as they are written: `20:00:00`.
+#[derive(Clone, Copy)]
+struct SecondsWords(u64);
+
+impl Display for SecondsWords {
+    ghost use Rattle.std.specs.Prelude.{Some, []};
+    ghost use Rattle.pie_units.specs.Utc.{seconds_text};
+
+    ghost output = { λ seconds. Some (seconds_text seconds.0 []) };
+
+    fn fmt<W: fmt::Write>(&self, f: &mut fmt::Formatter<W>) -> fmt::Result {
+        let (hour, minute, second) = (self.0 / 3600, self.0 / 60 % 60, self.0 % 60);
+        write!(f, "{hour:02}:{minute:02}:{second:02}")
+    }
+}
+
 impl Display for Utc {
     ghost use Rattle.std.specs.Prelude.{Some};
     ghost use Rattle.pie_units.specs.Utc.{utc_text};
@@ -43,14 +75,10 @@ impl Display for Utc {
     ghost output = { λ time. Some (utc_text time.0) };
 
     fn fmt<W: fmt::Write>(&self, f: &mut fmt::Formatter<W>) -> fmt::Result {
-        let Date { year, month, day } = date_of(self.0 / DAY);
-        let seconds = self.0 % DAY / SECOND;
-        let (hour, minute, second) = (seconds / 3600, seconds / 60 % 60, seconds % 60);
+        let date = DateWords(date_of(self.0 / DAY));
+        let time = SecondsWords(self.0 % DAY / SECOND);
         let nanos = self.0 % SECOND;
-        write!(
-            f,
-            "{year:04}-{month:02}-{day:02}T{hour:02}:{minute:02}:{second:02}.{nanos:09}Z"
-        )
+        write!(f, "{date}T{time}.{nanos:09}Z")
     }
 }
 

@@ -7,14 +7,12 @@ use Rattle.pie_event.specs.declared.command.Command.TheVariants.{Depart}
 use Rattle.pie_event.specs.declared.command.Answer.TheVariants.{Empty}
 use Rattle.pie_event.specs.declared.command.Event.{Event}
 use Rattle.pie_event.specs.declared.opening.Limits.{Limits}
-use Rattle.pie_event.specs.declared.opening.Mode.TheVariants.{Bounded}
 use Rattle.pie_event.specs.declared.opening.Opening.{Opening}
 use Rattle.pie_event.specs.declared.refusal.OpenRefusal.TheVariants as of_book
+use Rattle.pie_kept.specs.declared.entry.Entry.{Entry}
+use Rattle.pie_kept.specs.declared.entry.Entry.TheVariants.{Made, Folded}
 use Rattle.pie_link.specs.declared.refusal.LinkRefusal.TheVariants.{Book, NoCallers}
 use Rattle.pie_link.specs.Opening.{link_refusal}
-use Rattle.pie_link.specs.declared.entry.Entry.{Entry}
-use Rattle.pie_link.specs.declared.entry.Entry.TheVariants.{Made, Folded}
-use Rattle.pie_link.specs.Entries.{events_in, left_when_rolling, tail_in, handed_out}
 use Rattle.pie_link.specs.Headline.{Informed, calls_of, callers_of}
 
 abbrev limits : ℕ → Limits
@@ -41,31 +39,11 @@ asked caller = record { caller = caller; command = Depart 1; answer = Empty }
 abbrev history : List Entry
 history = Made (asked 0) ∷ Made (asked 1) ∷ Folded 2 1 ∷ Made (asked 2) ∷ Made (asked 1) ∷ Folded 1 2 ∷ Made (asked 0) ∷ []
 
-events_of_history : events_in history ≡ asked 0 ∷ asked 1 ∷ asked 2 ∷ asked 1 ∷ asked 0 ∷ []
-events_of_history = refl
-
 abbrev one_and_two : Informed
 one_and_two = record { front = []; first = 1; limit = 3 }
 
 calls_of_one_and_two : calls_of one_and_two history ≡ Made (asked 1) ∷ Folded 2 1 ∷ Made (asked 2) ∷ Made (asked 1) ∷ Folded 1 2 ∷ []
 calls_of_one_and_two = refl
-
--- in a bounded link the folds handed out events 1, 2 and 3, and the tail holds events 4 and 5
-module _ (opening : Opening) (bounded : opening.choices.mode ≡ Bounded) where
-  tail_of_bounded : tail_in opening history ≡ asked 1 ∷ asked 0 ∷ []
-  tail_of_bounded = rw bounded refl
-
-  handed_by_bounded : handed_out opening history ≡ asked 0 ∷ asked 1 ∷ asked 2 ∷ []
-  handed_by_bounded = rw bounded refl
-
--- a rolling link with room for two: event 4 comes to events 2 and 3, so that event 2 leaves and is not handed out. The second fold
--- hands out events 3 and 4
-left_when_two_fit : left_when_rolling 2 0 history ≡ 4
-left_when_two_fit = refl
-
--- without the folds as many have left as do not fit
-left_without_folds : left_when_rolling 2 0 (Made (asked 0) ∷ Made (asked 1) ∷ Made (asked 2) ∷ []) ≡ 1
-left_without_folds = refl
 
 abbrev pass : ℕ → Shown Entry Opening
 pass first = record { front = []; first = first; limit = first; numbers = 4; origin = None }

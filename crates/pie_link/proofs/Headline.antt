@@ -17,9 +17,9 @@ use Rattle.pie_book.specs.History.{waiting_after}
 use Rattle.pie_book.specs.Registers.{registers_after}
 use Rattle.pie_book.specs.Statistics.{stats_after}
 use Rattle.pie_book.specs.Decision.{IsLegal}
-use Rattle.pie_link.specs.declared.entry.Entry.{Entry}
-use Rattle.pie_link.specs.Entries.{number_of, events_in, tail_in, handed_out}
-use Rattle.pie_link.specs.Kept.{KeptView, IsKept}
+use Rattle.pie_kept.specs.declared.entry.Entry.{Entry}
+use Rattle.pie_kept.specs.Entries.{number_of, events_in, tail_in, handed_out}
+use Rattle.pie_kept.specs.Kept.{KeptView, IsKept}
 use Rattle.pie_link.specs.Views.{LinkView}
 use Rattle.pie_link.specs.Headline.{Informed, BeginsWith, HasCallsOf, informed, callers_at, callers_of, LockKey, LockState, LiesIn, IsOneHistory}
 use Rattle.pie_link.specs.Headline.{KeepsOneHistory}

@@ -1,9 +1,2 @@
-pub mod EntryLists
-pub mod KeptFacts
-pub mod Outcomes
 pub mod Headline
-pub mod Folding
-pub mod Excerpting
-pub mod Bursting
 pub mod Examples
-pub mod ExamplesBursts

@@ -1,7 +1,3 @@
-pub mod FoldCount
-pub mod Entries
-pub mod EntryLaws
-pub mod Kept
 pub mod Views
 pub mod Opening
 pub mod Commands

@@ -1,19 +1,15 @@
 -- What a caller reads.
-use Rattle.std.specs.Prelude.{◌≡◌, List, length, Some, Result, Ok, Err}
+use Rattle.std.specs.Prelude.{◌≡◌, List, Some, Result, Ok, Err}
 use Rattle.pie_event.specs.declared.command.Event.{Event}
 use Rattle.pie_event.specs.declared.opening.Opening.{Opening}
 use Rattle.pie_event.specs.declared.refusal.Refusal.{Refusal}
-use Rattle.pie_link.specs.declared.entry.Entry.{Entry}
-use Rattle.pie_link.specs.Entries.{events_in}
+use Rattle.pie_kept.specs.declared.entry.Entry.{Entry}
+use Rattle.pie_kept.specs.declared.told.Told.{Told}
+use Rattle.pie_kept.specs.Entries.{events_in}
+use Rattle.pie_kept.specs.Readings.{IsReading}
 use Rattle.pie_link.specs.Views.{LinkView, CallerView, shown, IsHistoryFor, WasBusy}
-use Rattle.pie_link.specs.declared.told.Told.{Told}
 use Rattle.pie_link.specs.declared.told.Tried.{Tried}
 use Rattle.pie_link.specs.declared.told.Tried.TheVariants.{Busy}
-
--- this value was told, after these events
-pub record IsReading {A : Type 0} (value : A) (events : List Event) (told : Told A) : Type 0 where
-  pub answered : told.answer ≡ value
-  pub numbered : told.number ≡ length events
 
 module _ {A : Type 0} (value_after : Opening → List Event → A) where
   -- a link tells a caller what looking back over the events of a history gives, and has shown it this history

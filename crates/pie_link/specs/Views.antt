@@ -4,8 +4,8 @@ use Rattle.pie_lock.specs.Views.{LockView, PassView, HoldsAll}
 use Rattle.pie_lock.specs.Steps.{GoesOn}
 use Rattle.pie_event.specs.declared.opening.Opening.{Opening}
 use Rattle.pie_book.specs.Decision.{IsLegal}
-use Rattle.pie_link.specs.declared.entry.Entry.{Entry}
-use Rattle.pie_link.specs.Entries.{number_of, events_in}
+use Rattle.pie_kept.specs.declared.entry.Entry.{Entry}
+use Rattle.pie_kept.specs.Entries.{number_of, events_in}
 
 -- a link is its lock: which one it is, what its book was opened with (`origin`), and how many callers it has numbers for
 abbrev pub LinkView : Type 0

@@ -2,17 +2,18 @@
 //!
 //! The answers are pushed to a vector of the caller's, which has room for them: no burst takes memory.
 ghost use Rattle.std.specs.Prelude.{◌≡◌, ◌≢◌, ◌+◌, ◌≤◌, ◌<◌, ◌↔◌, IsTrue, Err, IsOk, OnOk, OnErr, length, map, vec_len, vec_capacity};
-ghost use Rattle.pie_link.specs.Bursts.{always, arrive, departures, has_left, AnswersAll, TriesToAnswerAll, WasNotDone, WasRefused};
+ghost use Rattle.pie_kept.specs.Bursts.{always, arrive, departures, has_left};
+ghost use Rattle.pie_link.specs.Bursts.{AnswersAll, TriesToAnswerAll, WasNotDone, WasRefused};
 ghost use Rattle.pie_link.specs.Views.{StaysOne};
 ghost use Rattle.pie_link.specs.declared.told.Tried.TheVariants.{Busy};
 
-use crate::arrival::Arrival;
 use crate::burst_turn;
 use crate::caller::Caller;
 use crate::link::Link;
 use crate::told::{NoRoom, Told, Tried};
 use core::mem::{replace, replace_with};
 use pie_book::{Answer, Refusal};
+use pie_kept::Arrival;
 use std::sync::Wait;
 
 // Whether a vector has room for so many more.

@@ -1,18 +1,17 @@
 //! One turn at the book for a whole burst: the book is taken, asked one command after another, and put back with all their events.
 //!
 //! Each function takes a pass and the replies, and hands both back, so that a call can run it on the pass of a borrowed caller.
-ghost use Rattle.std.specs.Prelude.{◌≡◌, ◌≢◌, ◌+◌, ◌≤◌, ◌++◌, Some, Err, IfOk, length, map, vec_len, vec_capacity};
+ghost use Rattle.std.specs.Prelude.{◌≡◌, ◌≢◌, ◌+◌, ◌≤◌, ◌++◌, Some, Err, length, map, vec_len, vec_capacity};
 ghost use Rattle.pie_lock.specs.Promises.{pass_after};
-ghost use Rattle.pie_link.specs.Bursts.{always, arrive, departures, entries_to, has_left, replies_to, AnswersAll, TriesToAnswerAll, WasRefused};
-ghost use Rattle.pie_link.specs.Kept.{IsKept};
+ghost use Rattle.pie_kept.specs.Bursts.{always, arrive, departures, entries_to, has_left, replies_to};
+ghost use Rattle.pie_kept.specs.Kept.{IsKept};
+ghost use Rattle.pie_link.specs.Bursts.{AnswersAll, TriesToAnswerAll, WasRefused};
 ghost use Rattle.pie_link.specs.Views.{StaysOne};
 ghost use Rattle.pie_link.specs.declared.told.Tried.TheVariants.{Busy};
 
-use crate::arrival::Arrival;
-use crate::kept_book::KeptBook;
-use crate::kept_bursts::Replies;
 use crate::link::Link;
 use crate::told::{NoRoom, Tried};
+use pie_kept::{Arrival, KeptBook, Replies};
 use pie_lock::{Held, Pass};
 use std::sync::Wait;
 

@@ -1,16 +1,17 @@
 //! One turn at the book for an excerpt: the book is taken, copied from, and put back with no entry.
 //!
 //! Each function takes a pass and the excerpt, and hands both back, so that a call can run it on the pass of a borrowed caller.
-ghost use Rattle.std.specs.Prelude.{◌≡◌, Some, [], List};
+ghost use Rattle.std.specs.Prelude.{◌≡◌, Some, []};
 ghost use Rattle.pie_lock.specs.Promises.{pass_after};
-ghost use Rattle.pie_link.specs.Excerpts.{FillsExcerpt, IsExcerptOf, TriesToFillExcerpt};
-ghost use Rattle.pie_link.specs.Kept.{IsKept};
+ghost use Rattle.pie_kept.specs.Excerpts.{IsExcerptOf};
+ghost use Rattle.pie_kept.specs.Kept.{IsKept};
+ghost use Rattle.pie_link.specs.Excerpts.{FillsExcerpt, TriesToFillExcerpt};
 ghost use Rattle.pie_link.specs.Views.{StaysOne};
 
-use crate::kept_book::KeptBook;
 use crate::link::Link;
 use crate::told::Tried;
 use pie_book::{Excerpt, TooSmall};
+use pie_kept::KeptBook;
 use pie_lock::{Held, Pass, no_entries};
 use std::sync::Wait;
 

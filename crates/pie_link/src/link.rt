@@ -3,16 +3,15 @@ ghost use Rattle.std.specs.Prelude.{◌≡◌, ◌+◌, ◌<◌, ◌↔◌, All,
 ghost use Rattle.pie_event.specs.declared.opening.Mode.TheVariants.{Bounded};
 ghost use Rattle.pie_event.specs.declared.profile.Profile.TheVariants.{One};
 ghost use Rattle.pie_params.specs.Elements.{usual};
-ghost use Rattle.pie_link.specs.declared.entry.Entry.{Entry};
+ghost use Rattle.pie_kept.specs.declared.entry.Entry.{Entry};
 
 use crate::caller::Caller;
-use crate::entry::Entry;
-use crate::kept_book::KeptBook;
 use crate::refusal::LinkRefusal;
 use atomic_table::TableRule;
 use pie_book::{
     Book, Choices, Elements, Limits, Mode, OpenRefusal, Opening, Profile, registers_look_back,
 };
+use pie_kept::{Entry, KeptBook};
 use pie_lock::{LockOpening, LockRule, OneNumber, Place, RuledLock, StillHeld};
 use pie_params::Params;
 use std::alloc::Global;
@@ -36,8 +35,8 @@ impl Model for Link {
 impl Link {
     ghost use Rattle.pie_lock.specs.Views.{HoldsAll};
     ghost use Rattle.pie_lock.specs.Promises.{first_pass, without_highest, highest_alone, IsBeside, IsBothOf};
-    ghost use Rattle.pie_link.specs.Entries.{number_of};
-    ghost use Rattle.pie_link.specs.Kept.{TellsEntries};
+    ghost use Rattle.pie_kept.specs.Entries.{number_of};
+    ghost use Rattle.pie_kept.specs.Kept.{TellsEntries};
     ghost use Rattle.pie_link.specs.Views.{IsHistoryFor};
     ghost use Rattle.pie_link.specs.Headline.{KeepsOneHistory};
     ghost use Rattle.pie_link.specs.Opening.{link_refusal, IsRefusedFor};
@@ -166,7 +165,7 @@ impl Link {
     {
         let alloc = self.alloc;
         match self.lock.close(caller.pass) {
-            Ok(kept) => Ok(Box::into_inner(kept.book)),
+            Ok(kept) => Ok(kept.into_book()),
             Err(StillHeld { lock, pass }) => Err((Link { lock, alloc }, Caller { pass })),
         }
     }

@@ -1,6 +1,6 @@
 -- What the lock's calls promise, over what contracts see of passes and helds.
-use Rattle.std.specs.Prelude.{◌≡◌, ℕ, ◌-◌, ◌⊎◌, min, max, List, [], ◌++◌}
-use Rattle.pie_lock.specs.Views.{LockView, PassView, HeldView}
+use Rattle.std.specs.Prelude.{◌≡◌, ℕ, ◌-◌, ◌<◌, ◌⊎◌, min, max, List, [], ◌++◌, All, Some}
+use Rattle.pie_lock.specs.Views.{LockView, PassView, HeldView, HoldsAll}
 use Rattle.pie_lock.specs.Steps.{GoesOn}
 
 module _ {S E O : Type 0} where
@@ -11,6 +11,18 @@ module _ {S E O : Type 0} where
   -- the pass after a put: the lock and the numbers of the held, and its front with the entries added
   abbrev pub pass_after : HeldView S E O → List E → PassView E O
   pass_after h added = record { lock = h.lock; front = h.front ++ added; first = h.first; limit = h.limit }
+
+-- what a take promises: the pass has taken the state, which tells the history that its holder is then shown
+module _ {S E O : Type 0} (number_of : E → ℕ) (origin_of : S → O) (tells : S → List E → Type 0) where
+  pub record HasTaken (p : PassView E O) (h : HeldView S E O) : Type 0 where
+    pub pass : IsOfPass p h
+    -- the history begins with the front that the pass had, and has no further entry under its numbers
+    pub front : GoesOn number_of p.first p.limit p.front h.front
+    pub origin : h.lock.origin ≡ Some (origin_of h.state)
+    pub told : tells h.state h.front
+    pub numbered : All (λ e. number_of e < p.lock.numbers) h.front
+    -- a pass with all numbers is shown nothing new
+    pub same : HoldsAll p → h.front ≡ p.front
 
 module _ {E O : Type 0} where
   -- the pass of a new lock: it has all numbers, and was shown nothing

@@ -9,7 +9,7 @@
 //!
 //! - `new` refuses exactly a lock of no numbers, and else only for want of memory; it hands the state back then (`no_numbers`,
 //!   `back`). The first pass has all numbers and has been shown nothing (`pass`).
-//! - After a take, the front of the `Held` begins with the front that the pass had and has no further entry under the pass's
+//! - After a take (`HasTaken`), the front of the `Held` begins with the front that the pass had and has no further entry under the pass's
 //!   numbers (`front`); the state in hand tells it (`told`) and has the lock's origin (`origin`). A pass with all numbers finds
 //!   exactly its own front (`same`).
 //! - `put` requires that each entry that it adds stands under the pass's first number (`number`), and that the state has the lock's origin

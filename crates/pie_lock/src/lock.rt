@@ -69,7 +69,7 @@ impl<S: Kept> RuledLock<S> {
     ghost use Rattle.pie_lock.specs.Steps.{GoesOn, pass_at, with_front, AreAdjacent};
     ghost use Rattle.pie_lock.specs.declared.view.Place.TheVariants.{Waits};
     ghost use Rattle.pie_lock.specs.Seating.{IsIdle, IsLeaving, IsMerged};
-    ghost use Rattle.pie_lock.specs.Promises.{first_pass, IsOfPass, pass_after, without_highest, highest_alone, IsBeside, IsBothOf};
+    ghost use Rattle.pie_lock.specs.Promises.{first_pass, HasTaken, pass_after, without_highest, highest_alone, IsBeside, IsBothOf};
 
     /// A lock over `state`, and a pass with the numbers `0..numbers`.
     ///
@@ -164,13 +164,8 @@ impl<S: Kept> RuledLock<S> {
     /// The pass as it was, where another pass has the state. A pass with all numbers always takes it.
     pub fn try_take(&self, pass: Pass<S>) -> Result<Held<S>, Pass<S>>
         requires own { pass.lock ≡ self.now }
-        ensures pass { IfOk result (IsOfPass pass) }
-        ensures front { IfOk result (λ held. GoesOn S.number_of pass.first pass.limit pass.front held.front) }
-        ensures origin { IfOk result (λ held. held.lock.origin ≡ Some (S.origin_of held.state)) }
-        ensures told { IfOk result (λ held. S.tells held.state held.front) }
-        ensures numbered { IfOk result (λ held. All (λ e. S.number_of e < pass.lock.numbers) held.front) }
+        ensures taken { IfOk result (HasTaken S.number_of S.origin_of S.tells pass) }
         ensures alone { HoldsAll pass → IsOk result }
-        ensures same { HoldsAll pass → IfOk result (λ held. held.front ≡ pass.front) }
         ensures busy { IfErr result (λ back. back ≡ pass) }
     {
         let Pass {
@@ -197,12 +192,7 @@ impl<S: Kept> RuledLock<S> {
     /// Takes the state. It waits while another pass has the state, and nothing is claimed of how long.
     pub fn take<R: Wait>(&self, rt: &R, pass: Pass<S>) -> Held<S>
         requires own { pass.lock ≡ self.now }
-        ensures pass { IsOfPass pass result }
-        ensures front { GoesOn S.number_of pass.first pass.limit pass.front result.front }
-        ensures origin { result.lock.origin ≡ Some (S.origin_of result.state) }
-        ensures told { S.tells result.state result.front }
-        ensures numbered { All (λ e. S.number_of e < pass.lock.numbers) result.front }
-        ensures same { HoldsAll pass → result.front ≡ pass.front }
+        ensures { HasTaken S.number_of S.origin_of S.tells pass result }
     {
         match self.try_take(pass) {
             Ok(held) => held,
@@ -214,12 +204,7 @@ impl<S: Kept> RuledLock<S> {
     /// the state changes hands more often, which pays where turns are long, and costs where they are short. The history is that of either.
     pub fn take_for<R: Wait>(&self, rt: &R, pass: Pass<S>, calls: usize) -> Held<S>
         requires own { pass.lock ≡ self.now }
-        ensures pass { IsOfPass pass result }
-        ensures front { GoesOn S.number_of pass.first pass.limit pass.front result.front }
-        ensures origin { result.lock.origin ≡ Some (S.origin_of result.state) }
-        ensures told { S.tells result.state result.front }
-        ensures numbered { All (λ e. S.number_of e < pass.lock.numbers) result.front }
-        ensures same { HoldsAll pass → result.front ≡ pass.front }
+        ensures { HasTaken S.number_of S.origin_of S.tells pass result }
     {
         match self.try_take(pass) {
             Ok(held) => held,
@@ -232,12 +217,7 @@ impl<S: Kept> RuledLock<S> {
     #[inline(never)]
     fn wait_and_take<R: Wait>(&self, rt: &R, pass: Pass<S>, looks: usize) -> Held<S>
         requires own { pass.lock ≡ self.now }
-        ensures pass { IsOfPass pass result }
-        ensures front { GoesOn S.number_of pass.first pass.limit pass.front result.front }
-        ensures origin { result.lock.origin ≡ Some (S.origin_of result.state) }
-        ensures told { S.tells result.state result.front }
-        ensures numbered { All (λ e. S.number_of e < pass.lock.numbers) result.front }
-        ensures same { HoldsAll pass → result.front ≡ pass.front }
+        ensures { HasTaken S.number_of S.origin_of S.tells pass result }
     {
         let mut waiting = pass;
         let backoff = Backoff::new();

@@ -20,14 +20,15 @@ use Rattle.pie_book.specs.Decision.{decision, is_refused_full, or_full, refusal_
 use Rattle.pie_book.specs.Run.{event_of}
 use Rattle.pie_book.specs.Estimates.{due_after}
 use Rattle.pie_book.specs.History.{effective_moment}
-use Rattle.pie_link.specs.declared.arrival.Arrival.{Arrival}
-use Rattle.pie_link.specs.declared.entry.Entry.{Entry}
-use Rattle.pie_link.specs.declared.entry.Entry.TheVariants.{Made}
-use Rattle.pie_link.specs.declared.told.Told.{Told}
-use Rattle.pie_link.specs.Bursts.{AnswersAll, IsBurst, Reply, always, arrive, entries_by, entries_to, refused_or_told, replies_to, reply_in}
-use Rattle.pie_link.specs.Commands.{refusal_in}
-use Rattle.pie_link.specs.EntryLaws.{EntriesLookBack}
-use Rattle.pie_link.specs.Entries.{entries_of, events_in, number_of, tail_in}
+use Rattle.pie_kept.specs.declared.arrival.Arrival.{Arrival}
+use Rattle.pie_kept.specs.declared.entry.Entry.{Entry}
+use Rattle.pie_kept.specs.declared.entry.Entry.TheVariants.{Made}
+use Rattle.pie_kept.specs.declared.told.Told.{Told}
+use Rattle.pie_kept.specs.Bursts.{Reply, always, arrive, entries_by, entries_to, refused_or_told, replies_to, reply_in}
+use Rattle.pie_kept.specs.Commands.{refusal_in}
+use Rattle.pie_kept.specs.EntryLaws.{EntriesLookBack}
+use Rattle.pie_kept.specs.Entries.{entries_of, events_in, number_of, tail_in}
+use Rattle.pie_link.specs.Bursts.{AnswersAll, IsBurst}
 use Rattle.pie_link.specs.Views.{LinkView, CallerView}
 use Rattle.pie_storm.specs.declared.plan.Plan.{Plan}
 use Rattle.pie_storm.specs.Plans.{IsFair, IsSound, commands_of}

@@ -11,10 +11,10 @@ use Rattle.pie_book.specs.Book.{BookView, Tells}
 use Rattle.pie_book.specs.Decision.{IsLegal}
 use Rattle.pie_storm.specs.declared.ending.StormEnd.{StormEnd}
 use Rattle.pie_storm.specs.declared.ending.StormFault.{StormFault}
-use Rattle.pie_link.specs.declared.entry.Entry.{Entry}
+use Rattle.pie_kept.specs.declared.entry.Entry.{Entry}
 use Rattle.pie_storm.specs.declared.plan.Plan.{Plan}
-use Rattle.pie_link.specs.Entries.{entries_of, events_in, handed_out, number_of}
-use Rattle.pie_link.specs.Kept.{TellsEntries}
+use Rattle.pie_kept.specs.Entries.{entries_of, events_in, handed_out, number_of}
+use Rattle.pie_kept.specs.Kept.{TellsEntries}
 use Rattle.pie_storm.specs.Plans.{IsSound, opening_of, senders}
 use Rattle.pie_storm.specs.Storms.{AllCameOf, AllCameAt, AreFolded, AreFoldedAt, IsStorm, NoneElseFolds, NoneElseFoldsAt, WereHanded, folder}
 use Rattle.pie_link.specs.Views.{LinkView, CallerView, StaysOne}

@@ -23,13 +23,13 @@ use Rattle.pie_event.specs.Deed.{handed_in}
 use Rattle.pie_book.specs.Decision.{has_bad_size, is_too_soon, refusal_by_rule}
 use Rattle.pie_book.specs.History.{effective_moment}
 use Rattle.pie_book.specs.Estimates.{due_after}
-use Rattle.pie_link.specs.declared.arrival.Arrival.{Arrival}
-use Rattle.pie_link.specs.Bursts.{arrive}
+use Rattle.pie_kept.specs.declared.arrival.Arrival.{Arrival}
+use Rattle.pie_kept.specs.Bursts.{arrive}
 use Rattle.pie_storm.specs.declared.plan.Plan.{Plan}
 use Rattle.pie_storm.specs.Plans.{senders, sent, change, commands_of, commands_after_senders, count_of, planned, opening_of, IsSound}
-use Rattle.pie_link.specs.declared.entry.Entry.{Entry}
-use Rattle.pie_link.specs.declared.entry.Entry.TheVariants.{Made, Folded}
-use Rattle.pie_link.specs.Entries.{entries_of, events_in, handed_out, handed_to, number_of, tail_in}
+use Rattle.pie_kept.specs.declared.entry.Entry.{Entry}
+use Rattle.pie_kept.specs.declared.entry.Entry.TheVariants.{Made, Folded}
+use Rattle.pie_kept.specs.Entries.{entries_of, events_in, handed_out, handed_to, number_of, tail_in}
 use Rattle.pie_storm.proofs.OwnEvents.{all-events}
 use Rattle.pie_storm.proofs.PlanCommands.{of_either}
 use Rattle.pie_storm.specs.Storms.{events_of, caller_of, commands_in, folder, is_number, AreFolded, AreMade, CameOf, AllCameOf, IsMade, IsStorm}

@@ -22,16 +22,16 @@ use Rattle.pie_event.specs.declared.refusal.FoldRefusal.{FoldRefusal}
 use Rattle.pie_event.specs.declared.refusal.FoldRefusal.TheVariants.{TooMany, Memory}
 use Rattle.pie_event.specs.declared.refusal.Refusal.{Refusal}
 use Rattle.pie_book.specs.Run.{event_of}
-use Rattle.pie_link.specs.declared.entry.Entry.{Entry}
-use Rattle.pie_link.specs.declared.entry.Entry.TheVariants.{Made, Folded}
-use Rattle.pie_link.specs.declared.told.Told.{Told}
+use Rattle.pie_kept.specs.declared.entry.Entry.{Entry}
+use Rattle.pie_kept.specs.declared.entry.Entry.TheVariants.{Made, Folded}
+use Rattle.pie_kept.specs.declared.told.Told.{Told}
+use Rattle.pie_kept.specs.Entries.{entries_of, events_in, handed_to, number_of, tail_in}
+use Rattle.pie_kept.specs.EntryLaws.{EntriesLookBack}
 use Rattle.pie_link.specs.Commands.{Answers, IsTaken, IsRefused}
-use Rattle.pie_link.specs.Entries.{entries_of, events_in, handed_to, number_of, tail_in}
-use Rattle.pie_link.specs.Folds.{Folds, IsFoldMade, IsFoldRefused}
 use Rattle.pie_storm.specs.Storms.{AreFolded, AreFoldedAt, FoldsGo, FoldsGoAt, HasNoneAt, IsMade, OnlyMadeAt, WasTooMany, WereHanded, events_of}
 use Rattle.pie_storm.specs.Storms.{fold_of, is_number, refused_by}
+use Rattle.pie_link.specs.Folds.{Folds, IsFoldMade, IsFoldRefused}
 use Rattle.pie_link.specs.Views.{LinkView, CallerView}
-use Rattle.pie_link.specs.EntryLaws.{EntriesLookBack}
 use Rattle.pie_storm.proofs.OwnEvents.{events-go_on}
 use Rattle.pie_storm.proofs.Working.{drop_next}
 

@@ -15,12 +15,12 @@ use Rattle.pie_event.specs.declared.command.Event.{Event}
 use Rattle.pie_event.specs.declared.opening.Opening.{Opening}
 use Rattle.pie_storm.specs.declared.plan.Plan.{Plan}
 use Rattle.pie_storm.specs.Plans.{commands_of}
-use Rattle.pie_link.specs.declared.entry.Entry.{Entry}
-use Rattle.pie_link.specs.Entries.{entries_of, events_in, number_of}
-use Rattle.pie_link.specs.Views.{LinkView, CallerView}
+use Rattle.pie_kept.specs.declared.entry.Entry.{Entry}
+use Rattle.pie_kept.specs.Entries.{entries_of, events_in, number_of}
+use Rattle.pie_kept.specs.EntryLaws.{EntriesLookBack}
 use Rattle.pie_storm.specs.Storms.{events_of, caller_of, folder, AreMade, CameOf, AllCameOf, CameAt, AllCameAt, IsMade, NoneElseFolds, NoneElseFoldsAt}
 use Rattle.pie_storm.specs.Storms.{OnlyMadeAt}
-use Rattle.pie_link.specs.EntryLaws.{EntriesLookBack}
+use Rattle.pie_link.specs.Views.{LinkView, CallerView}
 use Rattle.pie_storm.proofs.OwnEvents.{events-go_on}
 
 -- what was made in a history was made in one that goes on from there

@@ -9,8 +9,8 @@ use Rattle.std.proofs.lemmas.Bool.Decides.{nat_tests}
 use Rattle.std.proofs.lemmas.List.Elements.{All-nil, All-cons, All-head, All-tail}
 use Rattle.pie_event.specs.declared.command.Command.{Command}
 use Rattle.pie_event.specs.declared.command.Command.TheVariants.{Depart, Update}
-use Rattle.pie_link.specs.declared.arrival.Arrival.{Arrival}
-use Rattle.pie_link.specs.Bursts.{arrive}
+use Rattle.pie_kept.specs.declared.arrival.Arrival.{Arrival}
+use Rattle.pie_kept.specs.Bursts.{arrive}
 use Rattle.pie_storm.specs.declared.plan.Change.{Change}
 use Rattle.pie_storm.specs.declared.plan.Plan.{Plan}
 use Rattle.pie_storm.specs.Plans.{senders, sent, change, commands_of, count_of, planned, IsMoment, IsSoundArrival, IsFair, IsSound}

@@ -6,7 +6,7 @@ use Rattle.std.specs.declared.alloc.Global.{Global}
 use Rattle.std.proofs.lemmas.List.{map-append}
 use Rattle.std.proofs.lemmas.List.FromFn.{map-range_with_len_more}
 use Rattle.rand_core.specs.Stream.{Stream, next_u64}
-use Rattle.pie_link.specs.declared.arrival.Arrival.{Arrival}
+use Rattle.pie_kept.specs.declared.arrival.Arrival.{Arrival}
 use Rattle.pie_storm.specs.StormPlan.{arrival_at, arrival_by, arrivals_of, held_by, word_at, words_after}
 
 -- ---- lists

@@ -24,15 +24,16 @@ use Rattle.pie_book.specs.Decision.{is_refused_full, or_full, refusal_by_rule, r
 use Rattle.pie_book.specs.History.{effective_moment}
 use Rattle.pie_book.specs.Estimates.{due_after}
 use Rattle.pie_book.specs.Run.{event_of}
-use Rattle.pie_link.specs.declared.entry.Entry.{Entry}
-use Rattle.pie_link.specs.declared.entry.Entry.TheVariants.{Made}
-use Rattle.pie_link.specs.declared.told.Told.{Told}
-use Rattle.pie_link.specs.Entries.{events_in, left_in, number_of, tail_in}
+use Rattle.pie_kept.specs.declared.entry.Entry.{Entry}
+use Rattle.pie_kept.specs.declared.entry.Entry.TheVariants.{Made}
+use Rattle.pie_kept.specs.declared.told.Told.{Told}
+use Rattle.pie_kept.specs.Entries.{events_in, left_in, number_of, tail_in}
+use Rattle.pie_kept.specs.Commands.{IsWhy}
+use Rattle.pie_kept.specs.EntryLaws.{EntriesLookBack}
 use Rattle.pie_link.specs.Views.{LinkView, CallerView}
-use Rattle.pie_link.specs.Commands.{Answers, IsTaken, IsRefused, IsWhy}
 use Rattle.pie_storm.specs.declared.plan.Plan.{Plan}
 use Rattle.pie_storm.specs.Plans.{IsFair, IsSound, commands_of}
-use Rattle.pie_link.specs.EntryLaws.{EntriesLookBack}
+use Rattle.pie_link.specs.Commands.{Answers, IsTaken, IsRefused}
 use Rattle.pie_storm.proofs.OwnEvents.{events-go_on}
 use Rattle.pie_storm.proofs.PlanCommands.{fair_at}
 use Rattle.pie_storm.specs.Storms.{events_of, WasTooSoon, AreMade, IsCutShort, CameOf, CameAt, Goes, EachGoes, GoesOrEnds, added_by, HasNoneAt}

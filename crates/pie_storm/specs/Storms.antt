@@ -14,14 +14,14 @@ use Rattle.std.specs.declared.alloc.Global.{Global}
 use Rattle.std.specs.Prelude.{Vec}
 use Rattle.pie_event.specs.declared.refusal.FoldRefusal.{FoldRefusal}
 use Rattle.pie_event.specs.declared.refusal.FoldRefusal.TheVariants.{TooMany, Memory}
-use Rattle.pie_link.specs.declared.told.Told.{Told}
+use Rattle.pie_kept.specs.declared.told.Told.{Told}
 use Rattle.pie_book.specs.Decision.{refusal_by_rule}
 use Rattle.pie_storm.specs.declared.plan.Plan.{Plan}
 use Rattle.pie_event.specs.declared.command.Command.TheVariants.{Depart, Update}
 use Rattle.pie_storm.specs.Plans.{change, commands_of, opening_of, senders, sent}
-use Rattle.pie_link.specs.declared.entry.Entry.{Entry}
-use Rattle.pie_link.specs.declared.entry.Entry.TheVariants.{Made, Folded}
-use Rattle.pie_link.specs.Entries.{entries_of, events_in, handed_to, tail_in}
+use Rattle.pie_kept.specs.declared.entry.Entry.{Entry}
+use Rattle.pie_kept.specs.declared.entry.Entry.TheVariants.{Made, Folded}
+use Rattle.pie_kept.specs.Entries.{entries_of, events_in, handed_to, tail_in}
 use Rattle.pie_link.specs.Views.{LinkView, CallerView}
 
 -- the number of an event

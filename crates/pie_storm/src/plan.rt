@@ -1,6 +1,6 @@
 //! What a storm is asked to do.
 ghost use Rattle.std.specs.Prelude.{◌≡◌, ◌≤◌, ◌^◌, ◌-◌, ◌↔◌, IsTrue, All, Option, drop, length, map, min, slice_get, take, ◌+◌};
-ghost use Rattle.pie_link.specs.Bursts.{arrive};
+ghost use Rattle.pie_kept.specs.Bursts.{arrive};
 ghost use Rattle.pie_storm.specs.Plans.{IsMoment, IsSoundArrival, IsSound, change, choices_of, commands_of, count_of, planned, turn_of};
 ghost use Rattle.pie_storm.specs.Plans.{senders};
 ghost use Rattle.pie_event.specs.declared.command.Command.TheVariants.{Depart, Update};

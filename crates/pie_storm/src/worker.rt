@@ -1,8 +1,8 @@
 //! The workers of a storm: each makes the calls of one caller, one after another.
 ghost use Rattle.std.specs.Prelude.{◌≡◌, ◌≢◌, ◌+◌, ◌^◌, ◌<◌, ◌≤◌, ◌-◌, ◌++◌, ◌↔◌, ℕ, All, [], false, Some, None, Err, IfSome, IfOk, IsOk, IsTrue};
 ghost use Rattle.std.specs.Prelude.{OnErr, length, vec_capacity, vec_len};
+ghost use Rattle.pie_kept.specs.Entries.{events_in};
 ghost use Rattle.pie_link.specs.Commands.{Answers};
-ghost use Rattle.pie_link.specs.Entries.{events_in};
 ghost use Rattle.pie_storm.specs.Plans.{IsSound, commands_of, planned, senders, turn_of};
 ghost use Rattle.pie_storm.specs.Storms.{AreFoldedAt, CameAt, EachGoes, FoldsGoAt, GoesOrEnds, HasNoneAt, MadeAll, MadeFolds, OnlyMadeAt, added_by};
 ghost use Rattle.pie_storm.specs.Storms.{folder, refused_by};

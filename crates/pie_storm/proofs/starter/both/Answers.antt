@@ -1,5 +1,5 @@
 use Rattle.std.proofs.Common.{◌≡◌, ◌+◌, false, subst, arith}
-use Rattle.pie_link.specs.Entries.{entries_of}
+use Rattle.pie_kept.specs.Entries.{entries_of}
 use Rattle.pie_storm.specs.Storms.{folder}
 use Rattle.pie_storm.proofs.Gathering.{alone_to, behind_same, gathered_to}
 use Rattle.pie_storm.proofs.FoldsMade.{folds_on}

@@ -1,7 +1,7 @@
 use Rattle.std.proofs.Common.{◌≡◌, ◌+◌, false, arith}
 use Rattle.pie_book.specs.Registers.{registers_after}
 use Rattle.pie_book.specs.Statistics.{stats_after}
-use Rattle.pie_link.specs.Entries.{events_in}
+use Rattle.pie_kept.specs.Entries.{events_in}
 use Rattle.pie_storm.specs.Plans.{opening_of, senders}
 use Rattle.pie_storm.specs.declared.ending.StormEnd.{StormEnd}
 use Rattle.pie_storm.proofs.Closing.{end_legal, end_made, end_shows, ended}

@@ -1,6 +1,6 @@
 use Rattle.std.proofs.Common.{◌≡◌, ◌≤◌, ◌∙◌, ◌+◌, ℕ, List, refl, ap, sym, subst, arith, length}
-use Rattle.pie_link.specs.declared.entry.Entry.{Entry}
-use Rattle.pie_link.specs.Entries.{events_in}
+use Rattle.pie_kept.specs.declared.entry.Entry.{Entry}
+use Rattle.pie_kept.specs.Entries.{events_in}
 use Rattle.pie_storm.specs.Storms.{OnlyMadeAt, events_of}
 use Rattle.pie_storm.proofs.FoldsMade.{only_start}
 use Rattle.pie_storm.specs.Plans.{commands_of}

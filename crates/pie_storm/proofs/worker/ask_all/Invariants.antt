@@ -1,7 +1,7 @@
 use Rattle.std.proofs.Common.{◌≡◌, ◌≤◌}
 use Rattle.std.specs.Prelude.{vec_capacity}
 use Rattle.pie_storm.specs.Plans.{commands_of}
-use Rattle.pie_link.specs.Entries.{events_in}
+use Rattle.pie_kept.specs.Entries.{events_in}
 use Rattle.pie_storm.specs.Storms.{EachGoes, OnlyMadeAt}
 use Rattle.pie_link.specs.Views.{StaysOne}
 use Rattle.pie_storm.proofs.worker.ask_all.Given as goal

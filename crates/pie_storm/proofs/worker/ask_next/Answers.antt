@@ -1,7 +1,7 @@
 use Rattle.std.proofs.Common.{◌+◌, ℕ, Option, sym, subst}
 use Rattle.pie_storm.specs.Plans.{commands_of}
 use Rattle.pie_storm.specs.Storms.{GoesOrEnds}
-use Rattle.pie_link.specs.Entries.{events_in}
+use Rattle.pie_kept.specs.Entries.{events_in}
 use Rattle.pie_storm.proofs.FoldsMade.{only_next}
 use Rattle.pie_storm.proofs.Working.{asked_next}
 use Rattle.pie_storm.proofs.worker.ask_next.Goals as goal

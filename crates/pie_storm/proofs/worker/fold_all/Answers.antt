@@ -1,5 +1,5 @@
 use Rattle.std.proofs.Common.{◌≡◌, ◌∙◌, ℕ, false, refl, subst, arith}
-use Rattle.pie_link.specs.Entries.{events_in}
+use Rattle.pie_kept.specs.Entries.{events_in}
 use Rattle.pie_storm.specs.Storms.{FoldsGoAt, HasNoneAt}
 use Rattle.pie_storm.proofs.PlanCommands.{folder_has_none}
 use Rattle.pie_storm.proofs.Working.{came_of_none}

@@ -1,5 +1,5 @@
 use Rattle.std.proofs.Common.{◌≡◌, ◌≤◌, false}
-use Rattle.pie_link.specs.Entries.{events_in}
+use Rattle.pie_kept.specs.Entries.{events_in}
 use Rattle.pie_storm.specs.Storms.{FoldsGoAt, HasNoneAt}
 use Rattle.pie_link.specs.Views.{StaysOne}
 use Rattle.pie_storm.proofs.worker.fold_all.Given as goal

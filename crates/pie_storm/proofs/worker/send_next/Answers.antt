@@ -2,7 +2,8 @@ use Rattle.std.proofs.Common.{◌≡◌, ◌∙◌, ◌+◌, ◌++◌, ℕ, List
 use Rattle.std.specs.List.{All}
 use Rattle.std.specs.Prelude.{IsOk}
 use Rattle.pie_event.specs.declared.command.Command.{Command}
-use Rattle.pie_link.specs.Bursts.{AnswersAll, Reply, always, arrive}
+use Rattle.pie_kept.specs.Bursts.{Reply, always, arrive}
+use Rattle.pie_link.specs.Bursts.{AnswersAll}
 use Rattle.pie_storm.specs.Plans.{commands_of}
 use Rattle.pie_storm.proofs.Bursting.{burst_only, burst_short, burst_taken, take_drop}
 use Rattle.pie_storm.proofs.worker.send_next.Goals as goal

@@ -1,5 +1,5 @@
 use Rattle.std.proofs.Common.{◌≡◌, rules}
-use Rattle.pie_link.specs.Entries.{events_in}
+use Rattle.pie_kept.specs.Entries.{events_in}
 use Rattle.pie_storm.specs.Plans.{commands_of}
 use Rattle.pie_storm.proofs.Bursting.{turn_of_none}
 use Rattle.pie_storm.proofs.worker.take_turn.Goals as goal

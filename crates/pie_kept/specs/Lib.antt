@@ -1,0 +1,9 @@
+pub mod FoldCount
+pub mod Entries
+pub mod EntryLaws
+pub mod Kept
+pub mod Commands
+pub mod Bursts
+pub mod Folds
+pub mod Readings
+pub mod Excerpts

@@ -1,0 +1,29 @@
+//! The book as the lock of a link keeps it: what one turn at it answers, and which entries it adds to the link's history.
+//!
+//! A `KeptBook` is a book in a box, with how many folds there were, which contracts alone see. It tells a list of entries (`IsKept`), each an
+//! event or a fold of so many events: the book tells the events, its tail begins where folds and want of room left off, and in a bounded book
+//! what all folds handed out, in their order, and then the tail are all events. Of each history that it tells, the calls promise what looking
+//! back over that gives:
+//!
+//! - `apply` has the decision there (`decided`), or the refusal there (`because`), and at Ok tells the history with the event (`recorded`).
+//! - `fold` hands out the oldest events of the tail (`folded`), or says why not (`because`), and at Ok tells the history with the fold.
+//! - `arrive_all` and `depart_all` make a burst of such commands, one after another (`replies`, `made`, `kept`).
+//! - `registers` and `stats` are the look-back over its events, and an `excerpt` is its end, with what that stands on.
+//!
+//! A refusal changes nothing. There is no thread here and no lock: pie_link puts these turns under the ruled lock of pie_lock.
+#![tactic(auto)]
+
+pub mod arrival;
+pub mod entry;
+mod fold_count;
+mod kept_book;
+mod kept_bursts;
+mod law;
+mod told;
+
+pub use arrival::Arrival;
+pub use entry::Entry;
+pub use kept_book::KeptBook;
+pub use kept_bursts::Replies;
+pub use law::entries_look_back;
+pub use told::Told;

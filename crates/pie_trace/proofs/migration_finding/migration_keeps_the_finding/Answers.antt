@@ -2,7 +2,7 @@ use Rattle.std.proofs.Common.{◌^◌}
 use Rattle.pie_trace.specs.Migrate.{migrated_text}
 use Rattle.pie_record.specs.Text.{records_of}
 use Rattle.pie_trace.proofs.MigrationFinding.{same-finding}
-use Rattle.pie_audit.proofs.migration.migration_keeps_the_finding.Goals as goal
+use Rattle.pie_trace.proofs.migration_finding.migration_keeps_the_finding.Goals as goal
 
 pub returns : goal.returns
 returns c = λ text sound. same-finding text (migrated_text (2 ^ 32) (records_of text)) (c.migrated_histories_are_read_back.ensures.same text sound)

@@ -1,5 +1,4 @@
--- Whole runs, from the bytes read to the bytes written: each theorem computes. The dearest to compute are rows of tests/rows alone (cycles of the
--- departure rate; marks, drops and a lone enqueue, in both modes): the program is proved to write what `history_text` says, so they show the same.
+-- Whole runs, from the bytes read to the bytes written: each theorem computes.
 use Rattle.std.specs.Prelude.{ℕ, ◌≡◌, List, [], ◌∷◌, ◌++◌, Option, Some, None, false, codes, map, refl, true}
 use Rattle.std.specs.Fmt.{digits}
 use Rattle.csv.specs.Machine.{next_record}
@@ -160,6 +159,124 @@ unfolding held_after shown held_of now_of params_of active_of departures_shown u
     last_moment granted_burst burst_allowance raw_step tuning_divisor tuned_step decayed next departures_of delay_noted control_of early_of
     noted noted_after is_active
 small_limit-runs = refl
+
+-- cycles of the departure rate
+abbrev rates : List ℕ
+rates =
+    codes "open,0,8,16,100,15000000,15000000,150000000,125,1250,1024,262144,100000000000,1024\n"
+    ++ codes "arrive,1,0,1,1024,not,0\n"
+    ++ codes "arrive,1,0,2,1024,not,0\n"
+    ++ codes "arrive,1,0,3,1024,not,0\n"
+    ++ codes "arrive,1,0,4,1024,not,0\n"
+    ++ codes "depart,1,100\n"
+    ++ codes "show\n"
+    ++ codes "depart,1,400\n"
+    ++ codes "show\n"
+    ++ codes "depart,1,500\n"
+    ++ codes "show\n"
+    ++ codes "params,1,600,15000000,15000000,150000000,125,1250,1024,262144,100000000000,1024\n"
+    ++ codes "show\n"
+
+abbrev rates-history : List ℕ
+rates-history =
+    codes "open,0,8,16,100,15000000,15000000,150000000,125,1250,1024,262144,100000000000,1024\n"
+    ++ codes "arrive,1,0,1,1024,not,0,enqueue\n"
+    ++ codes "arrive,1,0,2,1024,not,0,enqueue\n"
+    ++ codes "arrive,1,0,3,1024,not,0,enqueue\n"
+    ++ codes "arrive,1,0,4,1024,not,0,enqueue\n"
+    ++ codes "depart,1,100,left,1,1024,not\n"
+    ++ codes "shown,5,100,3,3072,0,0,0,150000000,0,0,1\n"
+    ++ codes "depart,1,400,left,2,1024,not\n"
+    ++ codes "shown,6,400,2,2048,0,0,0,150000000,0,300,1\n"
+    ++ codes "depart,1,500,left,3,1024,not\n"
+    ++ codes "shown,7,500,1,1024,0,0,0,150000000,0,296,1\n"
+    ++ codes "params,1,600,15000000,15000000,150000000,125,1250,1024,262144,100000000000,1024,done\n"
+    ++ codes "shown,8,600,1,1024,0,0,0,150000000,0,0,0\n"
+
+rates-runs : history_of rates ≡ rates-history
+unfolding held_after shown held_of now_of params_of active_of departures_shown updates_shown arrivals_shown verdict record_fault first_fault
+    before_fault requests_of steps_of replies history_rows rows_text text_left fault_of history_text end_of number ecn_of params_at
+    first_kind version_of profile_of which_of limits_at draft_at version_one_fields version_two_fields command_kind command_at arrival_at
+    packet_at command_request change_at fold_request request_of opening_of records_from next_record strip_bom field_at answer_fields
+    refused_row folded_row shown_row tallied_row digits fields_text is_blank progress_after registers_after stats_after largest_queue
+    largest_delay waited accumulated is_considered is_picked delay_of last_or places effective_moment greatest waiting_after departed_count
+    admitted average samples begun cycles first_position first_opening first_closing first_cycle cycles_from probability last_delay
+    last_moment granted_burst burst_allowance raw_step tuning_divisor tuned_step decayed next departures_of delay_noted control_of early_of
+    noted noted_after is_active
+rates-runs = refl
+
+-- marks, drops and a lone enqueue: three updates raise the probability, and three packets meet it; then the registers, the
+-- statistics, new parameters, a reset, and parameters whose target is out of its range
+abbrev marks_rest : List ℕ
+marks_rest =
+    codes "arrive,1,0,1,1024,not,0\n"
+    ++ codes "arrive,1,0,2,1024,not,0\n"
+    ++ codes "arrive,1,0,3,1024,not,0\n"
+    ++ codes "arrive,1,0,4,1024,not,0\n"
+    ++ codes "depart,3,1000\n"
+    ++ codes "depart,3,1001000\n"
+    ++ codes "update,4,1001000\n"
+    ++ codes "update,4,1001001\n"
+    ++ codes "update,4,1001002\n"
+    ++ codes "arrive,1,1001003,5,500,ect0,0\n"
+    ++ codes "arrive,2,1001003,6,500,not,0\n"
+    ++ codes "arrive,2,1001003,7,500,not,18446744073709551615\n"
+    ++ codes "show\n"
+    ++ codes "tally\n"
+    ++ codes "params,5,1001004,2,1,50,850000,0,1,100000,1000000000000,1024\n"
+    ++ codes "show\n"
+    ++ codes "reset,5,1001005\n"
+    ++ codes "show\n"
+    ++ codes "params,5,1001006,1,1,50,850000,0,1,100000,1000000000000,1024\n"
+
+abbrev marks_rest-history : List ℕ
+marks_rest-history =
+    codes "arrive,1,0,1,1024,not,0,enqueue\n"
+    ++ codes "arrive,1,0,2,1024,not,0,enqueue\n"
+    ++ codes "arrive,1,0,3,1024,not,0,enqueue\n"
+    ++ codes "arrive,1,0,4,1024,not,0,enqueue\n"
+    ++ codes "depart,3,1000,left,1,1024,not\n"
+    ++ codes "depart,3,1001000,left,2,1024,not\n"
+    ++ codes "update,4,1001000,2000000,830077294,0\n"
+    ++ codes "update,4,1001001,2000000,53955024169,0\n"
+    ++ codes "update,4,1001002,2000000,903954174169,0\n"
+    ++ codes "arrive,1,1001003,5,500,ect0,0,mark\n"
+    ++ codes "arrive,2,1001003,6,500,not,0,early\n"
+    ++ codes "arrive,2,1001003,7,500,not,18446744073709551615,enqueue\n"
+    ++ codes "shown,12,1001003,4,3048,903954174169,2000000,903954174169,0,1001002,1000000,1\n"
+    ++ codes "tallied,7,5,1,1,0,0,2,2048,0,3,0,0,4096,2000000,1002000\n"
+    ++ codes "params,5,1001004,2,1,50,850000,0,1,100000,1000000000000,1024,done\n"
+    ++ codes "shown,13,1001004,4,3048,903954174169,2000000,903954174169,0,1001002,0,0\n"
+    ++ codes "reset,5,1001005,done\n"
+    ++ codes "shown,14,1001005,4,3048,0,0,0,50,1001002,0,0\n"
+    ++ codes "refused,20,7\n"
+
+marks-runs : history_of (codes "open,0,8,32,100,2,1,0,850000,0,1,100000,1000000000000,1024\n" ++ marks_rest)
+    ≡ codes "open,0,8,32,100,2,1,0,850000,0,1,100000,1000000000000,1024\n" ++ marks_rest-history
+unfolding held_after shown held_of now_of params_of active_of departures_shown updates_shown arrivals_shown verdict record_fault first_fault
+    before_fault requests_of steps_of replies history_rows rows_text text_left fault_of history_text end_of number ecn_of params_at
+    first_kind version_of profile_of which_of limits_at draft_at version_one_fields version_two_fields command_kind command_at arrival_at
+    packet_at command_request change_at fold_request request_of opening_of records_from next_record strip_bom field_at answer_fields
+    refused_row folded_row shown_row tallied_row digits fields_text is_blank progress_after registers_after stats_after largest_queue
+    largest_delay waited accumulated is_considered is_picked delay_of last_or places effective_moment greatest waiting_after departed_count
+    admitted average samples begun cycles first_position first_opening first_closing first_cycle cycles_from probability last_delay
+    last_moment granted_burst burst_allowance raw_step tuning_divisor tuned_step decayed next departures_of delay_noted control_of early_of
+    noted noted_after is_active
+marks-runs = refl
+
+-- the same in a rolling book whose tail holds one event: the first record alone is another
+marks_rolling-runs : history_of (codes "rolling,0,8,1,100,2,1,0,850000,0,1,100000,1000000000000,1024\n" ++ marks_rest)
+    ≡ codes "rolling,0,8,1,100,2,1,0,850000,0,1,100000,1000000000000,1024\n" ++ marks_rest-history
+unfolding held_after shown held_of now_of params_of active_of departures_shown updates_shown arrivals_shown verdict record_fault first_fault
+    before_fault requests_of steps_of replies history_rows rows_text text_left fault_of history_text end_of number ecn_of params_at
+    first_kind version_of profile_of which_of limits_at draft_at version_one_fields version_two_fields command_kind command_at arrival_at
+    packet_at command_request change_at fold_request request_of opening_of records_from next_record strip_bom field_at answer_fields
+    refused_row folded_row shown_row tallied_row digits fields_text is_blank progress_after registers_after stats_after largest_queue
+    largest_delay waited accumulated is_considered is_picked delay_of last_or places effective_moment greatest waiting_after departed_count
+    admitted average samples begun cycles first_position first_opening first_closing first_cycle cycles_from probability last_delay
+    last_moment granted_burst burst_allowance raw_step tuning_divisor tuned_step decayed next departures_of delay_noted control_of early_of
+    noted noted_after is_active
+marks_rolling-runs = refl
 
 -- a rolling book lets its oldest event go; a fold of more events than the tail holds is refused
 abbrev rolling : List ℕ

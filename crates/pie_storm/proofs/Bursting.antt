@@ -1,22 +1,21 @@
 -- What a burst of arrivals carries a sender to.
-use Rattle.std.proofs.Common.{◌≡◌, ◌≤◌, ◌<◌, ◌+◌, ◌==◌, ℕ, zero, suc, slice_get, not, List, [], ◌∷◌, ◌++◌, Some, None, Ok, Err, Option, map, min, take, drop, length, refl, ap, sym, ◌∙◌, subst}
-use Rattle.std.proofs.Common.{inl, inr, ◌⊎◌, ⊎_elim, arith, append_assoc, length-append, length-drop, Bool, true, false}
+use Rattle.std.proofs.Common.{◌≡◌, ◌≤◌, ◌+◌, ◌==◌, ℕ, zero, suc, slice_get, not, List, [], ◌∷◌, ◌++◌, Some, None, Ok, Err, Option, map, take, drop, length, refl, ap, sym, ◌∙◌, subst}
+use Rattle.std.proofs.Common.{inl, inr, ◌⊎◌, ⊎_elim, arith, append_assoc, length-append, length-drop}
 use Rattle.std.specs.List.{All}
-use Rattle.std.specs.Prelude.{IsOk, IsTrue}
+use Rattle.std.specs.Prelude.{IsOk}
 use Rattle.std.proofs.lemmas.List.{append-nil, length-map}
 use Rattle.std.proofs.lemmas.List.Elements.{All-append, All-nil, All-cons, All-head, All-tail, All-filter, filter-append}
 use Rattle.std.proofs.lemmas.List.Filters.{length-filter_both}
 use Rattle.std.proofs.lemmas.Bool.Decides.{nat_tests}
-use mathlib.Core.List.{IsPrefix}
 use Rattle.pie_lock.specs.Own.{is_within}
-use Rattle.pie_lock.proofs.Prefixes.{prefix_self, prefix_trans}
+use Rattle.pie_lock.proofs.Prefixes.{prefix_self}
 use Rattle.pie_event.specs.declared.command.Command.{Command}
 use Rattle.pie_event.specs.declared.command.Event.{Event}
 use Rattle.pie_event.specs.declared.command.Answer.{Answer}
 use Rattle.pie_event.specs.declared.opening.Opening.{Opening}
 use Rattle.pie_event.specs.declared.refusal.Refusal.{Refusal}
-use Rattle.pie_event.specs.declared.refusal.Refusal.TheVariants.{TooSoon, HistoryFull}
-use Rattle.pie_book.specs.Decision.{decision, is_refused_full, or_full, refusal_by_rule, refusal_with}
+use Rattle.pie_event.specs.declared.refusal.Refusal.TheVariants.{TooSoon}
+use Rattle.pie_book.specs.Decision.{decision, is_refused_full, refusal_by_rule, refusal_with}
 use Rattle.pie_book.specs.Run.{event_of}
 use Rattle.pie_book.specs.Estimates.{due_after}
 use Rattle.pie_book.specs.History.{effective_moment}
@@ -32,9 +31,9 @@ use Rattle.pie_link.specs.Bursts.{AnswersAll, IsBurst}
 use Rattle.pie_link.specs.Views.{LinkView, CallerView}
 use Rattle.pie_storm.specs.declared.plan.Plan.{Plan}
 use Rattle.pie_storm.specs.Plans.{IsFair, IsSound, commands_of}
-use Rattle.pie_storm.specs.Storms.{AreMade, EachGoes, Goes, GoesOrEnds, IsCutShort, IsMade, OnlyMadeAt, events_of}
+use Rattle.pie_storm.specs.Storms.{EachGoes, Goes, GoesOrEnds, IsCutShort, IsMade, OnlyMadeAt, events_of}
 use Rattle.pie_storm.proofs.PlanCommands.{fair_at}
-use Rattle.pie_storm.proofs.Working.{IsAlone, drop_next, full_after, goes_event, goes_seen, own_same, which}
+use Rattle.pie_storm.proofs.Working.{drop_next, full_after, goes_event, goes_seen, own_same, which}
 use Rattle.pie_storm.proofs.FoldsMade.{own_same as entries_same}
 
 -- why a command is refused, where its reply is a refusal

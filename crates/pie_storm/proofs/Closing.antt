@@ -9,6 +9,8 @@ use Rattle.pie_event.specs.declared.opening.Mode.TheVariants.{Bounded}
 use Rattle.pie_event.specs.declared.opening.Opening.{Opening}
 use Rattle.pie_book.specs.Book.{BookView, Tells}
 use Rattle.pie_book.specs.Decision.{IsLegal}
+use Rattle.pie_book.specs.Registers.{registers_after}
+use Rattle.pie_book.specs.Statistics.{stats_after}
 use Rattle.pie_storm.specs.declared.ending.StormEnd.{StormEnd}
 use Rattle.pie_storm.specs.declared.ending.StormFault.{StormFault}
 use Rattle.pie_kept.specs.declared.entry.Entry.{Entry}
@@ -16,7 +18,7 @@ use Rattle.pie_storm.specs.declared.plan.Plan.{Plan}
 use Rattle.pie_kept.specs.Entries.{entries_of, events_in, handed_out, number_of}
 use Rattle.pie_kept.specs.Kept.{TellsEntries}
 use Rattle.pie_storm.specs.Plans.{IsSound, opening_of, senders}
-use Rattle.pie_storm.specs.Storms.{AllCameOf, AllCameAt, AreFolded, AreFoldedAt, IsStorm, NoneElseFolds, NoneElseFoldsAt, WereHanded, folder}
+use Rattle.pie_storm.specs.Storms.{AllCameOf, AllCameAt, AreFolded, AreFoldedAt, IsEndOf, IsStorm, NoneElseFolds, NoneElseFoldsAt, WereHanded, folder}
 use Rattle.pie_link.specs.Views.{LinkView, CallerView, StaysOne}
 use Rattle.pie_storm.proofs.Counting.{callers_of_plan, handed_all, is_storm}
 
@@ -80,28 +82,6 @@ pub end_well : (well : Type 0) (passed many : ℕ) (result : Result StormEnd Sto
 end_well well passed many (Ok end) counts = counts.0
 end_well well passed many (Err why) counts = counts
 
-pub end_legal : (opening : Opening) (history : List Event) (result : Result StormEnd StormFault) → IsLegal opening history
-    → IfOk result (λ end. end.events.items ≡ history) → IfOk result (λ end. IsLegal opening end.events.items)
-end_legal opening history (Ok end) legal is = subst (λ (es : List Event). IsLegal opening es) (sym is) legal
-end_legal opening history (Err why) legal is = is
-
-pub end_shows : {A : Type 0} (value : StormEnd → A) (after : Opening → List Event → A) (opening other : Opening) (history : List Event)
-    (result : Result StormEnd StormFault) → other ≡ opening
-    → IfOk result (λ end. end.events.items ≡ history) → IfOk result (λ end. value end ≡ after other history)
-    → IfOk result (λ end. value end ≡ after opening end.events.items)
-end_shows value after opening other history (Ok end) same is shows = shows ∙ (ap (λ o. after o history) same ∙ ap (λ h. after opening h) (sym is))
-end_shows value after opening other history (Err why) same is shows = is
-
-pub end_made : (plan : Plan) (history : List Event) (well : Type 0) (passed many : ℕ) (result : Result StormEnd StormFault)
-    → (well → IsStorm plan history passed many)
-    → IfOk result (λ end. end.events.items ≡ history) → IfOk result (λ end. well × (end.too_soon ≡ passed) × (end.too_many ≡ many))
-    → IfOk result (λ end. IsStorm plan end.events.items end.too_soon end.too_many)
-end_made plan history well passed many (Ok end) made is counts =
-    subst (λ (es : List Event). IsStorm plan es end.too_soon end.too_many) (sym is)
-    (subst (λ (t : ℕ). IsStorm plan history t end.too_many) (sym (counts.1))
-    (subst (λ (t : ℕ). IsStorm plan history passed t) (sym (counts.2)) (made counts.0)))
-end_made plan history well passed many (Err why) made is counts = is
-
 -- the starter's front, once it has all numbers, is what the plan asks for
 pub gathered_storm : (plan : Plan) (link : LinkView) (starter caller : CallerView) (passed many : ℕ) → IsSound plan
     → link.origin ≡ Some (opening_of plan) → starter ≡ first_pass link (senders plan + 5)
@@ -158,3 +138,40 @@ ended plan n link starter caller book well events passed many result sound is fr
       events = end_whole (events_in caller.front) well events book.tail result whole items (end_well well passed many result counts);
       made = λ fine. gathered_storm plan link starter caller passed many sound from first' came below alone (folded fine).1;
     }
+
+-- .. with what the book held, and how many were passed over
+pub is_end : (plan : Plan) (book : BookView) (front : List Entry) (well : Type 0) (passed many : ℕ) (result : Result StormEnd StormFault)
+    → Ended plan book front well passed many result
+    → IfOk result (λ end. well × (end.too_soon ≡ passed) × (end.too_many ≡ many))
+    → IfOk result (λ end. end.registers ≡ registers_after book.opening (events_in front))
+    → IfOk result (λ end. end.stats ≡ stats_after book.opening (events_in front)) → IfOk result (IsEndOf plan)
+is_end plan book front well passed many (Ok end) e counts registers stats = record {
+  legal = subst (λ (es : List Event). IsLegal (opening_of plan) es) (sym e.events) e.legal;
+  made = subst (λ (es : List Event). IsStorm plan es end.too_soon end.too_many) (sym e.events)
+      (subst (λ (t : ℕ). IsStorm plan (events_in front) t end.too_many) (sym (counts.1))
+      (subst (λ (t : ℕ). IsStorm plan (events_in front) passed t) (sym (counts.2)) (e.made counts.0)));
+  registers = registers ∙ (ap (λ o. registers_after o (events_in front)) e.opened ∙ ap (λ h. registers_after (opening_of plan) h) (sym e.events));
+  stats = stats ∙ (ap (λ o. stats_after o (events_in front)) e.opened ∙ ap (λ h. stats_after (opening_of plan) h) (sym e.events));
+}
+is_end plan book front well passed many (Err why) e counts registers stats = counts
+
+-- what is promised of an end, one by one
+pub end_legal : (plan : Plan) (result : Result StormEnd StormFault) → IfOk result (IsEndOf plan)
+    → IfOk result (λ end. IsLegal (opening_of plan) end.events.items)
+end_legal plan (Ok end) is = is.legal
+end_legal plan (Err why) is = is
+
+pub end_made : (plan : Plan) (result : Result StormEnd StormFault) → IfOk result (IsEndOf plan)
+    → IfOk result (λ end. IsStorm plan end.events.items end.too_soon end.too_many)
+end_made plan (Ok end) is = is.made
+end_made plan (Err why) is = is
+
+pub end_registers : (plan : Plan) (result : Result StormEnd StormFault) → IfOk result (IsEndOf plan)
+    → IfOk result (λ end. end.registers ≡ registers_after (opening_of plan) end.events.items)
+end_registers plan (Ok end) is = is.registers
+end_registers plan (Err why) is = is
+
+pub end_stats : (plan : Plan) (result : Result StormEnd StormFault) → IfOk result (IsEndOf plan)
+    → IfOk result (λ end. end.stats ≡ stats_after (opening_of plan) end.events.items)
+end_stats plan (Ok end) is = is.stats
+end_stats plan (Err why) is = is

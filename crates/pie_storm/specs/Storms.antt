@@ -15,7 +15,10 @@ use Rattle.std.specs.Prelude.{Vec}
 use Rattle.pie_event.specs.declared.refusal.FoldRefusal.{FoldRefusal}
 use Rattle.pie_event.specs.declared.refusal.FoldRefusal.TheVariants.{TooMany, Memory}
 use Rattle.pie_kept.specs.declared.told.Told.{Told}
-use Rattle.pie_book.specs.Decision.{refusal_by_rule}
+use Rattle.pie_book.specs.Decision.{IsLegal, refusal_by_rule}
+use Rattle.pie_book.specs.Registers.{registers_after}
+use Rattle.pie_book.specs.Statistics.{stats_after}
+use Rattle.pie_storm.specs.declared.ending.StormEnd.{StormEnd}
 use Rattle.pie_storm.specs.declared.plan.Plan.{Plan}
 use Rattle.pie_event.specs.declared.command.Command.TheVariants.{Depart, Update}
 use Rattle.pie_storm.specs.Plans.{change, commands_of, opening_of, senders, sent}
@@ -215,3 +218,10 @@ pub record IsStorm (plan : Plan) (events : List Event) (too_soon too_many : ℕ)
   -- no other caller has an event, and no other a fold
   pub no_others : (caller : ℕ) → (caller ≡ 0) ⊎ (senders plan + 3 < caller) → events_of caller events ≡ []
   pub no_other_folds : (caller : ℕ) → (caller ≡ folder plan → ⊥) → All IsMade (entries_of caller history)
+
+-- a storm of this plan ended so: what was recorded is a legal history that the plan asks for, and the book held what looking back over it gives
+pub record IsEndOf (plan : Plan) (end : StormEnd) : Type 0 where
+  pub legal : IsLegal (opening_of plan) end.events.items
+  pub made : IsStorm plan end.events.items end.too_soon end.too_many
+  pub registers : end.registers ≡ registers_after (opening_of plan) end.events.items
+  pub stats : end.stats ≡ stats_after (opening_of plan) end.events.items

@@ -1,5 +1,5 @@
 //! The storm: a link under many threads at once, recorded.
-ghost use Rattle.std.specs.Prelude.{vec_capacity, ◌≡◌, ◌+◌, ◌*◌, ◌^◌, ◌≤◌, ◌≢◌, ◌↔◌, ◌++◌, List, [], false, Some, None, Err, IfSome, IfOk, IfErr, OnOk};
+ghost use Rattle.std.specs.Prelude.{vec_capacity, ◌≡◌, ◌+◌, ◌*◌, ◌^◌, ◌≤◌, ◌≢◌, ◌↔◌, ◌⊎◌, ◌++◌, List, [], false, Some, None, Err, IfSome, IfOk, IfErr, OnOk};
 ghost use denote.Param.Send.{IsSync};
 ghost use Rattle.pie_event.specs.declared.command.Event.{Event};
 ghost use Rattle.pie_book.specs.Book.{Tells};
@@ -11,7 +11,7 @@ ghost use Rattle.pie_kept.specs.Entries.{events_in};
 ghost use Rattle.pie_link.specs.declared.refusal.LinkRefusal.{LinkRefusal};
 ghost use Rattle.pie_link.specs.Opening.{IsRefusedFor, link_refusal};
 ghost use Rattle.pie_storm.specs.Plans.{IsSound, opening_of, planned, senders, turn_of};
-ghost use Rattle.pie_storm.specs.Storms.{AllCameAt, AreFoldedAt, CameAt, IsStorm, MadeAll, MadeFolds, NoneElseFoldsAt, OnlyMadeAt, folder};
+ghost use Rattle.pie_storm.specs.Storms.{AllCameAt, AreFoldedAt, CameAt, IsEndOf, IsStorm, MadeAll, MadeFolds, NoneElseFoldsAt, OnlyMadeAt, folder};
 ghost use Rattle.pie_link.specs.Views.{StaysOne};
 ghost use Rattle.pie_lock.specs.Promises.{first_pass};
 
@@ -31,6 +31,18 @@ use std::thread::{Promise, Scope, Threads};
 enum Unstarted {
     Thread,
     Memory,
+}
+
+impl Unstarted {
+    // The storm's fault.
+    fn fault(self) -> StormFault
+        ensures { (result ≡ StormFault.Thread) ⊎ (result ≡ StormFault.Memory) }
+    {
+        match self {
+            Unstarted::Thread => StormFault::Thread,
+            Unstarted::Memory => StormFault::Memory,
+        }
+    }
 }
 
 // What a worker promises: it made all calls of the caller with this number.
@@ -220,14 +232,35 @@ pub fn storm<R: Threads + Wait + Sync, G: Gate + Sync>(
         return Err(StormFault::BadPlan);
     }
     let callers = plan.arrivals.len() as u16 + 5;
-    let (link, starter) = match open_link(alloc, plan, callers) {
-        Ok(opened) => opened,
-        Err(why) => return Err(StormFault::Opening(why)),
-    };
+    match open_link(alloc, plan, callers) {
+        Ok((link, starter)) => run(rt, alloc, plan, gate, link, starter),
+        Err(why) => Err(StormFault::Opening(why)),
+    }
+}
+
+// Makes all calls of the plan at this link, and closes it. A function of its own: a way out of `storm` that came after the opening would let
+// the link go, which is dear to prove.
+fn run<R: Threads + Wait + Sync, G: Gate + Sync>(
+    rt: &R,
+    alloc: Global,
+    plan: &Plan,
+    gate: &G,
+    link: Link,
+    starter: Caller,
+) -> Result<StormEnd, StormFault>
+    requires sound { IsSound plan.now }
+    requires few { planned plan.now ≤ 2 ^ 20 }
+    requires opening { link.origin ≡ Some (opening_of plan.now) }
+    requires callers { link.numbers ≡ senders plan.now + 5 }
+    requires starter { starter ≡ first_pass link (senders plan.now + 5) }
+    ensures ended { IfOk result (IsEndOf plan.now) }
+    ensures sound { result ≢ Err StormFault.BadPlan }
+    ensures opened { (why : LinkRefusal) → result ≢ Err (StormFault.Opening why) }
+    ensures no_gap { result ≢ Err StormFault.Gap }
+{
     let work = match work_at_once(rt, alloc, &link, plan, gate, starter) {
         Ok(work) => work,
-        Err(Unstarted::Thread) => return Err(StormFault::Thread),
-        Err(Unstarted::Memory) => return Err(StormFault::Memory),
+        Err(why) => return Err(why.fault()),
     };
     let Work {
         caller,

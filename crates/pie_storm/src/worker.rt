@@ -1,6 +1,6 @@
 //! The workers of a storm: each makes the calls of one caller, one after another.
 ghost use Rattle.std.specs.Prelude.{◌≡◌, ◌≢◌, ◌+◌, ◌^◌, ◌<◌, ◌≤◌, ◌-◌, ◌++◌, ◌↔◌, ℕ, All, [], false, Some, None, Err, IfSome, IfOk, IsOk, IsTrue};
-ghost use Rattle.std.specs.Prelude.{OnErr, length, vec_capacity, vec_len};
+ghost use Rattle.std.specs.Prelude.{OnErr, length, vec_capacity};
 ghost use Rattle.pie_kept.specs.Entries.{events_in};
 ghost use Rattle.pie_link.specs.Commands.{Answers};
 ghost use Rattle.pie_storm.specs.Plans.{IsSound, commands_of, planned, senders, turn_of};
@@ -127,8 +127,8 @@ fn added_by(answer: &Result<Told<Answer>, Refusal>) -> Option<u64>
     }
 }
 
-// Makes the command of a caller that comes after `k` others, in its turn after `call` others, and tells how many were too soon: this one, or none. There is no
-// answer where the book was full, and then nothing was recorded.
+// Makes the command of a caller that comes after `k` others, in its turn after `call` others, and tells how many were too soon: this one, or
+// none. There is no answer where the book was full, and then nothing was recorded.
 fn ask_next<R: Wait, G: Gate>(
     rt: &R,
     link: &Link,
@@ -161,7 +161,8 @@ fn ask_next<R: Wait, G: Gate>(
     added_by(&answer)
 }
 
-// Hands in at once the `count` arrivals of a sender that come after `k` others, in its turn after `call` others. There is no answer where the book was full.
+// Hands in at once the `count` arrivals of a sender that come after `k` others, in its turn after `call` others. There is no answer where the
+// book was full.
 fn send_next<R: Wait, G: Gate>(
     rt: &R,
     link: &Link,

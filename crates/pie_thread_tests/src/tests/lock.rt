@@ -6,11 +6,8 @@ ghost use Rattle.pie_lock.specs.Tally.{Tells};
 mod sleepers;
 
 use pie_lock::example::{Till, try_sell};
-use pie_lock::{
-    Counter, CounterEntry, Held, LockRefusal, OneNumber, Pass, RuledLock, no_entries, one_entry,
-};
+use pie_lock::{Counter, CounterEntry, Held, Pass, RuledLock, no_entries, one_entry};
 use std::alloc::Global;
-use std::fmt::Display;
 
 // Adds an amount under the pass's first number, and puts the counter back.
 fn add_and_put(
@@ -172,25 +169,4 @@ fn sales(alloc: Global) -> Option<u64> {
 #[test]
 fn a_till_sells_to_passes_that_lack_numbers(rt: HostRuntime) {
     assert!(rt; sales(rt.alloc()) == Some(2));
-}
-
-// Whether this is said so.
-fn says<T: Display>(alloc: Global, it: &T, want: &str) -> bool {
-    match format!(in alloc; "{it}") {
-        Ok(text) => text.as_str() == want,
-        Err(_) => false,
-    }
-}
-
-#[test]
-fn refusals_say_what_was_lacking(rt: HostRuntime) {
-    let alloc = rt.alloc();
-    let none = says(
-        alloc,
-        &LockRefusal::NoNumbers,
-        "a lock needs one number at least",
-    );
-    let memory = says(alloc, &LockRefusal::Memory, "no memory for the lock");
-    let one = says(alloc, &OneNumber, "a pass with one number can't be shared");
-    assert!(rt; none && memory && one);
 }

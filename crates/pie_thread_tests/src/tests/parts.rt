@@ -5,6 +5,7 @@ use pie_book::{
     QueueRefusal, Refusal, ResumeRefusal,
 };
 use pie_fixed::{Accu, Gain, Prob};
+use pie_lock::{LockRefusal, OneNumber};
 use pie_params::{BadParam, Elements, Field, Params, RawParams};
 use pie_queue::{ByteQueue, Ecn, Memory};
 use pie_record::TraceFault;
@@ -70,11 +71,21 @@ fn say_why_none_goes_on(alloc: Global) -> bool {
         )
 }
 
+/// Those of a lock and of a pass.
+fn say_what_a_lock_lacks(alloc: Global) -> bool {
+    says(
+        alloc,
+        &LockRefusal::NoNumbers,
+        "a lock needs one number at least",
+    ) && says(alloc, &LockRefusal::Memory, "no memory for the lock")
+        && says(alloc, &OneNumber, "a pass with one number can't be shared")
+}
+
 #[test]
 fn refusals_in_words(rt: HostRuntime) {
     let alloc = rt.alloc();
     let is_said = say_why_a_command_is_refused(alloc) && say_why_others_are_refused(alloc);
-    assert!(rt; is_said && say_why_none_goes_on(alloc));
+    assert!(rt; is_said && say_why_none_goes_on(alloc) && say_what_a_lock_lacks(alloc));
 }
 
 /// Whether there is memory for a ring of the greatest size.

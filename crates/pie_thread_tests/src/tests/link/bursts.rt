@@ -1,136 +1,20 @@
-//! Bursts, by one thread and by two at once.
+//! Bursts of two threads at once. What one thread's bursts are answered is proved, and computed for worked rows (crates/pie_link/proofs).
 ghost use Rattle.std.specs.Prelude.{◌≡◌};
-ghost use Rattle.pie_link.specs.Views.{StaysOne};
 
 use super::{opened, packet};
-use pie_book::{Answer, Book, Refusal};
-use pie_link::{Arrival, Caller, Link, NoRoom, Told, Tried};
-use pie_queue::{Ecn, Packet};
-use std::alloc::{AllocError, Global};
+use pie_book::{Answer, Book};
+use pie_link::{Arrival, Caller, Link};
+use std::alloc::Global;
 use std::sync::Wait;
 use std::thread::{Threads, join};
 
-type Answers = Vec<Result<Told<Answer>, Refusal>>;
-
-// A packet of so many bytes at moment 10.
-fn arrival(tag: u64, size: u32) -> Arrival {
-    let packet = Packet {
-        tag,
-        size,
-        ecn: Ecn::NotEct,
-    };
+// A packet at moment 10.
+fn arrival(tag: u64) -> Arrival {
     Arrival {
         moment: 10,
-        packet,
+        packet: packet(tag),
         word: 0,
     }
-}
-
-// Whether the answer at a place is this one, at this number.
-fn is_told(answers: &Answers, place: usize, answer: Answer, number: u64) -> bool {
-    match answers.get(place) {
-        Some(Ok(told)) => told.answer == answer && told.number == number,
-        _ => false,
-    }
-}
-
-// Whether the answer at a place is this refusal.
-fn is_refused(answers: &Answers, place: usize, why: Refusal) -> bool {
-    match answers.get(place) {
-        Some(Err(refusal)) => *refusal == why,
-        _ => false,
-    }
-}
-
-// Three packets of which the second has no bytes: it is refused, and the third is handed in all the same.
-fn refused_in_the_middle<R: Wait>(
-    rt: &R,
-    link: &Link,
-    caller: &mut Caller,
-    answers: &mut Answers,
-) -> bool
-    requires own { caller.old.lock ≡ link.now }
-    ensures stays { StaysOne caller.old caller.new }
-{
-    let three = [arrival(1, 100), arrival(2, 0), arrival(3, 100)];
-    answers.clear();
-    let done = link.arrive_all(rt, caller, &three, answers) == Ok(());
-    done && answers.len() == 3
-        && is_told(answers, 0, Answer::Enqueued, 1)
-        && is_refused(answers, 1, Refusal::Size)
-        && is_told(answers, 2, Answer::Enqueued, 2)
-}
-
-// Up to four departures after it: two packets leave, and the third departure, which is recorded, finds the queue empty.
-fn departures_end_at_empty<R: Wait>(
-    rt: &R,
-    link: &Link,
-    caller: &mut Caller,
-    answers: &mut Answers,
-) -> bool
-    requires own { caller.old.lock ≡ link.now }
-    ensures stays { StaysOne caller.old caller.new }
-{
-    answers.clear();
-    let done = link.depart_all(rt, caller, 20, 4, answers) == Ok(());
-    done && answers.len() == 3
-        && is_told(answers, 0, Answer::Left(packet(1)), 3)
-        && is_told(answers, 1, Answer::Left(packet(3)), 4)
-        && is_told(answers, 2, Answer::Empty, 5)
-}
-
-// A burst that never blocks is answered after what the vector holds; the tail has room for six events, so that its second packet is refused.
-fn tried_after_others(link: &Link, caller: &mut Caller, answers: &mut Answers) -> bool
-    requires own { caller.old.lock ≡ link.now }
-    ensures stays { StaysOne caller.old caller.new }
-{
-    answers.truncate(1);
-    let two = [arrival(4, 100), arrival(5, 100)];
-    let done = link.try_arrive_all(caller, &two, answers) == Ok(());
-    done && answers.len() == 3
-        && is_told(answers, 0, Answer::Left(packet(1)), 3)
-        && is_told(answers, 1, Answer::Enqueued, 6)
-        && is_refused(answers, 2, Refusal::HistoryFull)
-}
-
-// A vector with room for four answers, of which three are there, has none for two more; and a burst of none is always answered.
-fn room<R: Wait>(rt: &R, link: &Link, caller: &mut Caller, answers: &mut Answers) -> bool
-    requires own { caller.old.lock ≡ link.now }
-    ensures stays { StaysOne caller.old caller.new }
-{
-    let two = [arrival(6, 100), arrival(7, 100)];
-    let waits = link.arrive_all(rt, caller, &two, answers) == Err(NoRoom);
-    let tries = link.try_arrive_all(caller, &two, answers) == Err(Tried::Refused(NoRoom));
-    let departs = link.depart_all(rt, caller, 30, 2, answers) == Err(NoRoom);
-    let none = link.arrive_all(rt, caller, &[], answers) == Ok(())
-        && link.depart_all(rt, caller, 30, 0, answers) == Ok(());
-    waits && tries && departs && none && answers.len() == 3
-}
-
-// All of it at one link, one after another.
-fn bursts_in_turn<R: Wait>(rt: &R, link: &Link, caller: &mut Caller, answers: &mut Answers) -> bool
-    requires own { caller.old.lock ≡ link.now }
-    ensures stays { StaysOne caller.old caller.new }
-{
-    let refused = refused_in_the_middle(rt, link, caller, answers);
-    let departed = departures_end_at_empty(rt, link, caller, answers);
-    let tried = tried_after_others(link, caller, answers);
-    let room = room(rt, link, caller, answers);
-    refused && departed && tried && room
-}
-
-fn one_thread<R: Wait>(rt: &R, alloc: Global) -> Result<bool, AllocError> {
-    let mut answers = Vec::with_capacity(alloc, 4)?;
-    match opened(alloc, 6, 1) {
-        Ok((link, mut caller)) => Ok(bursts_in_turn(rt, &link, &mut caller, &mut answers)),
-        Err(_) => Ok(false),
-    }
-}
-
-#[test]
-fn bursts_are_answered(rt: HostRuntime) {
-    let is_so = one_thread(&rt, rt.alloc()) == Ok(true);
-    assert!(rt; is_so);
 }
 
 // A burst of two packets with these tags.
@@ -140,7 +24,7 @@ fn two_packets<R: Wait>(rt: &R, alloc: Global, link: &Link, caller: Caller, tag:
 {
     let mut mine = caller;
     if let Ok(mut answers) = Vec::with_capacity(alloc, 2) {
-        let two = [arrival(tag, 100), arrival(tag.wrapping_add(1), 100)];
+        let two = [arrival(tag), arrival(tag.wrapping_add(1))];
         let _ = link.arrive_all(rt, &mut mine, &two, &mut answers);
     }
     mine

@@ -1,8 +1,6 @@
 //! Excerpts that are taken out of a link while seven other threads are at work on it: each is decided again from what it stands on, and one goes
 //! on from another.
-ghost use Rattle.std.specs.Prelude.{◌≡◌, All, IfOk, IfSome};
-ghost use denote.Param.Send.{IsSync};
-ghost use Rattle.pie_link.specs.Views.{StaysOne};
+ghost use Rattle.std.specs.Prelude.{◌≡◌};
 
 use super::packet;
 use crossbeam_utils::Backoff;
@@ -12,11 +10,11 @@ use pie_book::{
 use pie_link::{Arrival, Caller, Link};
 use pie_params::{Elements, Params};
 use pie_queue::Waiting;
-use std::alloc::{AllocError, Global};
+use std::alloc::Global;
 use std::sync::Wait;
 use std::sync::atomic::{AtomicU64, Ordering};
 use std::thread;
-use std::thread::{Threads, join};
+use std::thread::Threads;
 
 // How many excerpts are taken out.
 const DUMPS: u64 = 100;
@@ -30,6 +28,8 @@ const BETWEEN: u64 = 100_000;
 // What a thread does in each of its turns.
 #[derive(Clone, Copy)]
 enum Work {
+    // Takes excerpts out, and looks at them.
+    Dump,
     // Hands in a burst of packets.
     Send,
     // Takes a burst of packets out.
@@ -40,15 +40,24 @@ enum Work {
     Look,
 }
 
-// A thread's work at the link.
+// A thread at the link.
 #[derive(Drop)]
-struct Job {
+struct AtLink<'a> {
+    link: &'a Link,
     caller: Caller,
+    ghost own: { caller.lock ≡ link.now },
+}
+
+// What it does there.
+#[derive(Drop)]
+struct Job<'a> {
+    at: AtLink<'a>,
     work: Work,
 }
 
 // Seven threads, beside the one that takes excerpts.
-const WORK: [Work; 7] = [
+const WORK: [Work; 8] = [
+    Work::Dump,
     Work::Send,
     Work::Send,
     Work::Send,
@@ -85,58 +94,39 @@ fn arrival(turn: u64) -> Arrival {
 }
 
 // One turn of a thread.
-fn make_turn<R: Wait>(rt: &R, alloc: Global, link: &Link, job: &mut Job, turn: u64)
-    requires { job.old.caller.lock ≡ link.now }
-    ensures { job.new.caller.lock ≡ link.now }
-{
+fn make_turn<R: Wait>(rt: &R, alloc: Global, at: &mut AtLink, work: Work, turn: u64) {
     let moment = turn.wrapping_mul(BETWEEN);
     let Ok(mut answers) = Vec::with_capacity(alloc, 4) else {
         return;
     };
-    match job.work {
+    match work {
+        Work::Dump => {}
         Work::Send => {
             let burst = [arrival(turn), arrival(turn), arrival(turn)];
-            let _ = link.arrive_all(rt, &mut job.caller, &burst, &mut answers);
+            let _ = at.link.arrive_all(rt, &mut at.caller, &burst, &mut answers);
         }
         Work::Take => {
-            let _ = link.depart_all(rt, &mut job.caller, moment, 4, &mut answers);
+            let _ = at
+                .link
+                .depart_all(rt, &mut at.caller, moment, 4, &mut answers);
         }
         Work::Update => {
-            let _ = link.update(rt, &mut job.caller, moment);
+            let _ = at.link.update(rt, &mut at.caller, moment);
         }
         Work::Look => {
-            let _ = link.registers(rt, &mut job.caller);
+            let _ = at.link.registers(rt, &mut at.caller);
         }
     }
 }
 
-// The turns of a thread, until the excerpts have been taken; it answers 0.
-fn toil<R: Wait>(rt: &R, alloc: Global, link: &Link, done: &AtomicU64, job: Job) -> u64
-    requires { job.caller.lock ≡ link.now }
-{
-    let mut job = job;
+// The turns of a thread, until the excerpts have been taken.
+fn make_turns<R: Wait>(rt: &R, alloc: Global, done: &AtomicU64, at: &mut AtLink, work: Work) {
     for turn in 0..TURNS {
         if done.load(Ordering::SeqCst) == 1 {
-            return 0;
+            return;
         }
-        make_turn(rt, alloc, link, &mut job, turn);
+        make_turn(rt, alloc, at, work, turn);
     }
-    0
-}
-
-// A caller for each of the seven.
-fn jobs(alloc: Global, link: &Link, caller: &mut Caller) -> Result<Vec<Job>, AllocError>
-    requires { caller.old.lock ≡ link.now }
-    ensures stays { caller.new.lock ≡ link.now }
-    ensures own { IfOk result (λ jobs. All (λ job. job.caller.lock ≡ link.now) jobs.items) }
-{
-    let mut jobs = Vec::new(alloc);
-    for work in WORK {
-        if let Ok(caller) = link.share(caller) {
-            jobs.push(Job { caller, work })?;
-        }
-    }
-    Ok(jobs)
 }
 
 // ---- an excerpt is decided again
@@ -231,13 +221,10 @@ fn look_at(alloc: Global, excerpt: &Excerpt, seen: &mut Seen) {
 }
 
 // Waits until the link has more events than this, for a while.
-fn wait_for_more<R: Wait>(rt: &R, link: &Link, caller: &mut Caller, count: u64)
-    requires own { caller.old.lock ≡ link.now }
-    ensures stays { StaysOne caller.old caller.new }
-{
+fn wait_for_more<R: Wait>(rt: &R, at: &mut AtLink, count: u64) {
     let backoff = Backoff::new();
     for _ in 0..TURNS {
-        if count < link.registers(rt, caller).number {
+        if count < at.link.registers(rt, &mut at.caller).number {
             return;
         }
         backoff.snooze();
@@ -245,34 +232,15 @@ fn wait_for_more<R: Wait>(rt: &R, link: &Link, caller: &mut Caller, count: u64)
 }
 
 // Takes one excerpt out and looks at it.
-fn dump<R: Wait>(
-    rt: &R,
-    alloc: Global,
-    link: &Link,
-    caller: &mut Caller,
-    excerpt: &mut Excerpt,
-    seen: &mut Seen,
-)
-    requires own { caller.old.lock ≡ link.now }
-    ensures stays { StaysOne caller.old caller.new }
-{
-    wait_for_more(rt, link, caller, seen.count);
-    if link.excerpt(rt, caller, excerpt).is_ok() {
+fn dump<R: Wait>(rt: &R, alloc: Global, at: &mut AtLink, excerpt: &mut Excerpt, seen: &mut Seen) {
+    wait_for_more(rt, at, seen.count);
+    if at.link.excerpt(rt, &mut at.caller, excerpt).is_ok() {
         look_at(alloc, excerpt, seen);
     }
 }
 
-// Takes all excerpts out.
-fn dump_all<R: Wait>(
-    rt: &R,
-    alloc: Global,
-    link: &Link,
-    caller: &mut Caller,
-    excerpt: &mut Excerpt,
-) -> (u64, u64)
-    requires own { caller.old.lock ≡ link.now }
-    ensures stays { StaysOne caller.old caller.new }
-{
+// Takes all excerpts out: how many were clean, and how many had grown.
+fn dump_all<R: Wait>(rt: &R, alloc: Global, at: &mut AtLink, excerpt: &mut Excerpt) -> (u64, u64) {
     let mut seen = Seen {
         clean: 0,
         grown: 0,
@@ -280,106 +248,71 @@ fn dump_all<R: Wait>(
         last: None,
     };
     for _ in 0..DUMPS {
-        dump(rt, alloc, link, caller, excerpt, &mut seen);
+        dump(rt, alloc, at, excerpt, &mut seen);
     }
     (seen.clean, seen.grown)
 }
 
-// Takes them out, and tells the others that they can end: how many were clean, and how many had grown.
-fn dump_and_end<R: Wait>(
-    rt: &R,
-    alloc: Global,
-    link: &Link,
-    done: &AtomicU64,
-    caller: Caller,
-) -> (u64, u64)
-    requires own { caller.lock ≡ link.now }
-{
-    let mut caller = caller;
-    let counts = match Excerpt::with_room(alloc, opening()) {
-        Ok(mut excerpt) => dump_all(rt, alloc, link, &mut caller, &mut excerpt),
+// What a thread does. The one that takes the excerpts tells the others when they can end, and what it found.
+fn toil<R: Wait>(rt: &R, alloc: Global, done: &AtomicU64, job: Job) -> (u64, u64) {
+    let Job { mut at, work } = job;
+    if !matches!(work, Work::Dump) {
+        make_turns(rt, alloc, done, &mut at, work);
+        return (0, 0);
+    }
+    let found = match Excerpt::with_room(alloc, opening()) {
+        Ok(mut excerpt) => dump_all(rt, alloc, &mut at, &mut excerpt),
         Err(_) => (0, 0),
     };
     done.store(1, Ordering::SeqCst);
-    counts
+    found
 }
 
-// The seven at work, each in a thread of its own.
-fn seven<R: Threads + Wait + Sync>(
-    rt: &R,
-    alloc: Global,
-    link: &Link,
-    done: &AtomicU64,
-    jobs: Vec<Job>,
-) -> bool
-    requires { All (λ job. job.caller.lock ≡ link.now) jobs.items }
+// A caller for each of the eight. (Without memory there are fewer, and the test fails.)
+fn jobs<'a>(alloc: Global, link: &'a Link, caller: &mut Caller) -> Vec<Job<'a>>
+    requires { caller.old.lock ≡ link.now }
+    ensures { caller.new.lock ≡ link.now }
 {
-    let ended = thread::map_vec(
-        rt,
-        jobs,
-        &|job: Job| -> u64
-            requires { job.caller.lock ≡ link.now }
-        { toil(rt, alloc, link, done, job) },
-    );
-    ended.is_ok()
-}
-
-// All eight at once.
-fn all_eight<R: Threads + Wait + Sync>(
-    rt: &R,
-    alloc: Global,
-    link: &Link,
-    caller: Caller,
-    jobs: Vec<Job>,
-) -> ((u64, u64), bool)
-    requires own { caller.lock ≡ link.now }
-    requires jobs { All (λ job. job.caller.lock ≡ link.now) jobs.items }
-{
-    let done = AtomicU64::new(0);
-    join(
-        rt,
-        || -> (u64, u64)
-            requires { caller.lock ≡ link.now }
-        { dump_and_end(rt, alloc, link, &done, caller) },
-        || -> bool
-            requires { IsSync R.row × All (λ job. job.caller.lock ≡ link.now) jobs.items }
-        { seven(rt, alloc, link, &done, jobs) },
-    )
+    let mut jobs = Vec::new(alloc);
+    for work in WORK {
+        if let Ok(caller) = link.share(caller) {
+            let at = AtLink { link, caller };
+            let _ = jobs.push(Job { at, work });
+        }
+    }
+    jobs
 }
 
 // Whether an excerpt that is taken when all are done gives what the link holds then.
-fn is_whole<R: Wait>(rt: &R, alloc: Global, link: &Link, caller: &mut Caller) -> bool
-    requires own { caller.old.lock ≡ link.now }
-{
+fn is_whole<R: Wait>(rt: &R, alloc: Global, at: &mut AtLink) -> bool {
     match Excerpt::with_room(alloc, opening()) {
         Ok(mut excerpt) => {
-            let is_filled = link.excerpt(rt, caller, &mut excerpt).is_ok();
-            let held = link.registers(rt, caller).answer;
+            let is_filled = at.link.excerpt(rt, &mut at.caller, &mut excerpt).is_ok();
+            let held = at.link.registers(rt, &mut at.caller).answer;
             is_filled && decided_again(alloc, &excerpt) == Some(held)
         }
         Err(_) => false,
     }
 }
 
-// How many excerpts were clean and how many had grown, where all threads ended and the last excerpt is whole.
+// How many excerpts were clean and how many had grown, where all eight threads ended and the last excerpt is whole.
 fn at_link<R: Threads + Wait + Sync>(
     rt: &R,
     alloc: Global,
     link: &Link,
-    caller: &mut Caller,
+    caller: Caller,
 ) -> Option<(u64, u64)>
-    requires own { caller.old.lock ≡ link.now }
+    requires own { caller.lock ≡ link.now }
 {
-    let Ok(jobs) = jobs(alloc, link, caller) else {
+    let mut caller = caller;
+    let done = AtomicU64::new(0);
+    let jobs = jobs(alloc, link, &mut caller);
+    let Ok(found) = thread::map_vec(rt, jobs, &|job: Job| { toil(rt, alloc, &done, job) }) else {
         return None;
     };
-    let Ok(own) = link.share(caller) else {
-        return None;
-    };
-    let is_for_all = jobs.len() == WORK.len();
-    let (counts, ended) = all_eight(rt, alloc, link, own, jobs);
-    if is_for_all && ended && is_whole(rt, alloc, link, caller) {
-        Some(counts)
+    let is_whole = is_whole(rt, alloc, &mut AtLink { link, caller });
+    if is_whole && found.len() == WORK.len() {
+        found.first().copied()
     } else {
         None
     }
@@ -393,7 +326,7 @@ fn dumped<R: Threads + Wait + Sync>(rt: &R, alloc: Global) -> Option<(u64, u64)>
         choices,
     } = opening();
     match Link::open_with(alloc, limits, params, moment, 9, choices) {
-        Ok((link, mut caller)) => at_link(rt, alloc, &link, &mut caller),
+        Ok((link, caller)) => at_link(rt, alloc, &link, caller),
         Err(_) => None,
     }
 }

@@ -1,12 +1,12 @@
 //! What no clause of a storm says: that its workers are at work at once, that a gate stands around each call, and that a fold finds what the tail
-//! holds.
+//! holds. (Eight senders at once: tests/program/storms.sh.)
 
 use super::packet;
 use crossbeam_utils::Backoff;
 use pie_book::{Event, Limits, Profile};
 use pie_params::{Elements, Params};
 use pie_storm::{Arrival, Change, Gate, Plan, StormEnd, storm};
-use std::alloc::{AllocError, Global};
+use std::alloc::Global;
 use std::sync::Wait;
 use std::sync::atomic::{AtomicU64, Ordering};
 use std::thread::Threads;
@@ -14,37 +14,14 @@ use std::thread::Threads;
 // The longest that a worker is held: so many turns.
 const TURNS: u64 = 1_000_000;
 
-// Waits until the word is at least `enough`, for a while, and says whether it is.
-fn wait_for(word: &AtomicU64, enough: u64) -> bool {
+// Waits until the word is at least `enough`, for a while.
+fn wait_for(word: &AtomicU64, enough: u64) {
     let backoff = Backoff::new();
     for _ in 0..TURNS {
         if word.load(Ordering::SeqCst) >= enough {
-            return true;
-        }
-        backoff.snooze();
-    }
-    false
-}
-
-// Each sender raises its flag after its first call, and looks for those of the others.
-#[derive(Drop)]
-struct Flags {
-    senders: u64,
-    raised: AtomicU64,
-    saw_all: AtomicU64,
-}
-
-impl Gate for Flags {
-    fn before(&self, _caller: u16, _call: u64) {}
-
-    fn after(&self, caller: u16, call: u64) {
-        if call != 1 || u64::from(caller) > self.senders {
             return;
         }
-        self.raised.fetch_add(1, Ordering::SeqCst);
-        if wait_for(&self.raised, self.senders) {
-            self.saw_all.fetch_add(1, Ordering::SeqCst);
-        }
+        backoff.snooze();
     }
 }
 
@@ -103,69 +80,41 @@ fn holding(held: u16, awaited: u16, until: u64) -> Hold {
     }
 }
 
-// One list with an arrival at each of these moments.
-fn arrivals(alloc: Global, of: &[u64]) -> Result<Vec<Arrival>, AllocError> {
+// One list with an arrival at each of these moments. (Without memory a list is too short, and its test fails.)
+fn arrivals(alloc: Global, of: &[u64]) -> Vec<Arrival> {
     let mut list = Vec::new(alloc);
     for moment in of {
-        list.push(Arrival {
+        let _ = list.push(Arrival {
             moment: *moment,
             packet: packet(*moment),
             word: 0,
-        })?;
+        });
     }
-    Ok(list)
+    list
 }
 
-// A plan whose events all fit, with these lists of arrivals and nothing else yet.
-fn plan(alloc: Global, arrivals: Vec<Vec<Arrival>>) -> Plan {
+// A plan of two senders, each of which sends at these moments, whose events all fit.
+fn plan(alloc: Global, one: &[u64], two: &[u64]) -> Plan {
+    let mut arriving = Vec::new(alloc);
+    let _ = arriving.push(arrivals(alloc, one));
+    let _ = arriving.push(arrivals(alloc, two));
     Plan {
         limits: Limits {
-            packets: 1024,
-            tail: 8,
-            events: 8,
+            packets: 4,
+            tail: 5,
+            events: 5,
         },
         params: Params::default_profile(),
         moment: 0,
         profile: Profile::One,
         elements: Elements::usual(),
-        arrivals,
+        arrivals: arriving,
         burst: 1,
         departs: Vec::new(alloc),
         updates: Vec::new(alloc),
         changes: Vec::new(alloc),
         folds: Vec::new(alloc),
     }
-}
-
-// A plan of so many senders, each of which sends at these moments.
-fn plan_of(alloc: Global, senders: u64, sent: &[u64]) -> Result<Plan, AllocError> {
-    let mut lists = Vec::new(alloc);
-    for _ in 0..senders {
-        lists.push(arrivals(alloc, sent)?)?;
-    }
-    Ok(plan(alloc, lists))
-}
-
-// Whether so many senders with a packet each see one another's flags.
-fn see_each_other<R: Threads + Wait + Sync>(rt: &R, alloc: Global, senders: u64) -> bool {
-    let gate = Flags {
-        senders,
-        raised: AtomicU64::new(0),
-        saw_all: AtomicU64::new(0),
-    };
-    match plan_of(alloc, senders, &[1]) {
-        Ok(plan) => {
-            storm(rt, alloc, &plan, &gate).is_ok() && gate.saw_all.load(Ordering::SeqCst) == senders
-        }
-        Err(_) => false,
-    }
-}
-
-#[test]
-fn senders_see_each_other(rt: HostRuntime) {
-    let two = see_each_other(&rt, rt.alloc(), 2);
-    let eight = see_each_other(&rt, rt.alloc(), 8);
-    assert!(rt; two && eight);
 }
 
 // Each event of the one caller stands before each of the other.
@@ -198,10 +147,8 @@ fn comes_last<R: Threads + Wait + Sync>(
 
 // Whether that is so of either of two senders.
 fn either_comes_last<R: Threads + Wait + Sync>(rt: &R, alloc: Global) -> bool {
-    match plan_of(alloc, 2, &[1, 2]) {
-        Ok(plan) => comes_last(rt, alloc, &plan, 1, 2) && comes_last(rt, alloc, &plan, 2, 1),
-        Err(_) => false,
-    }
+    let plan = plan(alloc, &[1, 2], &[1, 2]);
+    comes_last(rt, alloc, &plan, 1, 2) && comes_last(rt, alloc, &plan, 2, 1)
 }
 
 #[test]
@@ -211,20 +158,12 @@ fn a_held_sender_comes_last(rt: HostRuntime) {
 }
 
 // One sender with packets at 9 and 3 and one with a packet at 5, a change and three folds.
-fn plan_with_folds(alloc: Global) -> Result<Plan, AllocError> {
-    let mut lists = Vec::new(alloc);
-    lists.push(arrivals(alloc, &[9, 3])?)?;
-    lists.push(arrivals(alloc, &[5])?)?;
-    let mut plan = plan(alloc, lists);
-    plan.limits = Limits {
-        packets: 4,
-        tail: 5,
-        events: 5,
-    };
+fn plan_with_folds(alloc: Global) -> Plan {
     let params = Params::default_profile();
-    plan.changes.push(Change { moment: 4, params })?;
-    plan.folds.extend_from_slice(&[2, 1, 2])?;
-    Ok(plan)
+    let mut plan = plan(alloc, &[9, 3], &[5]);
+    let _ = plan.changes.push(Change { moment: 4, params });
+    let _ = plan.folds.extend_from_slice(&[2, 1, 2]);
+    plan
 }
 
 // Whether these are the four events, the registers and the statistics that such a plan ends with, where one fold asked for too many.
@@ -242,11 +181,8 @@ fn is_as_folded(end: &StormEnd) -> bool {
 // the other, one change, and one to three of the folds.
 fn folds_what_is_held<R: Threads + Wait + Sync>(rt: &R, alloc: Global) -> bool {
     let gate = holding(6, 0, 4);
-    let is_so = match plan_with_folds(alloc) {
-        Ok(plan) => match storm(rt, alloc, &plan, &gate) {
-            Ok(end) => is_as_folded(&end),
-            Err(_) => false,
-        },
+    let is_so = match storm(rt, alloc, &plan_with_folds(alloc), &gate) {
+        Ok(end) => is_as_folded(&end),
         Err(_) => false,
     };
     is_so

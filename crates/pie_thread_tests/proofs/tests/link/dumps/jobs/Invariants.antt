@@ -1,5 +1,5 @@
-use Rattle.std.proofs.Common.{◌≡◌, All}
+use Rattle.std.proofs.Common.{◌≡◌}
 use Rattle.pie_thread_tests.proofs.tests.link.dumps.jobs.Given as goal
 
 abbrev pub invariant-loop-work : goal.invariant-loop-work
-invariant-loop-work l = (l.caller.lock ≡ l.link) × All (λ job. job.caller.lock ≡ l.link) l.jobs.items
+invariant-loop-work l = l.caller.lock ≡ l.link

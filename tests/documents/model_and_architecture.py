@@ -1,7 +1,8 @@
 #!/usr/bin/env python3
 """Holds the documents to the code: docs/MODEL.md names each definition that a clause of a public function cites, and each function,
 definition and wrong body of its table of rules exists; map and table of crates in docs/ARCHITECTURE.md are those of crates.txt
-(docs/map.py --check). It reads by the layout that `rt fmt` writes. Exit status 1 where something is missing.
+(docs/map.py --check). And each `==` of a type is derived, so that it compares every field: what is found equal by a test, or by an audit, is the same.
+It reads by the layout that `rt fmt` writes. Exit status 1 where something is missing.
 
 usage: tests/documents/model_and_architecture.py
 needs: nothing
@@ -18,6 +19,8 @@ DEFINED = re.compile(r"^(?:abbrev |unfoldable )?pub (?:record |data )?(\w+)|^  (
 PUBLIC = re.compile(r'\s*pub (?:extern "C" )?fn (\w+)')
 CLAUSE_NAME = re.compile(r"^\s*(?:requires|ensures)\*? \w+ ", re.M)
 QUOTED = re.compile(r"`([^`\n]+)`")
+# (a trait's parameters may follow its name)
+EQUALITY = re.compile(r"^\s*(?:unsafe )?impl\b[^{;]*\b(?:PartialEq|Eq)\b[^{;]*\bfor\b", re.M)
 
 
 def crates():
@@ -80,9 +83,16 @@ def missing_of_rules(model):
             yield f"docs/MODEL.md: {rule}: no wrong body {name}"
 
 
+def written_equalities():
+    """Each `==` that is written by hand, and not derived. One that skips a field would meet every contract."""
+    for path in sorted((ROOT / "crates").glob("*/src/**/*.rt")):
+        for found in EQUALITY.findall(path.read_text()):
+            yield f"{path.relative_to(ROOT)}: `==` is not derived: {' '.join(found.split())}"
+
+
 def main():
     model = (ROOT / "docs" / "MODEL.md").read_text()
-    missing = [*missing_definitions(model), *missing_of_rules(model)]
+    missing = [*missing_definitions(model), *missing_of_rules(model), *written_equalities()]
     print("\n".join(missing) or f"{NAME}: the model names what the code has", flush=True)
     drawn = subprocess.run([ROOT / "docs" / "map.py", "--check"], check=False)
     sys.exit(bool(missing) or drawn.returncode)

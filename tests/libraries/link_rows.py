@@ -16,8 +16,9 @@ EVENTS = ("arrive", "depart", "update", "reset", "params")
 
 
 def said(history):
-    done = subprocess.run([PROGRAM, "rows"], input=history, capture_output=True, check=False, encoding="ascii")
-    return done.returncode, done.stdout, done.stderr
+    """The status, the last line, which tells of the history, and what stands on standard error."""
+    done = subprocess.run([PROGRAM], input=history, capture_output=True, check=False, encoding="ascii")
+    return done.returncode, "".join(done.stdout.splitlines(keepends=True)[-1:]), done.stderr
 
 
 def wanted(events, others):

@@ -1,7 +1,8 @@
 #!/usr/bin/env python3
 """Refuses the built program each request for memory, each read, each write and each start of a thread in turn, once and from there on
-(tests/shared/refuse.c): it ends with its fault, and what it wrote before is a beginning of what it writes where nothing is refused. So too each
-request by which it makes, writes, moves and removes the file of -o: then what was there is there, or all that there was to write.
+(tests/shared/refuse.c): it ends with its fault, and what it wrote before is a beginning of what it writes where nothing is refused. So of a long
+text, whose pages are many; of short ones that are read and written 7 bytes at a time, of each subcommand that reads or writes; and of a storm. So
+too each request by which it makes, writes, moves and removes the file of -o: then what was there is there, or all that there was to write.
 
 usage: tests/program/refused_requests.py [PROGRAM]      PROGRAM: crates/pie/out/pie where none is given
 needs: program, an early start"""
@@ -14,48 +15,112 @@ from checks import NAME, check, finish, refusing  # noqa: E402
 from running import MEMORY, READ, READERS, TRACE, WRITE, run  # noqa: E402
 
 THREAD = b"pie: a thread could not be started\n"
+FAULTS = {"REFUSE_MEMORY": MEMORY, "REFUSE_READ": READ, "REFUSE_WRITE": WRITE}
+# Of the requests one alone is refused, or all from there on.
+ONCE_AND_ON = [{}, {"REFUSE_ON": "1"}]
+STEP = 7
 
 
-def refused(history):
-    """Each request for memory, each read and each write refused in turn, once and from there on."""
-    with tempfile.TemporaryDirectory() as room:
-        library, met = refusing(room, "memory, read, write or start of a thread"), f"{room}/met"
-        if not library:
+def in_turn(library, met, words, given, variable, on, **more):
+    """What the program answers with its first such request refused, with its second, and so on, and whether it made it; the last time it did not."""
+    for place in range(1, 10_000):
+        if os.path.exists(met):
+            os.remove(met)
+        got = run(words, given, LD_PRELOAD=library, REFUSE_MET=met, **{variable: str(place)}, **on, **more)
+        yield place, got, os.path.exists(met)
+        if not os.path.exists(met):
             return
-        # (long enough for several reads and writes)
-        long = TRACE.replace(b"8,32,100", b"8,3200,9999", 1) + b"depart,1,1001006\nshow\n" * 1500
-        text = run(["run"], long)[1]
-        commands = {"run": (["run"], long), **{name: (words, text) for name, words in READERS.items()}}
-        for name, (words, given) in commands.items():
-            want = run(words, given)[1]
-            for variable, says in [("REFUSE_MEMORY", MEMORY), ("REFUSE_READ", READ), ("REFUSE_WRITE", WRITE)]:
-                for on in [{}, {"REFUSE_ON": "1"}]:
-                    for place in range(1, 10_000):
-                        if os.path.exists(met):
-                            os.remove(met)
-                        status, output, errors = run(words, given, LD_PRELOAD=library, REFUSE_MET=met, **{variable: str(place)}, **on)
-                        if not os.path.exists(met):
-                            check((status, output, errors) == (0, want, b""), name, variable, place, "with nothing refused", status, errors)
-                            break
-                        # (a list that grows asks once more, for less, before it gives up)
-                        did_with_less = variable == "REFUSE_MEMORY" and not on and (status, output, errors) == (0, want, b"")
-                        check((status, errors) == (1, says) or did_with_less, name, variable, place, on, status, errors[:100])
-                        # (a summary of the events up to there is another text)
-                        check(want.startswith(output) or name == "summary", name, variable, place, on, "no beginning of the text")
-                    check(place > 1, name, variable, "met nothing")
-                    # What is written goes out in pages of some 32 KB, and not byte by byte, nor all at the end.
-                    is_paged = len(want) // 65536 < place - 1 <= len(want) // 16384 + 1
-                    check(variable != "REFUSE_WRITE" or name == "audit" or is_paged, name, "wrote", len(want), "bytes by", place - 1, "writes")
-                    print(f"{NAME}: {name}: {variable} at {place - 1} places{' and all after them' if on else ''}")
-        storm_refused(library, met)
-        for name, (words, given) in commands.items():
-            if name != "audit":
-                outputs_refused(library, met, name, words, given)
-        # A text's fault before which something was written that cannot be flushed: the device is what is told.
-        faulty = {"run": (["run"], TRACE + b"dep\n"), **{name: (words, history + b"dep\n") for name, words in READERS.items() if name != "audit"}}
-        for name, (words, given) in faulty.items():
-            got = run(words, given, LD_PRELOAD=library, REFUSE_MET=met, REFUSE_WRITE="1", REFUSE_ON="1")
-            check(got == (1, b"", WRITE), name, "a fault that cannot be flushed", got)
+
+
+def told(words, says, errors):
+    """Whether each line on standard error tells this fault, of a file where files are audited."""
+    names = [word.encode() for word in words if word.startswith("/")]
+    lines = {says, *(says.replace(b"pie: ", b"pie: %s: " % name, 1) for name in names if words[0] == "audit")}
+    return errors == says or errors != b"" and set(errors.splitlines(keepends=True)) <= lines
+
+
+def is_beginning(words, variable, output, want):
+    """Whether this is a beginning of the text that is wanted. A summary of the events up to a fault is another text, and of files that are audited
+    each that can be read is told."""
+    if variable == "REFUSE_WRITE" or "--summary" not in words and "--joined" not in words:
+        return want.startswith(output)
+    return "--summary" in words or set(output.splitlines()) <= set(want.splitlines())
+
+
+def refused(library, met, name, words, given, variables=tuple(FAULTS), **more):
+    """Each request for memory, each read and each write refused in turn; answers what is written with none refused, and how many there are."""
+    want, counts = run(words, given)[1], {}
+    for variable in variables:
+        says = FAULTS[variable]
+        # (a short text's memory is refused once alone, since a long one's is refused from there on too)
+        for on in ONCE_AND_ON[:1] if more and variable == "REFUSE_MEMORY" else ONCE_AND_ON:
+            for place, (status, output, errors), is_refused in in_turn(library, met, words, given, variable, on, **more):
+                counts[variable] = place - 1
+                if not is_refused:
+                    check((status, output, errors) == (0, want, b""), name, variable, place, "with nothing refused", status, errors)
+                    continue
+                # (a list that grows asks once more, for less, before it gives up)
+                did_with_less = variable == "REFUSE_MEMORY" and not on and (status, output, errors) == (0, want, b"")
+                check(status == 1 and told(words, says, errors) or did_with_less, name, variable, place, on, status, errors[:100])
+                check(is_beginning(words, variable, output, want), name, variable, place, on, "no beginning of the text")
+            print(f"{NAME}: {name}: {variable} at {counts[variable]} places{' and all after them' if on else ''}")
+    return want, counts
+
+
+def long_text(library, met):
+    """A text that is long enough for several reads and writes: what is written goes out in pages of some 32 KB, and not byte by byte, nor all at the
+    end."""
+    long = TRACE.replace(b"8,32,100", b"8,3200,9999", 1) + b"depart,1,1001006\nshow\n" * 1500
+    text = run(["run"], long)[1]
+    commands = {"run": (["run"], long), **{name: (words, text) for name, words in READERS.items()}}
+    for name, (words, given) in commands.items():
+        want, counts = refused(library, met, name, words, given)
+        check(all(counts.values()), name, "met nothing of", counts)
+        is_paged = len(want) // 65536 < counts["REFUSE_WRITE"] <= len(want) // 16384 + 1
+        check(name == "audit" or is_paged, name, "wrote", len(want), "bytes by", counts["REFUSE_WRITE"], "writes")
+    for name, (words, given) in commands.items():
+        if name != "audit":
+            outputs_refused(library, met, name, words, given)
+
+
+def short_texts(library, met):
+    """Short texts of which a read or a write moves 7 bytes at the most, so that each 7 bytes are the last before a fault."""
+    trace = b"open,0,4,16,100\narrive,1,10,7,1500,ect0,0\ndepart,2,25\ndepart,2,30\n"
+    history = run(["run"], trace)[1]
+    # (the second and the third event, with what they stand on)
+    part = run(["cut", "--from", "25"], history)[1]
+    goes_on = part.replace(b",left,7,1500,ect0", b"").replace(b",empty", b"")
+    check(part.startswith(b"resume,") and goes_on.endswith(b"depart,2,25\ndepart,2,30\n"), "what is cut:", part)
+    with tempfile.TemporaryDirectory() as folder:
+        files = {"first": b"".join(history.splitlines(keepends=True)[:2]), "second": part}
+        for name, text in files.items():
+            with open(f"{folder}/{name}", "wb") as file:
+                file.write(text)
+        first, second = f"{folder}/first", f"{folder}/second"
+        # (of those that are asked for memory too, a long text does not stand for it)
+        moved, asked = ["REFUSE_READ", "REFUSE_WRITE"], list(FAULTS)
+        commands = [
+            (["run"], trace, moved), (["run"], goes_on, asked), (["audit"], history, moved), (["audit"], part, asked),
+            (["audit", "--joined", first, second], b"", asked), (["explain", "--all", "--csv"], history, asked),
+            (["explain", "--all", "--from", "25"], history, moved), (["explain", "--event", "3"], part, asked),
+            (["explain", "--summary"], history, moved), (["cut", "--event", "2"], history, moved),
+            (["cut", "--from", "30"], part, asked), (["cut", "--every", "2"], history, asked), (["cut", "--last", "1", second], b"", asked),
+            (["migrate"], history, moved), (["params", "--rate", "100mbit", "--target", "20ms"], b"", moved),
+        ]
+        for words, given, variables in commands:
+            name = " ".join(words).replace(f"{folder}/", "") + (" of a text that goes on" if given in (part, goes_on) else "")
+            want, counts = refused(library, met, f"{STEP} bytes at a time: {name}", words, given, variables, REFUSE_STEP=str(STEP))
+            read = len(given) + sum(len(text) * (2 if "--last" in words else 1) for file, text in files.items() if f"{folder}/{file}" in words)
+            check(counts["REFUSE_READ"] >= read / STEP and counts["REFUSE_WRITE"] >= len(want) / STEP > 0, name, "read and wrote by", counts)
+            check(counts.get("REFUSE_MEMORY") != 0, name, "requested no memory")
+
+
+def faults_before(library, met, history):
+    """A text's fault before which something was written that cannot be flushed: the device is what is told."""
+    faulty = {"run": (["run"], TRACE + b"dep\n"), **{name: (words, history + b"dep\n") for name, words in READERS.items() if name != "audit"}}
+    for name, (words, given) in faulty.items():
+        got = run(words, given, LD_PRELOAD=library, REFUSE_MET=met, REFUSE_WRITE="1", REFUSE_ON="1")
+        check(got == (1, b"", WRITE), name, "a fault that cannot be flushed", got)
 
 
 def outputs_refused(library, met, name, words, given):
@@ -63,7 +128,7 @@ def outputs_refused(library, met, name, words, given):
     want = run(words, given)[1]
     for older in (None, b"older\n"):
         forced = ["--force"] if older else []
-        for on in [{}, {"REFUSE_ON": "1"}]:
+        for on in ONCE_AND_ON:
             for place in range(1, 10_000):
                 if os.path.exists(met):
                     os.remove(met)
@@ -81,32 +146,35 @@ def outputs_refused(library, met, name, words, given):
                 is_kept = got[:2] == (1, b"") and left.pop("made", None) == older
                 check(is_whole or is_kept, name, "-o", forced, place, on, "another file, or", got[0], got[2][:200])
                 # (of what was written something is left under the other name, which is told; after a link that was made it may be all)
-                told = got[2].endswith(f"pie: {made}.partial: this has what was written until then\n".encode())
+                is_told = got[2].endswith(f"pie: {made}.partial: this has what was written until then\n".encode())
                 check(all(want.startswith(text) for text in left.values()), name, "-o", place, on, "no beginning of the text is left")
-                check(set(left) <= {"made.partial"} and (is_whole or told or not any(left.values())), name, "-o", place, on, got[2], list(left))
+                check(set(left) <= {"made.partial"} and (is_whole or is_told or not any(left.values())), name, "-o", place, on, got[2], list(left))
             check(place > 4, name, "-o", forced, "met", place - 1, "requests alone")
             print(f"{NAME}: {name} -o {''.join(forced)}: REFUSE_FILE at {place - 1} places{' and all after them' if on else ''}")
 
 
+def is_clean(history):
+    """Whether the whole lines of what a storm wrote are a history, if there is one."""
+    lines = history.splitlines(keepends=True)
+    whole = [line for line in lines if line.endswith(b"\n")]
+    return not whole or run(["audit"], b"".join(whole))[:2] == (0, b"clean,%d\n" % (len(whole) - 1))
+
+
 def storm_refused(library, met):
     """A storm of which each request for memory, each write and each start of a thread is refused ends: with its fault, or with a history
-    that is audited clean where it did without."""
-    told = {"REFUSE_MEMORY": [MEMORY, THREAD], "REFUSE_WRITE": [WRITE], "REFUSE_THREAD": [THREAD]}
-    for variable, says in told.items():
-        # (long enough for several writes)
-        words = ["storm", "--senders", "3", "--packets", "500" if variable == "REFUSE_WRITE" else "4"]
-        for on in [{}, {"REFUSE_ON": "1"}]:
-            for place in range(1, 10_000):
-                if os.path.exists(met):
-                    os.remove(met)
-                status, output, errors = run(words, b"", LD_PRELOAD=library, REFUSE_MET=met, **{variable: str(place)}, **on)
-                is_clean = status == 0 and not errors and run(["audit"], output)[:2] == (0, b"clean,%d\n" % (output.count(b"\n") - 1))
-                if not os.path.exists(met):
-                    check(is_clean, "storm", variable, place, "with nothing refused", status, errors)
-                    break
+    that is audited clean where it did without. What it wrote before its fault is a beginning of a history, and none of its threads runs on."""
+    few, many = ["storm", "--senders", "3", "--packets", "4"], ["storm", "--senders", "3", "--packets", "500"]
+    rows = [("REFUSE_MEMORY", [MEMORY, THREAD], few, {}), ("REFUSE_THREAD", [THREAD], few, {}),
+            # (long enough for several writes; and short, some bytes at a time)
+            ("REFUSE_WRITE", [WRITE], many, {}), ("REFUSE_WRITE", [WRITE], ["storm", "--senders", "2", "--packets", "1"], {"REFUSE_STEP": str(STEP)})]
+    for variable, says, words, more in rows:
+        for on in ONCE_AND_ON:
+            for place, (status, output, errors), is_refused in in_turn(library, met, words, b"", variable, on, REFUSE_ALONE="1", **more):
+                is_done = status == 0 and not errors and output.endswith(b"\n")
                 # (a list that grows asks once more, for less)
-                may_do_without = variable == "REFUSE_MEMORY" and not on
-                check(status == 1 and errors in says or is_clean and may_do_without, "storm", variable, place, on, status, errors[:100])
+                may_do_without = not is_refused or variable == "REFUSE_MEMORY" and not on
+                check(status == 1 and errors in says and is_refused or is_done and may_do_without, "storm", variable, place, on, status, errors[:100])
+                check(is_clean(output), "storm", variable, place, on, "wrote no beginning of a history")
             check(place > 1, "storm:", variable, "met nothing")
             check(place == 8 or variable != "REFUSE_THREAD", "storm: seven threads are started, not", place - 1)
             print(f"{NAME}: storm: {variable} at {place - 1} places{' and all after them' if on else ''}")
@@ -115,7 +183,13 @@ def storm_refused(library, met):
 def main():
     status, history, errors = run(["run"], TRACE)
     check((status, errors) == (0, b""), "the trace itself", status, errors)
-    refused(history)
+    with tempfile.TemporaryDirectory() as room:
+        library, met = refusing(room, "memory, read, write or start of a thread"), f"{room}/met"
+        if library:
+            long_text(library, met)
+            short_texts(library, met)
+            faults_before(library, met, history)
+            storm_refused(library, met)
     finish()
 
 

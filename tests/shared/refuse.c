@@ -1,9 +1,10 @@
 /* Loaded before a program (LD_PRELOAD), refuses one of its requests: the n-th for memory (REFUSE_MEMORY=n), the n-th read of standard
- * input (REFUSE_READ=n), the n-th write of standard output (REFUSE_WRITE=n), the n-th start of a thread (REFUSE_THREAD=n), or the n-th
- * request of those that make, write, move and remove a file (REFUSE_FILE=n). With REFUSE_ON=1 those after it are refused as well.
- * REFUSE_OVER=n refuses each request for more than n bytes of memory.
+ * input or of a file (REFUSE_READ=n), the n-th write of standard output (REFUSE_WRITE=n), the n-th start of a thread (REFUSE_THREAD=n), or
+ * the n-th request of those that make, write, move and remove a file (REFUSE_FILE=n). With REFUSE_ON=1 those after it are refused as well.
+ * REFUSE_OVER=n refuses each request for more than n bytes of memory. With REFUSE_STEP=n each read and each write moves n bytes at the most.
  * A request that was refused makes the file that REFUSE_MET names. Where REFUSE_AFTER names a line that the program writes, only the
- * requests from that line to the next one are counted, and at that next one it is said on standard error if a thread is still running. */
+ * requests from that line to the next one are counted. With REFUSE_ALONE it is said on standard error if another thread is still running
+ * when the program writes. */
 #define _GNU_SOURCE
 #include <dlfcn.h>
 #include <errno.h>
@@ -76,9 +77,7 @@ static void see_line(const void *from, size_t size) {
     const char *after = getenv("REFUSE_AFTER");
     if (!after)
         return;
-    int is_it = size == strlen(after) + 1 && !memcmp(from, after, size - 1);
-    if (atomic_exchange(&is_between, is_it))
-        look_for_threads();
+    atomic_store(&is_between, size == strlen(after) + 1 && !memcmp(from, after, size - 1));
 }
 
 void *malloc(size_t size) {
@@ -97,15 +96,24 @@ void *realloc(void *old, size_t size) {
     return __libc_realloc(old, size);
 }
 
+/* How many of so many bytes one request moves. */
+static size_t step(size_t size) {
+    const char *text = getenv("REFUSE_STEP");
+    size_t most = text ? (size_t)atol(text) : size;
+    return size < most ? size : most;
+}
+
 ssize_t read(int file, void *to, size_t size) {
-    if (file == 0 && is_refused(1, "REFUSE_READ")) {
+    if (is_refused(1, "REFUSE_READ")) {
         errno = EIO;
         return -1;
     }
-    return syscall(SYS_read, file, to, size);
+    return syscall(SYS_read, file, to, step(size));
 }
 
 ssize_t write(int file, const void *from, size_t size) {
+    if (getenv("REFUSE_ALONE"))
+        look_for_threads();
     if (file == 1)
         see_line(from, size);
     if (file == 1 && is_refused(2, "REFUSE_WRITE")) {
@@ -116,7 +124,7 @@ ssize_t write(int file, const void *from, size_t size) {
         errno = ENOSPC;
         return -1;
     }
-    return syscall(SYS_write, file, from, size);
+    return syscall(SYS_write, file, from, file == 2 ? size : step(size));
 }
 
 ssize_t __write(int file, const void *from, size_t size) {

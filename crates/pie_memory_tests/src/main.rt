@@ -1,59 +1,44 @@
-//! `pie_memory_tests`: makes each call of the queue, of cores, books, locks, links and storms that can want memory, one after another, and says
-//! what it answered and what it left; and makes a history's events again at a link. Its argument names which. The functions of `equal` say what
-//! `==` of the public types means. `tests/libraries/refused_memory.py` refuses each request for memory of each call in turn, and
-//! `tests/libraries/link_rows.py` hands it the worked histories. The calls over texts are those of `pie_device_tests`.
+//! `pie_memory_tests`: makes calls of the libraries that can want memory and that the program makes otherwise or not at all, one after another, and
+//! says what they answered and what they left; says of calls that write whether they tell of a flush that fails; and makes the events of a history,
+//! which is read from standard input, again at a link. `tests/libraries/refused_memory.py` refuses each request for memory of each call in turn, and
+//! `tests/libraries/link_rows.py` hands it the worked histories.
 #![tactic(auto)]
 
 mod books;
-mod equal;
-mod excerpts;
+mod calls;
 mod links;
-mod locks;
-mod report;
-mod resumed;
 mod rows;
-mod storms;
+mod seen;
+mod texts;
+mod wanted;
 
+use crate::calls::CALLS;
+use crate::seen::{begin, tell};
+use crate::texts::WRITES;
 use std::alloc::Global;
-use std::io::Read;
+use std::io;
 use std::sync::Wait;
-use std::thread::Threads;
-use std::{env, io};
 
 fn main(rt: HostRuntime) -> io::Result<()> {
-    let mut words = env::args(&rt)?;
-    let _program = words.next();
-    match words.next() {
-        Some(name) => make(&rt, rt.alloc(), rt.stdin(), name.as_str()),
-        None => make(&rt, rt.alloc(), rt.stdin(), "all"),
-    }
+    each_call(&rt, rt.alloc())?;
+    each_flush(&rt, rt.alloc())?;
+    rows::all(&rt, rt.alloc(), rt.stdin())
 }
 
-/// Does what has this name.
-fn make<R: Threads + Wait + Print + Sync, I: Read + Drop>(
-    rt: &R,
-    alloc: Global,
-    input: I,
-    name: &str,
-) -> io::Result<()> {
-    match name {
-        "memory" => memory(rt, alloc),
-        "rows" => rows::all(rt, alloc, input),
-        "all" => {
-            let told = memory(rt, alloc);
-            rows::all(rt, alloc, input)?;
-            told
-        }
-        _ => println!(rt; "pie_memory_tests: name what to make: memory, rows or all"),
+/// Makes each call, and says what was seen.
+fn each_call<R: Wait + Print>(rt: &R, alloc: Global) -> io::Result<()> {
+    for call in CALLS {
+        let seen = call.make(rt, alloc);
+        tell(rt, call.name(), seen)?;
     }
+    Ok(())
 }
 
-/// The calls that can want memory.
-fn memory<R: Threads + Wait + Print + Sync>(rt: &R, alloc: Global) -> io::Result<()> {
-    books::all(rt, alloc)?;
-    resumed::all(rt, alloc)?;
-    excerpts::all(rt, alloc)?;
-    locks::all(rt, alloc)?;
-    links::all(rt, alloc)?;
-    storms::all(rt, alloc)
+/// Lets the flush fail of each call that writes.
+fn each_flush(rt: &impl Print, alloc: Global) -> io::Result<()> {
+    begin(rt, "flushes that fail");
+    for writes in WRITES {
+        tell(rt, writes.name(), writes.flushes(alloc))?;
+    }
+    Ok(())
 }

@@ -1,9 +1,10 @@
 //! A history's commands, made again one after another at a link with one caller: of how many the link's answer is another one.
 ghost use Rattle.std.specs.Prelude.{◌≡◌};
 
+use crate::texts::next;
 use pie_book::{Answer, Choices, Command, Event, Mode, Opening, Refusal};
 use pie_link::{Caller, Link, Told};
-use pie_trace::{HistoryLines, Line, TraceFault};
+use pie_trace::{HistoryLines, Line};
 use std::alloc::Global;
 use std::io;
 use std::io::Read;
@@ -19,11 +20,6 @@ pub(crate) fn all<I: Read + Drop, R: Wait + Print>(
         Ok((mut lines, opening)) => replay(rt, alloc, &mut lines, &opening),
         Err(why) => println!(rt; "a history at a link: {why:?}"),
     }
-}
-
-/// The next line of a history.
-fn next<R: Read + Drop>(lines: &mut HistoryLines<R>) -> Result<Option<Line>, TraceFault> {
-    lines.next_line()
 }
 
 /// Asks the link for a command, and waits for the answer.

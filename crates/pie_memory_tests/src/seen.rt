@@ -1,0 +1,49 @@
+//! What a call answered, and the lines that are printed.
+
+use std::io;
+
+/// What a call answered, and two numbers that were seen then: its test says which.
+#[derive(Clone, Copy)]
+pub(crate) struct Seen {
+    answer: &'static str,
+    one: u64,
+    other: u64,
+}
+
+impl Seen {
+    /// The call was not made.
+    pub(crate) const NOTHING: Seen = Seen {
+        answer: "not made",
+        one: 0,
+        other: 0,
+    };
+
+    /// It did what it is for.
+    pub(crate) fn done(one: u64, other: u64) -> Seen {
+        Seen {
+            answer: "done",
+            one,
+            other,
+        }
+    }
+
+    /// It was refused, for want of memory or not.
+    pub(crate) fn refused(is_memory: bool, one: u64) -> Seen {
+        Seen {
+            answer: if is_memory { "memory" } else { "refused" },
+            one,
+            other: 0,
+        }
+    }
+}
+
+/// Says that this call comes next: what is requested from here to the next line is requested by it alone.
+pub(crate) fn begin(rt: &impl Print, name: &str) {
+    let _ = println!(rt; "begin {name}");
+}
+
+/// Prints what was seen.
+pub(crate) fn tell(rt: &impl Print, name: &str, seen: Seen) -> io::Result<()> {
+    let Seen { answer, one, other } = seen;
+    println!(rt; "{name}: {answer}, {one}, {other}")
+}

@@ -137,12 +137,9 @@ fn record(alloc: Global, book: &mut Book) -> u64 {
 }
 
 /// Prints the time of one event that is decided only (`Core::step`), and the mean wait of a packet.
-fn measure_core<R: Clock + Print>(rt: &R, alloc: Global) -> io::Result<()> {
-    let Ok(mut core) = Core::open(alloc, limits(), Params::default_profile(), 0) else {
-        return Ok(());
-    };
+fn time_core<R: Clock + Print>(rt: &R, core: &mut Core) -> io::Result<()> {
     let start = Instant::now(rt)?;
-    let sum = decide(&mut core);
+    let sum = decide(core);
     nanos(rt, "book_decided", start.elapsed(rt)?, EVENTS)?;
     checksum(rt, "book_decided", sum)?;
     let stats = core.stats();
@@ -152,20 +149,35 @@ fn measure_core<R: Clock + Print>(rt: &R, alloc: Global) -> io::Result<()> {
 }
 
 /// Prints the time of one event that is decided and recorded (`Book::apply`).
+fn time_book<R: Clock + Print>(
+    rt: &R,
+    alloc: Global,
+    name: &str,
+    book: &mut Book,
+) -> io::Result<()> {
+    let start = Instant::now(rt)?;
+    let sum = record(alloc, book);
+    nanos(rt, name, start.elapsed(rt)?, EVENTS)?;
+    checksum(rt, name, sum)
+}
+
+fn measure_core<R: Clock + Print>(rt: &R, alloc: Global) -> io::Result<()> {
+    match Core::open(alloc, limits(), Params::default_profile(), 0) {
+        Ok(mut core) => time_core(rt, &mut core),
+        Err(_) => Ok(()),
+    }
+}
+
 fn measure_book<R: Clock + Print>(rt: &R, alloc: Global, name: &str, mode: Mode) -> io::Result<()> {
-    let params = Params::default_profile();
     let choices = Choices {
         mode,
         profile: Profile::One,
         elements: Elements::usual(),
     };
-    let Ok(mut book) = Book::open_with(alloc, limits(), params, 0, choices) else {
-        return Ok(());
-    };
-    let start = Instant::now(rt)?;
-    let sum = record(alloc, &mut book);
-    nanos(rt, name, start.elapsed(rt)?, EVENTS)?;
-    checksum(rt, name, sum)
+    match Book::open_with(alloc, limits(), Params::default_profile(), 0, choices) {
+        Ok(mut book) => time_book(rt, alloc, name, &mut book),
+        Err(_) => Ok(()),
+    }
 }
 
 /// Prints the time of one event decided only, decided and recorded in a bounded book that is folded whenever its tail is

@@ -4,21 +4,21 @@
 //! Only work that counts is counted: a packet that was queued, and one that left. So that packets are queued and leave, enqueuers hold back
 //! while many wait, and the sender while few do. Each measurement also says how many of a thousand packets were queued and left, and how often
 //! an event was of another thread than the one before it.
-ghost use Rattle.std.specs.Prelude.{◌≡◌, All, IfOk, IfSome};
 
-use crate::report::line;
+use crate::at_once::{Work, toil_at_once};
+use crate::places::{AtLink, AtMutex, Job, link_jobs, mutex_jobs, open_book, open_link};
+use crate::report::{line, since};
 use crossbeam_utils::Backoff;
-use pie_book::{Answer, Book, Choices, Command, Limits, Mode, Profile, Refusal};
-use pie_link::{Arrival, Caller, Link, Told};
-use pie_params::{Elements, Params};
+use pie_book::{Answer, Book, Command, Refusal};
+use pie_link::{Arrival, Told};
 use pie_queue::{Ecn, Packet};
 use std::alloc::{AllocError, Global};
+use std::io;
 use std::rt::Clock;
 use std::sync::atomic::{AtomicU64, Ordering};
 use std::sync::{Mutex, Wait};
 use std::thread::Threads;
 use std::time::{Duration, Instant};
-use std::{io, thread};
 
 /// How many packets a burst has.
 const BURSTS: [u64; 4] = [1, 8, 32, 128];
@@ -29,6 +29,9 @@ const PACKETS: u64 = 1 << 19;
 /// How many packets wait where enqueuers hold back.
 const MANY: u64 = 1024;
 
+/// How many packets may wait.
+const ROOM: u32 = 4096;
+
 /// The nanoseconds between two bursts of a thread.
 const BETWEEN: u64 = 10_000;
 
@@ -38,9 +41,12 @@ const LOOKS: u64 = 1 << 30;
 /// What the packets of a burst are answered.
 type Answers = Vec<Result<Told<Answer>, Refusal>>;
 
-/// How far the threads have come.
+/// What the threads do, and how far they have come.
 #[derive(Drop)]
 struct Course {
+    alloc: Global,
+    burst: u64,
+    enqueuers: u64,
     queued: AtomicU64,
     left: AtomicU64,
     /// How many enqueuers have handed in all.
@@ -58,16 +64,21 @@ struct Tally {
     last: u64,
 }
 
-/// A thread's work at the link.
-#[derive(Drop)]
-struct Job {
-    caller: Caller,
-    sends: bool,
+/// A place that takes bursts.
+trait Bursts {
+    /// Hands a burst of packets in.
+    fn hand_in<R: Wait>(&mut self, rt: &R, arrivals: &[Arrival], answers: &mut Answers);
+
+    /// Takes a burst of packets out.
+    fn send<R: Wait>(&mut self, rt: &R, moment: u64, most: usize, answers: &mut Answers);
 }
 
 impl Course {
-    fn new() -> Course {
+    fn new(alloc: Global, burst: u64, enqueuers: u64) -> Course {
         Course {
+            alloc,
+            burst,
+            enqueuers,
             queued: AtomicU64::new(0),
             left: AtomicU64::new(0),
             ended: AtomicU64::new(0),
@@ -91,12 +102,12 @@ impl Course {
     }
 
     /// Waits until the sender may go on, and says whether there is more to send.
-    fn has_more(&self, burst: u64, enqueuers: u64) -> bool {
+    fn has_more(&self) -> bool {
         let backoff = Backoff::new();
         for _ in 0..LOOKS {
-            let all = self.ended.load(Ordering::SeqCst) == enqueuers;
+            let all = self.ended.load(Ordering::SeqCst) == self.enqueuers;
             let waiting = self.waiting();
-            if waiting >= burst {
+            if waiting >= self.burst {
                 return true;
             }
             if all {
@@ -138,32 +149,6 @@ impl Tally {
                 self.add(told);
             }
         }
-    }
-
-    /// This and another.
-    fn with(self, other: Tally) -> Tally {
-        Tally {
-            queued: self.queued.wrapping_add(other.queued),
-            left: self.left.wrapping_add(other.left),
-            changes: self.changes.wrapping_add(other.changes),
-            last: 0,
-        }
-    }
-}
-
-fn limits() -> Limits {
-    Limits {
-        packets: 4096,
-        tail: 1024,
-        events: 1 << 40,
-    }
-}
-
-fn choices() -> Choices {
-    Choices {
-        mode: Mode::Rolling,
-        profile: Profile::One,
-        elements: Elements::usual(),
     }
 }
 
@@ -208,190 +193,73 @@ fn ask_book(book: &mut Book, command: &Command, answers: &mut Answers) -> bool {
     }
 }
 
-/// A burst of packets at a book.
-fn hand_in(book: &mut Book, arrivals: &[Arrival], answers: &mut Answers) {
-    for arrival in arrivals {
-        let _ = ask_book(book, &arrival.command(), answers);
+impl Bursts for Book {
+    fn hand_in<R: Wait>(&mut self, _rt: &R, arrivals: &[Arrival], answers: &mut Answers) {
+        for arrival in arrivals {
+            let _ = ask_book(self, &arrival.command(), answers);
+        }
     }
-}
 
-/// A burst of departures at a book.
-fn send(book: &mut Book, moment: u64, most: u64, answers: &mut Answers) {
-    for _ in 0..most {
-        if !ask_book(book, &Command::Depart { moment }, answers) {
-            return;
+    fn send<R: Wait>(&mut self, _rt: &R, moment: u64, most: usize, answers: &mut Answers) {
+        for _ in 0..most {
+            if !ask_book(self, &Command::Depart { moment }, answers) {
+                return;
+            }
         }
     }
 }
 
-/// One thread that has the book alone: a burst of packets, and then of departures, in turn.
-fn work_alone(book: &mut Book, arrivals: &mut [Arrival], answers: &mut Answers) -> Tally {
-    let mut tally = Tally::new();
-    let burst = arrivals.len() as u64;
-    for turn in 0..PACKETS / burst.max(1) {
-        let moment = turn.wrapping_mul(BETWEEN);
-        come_at(arrivals, moment);
-        answers.clear();
-        hand_in(book, arrivals, answers);
-        tally.add_all(answers);
-        answers.clear();
-        send(book, moment, burst, answers);
-        tally.add_all(answers);
+impl Bursts for AtMutex<'_> {
+    fn hand_in<R: Wait>(&mut self, rt: &R, arrivals: &[Arrival], answers: &mut Answers) {
+        self.mutex.lock(rt).hand_in(rt, arrivals, answers);
     }
-    tally
+
+    fn send<R: Wait>(&mut self, rt: &R, moment: u64, most: usize, answers: &mut Answers) {
+        self.mutex.lock(rt).send(rt, moment, most, answers);
+    }
 }
 
-/// The same at a link that nobody else calls.
-fn work_alone_at_link<R: Wait>(
+impl Bursts for AtLink<'_> {
+    fn hand_in<R: Wait>(&mut self, rt: &R, arrivals: &[Arrival], answers: &mut Answers) {
+        let _ = self
+            .link
+            .arrive_all(rt, &mut self.caller, arrivals, answers);
+    }
+
+    fn send<R: Wait>(&mut self, rt: &R, moment: u64, most: usize, answers: &mut Answers) {
+        let _ = self
+            .link
+            .depart_all(rt, &mut self.caller, moment, most, answers);
+    }
+}
+
+/// One thread that has its place alone: a burst of packets, and then of departures, in turn.
+fn work_alone<R: Wait, P: Bursts>(
     rt: &R,
-    link: &Link,
-    caller: &mut Caller,
+    place: &mut P,
     arrivals: &mut [Arrival],
     answers: &mut Answers,
-) -> Tally
-    requires { caller.old.lock ≡ link.now }
-    ensures { caller.new.lock ≡ link.now }
-{
+) -> Tally {
     let mut tally = Tally::new();
     let burst = arrivals.len();
     for turn in 0..PACKETS / (burst as u64).max(1) {
         let moment = turn.wrapping_mul(BETWEEN);
         come_at(arrivals, moment);
         answers.clear();
-        let _ = link.arrive_all(rt, caller, arrivals, answers);
+        place.hand_in(rt, arrivals, answers);
         tally.add_all(answers);
         answers.clear();
-        let _ = link.depart_all(rt, caller, moment, burst, answers);
+        place.send(rt, moment, burst, answers);
         tally.add_all(answers);
     }
     tally
 }
 
-/// The same at a mutex that nobody else takes.
-fn work_alone_at_mutex<R: Wait>(
+/// Bursts of packets of one thread among several.
+fn enqueue<R: Wait, P: Bursts>(
     rt: &R,
-    mutex: &Mutex<Book>,
-    arrivals: &mut [Arrival],
-    answers: &mut Answers,
-) -> Tally {
-    let mut tally = Tally::new();
-    let burst = arrivals.len() as u64;
-    for turn in 0..PACKETS / burst.max(1) {
-        let moment = turn.wrapping_mul(BETWEEN);
-        come_at(arrivals, moment);
-        answers.clear();
-        hand_in(&mut mutex.lock(rt), arrivals, answers);
-        tally.add_all(answers);
-        answers.clear();
-        send(&mut mutex.lock(rt), moment, burst, answers);
-        tally.add_all(answers);
-    }
-    tally
-}
-
-/// Bursts of packets at the link.
-fn enqueue<R: Wait>(
-    rt: &R,
-    link: &Link,
     course: &Course,
-    caller: &mut Caller,
-    arrivals: &mut [Arrival],
-    answers: &mut Answers,
-) -> Tally
-    requires { caller.old.lock ≡ link.now }
-    ensures { caller.new.lock ≡ link.now }
-{
-    let mut tally = Tally::new();
-    let bursts = PACKETS / (arrivals.len() as u64).max(1);
-    for turn in 0..bursts {
-        course.hold_back();
-        come_at(arrivals, turn.wrapping_mul(BETWEEN));
-        answers.clear();
-        let _ = link.arrive_all(rt, caller, arrivals, answers);
-        let before = tally.queued;
-        tally.add_all(answers);
-        let queued = tally.queued.wrapping_sub(before);
-        course.queued.fetch_add(queued, Ordering::SeqCst);
-    }
-    course.ended.fetch_add(1, Ordering::SeqCst);
-    tally
-}
-
-/// Bursts of departures at the link.
-fn depart<R: Wait>(
-    rt: &R,
-    link: &Link,
-    course: &Course,
-    caller: &mut Caller,
-    burst: u64,
-    enqueuers: u64,
-    answers: &mut Answers,
-) -> Tally
-    requires { caller.old.lock ≡ link.now }
-    ensures { caller.new.lock ≡ link.now }
-{
-    let mut tally = Tally::new();
-    for turn in 0..LOOKS {
-        if !course.has_more(burst, enqueuers) {
-            return tally;
-        }
-        answers.clear();
-        let moment = turn.wrapping_mul(BETWEEN);
-        let _ = link.depart_all(rt, caller, moment, burst as usize, answers);
-        let before = tally.left;
-        tally.add_all(answers);
-        let left = tally.left.wrapping_sub(before);
-        course.left.fetch_add(left, Ordering::SeqCst);
-    }
-    tally
-}
-
-/// The work of one thread at the link.
-fn toil<R: Wait>(
-    rt: &R,
-    alloc: Global,
-    link: &Link,
-    course: &Course,
-    job: Job,
-    burst: u64,
-    enqueuers: u64,
-) -> Tally
-    requires { job.caller.lock ≡ link.now }
-{
-    let Job { mut caller, sends } = job;
-    let Ok(mut arrivals) = burst_of(alloc, burst) else {
-        return Tally::new();
-    };
-    let Ok(mut answers) = Vec::with_capacity(alloc, burst as usize) else {
-        return Tally::new();
-    };
-    if sends {
-        depart(
-            rt,
-            link,
-            course,
-            &mut caller,
-            burst,
-            enqueuers,
-            &mut answers,
-        )
-    } else {
-        enqueue(
-            rt,
-            link,
-            course,
-            &mut caller,
-            arrivals.as_mut_slice(),
-            &mut answers,
-        )
-    }
-}
-
-/// Bursts of packets at the mutex.
-fn enqueue_at_mutex<R: Wait>(
-    rt: &R,
-    mutex: &Mutex<Book>,
-    course: &Course,
+    place: &mut P,
     arrivals: &mut [Arrival],
     answers: &mut Answers,
 ) -> Tally {
@@ -401,7 +269,7 @@ fn enqueue_at_mutex<R: Wait>(
         course.hold_back();
         come_at(arrivals, turn.wrapping_mul(BETWEEN));
         answers.clear();
-        hand_in(&mut mutex.lock(rt), arrivals, answers);
+        place.hand_in(rt, arrivals, answers);
         let before = tally.queued;
         tally.add_all(answers);
         let queued = tally.queued.wrapping_sub(before);
@@ -411,25 +279,23 @@ fn enqueue_at_mutex<R: Wait>(
     tally
 }
 
-/// Bursts of departures at the mutex.
-fn depart_at_mutex<R: Wait>(
+/// Bursts of departures of one thread among several.
+fn depart<R: Wait, P: Bursts>(
     rt: &R,
-    mutex: &Mutex<Book>,
     course: &Course,
-    burst: u64,
-    enqueuers: u64,
+    place: &mut P,
     answers: &mut Answers,
 ) -> Tally {
     let mut tally = Tally::new();
     for turn in 0..LOOKS {
-        if !course.has_more(burst, enqueuers) {
+        if !course.has_more() {
             return tally;
         }
         answers.clear();
-        send(
-            &mut mutex.lock(rt),
+        place.send(
+            rt,
             turn.wrapping_mul(BETWEEN),
-            burst,
+            course.burst as usize,
             answers,
         );
         let before = tally.left;
@@ -440,103 +306,22 @@ fn depart_at_mutex<R: Wait>(
     tally
 }
 
-/// The work of one thread at the mutex: the first sends, and the others enqueue.
-fn toil_at_mutex<R: Wait>(
-    rt: &R,
-    alloc: Global,
-    mutex: &Mutex<Book>,
-    course: &Course,
-    thread: usize,
-    burst: u64,
-    enqueuers: u64,
-) -> Tally {
-    let Ok(mut arrivals) = burst_of(alloc, burst) else {
-        return Tally::new();
-    };
-    let Ok(mut answers) = Vec::with_capacity(alloc, burst as usize) else {
-        return Tally::new();
-    };
-    if thread == 0 {
-        depart_at_mutex(rt, mutex, course, burst, enqueuers, &mut answers)
-    } else {
-        enqueue_at_mutex(rt, mutex, course, arrivals.as_mut_slice(), &mut answers)
-    }
-}
-
-/// A caller for each of so many threads, the first of which sends.
-fn jobs(
-    alloc: Global,
-    link: &Link,
-    caller: &mut Caller,
-    threads: u16,
-) -> Result<Vec<Job>, AllocError>
-    requires { caller.old.lock ≡ link.now }
-    ensures { IfOk result (λ jobs. All (λ job. job.caller.lock ≡ link.now) jobs.items) }
-{
-    let mut jobs = Vec::new(alloc);
-    let mut sends = true;
-    for _ in 0..threads {
-        if let Ok(caller) = link.share(caller) {
-            jobs.push(Job { caller, sends })?;
-        }
-        sends = false;
-    }
-    Ok(jobs)
-}
-
-/// What these tallies add up to.
-fn total(tallies: &[Tally]) -> Tally {
-    let mut total = Tally::new();
-    for tally in tallies {
-        total = total.with(*tally);
-    }
-    total
-}
-
-/// Each job in a thread of its own.
-fn work_at_once<R: Threads + Wait + Sync>(
-    rt: &R,
-    alloc: Global,
-    link: &Link,
-    jobs: Vec<Job>,
-    burst: u64,
-) -> Tally
-    requires { All (λ job. job.caller.lock ≡ link.now) jobs.items }
-{
-    let enqueuers = (jobs.len() as u64).saturating_sub(1);
-    let course = Course::new();
-    let tallies = thread::map_vec(
-        rt,
-        jobs,
-        &|job: Job| -> Tally
-            requires { job.caller.lock ≡ link.now }
-        { toil(rt, alloc, link, &course, job, burst, enqueuers) },
-    );
-    match tallies {
-        Ok(tallies) => total(tallies.as_slice()),
-        Err(_) => Tally::new(),
-    }
-}
-
-/// So many threads at the mutex.
-fn work_at_mutex<R: Threads + Wait + Sync>(
-    rt: &R,
-    alloc: Global,
-    mutex: &Mutex<Book>,
-    threads: u16,
-    burst: u64,
-) -> Tally {
-    let enqueuers = u64::from(threads).saturating_sub(1);
-    let course = Course::new();
-    let tallies = thread::map_indices(
-        rt,
-        alloc,
-        usize::from(threads),
-        &|thread| { toil_at_mutex(rt, alloc, mutex, &course, thread, burst, enqueuers) },
-    );
-    match tallies {
-        Ok(tallies) => total(tallies.as_slice()),
-        Err(_) => Tally::new(),
+/// What is counted is how often an event was of another thread.
+impl<P: Bursts + Drop> Work<Course> for Job<P> {
+    fn toil<R: Wait>(self, rt: &R, what: &Course) -> u64 {
+        let Job { mut place, sends } = self;
+        let (Ok(mut arrivals), Ok(mut answers)) = (
+            burst_of(what.alloc, what.burst),
+            Vec::with_capacity(what.alloc, what.burst as usize),
+        ) else {
+            return 0;
+        };
+        let tally = if sends {
+            depart(rt, what, &mut place, &mut answers)
+        } else {
+            enqueue(rt, what, &mut place, arrivals.as_mut_slice(), &mut answers)
+        };
+        tally.changes
     }
 }
 
@@ -548,172 +333,89 @@ fn tell(
     threads: u16,
     spent: Duration,
     tally: Tally,
-    packets: u64,
 ) -> io::Result<()> {
+    let packets = u64::from(threads.max(2))
+        .saturating_sub(1)
+        .saturating_mul(PACKETS);
     let events = tally.queued.saturating_add(tally.left);
     let rate = u128::from(events) * 1_000_000_000 / spent.as_nanos().max(1);
     let queued = u128::from(tally.queued.min(tally.left)) * 1000 / u128::from(packets).max(1);
+    let changes = u128::from(tally.changes);
     line(rt, name, burst, threads, "", rate, "events/s")?;
     line(rt, name, burst, threads, "_left", queued, "per_mille")?;
-    line(
-        rt,
-        name,
-        burst,
-        threads,
-        "_changes",
-        u128::from(tally.changes),
-        "changes",
-    )
+    line(rt, name, burst, threads, "_changes", changes, "changes")
 }
 
-fn opened(alloc: Global, callers: u16) -> Option<(Link, Caller)>
-    ensures { IfSome result (λ pair. pair.1.lock ≡ pair.0) }
-{
-    match Link::open_with(
-        alloc,
-        limits(),
-        Params::default_profile(),
-        0,
-        callers,
-        choices(),
-    ) {
-        Ok(pair) => Some(pair),
-        Err(_) => None,
+/// Bursts of one thread.
+fn time_alone<R: Wait + Clock + Print, P: Bursts>(
+    rt: &R,
+    alloc: Global,
+    name: &str,
+    burst: u64,
+    place: &mut P,
+) -> io::Result<()> {
+    let mut arrivals = burst_of(alloc, burst)?;
+    let mut answers = Vec::with_capacity(alloc, burst as usize)?;
+    let start = Instant::now(rt);
+    let tally = work_alone(rt, place, arrivals.as_mut_slice(), &mut answers);
+    match since(rt, start) {
+        Ok(spent) => tell(rt, name, burst, 1, spent, tally),
+        Err(why) => Err(why),
     }
 }
 
-fn book(alloc: Global) -> Option<Book> {
-    match Book::open_with(alloc, limits(), Params::default_profile(), 0, choices()) {
-        Ok(book) => Some(book),
-        Err(_) => None,
-    }
-}
-
-fn time_alone<R: Clock + Print>(
+/// Bursts of several threads, each of which has one of the jobs.
+fn time_at_once<R: Threads + Wait + Clock + Print + Sync, P: Bursts + Send + Drop>(
     rt: &R,
     alloc: Global,
-    book: &mut Book,
+    name: &str,
     burst: u64,
-) -> io::Result<()> {
-    let mut arrivals = burst_of(alloc, burst)?;
-    let mut answers = Vec::with_capacity(alloc, burst as usize)?;
-    let start = Instant::now(rt)?;
-    let tally = work_alone(book, arrivals.as_mut_slice(), &mut answers);
-    tell(
-        rt,
-        "burst_alone",
-        burst,
-        1,
-        start.elapsed(rt)?,
-        tally,
-        PACKETS,
-    )
-}
-
-fn time_at_link<R: Threads + Wait + Clock + Print + Sync>(
-    rt: &R,
-    alloc: Global,
-    link: &Link,
-    jobs: Vec<Job>,
     threads: u16,
-    burst: u64,
-) -> io::Result<()>
-    requires { All (λ job. job.caller.lock ≡ link.now) jobs.items }
-{
-    let packets = u64::from(threads).saturating_sub(1).saturating_mul(PACKETS);
-    let start = Instant::now(rt)?;
-    let tally = work_at_once(rt, alloc, link, jobs, burst);
-    tell(
-        rt,
-        "burst_link",
-        burst,
-        threads,
-        start.elapsed(rt)?,
-        tally,
-        packets,
-    )
-}
-
-fn time_at_mutex<R: Threads + Wait + Clock + Print + Sync>(
-    rt: &R,
-    alloc: Global,
-    mutex: &Mutex<Book>,
-    threads: u16,
-    burst: u64,
+    jobs: Result<Vec<Job<P>>, AllocError>,
 ) -> io::Result<()> {
-    let packets = u64::from(threads).saturating_sub(1).saturating_mul(PACKETS);
-    let start = Instant::now(rt)?;
-    let tally = work_at_mutex(rt, alloc, mutex, threads, burst);
-    tell(
-        rt,
-        "burst_mutex",
-        burst,
-        threads,
-        start.elapsed(rt)?,
-        tally,
-        packets,
-    )
-}
-
-fn time_alone_at_link<R: Wait + Clock + Print>(
-    rt: &R,
-    alloc: Global,
-    link: &Link,
-    caller: &mut Caller,
-    burst: u64,
-) -> io::Result<()>
-    requires { caller.old.lock ≡ link.now }
-{
-    let mut arrivals = burst_of(alloc, burst)?;
-    let mut answers = Vec::with_capacity(alloc, burst as usize)?;
-    let start = Instant::now(rt)?;
-    let tally = work_alone_at_link(rt, link, caller, arrivals.as_mut_slice(), &mut answers);
-    tell(
-        rt,
-        "burst_link",
-        burst,
-        1,
-        start.elapsed(rt)?,
-        tally,
-        PACKETS,
-    )
-}
-
-fn time_alone_at_mutex<R: Wait + Clock + Print>(
-    rt: &R,
-    alloc: Global,
-    mutex: &Mutex<Book>,
-    burst: u64,
-) -> io::Result<()> {
-    let mut arrivals = burst_of(alloc, burst)?;
-    let mut answers = Vec::with_capacity(alloc, burst as usize)?;
-    let start = Instant::now(rt)?;
-    let tally = work_alone_at_mutex(rt, mutex, arrivals.as_mut_slice(), &mut answers);
-    tell(
-        rt,
-        "burst_mutex",
-        burst,
-        1,
-        start.elapsed(rt)?,
-        tally,
-        PACKETS,
-    )
-}
-
-fn alone<R: Wait + Clock + Print>(rt: &R, alloc: Global, burst: u64) -> io::Result<()> {
-    let Some(mut book) = book(alloc) else {
-        return Ok(());
+    let jobs = jobs?;
+    let enqueuers = (jobs.len() as u64).saturating_sub(1);
+    let course = Course::new(alloc, burst, enqueuers);
+    let start = Instant::now(rt);
+    let changes = toil_at_once(rt, jobs, &course);
+    let spent = since(rt, start)?;
+    let tally = Tally {
+        queued: course.queued.load(Ordering::SeqCst),
+        left: course.left.load(Ordering::SeqCst),
+        changes,
+        last: 0,
     };
-    time_alone(rt, alloc, &mut book, burst)?;
-    let mutex = Mutex::new(book);
-    time_alone_at_mutex(rt, alloc, &mutex, burst)
+    tell(rt, name, burst, threads, spent, tally)
+}
+
+// What is measured has book, link and mutex by reference: a `?` that lets one go takes long to prove.
+fn alone<R: Wait + Clock + Print>(rt: &R, alloc: Global, burst: u64) -> io::Result<()> {
+    match open_book(alloc, ROOM) {
+        Some(mut book) => time_alone(rt, alloc, "burst_alone", burst, &mut book),
+        None => Ok(()),
+    }
+}
+
+fn alone_at_mutex<R: Wait + Clock + Print>(rt: &R, alloc: Global, burst: u64) -> io::Result<()> {
+    match open_book(alloc, ROOM) {
+        Some(book) => {
+            let mutex = Mutex::new(book);
+            let mut place = AtMutex { mutex: &mutex };
+            time_alone(rt, alloc, "burst_mutex", burst, &mut place)
+        }
+        None => Ok(()),
+    }
 }
 
 fn alone_at_link<R: Wait + Clock + Print>(rt: &R, alloc: Global, burst: u64) -> io::Result<()> {
-    let Some((link, mut caller)) = opened(alloc, 1) else {
-        return Ok(());
-    };
-    time_alone_at_link(rt, alloc, &link, &mut caller, burst)
+    match open_link(alloc, ROOM, 1) {
+        Some((link, caller)) => {
+            let link = &link;
+            let mut place = AtLink { link, caller };
+            time_alone(rt, alloc, "burst_link", burst, &mut place)
+        }
+        None => Ok(()),
+    }
 }
 
 fn at_link<R: Threads + Wait + Clock + Print + Sync>(
@@ -722,11 +424,13 @@ fn at_link<R: Threads + Wait + Clock + Print + Sync>(
     threads: u16,
     burst: u64,
 ) -> io::Result<()> {
-    let Some((link, mut caller)) = opened(alloc, 10) else {
-        return Ok(());
-    };
-    let jobs = jobs(alloc, &link, &mut caller, threads)?;
-    time_at_link(rt, alloc, &link, jobs, threads, burst)
+    match open_link(alloc, ROOM, 10) {
+        Some((link, caller)) => {
+            let jobs = link_jobs(alloc, &link, caller, threads);
+            time_at_once(rt, alloc, "burst_link", burst, threads, jobs)
+        }
+        None => Ok(()),
+    }
 }
 
 fn at_mutex<R: Threads + Wait + Clock + Print + Sync>(
@@ -735,11 +439,14 @@ fn at_mutex<R: Threads + Wait + Clock + Print + Sync>(
     threads: u16,
     burst: u64,
 ) -> io::Result<()> {
-    let Some(book) = book(alloc) else {
-        return Ok(());
-    };
-    let mutex = Mutex::new(book);
-    time_at_mutex(rt, alloc, &mutex, threads, burst)
+    match open_book(alloc, ROOM) {
+        Some(book) => {
+            let mutex = Mutex::new(book);
+            let jobs = mutex_jobs(alloc, &mutex, threads);
+            time_at_once(rt, alloc, "burst_mutex", burst, threads, jobs)
+        }
+        None => Ok(()),
+    }
 }
 
 /// Prints how many events bursts of 1, 8, 32 and 128 packets make in a second by so many threads, of which one sends, at the link and at the
@@ -752,6 +459,7 @@ pub fn measure<R: Threads + Wait + Clock + Print + Sync>(
     for burst in BURSTS {
         if threads == 1 {
             alone(rt, alloc, burst)?;
+            alone_at_mutex(rt, alloc, burst)?;
             alone_at_link(rt, alloc, burst)?;
         } else {
             at_link(rt, alloc, threads, burst)?;

@@ -92,23 +92,24 @@ fn compute_delays(threshold: u64, updates: &[Input]) -> u64
 
 /// Prints the time of an update, of the next probability alone and of a delay.
 pub fn measure<R: Clock + Print>(rt: &R, alloc: Global) -> io::Result<()> {
-    let params = Params::default_profile();
     let updates = inputs(alloc)?;
+    time_all(rt, updates.as_slice())
+}
+
+fn time_all<R: Clock + Print>(rt: &R, updates: &[Input]) -> io::Result<()> {
+    let params = Params::default_profile();
     let Some(opening) = Nanos::from_units(0) else {
         return Ok(());
     };
     let start = Instant::now(rt)?;
-    let updated = make_updates(&params, opening, updates.as_slice());
+    let updated = make_updates(&params, opening, updates);
     nanos(rt, "control_update", start.elapsed(rt)?, CALLS)?;
     let start = Instant::now(rt)?;
-    let probabilities = compute_probabilities(&params, updates.as_slice());
+    let probabilities = compute_probabilities(&params, updates);
     nanos(rt, "control_next_probability", start.elapsed(rt)?, CALLS)?;
     let start = Instant::now(rt)?;
-    let delays = compute_delays(params.dq_threshold(), updates.as_slice());
+    let delays = compute_delays(params.dq_threshold(), updates);
     nanos(rt, "control_delay", start.elapsed(rt)?, CALLS)?;
-    checksum(
-        rt,
-        "control",
-        updated.wrapping_add(probabilities).wrapping_add(delays),
-    )
+    let sum = updated.wrapping_add(probabilities).wrapping_add(delays);
+    checksum(rt, "control", sum)
 }

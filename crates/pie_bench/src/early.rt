@@ -63,18 +63,31 @@ fn consider(params: &Params, control: &Control, arrivals: &[Offered]) -> u64 {
 /// Prints the time of an arrival that is considered, and of one that isn't, after all tests of that, since the
 /// probability and the old delay are low.
 pub fn measure<R: Clock + Print>(rt: &R, alloc: Global) -> io::Result<()> {
-    let params = Params::default_profile();
     let arrivals = arrivals(alloc)?;
+    time_both(rt, arrivals.as_slice())
+}
+
+fn time_both<R: Clock + Print>(rt: &R, arrivals: &[Offered]) -> io::Result<()> {
     let (Some(prob), Some(moment)) = (Prob::from_units(PROB), Nanos::from_units(0)) else {
         return Ok(());
     };
     let long = Control::from_parts(prob, 15_000_000, 0, moment);
     let short = Control::from_parts(prob, 1_000_000, 0, moment);
-    let start = Instant::now(rt)?;
-    let considered = consider(&params, &long, arrivals.as_slice());
-    nanos(rt, "early_considered", start.elapsed(rt)?, CALLS)?;
-    let start = Instant::now(rt)?;
-    let let_through = consider(&params, &short, arrivals.as_slice());
-    nanos(rt, "early_not_considered", start.elapsed(rt)?, CALLS)?;
+    let considered = timed(rt, "early_considered", &long, arrivals)?;
+    let let_through = timed(rt, "early_not_considered", &short, arrivals)?;
     checksum(rt, "early", considered.wrapping_add(let_through))
+}
+
+/// Prints the time of an arrival beside such a controller, and gives what the decisions add up to.
+fn timed<R: Clock + Print>(
+    rt: &R,
+    name: &str,
+    control: &Control,
+    arrivals: &[Offered],
+) -> io::Result<u64> {
+    let params = Params::default_profile();
+    let start = Instant::now(rt)?;
+    let sum = consider(&params, control, arrivals);
+    nanos(rt, name, start.elapsed(rt)?, CALLS)?;
+    Ok(sum)
 }

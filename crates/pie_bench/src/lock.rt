@@ -1,16 +1,17 @@
 //! How long a take and a put last, and how many of them several threads make in a second, beside `std::sync::Mutex` in
 //! the same run.
-ghost use Rattle.std.specs.Prelude.{◌≡◌, All, IfOk, Some};
+ghost use Rattle.std.specs.Prelude.{◌≡◌, Some};
 ghost use Rattle.pie_lock.specs.Tally.{Tells};
 
-use crate::report::{checksum, nanos, sum, throughput};
+use crate::at_once::{Work, time_at_once};
+use crate::report::{checksum, nanos, since};
 use pie_lock::{Counter, CounterEntry, Held, Pass, RuledLock, no_entries, one_entry};
 use std::alloc::{AllocError, Global};
+use std::io;
 use std::rt::Clock;
 use std::sync::{Mutex, Wait};
 use std::thread::Threads;
 use std::time::Instant;
-use std::{io, thread};
 
 const UNCONTENDED: u64 = 10_000_000;
 
@@ -20,6 +21,20 @@ const THREADS: [u16; 4] = [1, 2, 4, 8];
 
 // A pass for each of eight threads, and one that stays.
 const PASSES: u16 = 9;
+
+/// A thread at the lock.
+#[derive(Drop)]
+struct AtLock<'a> {
+    lock: &'a RuledLock<Counter>,
+    pass: Pass<Counter>,
+    ghost own: { pass.lock ≡ lock.now },
+}
+
+/// A thread at the mutex.
+#[derive(Clone, Copy)]
+struct AtMutex<'a> {
+    mutex: &'a Mutex<Counter>,
+}
 
 // Adds an amount, and puts the counter back.
 fn add(
@@ -60,161 +75,110 @@ fn add_many<R: Wait>(
     mine
 }
 
-/// The calls of one thread among several; the number is that of its calls.
-fn toil<R: Wait>(rt: &R, lock: &RuledLock<Counter>, pass: Pass<Counter>) -> u64
-    requires { pass.lock ≡ lock.now }
-{
-    drop(add_many(rt, lock, pass, PER_THREAD));
-    PER_THREAD
+impl Work<u64> for AtLock<'_> {
+    fn toil<R: Wait>(self, rt: &R, what: &u64) -> u64 {
+        let AtLock { lock, pass } = self;
+        drop(add_many(rt, lock, pass, *what));
+        *what
+    }
 }
 
-/// A pass for each of so many threads.
-fn passes(
+impl Work<u64> for AtMutex<'_> {
+    fn toil<R: Wait>(self, rt: &R, what: &u64) -> u64 {
+        for _ in 0..*what {
+            self.mutex.lock(rt).add(1);
+        }
+        *what
+    }
+}
+
+/// So many threads at the lock.
+fn all_at_lock(
     alloc: Global,
     lock: &RuledLock<Counter>,
-    pass: &mut Pass<Counter>,
+    mut pass: Pass<Counter>,
     threads: u16,
-) -> Result<Vec<Pass<Counter>>, AllocError>
-    requires { pass.old.lock ≡ lock.now }
-    ensures rest { pass.new.lock ≡ lock.now }
-    ensures passes { IfOk result (λ passes. All (λ part. part.lock ≡ lock.now) passes.items) }
+) -> Result<Vec<AtLock>, AllocError>
+    requires { pass.lock ≡ lock.now }
 {
-    let mut passes = Vec::new(alloc);
+    let mut all = Vec::new(alloc);
     for _ in 0..threads {
-        if let Ok(part) = lock.share(pass) {
-            passes.push(part)?;
+        if let Ok(pass) = lock.share(&mut pass) {
+            all.push(AtLock { lock, pass })?;
         }
     }
-    Ok(passes)
+    Ok(all)
 }
 
-/// Each pass in a thread of its own; the number is that of all calls.
-fn toil_at_once<R: Threads + Wait + Sync>(
-    rt: &R,
-    lock: &RuledLock<Counter>,
-    passes: Vec<Pass<Counter>>,
-) -> u64
-    requires { All (λ pass. pass.lock ≡ lock.now) passes.items }
-{
-    let calls = thread::map_vec(
-        rt,
-        passes,
-        &|pass: Pass<Counter>| -> u64
-            requires { pass.lock ≡ lock.now }
-        { toil(rt, lock, pass) },
-    );
-    match calls {
-        Ok(calls) => sum(calls.as_slice()),
-        Err(_) => 0,
-    }
-}
-
-/// So many calls of one thread at the mutex; the number is theirs.
-fn toil_at_mutex<R: Wait>(rt: &R, mutex: &Mutex<Counter>, calls: u64) -> u64 {
-    for _ in 0..calls {
-        mutex.lock(rt).add(1);
-    }
-    calls
-}
-
-/// So many threads at the mutex; the number is that of all calls.
-fn toil_at_mutex_at_once<R: Threads + Wait + Sync>(
-    rt: &R,
+/// So many threads at the mutex.
+fn all_at_mutex(
     alloc: Global,
     mutex: &Mutex<Counter>,
     threads: u16,
-) -> u64 {
-    let calls = thread::map_indices(
-        rt,
-        alloc,
-        usize::from(threads),
-        &|_thread| { toil_at_mutex(rt, mutex, PER_THREAD) },
-    );
-    match calls {
-        Ok(calls) => sum(calls.as_slice()),
-        Err(_) => 0,
+) -> Result<Vec<AtMutex>, AllocError> {
+    let mut all = Vec::new(alloc);
+    for _ in 0..threads {
+        all.push(AtMutex { mutex })?;
     }
+    Ok(all)
 }
 
 /// Prints the time of an uncontended take and put, and how many there are in a second by 1, 2, 4 and 8 threads, for the
 /// lock and for the mutex.
 pub fn measure<R: Threads + Wait + Clock + Print + Sync>(rt: &R, alloc: Global) -> io::Result<()> {
-    uncontended(rt, alloc)?;
+    let ruled = alone_at_lock(rt, alloc)?;
+    let plain = alone_at_mutex(rt)?;
+    checksum(rt, "lock_uncontended", ruled.wrapping_add(plain))?;
     for threads in THREADS {
-        contended(rt, alloc, threads)?;
+        let ruled = contended_at_lock(rt, alloc, threads)?;
+        let plain = contended_at_mutex(rt, alloc, threads)?;
+        checksum(rt, "lock_threads", ruled.wrapping_add(plain))?;
     }
     Ok(())
 }
 
-fn uncontended<R: Wait + Clock + Print>(rt: &R, alloc: Global) -> io::Result<()> {
+fn alone_at_lock<R: Wait + Clock + Print>(rt: &R, alloc: Global) -> io::Result<u64> {
     let Ok((lock, pass)) = RuledLock::new(alloc, Counter::new(), 1) else {
-        return Ok(());
+        return Ok(0);
     };
-    let start = Instant::now(rt)?;
+    let start = Instant::now(rt);
     let pass = add_many(rt, &lock, pass, UNCONTENDED);
-    nanos(rt, "lock_uncontended", start.elapsed(rt)?, UNCONTENDED)?;
-    let ruled = total(lock, pass);
+    let spent = since(rt, start);
+    let total = total(lock, pass);
+    nanos(rt, "lock_uncontended", spent?, UNCONTENDED)?;
+    Ok(total)
+}
+
+fn alone_at_mutex<R: Wait + Clock + Print>(rt: &R) -> io::Result<u64> {
     let mutex = Mutex::new(Counter::new());
     let start = Instant::now(rt)?;
-    toil_at_mutex(rt, &mutex, UNCONTENDED);
+    AtMutex { mutex: &mutex }.toil(rt, &UNCONTENDED);
     nanos(rt, "mutex_uncontended", start.elapsed(rt)?, UNCONTENDED)?;
-    let plain = mutex.lock(rt).total();
-    checksum(rt, "lock_uncontended", ruled.wrapping_add(plain))
+    Ok(mutex.lock(rt).total())
 }
 
-fn contended<R: Threads + Wait + Clock + Print + Sync>(
+fn contended_at_lock<R: Threads + Wait + Clock + Print + Sync>(
     rt: &R,
     alloc: Global,
-    threads: u16,
-) -> io::Result<()> {
-    let Ok((lock, mut pass)) = RuledLock::new(alloc, Counter::new(), PASSES) else {
-        return Ok(());
-    };
-    let passes = passes(alloc, &lock, &mut pass, threads)?;
-    let ruled = time_at_once(rt, &lock, passes, threads)?;
-    let mutex = Mutex::new(Counter::new());
-    let plain = time_mutex_at_once(rt, alloc, &mutex, threads)?;
-    checksum(rt, "lock_threads", ruled.wrapping_add(plain))
-}
-
-/// Prints how many calls of these passes at once there are in a second.
-fn time_at_once<R: Threads + Wait + Clock + Print + Sync>(
-    rt: &R,
-    lock: &RuledLock<Counter>,
-    passes: Vec<Pass<Counter>>,
-    threads: u16,
-) -> io::Result<u64>
-    requires { All (λ pass. pass.lock ≡ lock.now) passes.items }
-{
-    let start = Instant::now(rt)?;
-    let calls = toil_at_once(rt, lock, passes);
-    throughput(
-        rt,
-        "lock",
-        threads,
-        start.elapsed(rt)?,
-        u64::from(threads) * PER_THREAD,
-    )?;
-    Ok(calls)
-}
-
-/// The same at the mutex.
-fn time_mutex_at_once<R: Threads + Wait + Clock + Print + Sync>(
-    rt: &R,
-    alloc: Global,
-    mutex: &Mutex<Counter>,
     threads: u16,
 ) -> io::Result<u64> {
-    let start = Instant::now(rt)?;
-    let calls = toil_at_mutex_at_once(rt, alloc, mutex, threads);
-    throughput(
-        rt,
-        "mutex",
-        threads,
-        start.elapsed(rt)?,
-        u64::from(threads) * PER_THREAD,
-    )?;
-    Ok(calls)
+    match RuledLock::new(alloc, Counter::new(), PASSES) {
+        Ok((lock, pass)) => {
+            let all = all_at_lock(alloc, &lock, pass, threads);
+            time_at_once(rt, "lock", threads, all, PER_THREAD)
+        }
+        Err(_) => Ok(0),
+    }
+}
+
+fn contended_at_mutex<R: Threads + Wait + Clock + Print + Sync>(
+    rt: &R,
+    alloc: Global,
+    threads: u16,
+) -> io::Result<u64> {
+    let mutex = Mutex::new(Counter::new());
+    let all = all_at_mutex(alloc, &mutex, threads);
+    time_at_once(rt, "mutex", threads, all, PER_THREAD)
 }
 
 // What was added under the lock.

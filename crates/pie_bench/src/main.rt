@@ -1,12 +1,14 @@
 //! `pie_bench`: what an event costs in each part of the controller, measured. Its argument names the measurement.
 #![tactic(auto)]
 
+mod at_once;
 mod book;
 mod bursts;
 mod control;
 mod early;
 mod link;
 mod lock;
+mod places;
 mod rate;
 mod report;
 mod words;
@@ -44,20 +46,12 @@ fn measure<R: Threads + Wait + Clock + Print + Sync>(
         "bursts3" => bursts::measure(rt, alloc, 3),
         "bursts4" => bursts::measure(rt, alloc, 4),
         "bursts8" => bursts::measure(rt, alloc, 8),
-        "all" => {
-            rate::measure(rt, alloc)?;
-            control::measure(rt, alloc)?;
-            early::measure(rt, alloc)?;
-            lock::measure(rt, alloc)?;
-            book::measure(rt, alloc)?;
-            link::measure(rt, alloc)
-        }
         _ => usage(rt),
     }
 }
 
 fn usage(rt: &impl Print) -> io::Result<()> {
     println!(rt;
-        "pie_bench: name a measurement: rate, control, early, lock, book, link or all; of bursts bursts1, 2, 3, 4 or 8"
+        "pie_bench: name a measurement: rate, control, early, lock, book or link; of bursts bursts1, 2, 3, 4 or 8"
     )
 }

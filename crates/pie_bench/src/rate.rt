@@ -31,15 +31,17 @@ struct Departure {
     moment: Nanos,
 }
 
-/// Departures of `least` to 1500 bytes, whose moments rise.
-fn departures(alloc: Global, least: u32) -> Result<Vec<Departure>, AllocError>
-    requires { least ≤ 1500 }
+/// Departures of `least` bytes and fewer than `span` more, whose moments rise.
+fn departures(alloc: Global, least: u32, span: u64) -> Result<Vec<Departure>, AllocError>
+    requires { 0 < span }
 {
     let mut words = Words::new();
     let mut departures = Vec::with_capacity(alloc, INPUTS as usize)?;
     for index in 0..INPUTS {
-        let size = least + words.below(u64::from(1501 - least)) as u32;
-        let moment = u64::from(index) * 2000 + words.below(2000);
+        let more = u32::try_from(words.below(span)).unwrap_or(0);
+        let size = least.saturating_add(more);
+        let moment = u64::from(index).wrapping_mul(2000);
+        let moment = moment.wrapping_add(words.below(2000));
         if let Some(moment) = Nanos::from_units(moment) {
             departures.push(Departure { size, moment })?;
         }
@@ -77,12 +79,16 @@ fn depart(departures: &[Departure], run: usize, threshold: u64) -> u64
 /// Prints the time of a departure that closes no cycle, of one that closes a cycle and begins the next, and of one
 /// among packets of 64 to 1500 bytes at the default threshold, where about one in 22 closes a cycle.
 pub fn measure<R: Clock + Print>(rt: &R, alloc: Global) -> io::Result<()> {
-    let mixed = departures(alloc, 64)?;
-    let large = departures(alloc, 1024)?;
+    let mixed = departures(alloc, 64, 1437)?;
+    let large = departures(alloc, 1024, 477)?;
+    time_all(rt, mixed.as_slice(), large.as_slice())
+}
+
+fn time_all<R: Clock + Print>(rt: &R, mixed: &[Departure], large: &[Departure]) -> io::Result<()> {
     let whole = INPUTS as usize;
-    let open = timed(rt, "rate_departed_open", mixed.as_slice(), OPEN_RUN, LARGE)?;
-    let closing = timed(rt, "rate_departed_closing", large.as_slice(), whole, SMALL)?;
-    let either = timed(rt, "rate_departed_mixed", mixed.as_slice(), whole, DEFAULT)?;
+    let open = timed(rt, "rate_departed_open", mixed, OPEN_RUN, LARGE)?;
+    let closing = timed(rt, "rate_departed_closing", large, whole, SMALL)?;
+    let either = timed(rt, "rate_departed_mixed", mixed, whole, DEFAULT)?;
     checksum(rt, "rate", open.wrapping_add(closing).wrapping_add(either))
 }
 

@@ -1,6 +1,7 @@
 //! The lines that the measurements print: `name value unit`.
 use std::io;
-use std::time::Duration;
+use std::rt::Clock;
+use std::time::{Duration, Instant};
 
 /// How many inputs a measurement makes beforehand, so that making them isn't measured.
 pub const INPUTS: u32 = 65_536;
@@ -10,6 +11,14 @@ pub const ROUNDS: u32 = 128;
 
 /// How many calls a measurement makes.
 pub const CALLS: u64 = INPUTS as u64 * ROUNDS as u64;
+
+/// The time since a measurement began. Its beginning may be handed in as a clock's answer, so that no `?` stands beside what is measured.
+pub fn since<R: Clock>(rt: &R, start: io::Result<Instant>) -> io::Result<Duration> {
+    match start {
+        Ok(start) => start.elapsed(rt),
+        Err(why) => Err(why),
+    }
+}
 
 /// Prints the nanoseconds of each of so many calls, to a tenth.
 pub fn nanos(rt: &impl Print, name: &str, spent: Duration, calls: u64) -> io::Result<()> {

@@ -1,5 +1,5 @@
 //! The link: how it is opened, shared and closed.
-ghost use Rattle.std.specs.Prelude.{◌≡◌, ◌+◌, ◌<◌, ◌↔◌, All, Some, None, IsOk, IsErr, IfOk, IfErr, OnOk, OnErr, List};
+ghost use Rattle.std.specs.Prelude.{◌≡◌, ◌+◌, ◌<◌, ◌≤◌, ◌↔◌, [], All, Some, None, IsOk, IsErr, IfOk, IfErr, IfSome, OnOk, OnErr, List};
 ghost use Rattle.pie_event.specs.declared.opening.Mode.TheVariants.{Bounded};
 ghost use Rattle.pie_event.specs.declared.profile.Profile.TheVariants.{One};
 ghost use Rattle.pie_params.specs.Elements.{usual};
@@ -12,7 +12,7 @@ use pie_book::{
     Book, Choices, Elements, Limits, Mode, OpenRefusal, Opening, Profile, registers_look_back,
 };
 use pie_kept::{Entry, KeptBook};
-use pie_lock::{LockOpening, LockRule, OneNumber, Place, RuledLock, StillHeld};
+use pie_lock::{LockOpening, LockRule, OneNumber, Pass, Place, RuledLock, StillHeld};
 use pie_params::Params;
 use std::alloc::Global;
 use std::marker::Model;
@@ -33,6 +33,7 @@ impl Model for Link {
 }
 
 impl Link {
+    ghost use Rattle.pie_book.specs.Book.{Tells};
     ghost use Rattle.pie_lock.specs.Views.{HoldsAll};
     ghost use Rattle.pie_lock.specs.Promises.{first_pass, without_highest, highest_alone, IsBeside, IsBothOf};
     ghost use Rattle.pie_kept.specs.Entries.{number_of};
@@ -103,13 +104,33 @@ impl Link {
         if callers == 0 {
             return Err(LinkRefusal::NoCallers);
         }
-        let Ok(book) = Box::new(alloc, book) else {
-            return Err(LinkRefusal::Memory);
-        };
         registers_look_back();
+        match Link::lock_over(alloc, book, callers) {
+            Some((lock, pass)) => Ok((Link { lock, alloc }, Caller { pass })),
+            None => Err(LinkRefusal::Memory),
+        }
+    }
+
+    // The lock over a new book, and the pass with all its numbers, where there is memory for them. Apart from `open_with`: each way out lets the
+    // book go.
+    fn lock_over(
+        alloc: Global,
+        book: Book,
+        callers: u16,
+    ) -> Option<(RuledLock<KeptBook>, Pass<KeptBook>)>
+        requires new { Tells book [] }
+        requires tail { book.tail ≡ [] }
+        requires room { 1 ≤ book.opening.limits.tail }
+        ensures origin { IfSome result (λ made. made.0.origin ≡ Some book.opening) }
+        ensures numbers { IfSome result (λ made. made.0.numbers ≡ callers) }
+        ensures pass { IfSome result (λ made. made.1 ≡ first_pass made.0 callers) }
+    {
+        let Ok(book) = Box::new(alloc, book) else {
+            return None;
+        };
         match RuledLock::new(alloc, KeptBook::new(book), callers) {
-            Ok((lock, pass)) => Ok((Link { lock, alloc }, Caller { pass })),
-            Err(_) => Err(LinkRefusal::Memory),
+            Ok(made) => Some(made),
+            Err(_) => None,
         }
     }
 

@@ -24,7 +24,7 @@ use pie_link::{Caller, Link, LinkRefusal, entries_look_back};
 use std::alloc::{AllocError, Global};
 use std::sync::Wait;
 use std::thread;
-use std::thread::{Promise, Scope, Threads};
+use std::thread::{Promise, PromisedHandle, Scope, Threads};
 
 // Why a worker was not started: its thread was refused, or the memory for what its bursts are answered.
 #[derive(Clone, Copy)]
@@ -67,6 +67,49 @@ fn room_for_replies(alloc: Global, plan: &Plan, caller: u16) -> Result<Replies, 
     Vec::with_capacity(alloc, if turn == 1 { 0 } else { turn })
 }
 
+// Starts the worker of a caller in a thread of its own. Apart from `work_in`, which would let one caller more go on each way out.
+fn start<'s, E: 's, R: Threads + Wait + Sync, G: Gate + Sync>(
+    scope: &Scope<'s, E>,
+    rt: &'s R,
+    alloc: Global,
+    link: &'s Link,
+    plan: &'s Plan,
+    gate: &'s G,
+    caller: Caller,
+) -> Result<PromisedHandle<Work, MakesAll<'s>>, Unstarted>
+    requires own { caller.lock ≡ link.now }
+    requires one { caller.limit ≡ caller.first + 1 }
+    requires new { caller.front ≡ [] }
+    requires sound { IsSound plan.now }
+    requires few { planned plan.now ≤ 2 ^ 20 }
+    ensures link { IfOk result (λ worker. worker.promise.link.now ≡ link.now) }
+    ensures plan { IfOk result (λ worker. worker.promise.plan.now ≡ plan.now) }
+    ensures caller { IfOk result (λ worker. worker.promise.caller ≡ caller.first) }
+{
+    let number = caller.first();
+    let Ok(replies) = room_for_replies(alloc, plan, number) else {
+        return Err(Unstarted::Memory);
+    };
+    let promise = MakesAll {
+        link,
+        plan,
+        caller: number,
+    };
+    match scope.spawn_with(
+        promise,
+        move || -> Work
+            requires { (caller.lock ≡ link.now) × (caller.limit ≡ caller.first + 1) × (caller.front ≡ []) × IsSound plan.now
+                × (planned plan.now ≤ 2 ^ 20) × (turn_of plan.now caller.first ≢ 1 → turn_of plan.now caller.first ≤ vec_capacity replies) }
+            ensures made { MadeAll link.entry.now plan.entry.now caller.first result.caller result.too_soon }
+            ensures folds { MadeFolds link.entry.now plan.entry.now caller.first (result.folding.is_short_of_memory ≡ false)
+                result.folding.events.items result.folding.too_many result.caller.front }
+        { make_calls(rt, alloc, link, plan, gate, caller, replies) },
+    ) {
+        Ok(worker) => Ok(worker),
+        Err(_) => Err(Unstarted::Thread),
+    }
+}
+
 // Lets the callers with these numbers work at once, each but the first in a thread of its own, and gathers them in order. The
 // first is the starter, which makes no calls. Where one is not started, those that were have ended.
 #[tactic(auto, unfolding(crate::specs::Storms::MadeAll, crate::specs::Storms::MadeFolds))]
@@ -103,26 +146,7 @@ fn work_in<'s, E: 's, R: Threads + Wait + Sync, G: Gate + Sync>(
             });
         }
     };
-    let Ok(replies) = room_for_replies(alloc, plan, last.first()) else {
-        return Err(Unstarted::Memory);
-    };
-    let promise = MakesAll {
-        link,
-        plan,
-        caller: last.first(),
-    };
-    let Ok(worker) = scope.spawn_with(
-        promise,
-        move || -> Work
-            requires { (last.lock ≡ link.now) × (last.limit ≡ last.first + 1) × (last.front ≡ []) × IsSound plan.now × (planned plan.now ≤ 2 ^ 20)
-                × (turn_of plan.now last.first ≢ 1 → turn_of plan.now last.first ≤ vec_capacity replies) }
-            ensures made { MadeAll link.entry.now plan.entry.now last.first result.caller result.too_soon }
-            ensures folds { MadeFolds link.entry.now plan.entry.now last.first (result.folding.is_short_of_memory ≡ false)
-                result.folding.events.items result.folding.too_many result.caller.front }
-        { make_calls(rt, alloc, link, plan, gate, last, replies) },
-    ) else {
-        return Err(Unstarted::Thread);
-    };
+    let worker = start(scope, rt, alloc, link, plan, gate, last)?;
     let others = work_in(scope, rt, alloc, link, plan, gate, rest);
     let theirs = worker.join(rt);
     Ok(both(link, others?, theirs))

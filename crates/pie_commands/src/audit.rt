@@ -132,11 +132,22 @@ pub(crate) fn any_unfound(before: bool, told: Option<Finding>) -> bool
     before || told.is_none()
 }
 
+/// Whether an event differs of a file of which this is found.
+fn is_different(told: Option<Finding>) -> bool
+    ensures { result ≡ is_different told }
+{
+    match told {
+        Some(Finding::Differs { .. }) => true,
+        Some(Finding::Clean { .. }) => false,
+        None => false,
+    }
+}
+
 /// Whether an event differs of one of the files before, or of this one.
 fn any_different(before: bool, told: Option<Finding>) -> bool
     ensures { result ≡ (before || is_different told) }
 {
-    before || matches!(told, Some(Finding::Differs { .. }))
+    before || is_different(told)
 }
 
 /// The worst end, where these say whether a file could not be audited, and whether an event of one differs.

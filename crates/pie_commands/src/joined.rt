@@ -1,7 +1,7 @@
 //! `pie audit --joined`: of the files of one history, in its order.
 ghost use Rattle.std.specs.Prelude.{◌≡◌, ◌⊎◌, ◌||◌, IfOk, None, OnOk, map};
 ghost use Rattle.std.specs.Io.KnownBytes.{Appends};
-ghost use Rattle.pie_commands.specs.JointEnds.{EndsJoined, JoinsKnown, JoinsRead, finding_in, is_broken, line_of_joint, lines_of};
+ghost use Rattle.pie_commands.specs.JointEnds.{EndsJoined, JoinsKnown, JoinsRead, finding_in, is_broken, joint_line, line_of_joint, lines_of};
 ghost use Rattle.pie_files.specs.Files.{ReadsNamed};
 
 use crate::audit::{any_unfound, name_at, worst, write_named};
@@ -60,17 +60,28 @@ fn joined_named<H: NamedFiles + Clock, R: Read + Drop, E: Write>(
     }
 }
 
-/// Writes the line of a joint, behind the name of the second of the two files, and flushes the writer; or nothing, where there is none.
+/// Writes the line of a joint, behind the name of the second of the two files.
+fn put_joint<W: Write>(name: &str, joint: Joint, output: &mut W) -> io::Result<()>
+    ensures { OnOk result (Appends (W.contents output.old) (W.contents output.new) (joint_line name.now joint)) }
+{
+    match joint {
+        Joint::Follows => writeln!(output, "{name}: follows"),
+        Joint::Gap { last, first } => writeln!(output, "{name}: gap,{last},{first}"),
+        Joint::Unlike { last } => writeln!(output, "{name}: unlike,{last}"),
+    }
+}
+
+/// The same, and flushes the writer; or nothing, where there is none.
 fn write_joint<W: Write>(name: &str, joint: Option<Joint>, output: &mut W) -> io::Result<()>
     ensures { OnOk result (Appends (W.contents output.old) (W.contents output.new) (line_of_joint name.now joint)) }
 {
     match joint {
-        None => return Ok(()),
-        Some(Joint::Follows) => writeln!(output, "{name}: follows")?,
-        Some(Joint::Gap { last, first }) => writeln!(output, "{name}: gap,{last},{first}")?,
-        Some(Joint::Unlike { last }) => writeln!(output, "{name}: unlike,{last}")?,
+        Some(joint) => {
+            put_joint(name, joint, output)?;
+            output.flush()
+        }
+        None => Ok(()),
     }
-    output.flush()
 }
 
 /// Writes the line of what was found of a file, and that of its joint.

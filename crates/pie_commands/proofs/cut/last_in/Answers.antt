@@ -1,0 +1,10 @@
+use Rattle.std.proofs.Common.{ℕ, List, Option, subst}
+use Rattle.std.specs.Prelude.{IfSome}
+use Rattle.pie_record.specs.Text.{records_of}
+use Rattle.pie_cut.specs.Last.{LastEither}
+use Rattle.pie_commands.proofs.cut.last_in.Goals as goal
+
+pub returns : goal.returns
+returns g c =
+    subst (λ (read : Option (List ℕ)). IfSome read (λ text. LastEither (records_of text) c.last_number.result)) c.new-watched.ensures
+    c.last_number.ensures

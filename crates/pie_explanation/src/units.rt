@@ -22,7 +22,7 @@ impl Display for Millis {
 }
 
 /// A moment in nanoseconds: its time of day, where a record tells it, and else in milliseconds since the trace's clock began.
-#[derive(Clone, Copy, Debug)]
+#[derive(Clone, Copy)]
 pub(crate) struct MomentWords {
     pub(crate) clock: Option<Clock>,
     pub(crate) moment: u64,
@@ -69,7 +69,7 @@ impl Display for PerCent {
 }
 
 /// A random word as a fraction of 2^64, in per cent, rounded down.
-#[derive(Clone, Copy, Debug)]
+#[derive(Clone, Copy)]
 pub(crate) struct Word(pub(crate) u64);
 
 impl Display for Word {

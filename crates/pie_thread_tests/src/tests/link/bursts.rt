@@ -56,7 +56,7 @@ fn two_threads<R: Threads + Wait + Sync>(
 // Whether the event at a place is of this caller.
 fn is_of(book: &Book, place: usize, caller: u16) -> bool {
     match book.event(place) {
-        Some(event) => event.caller == caller && event.answer == Answer::Enqueued,
+        Some(event) => event.caller == caller && matches!(event.answer, Answer::Enqueued),
         None => false,
     }
 }
@@ -71,7 +71,7 @@ fn holds_two_bursts(book: &Book) -> bool {
 // The same at a link that two threads shared.
 fn two_bursts_at_once<R: Threads + Wait + Sync>(rt: &R, alloc: Global) -> Option<bool> {
     match opened(alloc, 8, 2) {
-        Ok((link, mut one)) => {
+        Some((link, mut one)) => {
             let two = link.share(&mut one).ok()?;
             let (mut one, two) = two_threads(rt, alloc, &link, one, two);
             link.gather(&mut one, two).ok()?;
@@ -80,7 +80,7 @@ fn two_bursts_at_once<R: Threads + Wait + Sync>(rt: &R, alloc: Global) -> Option
                 Err(_) => None,
             }
         }
-        Err(_) => None,
+        None => None,
     }
 }
 

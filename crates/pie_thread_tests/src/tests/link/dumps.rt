@@ -274,10 +274,10 @@ fn jobs<'a>(alloc: Global, link: &'a Link, caller: &mut Caller) -> Vec<Job<'a>>
     ensures { caller.new.lock ≡ link.now }
 {
     let mut jobs = Vec::new(alloc);
-    for work in WORK {
+    for work in &WORK {
         if let Ok(caller) = link.share(caller) {
             let at = AtLink { link, caller };
-            let _ = jobs.push(Job { at, work });
+            let _ = jobs.push(Job { at, work: *work });
         }
     }
     jobs

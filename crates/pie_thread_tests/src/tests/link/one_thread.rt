@@ -7,25 +7,9 @@ use super::{opened, packet};
 use pie_book::{Answer, Book, FoldRefusal, Refusal};
 use pie_link::{Caller, Link, Told, Tried};
 use pie_params::Params;
+use pie_queue::{Ecn, Packet};
 use std::alloc::Global;
 use std::sync::Wait;
-
-// Whether a call that never blocks is answered so, at this number.
-fn is_tried(told: Result<Told<Answer>, Tried<Refusal>>, answer: Answer, number: u64) -> bool {
-    match told {
-        Ok(told) => told.answer == answer && told.number == number,
-        Err(_) => false,
-    }
-}
-
-// The answer to the update of the row.
-fn updated() -> Answer {
-    Answer::Updated {
-        delay: 0,
-        prob: 0,
-        burst: 150_000_000,
-    }
-}
 
 // Whether the registers show one packet of 100 bytes after one event.
 fn shows_one(link: &Link, caller: &mut Caller) -> bool
@@ -43,18 +27,40 @@ fn first_calls(link: &Link, caller: &mut Caller) -> bool
     requires own { caller.old.lock ≡ link.now }
     ensures stays { StaysOne caller.old caller.new }
 {
-    let arrived = is_tried(
+    let arrived = matches!(
         link.try_arrive(caller, 10, packet(1), 0),
-        Answer::Enqueued,
-        1,
+        Ok(Told {
+            answer: Answer::Enqueued,
+            number: 1,
+        })
     );
     let shown = shows_one(link, caller);
-    let left = is_tried(link.try_depart(caller, 20), Answer::Left(packet(1)), 2);
+    let left = matches!(
+        link.try_depart(caller, 20),
+        Ok(Told {
+            answer: Answer::Left(Packet {
+                tag: 1,
+                size: 100,
+                ecn: Ecn::NotEct,
+            }),
+            number: 2,
+        })
+    );
     let soon = matches!(
         link.try_update(caller, 20),
         Err(Tried::Refused(Refusal::TooSoon { due: 15_000_000 }))
     );
-    let made = is_tried(link.try_update(caller, 15_000_000), updated(), 3);
+    let made = matches!(
+        link.try_update(caller, 15_000_000),
+        Ok(Told {
+            answer: Answer::Updated {
+                delay: 0,
+                prob: 0,
+                burst: 150_000_000,
+            },
+            number: 3,
+        })
+    );
     arrived && shown && left && soon && made
 }
 
@@ -63,12 +69,20 @@ fn later_calls<R: Wait>(rt: &R, link: &Link, caller: &mut Caller) -> bool
     requires own { caller.old.lock ≡ link.now }
     ensures stays { StaysOne caller.old caller.new }
 {
-    let reset = is_tried(link.try_reset(caller, 15_000_000), Answer::Done, 4);
+    let reset = matches!(
+        link.try_reset(caller, 15_000_000),
+        Ok(Told {
+            answer: Answer::Done,
+            number: 4,
+        })
+    );
     let params = Params::default_profile();
-    let set = is_tried(
+    let set = matches!(
         link.try_set_params(caller, 15_000_000, params),
-        Answer::Done,
-        5,
+        Ok(Told {
+            answer: Answer::Done,
+            number: 5,
+        })
     );
     let few = is_refused(link, caller, 6, 5);
     let folded = is_folded(link, caller, 5, 5);
@@ -86,7 +100,7 @@ fn is_refused(link: &Link, caller: &mut Caller, n: u64, held: u64) -> bool
     ensures stays { StaysOne caller.old caller.new }
 {
     match link.try_fold(caller, n) {
-        Err(Tried::Refused(why)) => why == FoldRefusal::TooMany { held },
+        Err(Tried::Refused(FoldRefusal::TooMany { held: told })) => told == held,
         _ => false,
     }
 }
@@ -110,7 +124,12 @@ fn depart_often(link: &Link, caller: &mut Caller, times: u32) -> u32
     let mut empty = 0u32;
     for _ in 0..times {
         match link.try_depart(caller, 1) {
-            Ok(told) if told.answer == Answer::Empty => empty = empty.wrapping_add(1),
+            Ok(
+                Told {
+                    answer: Answer::Empty,
+                    ..
+                },
+            ) => empty = empty.wrapping_add(1),
             Ok(_) | Err(_) => {}
         }
     }
@@ -141,7 +160,7 @@ fn all_calls<R: Wait>(rt: &R, link: &Link, caller: &mut Caller, upper: &mut Call
 // The book that the uppermost caller then closes, if all was so.
 fn book_from_above<R: Wait>(rt: &R, alloc: Global) -> Option<Book> {
     match opened(alloc, 70, 65535) {
-        Ok((link, mut caller)) => {
+        Some((link, mut caller)) => {
             let Ok(mut upper) = link.share(&mut caller) else {
                 return None;
             };
@@ -151,7 +170,7 @@ fn book_from_above<R: Wait>(rt: &R, alloc: Global) -> Option<Book> {
                 Ok(_) | Err(_) => None,
             }
         }
-        Err(_) => None,
+        None => None,
     }
 }
 

@@ -9,7 +9,7 @@ use pie_params::{BadParam, Field, Params, RawParams};
 /// nanoseconds, gains in thousandths per second, sizes in bytes, probabilities in units of `10^-12`
 /// (RFC 8033, sections 4.2, 4.4, 5.1 and 5.2).
 #[repr(C)]
-#[derive(Clone, Copy, Debug, PartialEq, Eq)]
+#[derive(Clone, Copy)]
 pub struct PieParams {
     /// The reference queueing delay, 2 to 10^10.
     pub target: u64,

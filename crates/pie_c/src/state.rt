@@ -10,7 +10,7 @@ use pie_aqm::RawController;
 /// active. Times are in nanoseconds, probabilities in units of `10^-12` (RFC 8033, sections 4.2, 4.4, 5.2, 5.3 and 5.4; the scales
 /// are this project's own).
 #[repr(C)]
-#[derive(Clone, Copy, Debug, PartialEq, Eq)]
+#[derive(Clone, Copy)]
 pub struct PieState {
     /// The parameters in force.
     pub params: PieParams,

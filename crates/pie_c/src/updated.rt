@@ -6,7 +6,7 @@ use pie_aqm::RawController;
 
 /// What an update answers.
 #[repr(C)]
-#[derive(Clone, Copy, Debug, PartialEq, Eq)]
+#[derive(Clone, Copy)]
 pub struct PieUpdated {
     /// 0, or why the update is refused.
     pub code: u64,

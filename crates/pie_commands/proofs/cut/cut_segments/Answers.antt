@@ -1,7 +1,7 @@
 use Rattle.std.proofs.Common.{ℕ, List, Option, subst}
 use Rattle.std.specs.Prelude.{IfSome}
 use Rattle.pie_record.specs.Text.{records_of}
-use Rattle.pie_progress.specs.Watched.{remaining_of}
+use Rattle.pie_files.specs.Watched.{remaining_of}
 use Rattle.pie_commands.specs.CutEnds.{CutsSegments, EndsBy, end_of_cut}
 use Rattle.pie_commands.proofs.CutFacts.{told-by}
 use Rattle.pie_commands.proofs.cut.cut_segments.Goals as goal

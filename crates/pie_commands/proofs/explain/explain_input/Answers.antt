@@ -4,7 +4,7 @@ use Rattle.clap.specs.Words.{found_of, rows_of}
 use Rattle.pie_explanation.specs.declared.choice.Choice.{Choice}
 use Rattle.pie_explanation.specs.declared.explanation.Explained.{Explained}
 use Rattle.pie_commands.specs.Choice.{tale_by, tale_of}
-use Rattle.pie_progress.specs.Watched.{remaining_of}
+use Rattle.pie_files.specs.Watched.{remaining_of}
 use Rattle.pie_commands.specs.ExplainEnds.{EndsExplain, explain_ends}
 use Rattle.pie_commands.proofs.ExplainFacts.{EndsExplain-told}
 use Rattle.pie_commands.proofs.explain.explain_input.Goals as goal

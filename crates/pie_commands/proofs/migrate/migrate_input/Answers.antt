@@ -1,6 +1,6 @@
 use Rattle.std.proofs.Common.{ℕ, List, Option, subst}
 use Rattle.std.specs.Prelude.{IfSome}
-use Rattle.pie_progress.specs.Watched.{remaining_of}
+use Rattle.pie_files.specs.Watched.{remaining_of}
 use Rattle.pie_commands.specs.Ends.{EndsMigrate, end_of}
 use Rattle.pie_commands.proofs.EndFacts.{EndsMigrate-told}
 use Rattle.pie_commands.proofs.migrate.migrate_input.Goals as goal

@@ -1,6 +1,6 @@
 use Rattle.std.proofs.Common.{ℕ, List, Option, subst}
 use Rattle.std.specs.Prelude.{IfSome}
-use Rattle.pie_progress.specs.Watched.{remaining_of}
+use Rattle.pie_files.specs.Watched.{remaining_of}
 use Rattle.pie_commands.specs.Ends.{EndsRun, end_of}
 use Rattle.pie_commands.proofs.EndFacts.{EndsRun-told}
 use Rattle.pie_commands.proofs.run.run_input.Goals as goal

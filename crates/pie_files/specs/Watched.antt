@@ -1,6 +1,6 @@
 -- What a clause reads of a watched reader.
 use Rattle.std.specs.Prelude.{ℕ, List, Option}
-use Rattle.pie_progress.specs.declared.watched.Watched.{Watched}
+use Rattle.pie_files.specs.declared.watched.Watched.{Watched}
 
 -- the reader that is watched
 abbrev pub inner_of : {R W C : Type 0} → Watched R W C → R

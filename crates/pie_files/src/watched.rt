@@ -1,6 +1,6 @@
 //! A reader that tells how far it has come.
 ghost use Rattle.std.specs.Prelude.{◌≡◌};
-ghost use Rattle.pie_progress.specs.Watched.{inner_of, remaining_of};
+ghost use Rattle.pie_files.specs.Watched.{inner_of, remaining_of};
 
 use std::io;
 use std::io::{Read, Write};

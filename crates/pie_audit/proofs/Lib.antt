@@ -2,6 +2,7 @@ pub mod FindingFacts
 pub mod AuditorFacts
 pub mod AuditFacts
 pub mod LegalFacts
+pub mod SetterFacts
 mod Examples
 pub mod Written
 mod PastFacts

@@ -2,3 +2,5 @@ pub mod Finding
 pub mod Auditor
 pub mod Text
 pub mod Legal
+pub mod Setters
+pub mod Start

@@ -1,6 +1,7 @@
 //! The audit of a history: each recorded event is decided again, and the first that the rules do not give is named.
 //!
-//! The definitions that the contracts cite stand in `specs/`: `finding` looks at each event with all lines before it.
+//! The definitions that the contracts cite stand in `specs/`: `finding` looks at each event with all lines before it. Those that pie_explain and
+//! pie_cut cite stand beside them: `Setters` says which event set the probability, and `Start` what a text that goes on tells of it.
 //!
 //! `clean_is_legal`: a text without a fault is found clean exactly where the events that it tells are legal from its opening on, and differs
 //! at the first that is not.
@@ -10,8 +11,10 @@
 
 pub mod auditor;
 pub mod law;
+pub mod setters;
 pub mod text;
 
 pub use auditor::{Auditor, Finding};
 pub use law::{clean_is_legal, recorded_calls_are_clean};
+pub use setters::sets_probability;
 pub use text::{audit, audit_either, write_finding};

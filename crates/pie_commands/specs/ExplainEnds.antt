@@ -14,7 +14,7 @@ use Rattle.pie_explanation.specs.declared.choice.Choice.{Choice}
 use Rattle.pie_explain.specs.Answer.{answer}
 use Rattle.pie_explain.specs.Either.{excerpt_answer, excerpt_output}
 use Rattle.pie_explain.specs.Output.{output}
-use Rattle.pie_setter.specs.Start.{TellsSetter}
+use Rattle.pie_audit.specs.Start.{TellsSetter}
 use Rattle.pie_commands.specs.Choice.{choice_of, tale_of}
 
 -- a subcommand wrote this text and ended with its own status, or ended with 1: then the reader, the writer or memory failed

@@ -50,7 +50,7 @@ use Rattle.pie_cut.specs.Last.{last_after}
 use Rattle.pie_cut.specs.Segment.{every_answer, segment}
 use Rattle.pie_cut.specs.Span.{is_past, is_reached}
 use Rattle.pie_cut.specs.Told.{whole_answer}
-use Rattle.pie_explanation.specs.declared.setter.Setter.TheVariants as setter
+use Rattle.pie_event.specs.declared.setter.Setter.TheVariants as setter
 
 -- ---- spans
 

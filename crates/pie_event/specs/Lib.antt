@@ -3,3 +3,4 @@ pub mod Verdict
 pub mod Opening
 pub mod Deed
 pub mod Ranges
+pub mod Setter

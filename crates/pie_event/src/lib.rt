@@ -1,5 +1,5 @@
-//! What a controller and a book are asked, what they answer, and what a book records and tells: the types that controller, books, links and texts
-//! share. `pie_aqm` and `pie_book` hand theirs on.
+//! What a controller and a book are asked, what they answer, and what a book records and tells, and which event set a probability: the types that
+//! controller, books, links and texts share. `pie_aqm` and `pie_book` hand theirs on.
 //!
 //! The definitions in `specs/` say what an event did (`Deed`), what an arrival is answered (`Verdict`), what a book may be opened with (`Opening`), and
 //! which numbers the types hold (`Ranges`).
@@ -12,6 +12,7 @@ pub mod refusal;
 pub mod register;
 pub mod registers;
 pub mod resume_refusal;
+pub mod setter;
 pub mod stats;
 pub mod verdict;
 
@@ -21,5 +22,6 @@ pub use refusal::{FoldRefusal, OpenRefusal, Refusal, TooSmall};
 pub use register::Register;
 pub use registers::Registers;
 pub use resume_refusal::{EndRefusal, QueueRefusal, ResumeRefusal};
+pub use setter::Setter;
 pub use stats::Stats;
 pub use verdict::Verdict;

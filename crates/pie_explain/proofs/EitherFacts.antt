@@ -27,7 +27,7 @@ use Rattle.pie_explain.specs.declared.fault.ExplainFault.{ExplainFault}
 use Rattle.pie_explain.specs.declared.fault.ExplainFault.TheVariants.{Trace}
 use Rattle.pie_explain.specs.Answer.{IsAsAudited, IsTold, Told}
 use Rattle.pie_explain.specs.Either.{ExplainsBy, ExplainsEither, ExplainsExcerpt, ExplainsWhole}
-use Rattle.pie_setter.specs.Start.{TellsSetter, from_opening, start_after}
+use Rattle.pie_audit.specs.Start.{TellsSetter, from_opening, start_after}
 use Rattle.pie_explain.proofs.EndFacts.{Promises, answer-opening}
 use Rattle.pie_explain.proofs.LineFacts.{since-opening}
 

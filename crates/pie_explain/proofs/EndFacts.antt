@@ -21,15 +21,15 @@ use Rattle.pie_explain.specs.declared.fault.ExplainFault.TheVariants.{Trace}
 use Rattle.pie_explanation.specs.declared.choice.Choice.{Choice}
 use Rattle.pie_explanation.specs.declared.which.Which.{Which}
 use Rattle.pie_explanation.specs.declared.which.Which.TheVariants.{Number, Tag, Lost, Marked, All}
-use Rattle.pie_explanation.specs.declared.setter.Setter.{Setter}
+use Rattle.pie_event.specs.declared.setter.Setter.{Setter}
 use Rattle.pie_explain.specs.Answer.{Follows, Heard, IsAsAudited, IsTold, Told, answer, answer_by, answer_since, answered, none_picked}
 use Rattle.pie_explanation.specs.Choice.{is_whole}
 use Rattle.pie_explain.specs.Output.{output}
 use Rattle.pie_explanation.specs.Report.{Grows}
-use Rattle.pie_setter.specs.Start.{Start, TellsSetter, from_opening}
+use Rattle.pie_audit.specs.Start.{Start, TellsSetter, from_opening}
 use Rattle.pie_explain.specs.Since.{explanations_since}
 use Rattle.pie_explain.proofs.LineFacts.{since-opening}
-use Rattle.pie_setter.proofs.SetterFacts.{setter-none}
+use Rattle.pie_audit.proofs.SetterFacts.{setter-none}
 
 -- what waits on the page is ended, and written out
 appends-ended : (old mid now : Option (List ℕ)) (page ended text more : List ℕ) → Appends old (append_known mid page) text → ended ≡ page ++ more

@@ -3,11 +3,11 @@ use Rattle.std.specs.Prelude.{ℕ, ◌≡◌, ◌&&◌, nat_le, nat_lt, Bool, tr
 use Rattle.std.proofs.Common.{arith, ◌∙◌}
 use Rattle.std.proofs.lemmas.Bool.Decides.{nat_tests}
 use Rattle.pie_explain.specs.declared.fault.ExplainFault.TheVariants.{Earlier, NoEvent}
-use Rattle.pie_explanation.specs.declared.setter.Setter.TheVariants.{Event, Opening, Untold}
+use Rattle.pie_event.specs.declared.setter.Setter.TheVariants.{Event, Opening, Untold}
 use Rattle.pie_explain.specs.Answer.{no_event}
-use Rattle.pie_explanation.specs.Record.{setter_number}
-use Rattle.pie_setter.specs.Start.{Start, from_opening, setter_told}
-use Rattle.pie_explanation.specs.Setter.{setter_from}
+use Rattle.pie_event.specs.Setter.{setter_number}
+use Rattle.pie_audit.specs.Start.{Start, from_opening, setter_told}
+use Rattle.pie_event.specs.Setter.{setter_from}
 
 -- a text of the events from 101 on, which tells what set the probability before them or not
 abbrev after_100 : Bool → Start

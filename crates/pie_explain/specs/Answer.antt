@@ -18,14 +18,14 @@ use Rattle.pie_audit.specs.Finding.{finding as finding_of}
 use Rattle.pie_explanation.specs.declared.explanation.Explained.{Explained}
 use Rattle.pie_explain.specs.declared.fault.ExplainFault.{ExplainFault}
 use Rattle.pie_explain.specs.declared.fault.ExplainFault.TheVariants.{Trace, Differs, Earlier, NoEvent, NoTag, NoneWithin}
-use Rattle.pie_explanation.specs.declared.setter.Setter.{Setter}
+use Rattle.pie_event.specs.declared.setter.Setter.{Setter}
 use Rattle.pie_explanation.specs.declared.choice.Choice.{Choice}
 use Rattle.pie_explanation.specs.declared.which.Which.{Which}
 use Rattle.pie_explanation.specs.declared.which.Which.TheVariants.{Number, Tag, Lost, Marked, All}
 use Rattle.pie_explanation.specs.Choice.{is_whole}
 use Rattle.pie_explain.specs.Explanations.{explanations}
-use Rattle.pie_setter.specs.Setters.{setter_after, setter_by}
-use Rattle.pie_setter.specs.Start.{Start, setter_told}
+use Rattle.pie_audit.specs.Setters.{setter_after, setter_by}
+use Rattle.pie_audit.specs.Start.{Start, setter_told}
 use Rattle.pie_explain.specs.Since.{explanations_since}
 
 -- why an event is not explained that is none of those of a text: so many were before it, and so many are up to its end

@@ -14,7 +14,7 @@ use Rattle.pie_explain.specs.declared.fault.ExplainFault.{ExplainFault}
 use Rattle.pie_explain.specs.declared.fault.ExplainFault.TheVariants.{Trace}
 use Rattle.pie_explain.specs.Answer.{IsAsAudited, IsTold, answer, answer_since}
 use Rattle.pie_explain.specs.Output.{output}
-use Rattle.pie_setter.specs.Start.{TellsSetter, start_after}
+use Rattle.pie_audit.specs.Start.{TellsSetter, start_after}
 use Rattle.pie_explain.specs.Since.{explanations_since}
 
 -- a whole history: what the audit says, and where neither the reader, the writer nor memory failed its answer and its output

@@ -11,10 +11,10 @@ use Rattle.pie_audit.specs.Finding.{LinePlace, events_of, first_difference, line
 use Rattle.pie_explanation.specs.declared.explanation.Explained.{Explained}
 use Rattle.pie_explanation.specs.declared.explanation.Explanation.{Explanation}
 use Rattle.pie_explanation.specs.declared.choice.Choice.{Choice}
-use Rattle.pie_explanation.specs.declared.setter.Setter.{Setter}
+use Rattle.pie_event.specs.declared.setter.Setter.{Setter}
 use Rattle.pie_explanation.specs.Choice.{picks}
 use Rattle.pie_explanation.specs.Explanation.{explanation, moment_of, with_after}
-use Rattle.pie_setter.specs.Setters.{setter_after, setter_by}
+use Rattle.pie_audit.specs.Setters.{setter_after, setter_by}
 
 -- an explanation where this holds
 abbrev pub told_if : Bool → Explanation → Option Explanation

@@ -5,7 +5,7 @@ use Rattle.pie_event.specs.declared.opening.Opening.{Opening}
 use Rattle.pie_record.specs.declared.history_record.Line.{Line}
 use Rattle.pie_explanation.specs.declared.explanation.Explained.{Explained}
 use Rattle.pie_explanation.specs.declared.choice.Choice.{Choice}
-use Rattle.pie_setter.specs.Start.{Start, setter_told}
+use Rattle.pie_audit.specs.Start.{Start, setter_told}
 use Rattle.pie_explain.specs.Explanations.{explanations}
 
 -- an explanation, as the text gives it

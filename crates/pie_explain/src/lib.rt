@@ -15,8 +15,8 @@ pub use either::explain_either;
 pub use explainer::{explain, explain_after};
 pub use fault::ExplainFault;
 pub use law::excerpts_are_explained_as_the_whole;
+pub use pie_audit::sets_probability;
 pub use pie_explanation::{
     Choice, Explained, Explanation, Form, Millis, PerCent, Report, Setter, Share, Which, moment_of,
     push_words,
 };
-pub use pie_setter::sets_probability;

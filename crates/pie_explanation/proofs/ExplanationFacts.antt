@@ -13,7 +13,7 @@ use Rattle.pie_book.specs.Registers.{registers_after}
 use Rattle.pie_book.specs.Statistics.{count_of, stats_after, wait_of}
 use Rattle.pie_record.specs.declared.clock.Clock.{Clock}
 use Rattle.pie_explanation.specs.declared.explanation.Explanation.{Explanation}
-use Rattle.pie_explanation.specs.declared.setter.Setter.{Setter}
+use Rattle.pie_event.specs.declared.setter.Setter.{Setter}
 use Rattle.pie_explanation.specs.Explanation.{explanation, moment_of}
 
 -- an explanation of these parts

@@ -11,7 +11,7 @@ use Rattle.pie_book.specs.Cause.{cause_after}
 use Rattle.pie_record.specs.declared.clock.Clock.{Clock}
 use Rattle.pie_explanation.specs.declared.explanation.Explained.{Explained}
 use Rattle.pie_explanation.specs.declared.explanation.Explanation.{Explanation}
-use Rattle.pie_explanation.specs.declared.setter.Setter.{Setter}
+use Rattle.pie_event.specs.declared.setter.Setter.{Setter}
 
 -- the effective moment of an event after a history
 abbrev pub moment_of : Opening → List Event → Event → ℕ

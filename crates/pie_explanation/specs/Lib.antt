@@ -1,7 +1,6 @@
 pub mod Which
 pub mod Choice
 pub mod Explanation
-pub mod Setter
 pub mod Record
 pub mod Words
 pub mod Report

@@ -17,8 +17,7 @@ use Rattle.pie_record.specs.Words.{ecn_word, word_of_kind, word_said}
 use Rattle.pie_units.specs.Utc.{utc_text}
 use Rattle.pie_explanation.specs.declared.explanation.Explained.{Explained}
 use Rattle.pie_explanation.specs.declared.explanation.Explanation.{Explanation}
-use Rattle.pie_explanation.specs.declared.setter.Setter.{Setter}
-use Rattle.pie_explanation.specs.declared.setter.Setter.TheVariants as setter
+use Rattle.pie_event.specs.Setter.{setter_number}
 use Rattle.pie_explanation.specs.Which.{packet_of}
 
 -- ---- words
@@ -76,12 +75,6 @@ word_of (Depart moment) = None
 word_of (Update moment) = None
 word_of (Reset moment) = None
 word_of (SetParams moment params) = None
-
--- the event that set the probability, where it is known and there is one
-abbrev pub setter_number : Setter → Option ℕ
-setter_number setter.Opening = None
-setter_number (setter.Event number) = Some number
-setter_number setter.Untold = None
 
 -- how long the packet had waited that left
 abbrev pub wait_where : Answer → ℕ → Option ℕ

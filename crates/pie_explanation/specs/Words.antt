@@ -20,8 +20,8 @@ use Rattle.pie_record.specs.Clock.{unix_at}
 use Rattle.pie_units.specs.Utc.{utc_text, with_zeros}
 use Rattle.pie_explanation.specs.declared.explanation.Explained.{Explained}
 use Rattle.pie_explanation.specs.declared.explanation.Explanation.{Explanation}
-use Rattle.pie_explanation.specs.declared.setter.Setter.{Setter}
-use Rattle.pie_explanation.specs.declared.setter.Setter.TheVariants as setter
+use Rattle.pie_event.specs.declared.setter.Setter.{Setter}
+use Rattle.pie_event.specs.declared.setter.Setter.TheVariants as setter
 
 -- these texts, one after the other
 abbrev pub joined : List (List ℕ) → List ℕ

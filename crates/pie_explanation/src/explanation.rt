@@ -8,8 +8,8 @@ ghost use Rattle.pie_book.specs.History.{waiting_after};
 ghost use Rattle.pie_book.specs.Statistics.{count_of, wait_of};
 ghost use Rattle.pie_explanation.specs.Explanation.{moment_of};
 
-use crate::setter::Setter;
 use pie_book::{Answer, Cause, Command, Core, Event, Registers};
+use pie_event::Setter;
 use pie_record::Clock;
 
 /// One event and the numbers that it met: all are those of before the event. Times are in nanoseconds, probabilities in units

@@ -6,9 +6,9 @@ ghost use Rattle.pie_explanation.specs.Words.{ecn_name, last_words, verdict_text
 ghost use Rattle.pie_explanation.specs.Words.{sum_words, turned_words, update_words, when_words, words_by};
 
 use crate::explanation::{Explained, Explanation};
-use crate::setter::Setter;
 use crate::units::{Millis, MomentWords, PerCent, Word};
 use pie_book::{Answer, Cause, Command, Fate, Registers};
+use pie_event::Setter;
 use pie_queue::{Ecn, Packet};
 use pie_record::Clock;
 use std::alloc::AllocError;

@@ -16,7 +16,7 @@ use Rattle.pie_event.specs.declared.command.Answer.TheVariants.{Done}
 use Rattle.pie_event.specs.declared.command.Command.{Command}
 use Rattle.pie_event.specs.declared.command.Command.TheVariants.{Arrive, Depart, Update, Reset}
 use Rattle.pie_event.specs.declared.registers.Registers.{Registers}
-use Rattle.pie_explanation.specs.declared.setter.Setter.TheVariants as setter
+use Rattle.pie_event.specs.declared.setter.Setter.TheVariants as setter
 use Rattle.pie_explanation.specs.declared.form.Form.TheVariants.{Text, Csv}
 use Rattle.pie_explanation.specs.declared.explanation.Explained.{Explained}
 use Rattle.pie_explanation.specs.Words.{millis, per_cent, share}

@@ -1,8 +1,8 @@
 use Rattle.std.proofs.Common.{◌≡◌, ◌∙◌, length, map, refl, sym}
 use Rattle.pie_record.specs.declared.history_record.Line.TheVariants.{Made}
-use Rattle.pie_setter.specs.Start.{BeginsAfter, start_after}
+use Rattle.pie_audit.specs.Start.{BeginsAfter, start_after}
 use Rattle.pie_explanation.proofs.ExplanationFacts.{counted-registers}
-use Rattle.pie_setter.proofs.SetterFacts.{tells-so}
+use Rattle.pie_audit.proofs.SetterFacts.{tells-so}
 use Rattle.pie_cut.proofs.either.cut_after.Goals as goal
 
 pub returns : goal.returns

@@ -2,7 +2,7 @@ use Rattle.std.proofs.Common.{◌∷◌, []}
 use Rattle.csv.specs.Records.{fields_of}
 use Rattle.pie_audit.proofs.AuditFacts.{IfSome-all}
 use Rattle.pie_explain.proofs.EitherFacts.{opened-fault, opened-tells}
-use Rattle.pie_setter.proofs.SetterFacts.{tells-opening}
+use Rattle.pie_audit.proofs.SetterFacts.{tells-opening}
 use Rattle.pie_explain.proofs.either.explain_opened.Goals as goal
 
 pub returns-in-Err : goal.returns-in-Err

@@ -1,6 +1,6 @@
 use Rattle.std.specs.Prelude.{[]}
 use Rattle.pie_explain.proofs.EndFacts.{opened-answers, opened-audited, opened-writes}
-use Rattle.pie_setter.proofs.SetterFacts.{tells-opening}
+use Rattle.pie_audit.proofs.SetterFacts.{tells-opening}
 use Rattle.pie_explain.proofs.explainer.explain.Goals as goal
 
 pub returns : goal.returns

@@ -4,9 +4,9 @@ use Rattle.pie_event.specs.declared.command.Event.{Event}
 use Rattle.pie_event.specs.declared.opening.Opening.{Opening}
 use Rattle.pie_book.specs.Core.{Shows}
 use Rattle.pie_event.specs.Opening.{opening_refusal}
-use Rattle.pie_setter.specs.Start.{BeginsAfter, TellsSetter, start_after}
+use Rattle.pie_audit.specs.Start.{BeginsAfter, TellsSetter, start_after}
 use Rattle.pie_explanation.proofs.ExplanationFacts.{counted-registers}
-use Rattle.pie_setter.proofs.SetterFacts.{tells-so}
+use Rattle.pie_audit.proofs.SetterFacts.{tells-so}
 use Rattle.pie_explain.proofs.explainer.explain_after.Goals as goal
 
 pub returns : goal.returns

@@ -5,7 +5,7 @@ use Rattle.pie_event.specs.declared.opening.Opening.{Opening}
 use Rattle.pie_record.specs.declared.history_record.Line.TheVariants.{Made}
 use Rattle.pie_audit.specs.Finding.{finding}
 use Rattle.pie_explain.specs.declared.fault.ExplainFault.TheVariants.{Trace}
-use Rattle.pie_setter.specs.Start.{BeginsAfter, Start}
+use Rattle.pie_audit.specs.Start.{BeginsAfter, Start}
 use Rattle.pie_explain.proofs.EndFacts.{Promises, fault-promises, heard-promises, promises-audited, same-answered}
 use Rattle.pie_explain.proofs.ExplainFacts.{explains-begun}
 use Rattle.pie_explain.proofs.explainer.explain_from.Goals as goal

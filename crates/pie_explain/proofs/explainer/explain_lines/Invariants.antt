@@ -5,7 +5,7 @@ use Rattle.pie_event.specs.declared.opening.Opening.{Opening}
 use Rattle.pie_record.specs.declared.history_reader.Course.TheVariants.{Going}
 use Rattle.pie_record.specs.declared.history_record.Line.{Line}
 use Rattle.pie_explain.specs.Answer.{Explains, ExplainAt}
-use Rattle.pie_setter.specs.Start.{Start}
+use Rattle.pie_audit.specs.Start.{Start}
 use Rattle.pie_explain.proofs.explainer.explain_lines.Given as goal
 
 abbrev pub invariant-lines : goal.invariant-lines

@@ -1,7 +1,10 @@
 //! An explanation in words, of four to nine lines.
-ghost use Rattle.std.specs.Prelude.{◌≡◌, ◌++◌, OnOk, string_bytes};
+ghost use Rattle.std.specs.Prelude.{◌≡◌, ◌++◌, ◌∷◌, [], OnOk, codes, string_bytes, true};
+ghost use Rattle.std.specs.Fmt.{decimal};
+ghost use Rattle.pie_aqm.specs.declared.cause.Cause.TheVariants.{BurstAllowed, LowDelay, NoRoomInBytes, NoRoomInPackets, ShortQueue};
+ghost use Rattle.pie_event.specs.declared.command.Answer.TheVariants.{Updated};
 ghost use Rattle.pie_explanation.specs.Words.{before_words, burst_words, cause_words, compared_words, considered_words, counted_name, deed_words};
-ghost use Rattle.pie_explanation.specs.Words.{departure_words, never_words, scaled_words, total_words};
+ghost use Rattle.pie_explanation.specs.Words.{departure_words, joined, never_words, per_cent, scaled_words, total_words};
 ghost use Rattle.pie_explanation.specs.Words.{ecn_name, last_words, verdict_text, packet_words, picked_words, queue_words, reason_words, setter_words};
 ghost use Rattle.pie_explanation.specs.Words.{sum_words, turned_words, update_words, when_words, words_by};
 
@@ -49,6 +52,13 @@ fn push_packet(page: &mut String, number: u64, packet: Packet) -> Result<(), All
     write!(page, "event {number}: packet {tag}, {size} bytes, {ecn}: ")
 }
 
+/// The first line of an event with no packet, and what follows there.
+fn push_event(page: &mut String, number: u64, rest: &str) -> Result<(), AllocError>
+    ensures { OnOk result (string_bytes page.new ≡ string_bytes page.old ++ joined (codes "event " ∷ decimal number ∷ rest.now ∷ [])) }
+{
+    write!(page, "event {number}{rest}")
+}
+
 /// The first lines of a departure.
 #[tactic(auto, unfolding(crate::specs::Words::departure_words))]
 fn push_departure(
@@ -65,8 +75,26 @@ fn push_departure(
             push_packet(page, number, packet)?;
             write!(page, "left\n  it had waited {waited}\n")
         }
-        _ => write!(page, "event {number}: no packet was there to leave\n"),
+        _ => push_event(page, number, ": no packet was there to leave\n"),
     }
+}
+
+/// The first lines of an update that took a delay.
+#[tactic(auto, unfolding(crate::specs::Words::update_words))]
+fn push_updated(
+    page: &mut String,
+    number: u64,
+    delay: u64,
+    prob: u64,
+    burst: u64,
+) -> Result<(), AllocError>
+    ensures { OnOk result (string_bytes page.new ≡ string_bytes page.old ++ update_words number true (Updated delay prob burst)) }
+{
+    let (delay, prob, burst) = (Millis(delay), PerCent(prob), Millis(burst));
+    write!(
+        page,
+        "event {number}: an update\n  it took a delay of {delay}, and made the probability {prob}\n  and the burst allowance {burst}\n"
+    )
 }
 
 /// The first lines of an update.
@@ -80,21 +108,30 @@ fn push_update(
     ensures { OnOk result (string_bytes page.new ≡ string_bytes page.old ++ update_words number active answer) }
 {
     if !active {
-        return write!(
+        return push_event(
             page,
-            "event {number}: an update\n  the controller is turned off: the update takes no delay, and makes no probability\n"
+            number,
+            ": an update\n  the controller is turned off: the update takes no delay, and makes no probability\n",
         );
     }
     match answer {
-        Answer::Updated { delay, prob, burst } => {
-            let (delay, prob, burst) = (Millis(delay), PerCent(prob), Millis(burst));
-            write!(
-                page,
-                "event {number}: an update\n  it took a delay of {delay}, and made the probability {prob}\n  and the burst allowance {burst}\n"
-            )
-        }
-        _ => write!(page, "event {number}: an update\n"),
+        Answer::Updated { delay, prob, burst } => push_updated(page, number, delay, prob, burst),
+        _ => push_event(page, number, ": an update\n"),
     }
+}
+
+/// The first line of an arrival.
+fn push_arrival(
+    page: &mut String,
+    number: u64,
+    packet: Packet,
+    answer: Answer,
+) -> Result<(), AllocError>
+    ensures { OnOk result (string_bytes page.new ≡ string_bytes page.old ++ joined (packet_words number packet ∷ verdict_text answer ∷ codes "\n" ∷ [])) }
+{
+    push_packet(page, number, packet)?;
+    let verdict = verdict_text(answer);
+    write!(page, "{verdict}\n")
 }
 
 /// The first lines: what the event did.
@@ -110,15 +147,11 @@ fn push_deed(
     ensures { OnOk result (string_bytes page.new ≡ string_bytes page.old ++ deed_words number active command answer waited) }
 {
     match command {
-        Command::Arrive { packet, .. } => {
-            push_packet(page, number, packet)?;
-            let verdict = verdict_text(answer);
-            write!(page, "{verdict}\n")
-        }
+        Command::Arrive { packet, .. } => push_arrival(page, number, packet, answer),
         Command::Depart { .. } => push_departure(page, number, answer, waited),
         Command::Update { .. } => push_update(page, number, active, answer),
-        Command::Reset { .. } => write!(page, "event {number}: a reset\n"),
-        Command::SetParams { .. } => write!(page, "event {number}: new parameters\n"),
+        Command::Reset { .. } => push_event(page, number, ": a reset\n"),
+        Command::SetParams { .. } => push_event(page, number, ": new parameters\n"),
     }
 }
 
@@ -136,27 +169,31 @@ fn push_when(
     write!(page, "  at {now}, by caller {caller}\n")
 }
 
+/// A line that ends with the threshold of marking.
+fn push_threshold(page: &mut String, text: &str, threshold: u64) -> Result<(), AllocError>
+    ensures { OnOk result (string_bytes page.new ≡ string_bytes page.old ++ joined (text.now ∷ per_cent threshold ∷ codes "\n" ∷ [])) }
+{
+    let threshold = PerCent(threshold);
+    write!(page, "{text}{threshold}\n")
+}
+
 /// Why a picked packet was marked or dropped.
 #[tactic(auto, unfolding(crate::specs::Words::picked_words))]
 fn push_fate(page: &mut String, fate: Fate) -> Result<(), AllocError>
     ensures { OnOk result (string_bytes page.new ≡ string_bytes page.old ++ picked_words fate) }
 {
     match fate {
-        Fate::Marked { threshold } => {
-            let threshold = PerCent(threshold);
-            write!(
-                page,
-                "  marked: its endpoints understand a mark, and the probability is below {threshold}\n"
-            )
-        }
+        Fate::Marked { threshold } => push_threshold(
+            page,
+            "  marked: its endpoints understand a mark, and the probability is below ",
+            threshold,
+        ),
         Fate::NotCapable => write!(page, "  dropped: its endpoints do not understand a mark\n"),
-        Fate::NotBelow { threshold } => {
-            let threshold = PerCent(threshold);
-            write!(
-                page,
-                "  dropped, not marked: the probability is not below {threshold}\n"
-            )
-        }
+        Fate::NotBelow { threshold } => push_threshold(
+            page,
+            "  dropped, not marked: the probability is not below ",
+            threshold,
+        ),
     }
 }
 
@@ -238,42 +275,113 @@ fn push_never(page: &mut String, prob: u64) -> Result<(), AllocError>
     push_scaled(page, prob, 0)
 }
 
+/// Why an arrival met no room in bytes.
+#[tactic(auto, unfolding(crate::specs::Words::cause_words))]
+fn push_no_room(page: &mut String, bytes: u64, size: u32, limit: u64) -> Result<(), AllocError>
+    ensures { OnOk result (string_bytes page.new ≡ string_bytes page.old ++ cause_words 0 (NoRoomInBytes bytes size limit)) }
+{
+    write!(
+        page,
+        "  the queue holds {bytes} bytes: with {size} more it would be above its limit of {limit}\n"
+    )
+}
+
+/// How low the delay and the probability were.
+#[tactic(auto, unfolding(crate::specs::Words::cause_words))]
+fn push_low_delay(
+    page: &mut String,
+    old_delay: u64,
+    target: u64,
+    prob: u64,
+) -> Result<(), AllocError>
+    ensures { OnOk result (string_bytes page.new ≡ string_bytes page.old ++ cause_words 0 (LowDelay old_delay target prob)) }
+{
+    let (old_delay, target, prob) = (Millis(old_delay), Millis(target), PerCent(prob));
+    write!(
+        page,
+        "  the old delay, {old_delay}, is below half the target of {target},\n  and the probability, {prob}, below 20 %\n"
+    )
+}
+
+/// How short the queue was.
+#[tactic(auto, unfolding(crate::specs::Words::cause_words))]
+fn push_short_queue(page: &mut String, bytes: u64, two_packets: u64) -> Result<(), AllocError>
+    ensures { OnOk result (string_bytes page.new ≡ string_bytes page.old ++ cause_words 0 (ShortQueue bytes two_packets)) }
+{
+    write!(
+        page,
+        "  the queue is short: {bytes} bytes, at most two mean packets ({two_packets} bytes)\n"
+    )
+}
+
+/// What was left of a burst.
+#[tactic(auto, unfolding(crate::specs::Words::cause_words))]
+fn push_allowed(page: &mut String, burst: u64) -> Result<(), AllocError>
+    ensures { OnOk result (string_bytes page.new ≡ string_bytes page.old ++ cause_words 0 (BurstAllowed burst)) }
+{
+    let burst = Millis(burst);
+    write!(page, "  a burst is allowed: {burst} are left of it\n")
+}
+
+/// How many packets filled the ring.
+#[tactic(auto, unfolding(crate::specs::Words::cause_words))]
+fn push_full(page: &mut String, packets: u64) -> Result<(), AllocError>
+    ensures { OnOk result (string_bytes page.new ≡ string_bytes page.old ++ cause_words 0 (NoRoomInPackets packets)) }
+{
+    write!(page, "  the ring is full: it holds {packets} packets\n")
+}
+
 /// Why an arrival was decided so, at this probability.
 #[tactic(auto, unfolding(crate::specs::Words::cause_words))]
 fn push_cause(page: &mut String, shown: u64, cause: Cause) -> Result<(), AllocError>
     ensures { OnOk result (string_bytes page.new ≡ string_bytes page.old ++ cause_words shown cause) }
 {
     match cause {
-        Cause::NoRoomInBytes { bytes, size, limit } => write!(
-            page,
-            "  the queue holds {bytes} bytes: with {size} more it would be above its limit of {limit}\n"
-        ),
-        Cause::NoRoomInPackets { packets } => {
-            write!(page, "  the ring is full: it holds {packets} packets\n")
-        }
+        Cause::NoRoomInBytes { bytes, size, limit } => push_no_room(page, bytes, size, limit),
+        Cause::NoRoomInPackets { packets } => push_full(page, packets),
         Cause::Inactive => write!(page, "  the controller is turned off\n"),
-        Cause::BurstAllowed { burst } => {
-            let burst = Millis(burst);
-            write!(page, "  a burst is allowed: {burst} are left of it\n")
-        }
+        Cause::BurstAllowed { burst } => push_allowed(page, burst),
         Cause::LowDelay {
             old_delay,
             target,
             prob,
-        } => {
-            let (old_delay, target, prob) = (Millis(old_delay), Millis(target), PerCent(prob));
-            write!(
-                page,
-                "  the old delay, {old_delay}, is below half the target of {target},\n  and the probability, {prob}, below 20 %\n"
-            )
-        }
-        Cause::ShortQueue { bytes, two_packets } => write!(
-            page,
-            "  the queue is short: {bytes} bytes, at most two mean packets ({two_packets} bytes)\n"
-        ),
+        } => push_low_delay(page, old_delay, target, prob),
+        Cause::ShortQueue { bytes, two_packets } => push_short_queue(page, bytes, two_packets),
         Cause::NoProbability => push_never(page, shown),
         _ => push_considered(page, shown, cause),
     }
+}
+
+/// What was accumulated, and what it is compared with.
+fn push_against(
+    page: &mut String,
+    shown: u64,
+    accu: u64,
+    prob: u64,
+    against: &str,
+) -> Result<(), AllocError>
+    ensures { OnOk result (string_bytes page.new ≡ string_bytes page.old ++ joined (sum_words shown accu prob ∷ against.now ∷ [])) }
+{
+    push_sum(page, shown, accu, prob)?;
+    page.push_str(against)
+}
+
+/// What was accumulated, and how the random word compares.
+fn push_compared(
+    page: &mut String,
+    shown: u64,
+    accu: u64,
+    prob: u64,
+    word: u64,
+    outcome: &str,
+    compares: &str,
+) -> Result<(), AllocError>
+    ensures { OnOk result (string_bytes page.new ≡ string_bytes page.old
+        ++ joined (sum_words shown accu prob ∷ compared_words (counted_name shown prob) word prob outcome.now compares.now ∷ [])) }
+{
+    push_sum(page, shown, accu, prob)?;
+    let name = counted_name(shown, prob);
+    push_word(page, name, word, prob, outcome, compares)
 }
 
 /// Why an arrival was decided so that was considered, where the probability counted as one above 0.
@@ -283,12 +391,10 @@ fn push_considered(page: &mut String, shown: u64, cause: Cause) -> Result<(), Al
 {
     match cause {
         Cause::LittleAccumulated { accu, prob } => {
-            push_sum(page, shown, accu, prob)?;
-            write!(page, ", below 85 %\n")
+            push_against(page, shown, accu, prob, ", below 85 %\n")
         }
         Cause::PickedBySum { accu, prob, fate } => {
-            push_sum(page, shown, accu, prob)?;
-            write!(page, ", at least 850 %\n")?;
+            push_against(page, shown, accu, prob, ", at least 850 %\n")?;
             push_fate(page, fate)
         }
         Cause::PickedByWord {
@@ -297,15 +403,11 @@ fn push_considered(page: &mut String, shown: u64, cause: Cause) -> Result<(), Al
             word,
             fate,
         } => {
-            push_sum(page, shown, accu, prob)?;
-            let name = counted_name(shown, prob);
-            push_word(page, name, word, prob, "picked", "is below")?;
+            push_compared(page, shown, accu, prob, word, "picked", "is below")?;
             push_fate(page, fate)
         }
         Cause::WordNotBelow { accu, prob, word } => {
-            push_sum(page, shown, accu, prob)?;
-            let name = counted_name(shown, prob);
-            push_word(page, name, word, prob, "not picked", "is not below")
+            push_compared(page, shown, accu, prob, word, "not picked", "is not below")
         }
         _ => Ok(()),
     }
@@ -322,6 +424,14 @@ fn push_reason(page: &mut String, prob: u64, cause: Option<Cause>) -> Result<(),
     }
 }
 
+/// The probability before the event, with these words about what set it.
+fn push_since(page: &mut String, prob: PerCent, since: &str) -> Result<(), AllocError>
+    ensures { OnOk result (string_bytes page.new ≡ string_bytes page.old
+        ++ joined (codes "  probability " ∷ per_cent prob.0 ∷ codes ", " ∷ since.now ∷ codes ";" ∷ [])) }
+{
+    write!(page, "  probability {prob}, {since};")
+}
+
 /// The probability before the event, and what set it.
 #[tactic(auto, unfolding(crate::specs::Words::setter_words))]
 fn push_setter(page: &mut String, set_by: Setter, before: &Registers) -> Result<(), AllocError>
@@ -329,9 +439,9 @@ fn push_setter(page: &mut String, set_by: Setter, before: &Registers) -> Result<
 {
     let prob = PerCent(before.prob);
     match set_by {
-        Setter::Opening => write!(page, "  probability {prob}, as at the opening;"),
+        Setter::Opening => push_since(page, prob, "as at the opening"),
         Setter::Event(event) => write!(page, "  probability {prob}, set by event {event};"),
-        Setter::Untold => write!(page, "  probability {prob}, set before this text begins;"),
+        Setter::Untold => push_since(page, prob, "set before this text begins"),
     }
 }
 
@@ -357,14 +467,21 @@ fn push_last(
 
 /// Whether the event turned the controller on or off.
 #[tactic(auto, unfolding(crate::specs::Words::turned_words))]
+fn turned_text(was_active: bool, is_active: bool) -> &'static str
+    ensures { result.now ≡ turned_words was_active is_active }
+{
+    match (was_active, is_active) {
+        (false, true) => "  this event turned the controller on\n",
+        (true, false) => "  this event turned the controller off\n",
+        (true, true) | (false, false) => "",
+    }
+}
+
+/// The same, written onto a page.
 fn push_turned(page: &mut String, was_active: bool, is_active: bool) -> Result<(), AllocError>
     ensures { OnOk result (string_bytes page.new ≡ string_bytes page.old ++ turned_words was_active is_active) }
 {
-    match (was_active, is_active) {
-        (false, true) => write!(page, "  this event turned the controller on\n"),
-        (true, false) => write!(page, "  this event turned the controller off\n"),
-        (true, true) | (false, false) => Ok(()),
-    }
+    page.push_str(turned_text(was_active, is_active))
 }
 
 /// What waited before the event.

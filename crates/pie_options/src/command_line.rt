@@ -1,6 +1,6 @@
 //! The command line of `pie`: the command of `clap`, made from what each subcommand takes.
-ghost use Rattle.std.specs.Prelude.{◌≡◌, ◌<◌, ◌∷◌, IfOk, List, [], false, get_or, length, map};
-ghost use Rattle.clap.specs.Words.{App, Rule, app_of, new_app, new_rule, rule_of};
+ghost use Rattle.std.specs.Prelude.{◌≡◌, ◌<◌, ◌∷◌, IfOk, List, [], get_or, length, map};
+ghost use Rattle.clap.specs.Words.{App, Rule, app_of, new_app, new_rule};
 ghost use Rattle.pie_options.specs.Arguments.{rule_for};
 ghost use Rattle.pie_options.specs.Building.{WantsRules, WantsSubcommands};
 ghost use Rattle.pie_options.specs.Subcommands.{word_of};
@@ -10,7 +10,7 @@ use crate::argument::{Argument, arg_of};
 use crate::help::PIE_HELP;
 use crate::subcommand::Subcommand;
 use crate::{audit, cut, explain, migrate, params, run, storm};
-use clap::{Arg, Command};
+use clap::Command;
 use std::alloc::{AllocError, Global};
 
 /// What `pie --version` prints after the name.
@@ -23,16 +23,16 @@ fn plain<'a>(alloc: Global, name: &'a str, about: &'a str, help: &'a str) -> Com
     Command::new(alloc, name).about(about).after_help(help)
 }
 
-/// What there is of a command, with one more argument.
+/// What there is of a command, with one more argument, which is made only where there is a command.
 fn with_argument<'a>(
+    alloc: Global,
     begun: Result<Command<'a>, AllocError>,
-    argument: Arg<'a>,
+    argument: Argument,
 ) -> Result<Command<'a>, AllocError>
-    requires { argument.global ≡ false }
-    ensures { (rules : List Rule) (whole : App) → WantsRules (rule_of argument.entry ∷ rules) whole begun.entry → WantsRules rules whole result }
+    ensures { (rules : List Rule) (whole : App) → WantsRules (rule_for argument ∷ rules) whole begun.entry → WantsRules rules whole result }
 {
     match begun {
-        Ok(command) => command.arg(argument),
+        Ok(command) => command.arg(arg_of(alloc, argument)),
         Err(why) => Err(why),
     }
 }
@@ -57,7 +57,7 @@ fn command_of<'a>(
 {
     let mut command = Ok(plain(alloc, name, about, help));
     for place in 0..arguments.len() {
-        command = with_argument(command, arg_of(alloc, argument_at(arguments, place)));
+        command = with_argument(alloc, command, argument_at(arguments, place));
     }
     command
 }
@@ -152,9 +152,15 @@ fn with_subcommand<'a>(
     ensures { (subcommands : List Subcommand) (whole : App) → WantsSubcommands (subcommand ∷ subcommands) whole begun.entry
         → WantsSubcommands subcommands whole result }
 {
-    match (begun, command_for(alloc, subcommand)) {
-        (Ok(pie), Ok(command)) => pie.subcommand(command),
-        (_, Err(why)) | (Err(why), _) => Err(why),
+    match begun {
+        Ok(pie) => match command_for(alloc, subcommand) {
+            Ok(command) => pie.subcommand(command),
+            Err(why) => {
+                drop(pie);
+                Err(why)
+            }
+        },
+        Err(why) => Err(why),
     }
 }
 

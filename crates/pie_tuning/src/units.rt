@@ -3,35 +3,52 @@ ghost use Rattle.std.specs.Prelude.{◌≡◌};
 ghost use Rattle.pie_tuning.specs.Units.{packets_fault, packets_of, rate_fault, rate_of, time_fault, time_of};
 
 use pie_units::{Kind, UnitFault, read};
+use std::fmt;
 use thiserror::Error;
 
 /// Why the text of an option tells no number of its kind, in words that follow the option's name.
 #[derive(Clone, Copy, Debug, PartialEq, Eq, Error)]
 pub enum OptionFault {
     /// It is no time.
-    #[error("is a number of ns, us, ms or s, as 20ms")]
     NotATime,
     /// It is no rate.
-    #[error("is a number of bit, kbit, mbit, gbit or tbit, or of bps, kbps and so on, as 100mbit")]
     NotARate,
     /// It is no number of packets.
-    #[error("is a number of packets, as 1000p")]
     NotPackets,
     /// It is no whole number of nanoseconds, or has more than 18 decimals.
-    #[error("is no more precise than a nanosecond")]
     PreciseTime,
     /// It is no whole number of bits a second, or has more than 18 decimals.
-    #[error("is no more precise than a bit a second")]
     PreciseRate,
     /// It is no whole number of packets, or has more than 18 decimals.
-    #[error("is a whole number of packets")]
     PrecisePackets,
     /// It is above 2^60 - 1.
-    #[error("is at most 1152921504606846975, in nanoseconds, bits a second or packets")]
     TooMuch,
     /// It is a rate of 0.
-    #[error("is at least 1bit")]
     NoRate,
+}
+
+impl OptionFault {
+    /// The fault in words.
+    fn text(self) -> &'static str {
+        match self {
+            OptionFault::NotATime => "is a number of ns, us, ms or s, as 20ms",
+            OptionFault::NotARate =>
+                "is a number of bit, kbit, mbit, gbit or tbit, or of bps, kbps and so on, as 100mbit",
+            OptionFault::NotPackets => "is a number of packets, as 1000p",
+            OptionFault::PreciseTime => "is no more precise than a nanosecond",
+            OptionFault::PreciseRate => "is no more precise than a bit a second",
+            OptionFault::PrecisePackets => "is a whole number of packets",
+            OptionFault::TooMuch =>
+                "is at most 1152921504606846975, in nanoseconds, bits a second or packets",
+            OptionFault::NoRate => "is at least 1bit",
+        }
+    }
+}
+
+impl fmt::Display for OptionFault {
+    fn fmt<W: fmt::Write>(&self, f: &mut fmt::Formatter<W>) -> fmt::Result {
+        f.write_str(self.text())
+    }
 }
 
 /// Why a text tells no time.

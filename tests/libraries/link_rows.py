@@ -2,8 +2,8 @@
 """Makes the events of each worked history of tests/rows and tests/rows/choices again at a link that is opened as the history says, but for a full
 tail, which refuses nothing there: each answer is the recorded one, and each event has its number. A recorded answer that is changed is found.
 
-usage: tests/libraries/link_rows.py [PROGRAM]      PROGRAM: crates/pie_memory_tests/out/pie_memory_tests where none is given
-needs: pie_memory_tests"""
+usage: tests/libraries/link_rows.py [PROGRAM]      PROGRAM: crates/pie_library_tests/out/pie_library_tests where none is given
+needs: pie_library_tests"""
 import os
 import subprocess
 import sys
@@ -11,14 +11,14 @@ import sys
 sys.path.insert(0, f"{os.path.dirname(os.path.abspath(__file__))}/../shared")
 from checks import NAME, ROOT, check, finish  # noqa: E402
 
-PROGRAM = os.path.abspath(sys.argv[1]) if sys.argv[1:] else ROOT / "crates/pie_memory_tests/out/pie_memory_tests"
+PROGRAM = os.path.abspath(sys.argv[1]) if sys.argv[1:] else ROOT / "crates/pie_library_tests/out/pie_library_tests"
 EVENTS = ("arrive", "depart", "update", "reset", "params")
 
 
 def said(history):
-    """The status, the last line, which tells of the history, and what stands on standard error."""
-    done = subprocess.run([PROGRAM], input=history, capture_output=True, check=False, encoding="ascii")
-    return done.returncode, "".join(done.stdout.splitlines(keepends=True)[-1:]), done.stderr
+    """The status, what is told of the history, and what stands on standard error."""
+    done = subprocess.run([PROGRAM, "rows"], input=history, capture_output=True, check=False, encoding="ascii")
+    return done.returncode, done.stdout, done.stderr
 
 
 def wanted(events, others):

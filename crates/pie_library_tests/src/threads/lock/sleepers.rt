@@ -1,0 +1,84 @@
+//! Those who sleep at a lock that is held are woken. No clause can say so: with a missed wake a test doesn't end.
+ghost use Rattle.std.specs.Prelude.{◌≡◌};
+
+use super::{add_and_put, closed};
+use pie_lock::{Counter, Pass, RuledLock};
+use std::alloc::Global;
+use std::sync::Wait;
+use std::thread;
+use std::thread::{Threads, sleep};
+use std::time::{Clock, Duration};
+
+// How long each thread holds the lock, in milliseconds: long enough for those who wait to spin, to yield and to sleep.
+const LONG: u64 = 200;
+
+// A thread at the lock.
+#[derive(Drop)]
+struct AtLock<'a> {
+    lock: &'a RuledLock<Counter>,
+    pass: Pass<Counter>,
+    ghost own: { pass.lock ≡ lock.now },
+}
+
+// Takes the lock, has the state for long, and makes one call; the number is that of the calls.
+fn take_and_add<R: Wait + Clock>(rt: &R, one: AtLock) -> u64 {
+    let AtLock { lock, pass } = one;
+    let caller = pass.first();
+    let held = lock.take(rt, pass);
+    sleep(rt, Duration::from_millis(LONG));
+    drop(add_and_put(lock, held, caller, 1));
+    1
+}
+
+// Three that have a pass each. (Without memory there are fewer, and the test fails.)
+fn three<'a>(
+    alloc: Global,
+    lock: &'a RuledLock<Counter>,
+    pass: &mut Pass<Counter>,
+) -> Vec<AtLock<'a>>
+    requires own { pass.old.lock ≡ lock.now }
+    ensures { pass.new.lock ≡ lock.now }
+{
+    let mut all = Vec::new(alloc);
+    for _ in 0..3 {
+        if let Ok(pass) = lock.share(pass) {
+            let _ = all.push(AtLock { lock, pass });
+        }
+    }
+    all
+}
+
+// Three threads, of which two sleep while the first has the state, and one still while the second has it.
+fn three_take<R: Threads + Wait + Clock + Sync>(
+    rt: &R,
+    alloc: Global,
+    lock: &RuledLock<Counter>,
+    pass: &mut Pass<Counter>,
+) -> bool
+    requires own { pass.old.lock ≡ lock.now }
+    ensures { pass.new.lock ≡ lock.now }
+{
+    let all = three(alloc, lock, pass);
+    thread::map_vec(rt, all, &|one: AtLock| { take_and_add(rt, one) }).is_ok()
+}
+
+// What is counted then.
+fn counted<R: Threads + Wait + Clock + Sync>(rt: &R, alloc: Global) -> Option<(u64, u64)> {
+    match RuledLock::new(alloc, Counter::new(), 4) {
+        Ok((lock, mut pass)) => {
+            if three_take(rt, alloc, &lock, &mut pass) {
+                closed(lock, pass)
+            } else {
+                None
+            }
+        }
+        Err(_) => None,
+    }
+}
+
+pub(crate) fn those_that_sleep_at_a_held_lock_all_wake<R: Threads + Wait + Clock + Sync>(
+    rt: &R,
+    alloc: Global,
+) -> bool {
+    counted(rt, alloc) == Some((3, 3))
+}

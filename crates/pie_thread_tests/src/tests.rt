@@ -1,5 +1,0 @@
-//! The lock, the link, and the parts below them.
-
-mod link;
-mod lock;
-mod parts;

@@ -1,12 +1,12 @@
 #!/usr/bin/env python3
 """Damages texts, and compares what the built program makes of each, its status, its output and its error stream, with what the reader and the
-reference of tests/shared/reference_texts.py make of it: of a trace `run`; of a history `audit`, `migrate` and `explain --all --csv`. First come
-malformed texts that were written by hand, and then the richest traces and their histories, of each version and both profiles: of version one each
-is cut at every byte, and each of its bytes is made another, a sample of two; of the later versions so is each byte of the first record, which alone
-reads otherwise, and one in THIN behind it. The audits of many texts are one call, over files.
+reference of tests/shared/reference_texts.py make of it: of a trace `run`; of a history `audit`, and `migrate` or `explain --all --csv`, which read
+as the audit does. First come malformed texts that were written by hand, and then the richest traces and their histories, of each version and both
+profiles: of version one each is cut at every byte, and each of its bytes is made another, a sample of two; of the later versions so is each byte of
+the first record, which alone reads otherwise, and one in THIN behind it. The audits of many texts are one call, over files.
 
-With `every` each byte is made each of the 255 others, and nothing else is done; with two numbers K and N behind it only each N-th place from the
-K-th on: N such runs are all.
+With `every` each byte is made each of the 255 others, each history goes to all three commands, and nothing else is done; with two numbers K and N
+behind it only each N-th place from the K-th on: N such runs are all.
 
 usage: tests/program/damaged_texts.py [PROGRAM [every [K N]]]      PROGRAM: crates/pie/out/pie where none is given
 needs: program, an early start"""
@@ -91,11 +91,16 @@ def audits_differing(program, streams, texts):
     return found
 
 
-def differing(program, names, texts):
-    """Of these texts, with their names, those of which a command ends with something else."""
+def one_more(place, names):
+    """Of the commands of a history the audit, and one of the others."""
+    return names if len(names) == 1 else [names[0], random.Random(place).choice(names[1:])]
+
+
+def differing(program, texts):
+    """Of these texts, each with what was done to it and its commands, those of which a command ends with something else."""
     streams = Streams()
-    found = audits_differing(program, streams, texts) if "audit" in names else []
-    for what, text in texts:
+    found = audits_differing(program, streams, [(what, text) for what, text, names in texts if "audit" in names])
+    for what, text, names in texts:
         for name in names:
             if name != "audit":
                 got, want = streams.ran([program, *name.split()], text), wanted(name, text)
@@ -130,15 +135,16 @@ def sampled(number, text):
     return range(len(text) + 1) if number == 0 else [*range(behind), *range(behind + number - 1, len(text), THIN), len(text)]
 
 
-def compare(program, bytes_at, places):
-    """What differs, of the traces and of their histories, at each place that `places` gives; and it says how many were compared."""
+def compare(program, bytes_at, places, chosen=one_more):
+    """What differs, of the traces and of their histories, at each place that `places` gives, of the commands that `chosen` gives; and it says how
+    many were compared."""
     found = []
     with ProcessPoolExecutor(os.cpu_count()) as pool:
         for number, trace in enumerate(TRACES):
             history = wanted("run", trace)[1]
             for names, text in ((["run"], trace), (OF_A_HISTORY, history)):
-                texts = list(damaged(text, bytes_at, places(number, text)))
-                parts = [pool.submit(differing, program, names, texts[part::64]) for part in range(64)]
+                texts = [(*it, chosen(at, names)) for at, it in enumerate(damaged(text, bytes_at, places(number, text)))]
+                parts = [pool.submit(differing, program, texts[part::64]) for part in range(64)]
                 found += [it for part in parts for it in part.result()]
                 opening = text.split(b",")[0].decode()
                 print(f"{NAME}: {', '.join(names)}: {len(texts)} cuts and changes of a text that begins with {opening}")
@@ -214,7 +220,7 @@ def main():
     words = sys.argv[2:]
     if words[:1] == ["every"]:
         first, step = [int(word) for word in words[1:]] or (1, 1)
-        found = compare(PROGRAM, every, lambda _, text: range(first - 1, len(text) + 1, step))
+        found = compare(PROGRAM, every, lambda _, text: range(first - 1, len(text) + 1, step), lambda _, names: names)
     else:
         malformed()
         small()

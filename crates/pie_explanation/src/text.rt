@@ -5,8 +5,8 @@ ghost use Rattle.pie_aqm.specs.declared.cause.Cause.TheVariants.{BurstAllowed, L
 ghost use Rattle.pie_event.specs.declared.command.Answer.TheVariants.{Updated};
 ghost use Rattle.pie_explanation.specs.Words.{before_words, burst_words, cause_words, compared_words, considered_words, counted_name, deed_words};
 ghost use Rattle.pie_explanation.specs.Words.{departure_words, joined, never_words, per_cent, scaled_words, total_words};
-ghost use Rattle.pie_explanation.specs.Words.{ecn_name, last_words, verdict_text, packet_words, picked_words, queue_words, reason_words, setter_words};
-ghost use Rattle.pie_explanation.specs.Words.{sum_words, turned_words, update_words, when_words, words_by};
+ghost use Rattle.pie_explanation.specs.Words.{ecn_name, last_words, packet_words, picked_words, queue_words, reason_words, setter_words};
+ghost use Rattle.pie_explanation.specs.Words.{sum_words, turned_words, update_words, verdict_text, when_words, words_by};
 
 use crate::explanation::{Explained, Explanation};
 use crate::units::{Millis, MomentWords, PerCent, Word};
@@ -127,7 +127,8 @@ fn push_arrival(
     packet: Packet,
     answer: Answer,
 ) -> Result<(), AllocError>
-    ensures { OnOk result (string_bytes page.new ≡ string_bytes page.old ++ joined (packet_words number packet ∷ verdict_text answer ∷ codes "\n" ∷ [])) }
+    ensures { OnOk result (string_bytes page.new ≡ string_bytes page.old
+        ++ joined (packet_words number packet ∷ verdict_text answer ∷ codes "\n" ∷ [])) }
 {
     push_packet(page, number, packet)?;
     let verdict = verdict_text(answer);

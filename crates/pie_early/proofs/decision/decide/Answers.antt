@@ -1,4 +1,4 @@
-use Rattle.std.proofs.Common.{ℕ, ◌+◌, ◌<◌, sym, ap, ◌∙◌, arith}
+use Rattle.std.proofs.Common.{rules, ℕ, ◌+◌, ◌<◌, sym, ap, ◌∙◌, arith}
 use Rattle.pie_control.specs.Parts.{parts_of}
 use Rattle.pie_early.specs.Decision.{choice_at}
 use Rattle.pie_early.proofs.Picking.{below_always, choice-unpicked, choice-picked, picked_zero_at}
@@ -29,3 +29,9 @@ overflow_add-result c =
     let below = below_always c.counted_as-prob.result (a.accu + c.counted_as-prob.result) a.offered.word some
     (rw (← c.in-Derandomized.is) unpicked) in
     omega arith
+
+pub returns-in-Random-clause-accu : goal.returns-in-Random-clause-accu
+returns-in-Random-clause-accu c = search rules
+
+pub returns-clause-accu : goal.returns-clause-accu
+returns-clause-accu c = search rules

@@ -1,3 +1,4 @@
 mod Examples
 pub mod Laws
+pub mod Products
 pub mod Quotients

@@ -1,8 +1,10 @@
-ghost use Rattle.std.specs.Prelude.{◌≡◌, ℕ, ◌+◌, ◌^◌, ◌<◌, ◌≤◌, pos, negsuc, ◌-ℤ◌, ◌*ℤ◌, ◌≤ℤ◌};
+ghost use Rattle.std.specs.Prelude.{◌≡◌, ℕ, ◌+◌, ◌^◌, ◌<◌, ◌≤◌, ◌&&◌, nat_le, if◌then◌else◌, pos, negsuc, ◌-ℤ◌, ◌*ℤ◌, ◌≤ℤ◌};
+ghost use Rattle.std.specs.Int.{int_min};
 ghost use Rattle.pie_fixed.specs.declared.TheConstants.{ONE};
 ghost use Rattle.pie_params.specs.Range.{IsInRange};
 ghost use Rattle.pie_control.specs.Delay.{delay_of};
 ghost use Rattle.pie_control.specs.Next.{decayed, next, raw_step, tuned_step, tuning_divisor};
+ghost use Rattle.pie_params.specs.Elements.{is_capped};
 ghost use Rattle.pie_params.specs.declared.elements.Step.TheVariants.{Capped};
 
 use pie_fixed::{Prob, bounded};
@@ -41,7 +43,21 @@ fn weighted(gain: u64, time: u64, from: u64) -> i64
     ensures above { negsuc (2 ^ 60) ≤ℤ result }
     ensures below { result ≤ℤ pos (2 ^ 60) }
 {
-    gain as i64 * (time as i64 - from as i64)
+    product(gain, time as i64 - from as i64)
+}
+
+/// A gain times a difference of two times.
+#[inline(always)]
+#[tactic(auto, using(crate::proofs::Products::products))]
+fn product(gain: u64, difference: i64) -> i64
+    requires gain { gain ≤ 10 ^ 6 }
+    requires least { negsuc (2 ^ 40) ≤ℤ difference }
+    requires most { difference ≤ℤ pos (2 ^ 40) }
+    ensures value { result ≡ pos gain *ℤ difference }
+    ensures above { negsuc (2 ^ 60) ≤ℤ result }
+    ensures below { result ≤ℤ pos (2 ^ 60) }
+{
+    gain as i64 * difference
 }
 
 /// By how much the probability would change, before auto-tuning.
@@ -84,7 +100,19 @@ fn tuned_step(choice: Step, prob: u64, step: i64) -> i64
     ensures below { result ≤ℤ pos (2 ^ 62) }
     ensures cap { choice ≡ Capped → 10 ^ 11 ≤ prob → result ≤ℤ pos 20_000_000_000 }
 {
-    let tuned = step / i64::from(tuning_divisor(prob));
+    capped(choice, prob, step / i64::from(tuning_divisor(prob)))
+}
+
+/// The step after the cap, where that is chosen, at the probability before the update: apart, since no quotient stands in its proof.
+#[inline(always)]
+fn capped(choice: Step, prob: u64, tuned: i64) -> i64
+    requires above { negsuc (2 ^ 62) ≤ℤ tuned }
+    requires below { tuned ≤ℤ pos (2 ^ 62) }
+    ensures value { result ≡ (if is_capped choice && nat_le (10 ^ 11) prob then int_min tuned (pos 20_000_000_000) else tuned) }
+    ensures above { negsuc (2 ^ 62) ≤ℤ result }
+    ensures below { result ≤ℤ pos (2 ^ 62) }
+    ensures cap { choice ≡ Capped → 10 ^ 11 ≤ prob → result ≤ℤ pos 20_000_000_000 }
+{
     match choice {
         Step::Capped if prob >= CAPPED_FROM => tuned.min(LARGEST_STEP),
         Step::Capped | Step::Uncapped => tuned,

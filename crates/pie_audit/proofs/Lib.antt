@@ -1,6 +1,7 @@
 pub mod FindingFacts
 pub mod AuditorFacts
 pub mod AuditFacts
+mod BegunFacts
 pub mod LegalFacts
 pub mod SetterFacts
 mod Examples

@@ -2,5 +2,6 @@ pub mod Finding
 pub mod Auditor
 pub mod Text
 pub mod Legal
+pub mod Begun
 pub mod Setters
 pub mod Start

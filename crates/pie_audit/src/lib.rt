@@ -10,11 +10,13 @@
 #![tactic(auto)]
 
 pub mod auditor;
+pub mod begun;
 pub mod law;
 pub mod setters;
 pub mod text;
 
 pub use auditor::{Auditor, Finding};
+pub use begun::{TextBegun, begin_either};
 pub use law::{clean_is_legal, recorded_calls_are_clean};
 pub use setters::sets_probability;
 pub use text::{audit, audit_either, write_finding};

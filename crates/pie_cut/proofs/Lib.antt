@@ -3,7 +3,6 @@ mod FollowFacts
 mod PartFacts
 mod CutFacts
 mod EndFacts
-mod BegunFacts
 mod EitherFacts
 mod LineReading
 mod SegmentFacts

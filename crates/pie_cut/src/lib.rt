@@ -10,7 +10,6 @@
 
 mod alike;
 mod beginning;
-mod begun;
 mod cutter;
 mod either;
 pub mod fault;

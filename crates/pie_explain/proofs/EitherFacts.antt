@@ -1,26 +1,22 @@
 -- What explaining a text of either kind answers and writes.
-use Rattle.std.proofs.Common.{◌≡◌, ◌∙◌, ◌+◌, ℕ, List, [], ◌∷◌, ◌++◌, Bool, true, false, refl, sym, ap, subst}
-use Rattle.std.specs.Prelude.{Option, Some, None, Result, Ok, Err, IfSome, map, option_map}
+use Rattle.std.proofs.Common.{◌≡◌, ◌∙◌, ◌+◌, ℕ, List, [], ◌++◌, Bool, true, false, refl, sym, ap, subst}
+use Rattle.std.specs.Prelude.{Option, Some, None, Result, Ok, Err, IfSome, map}
 use Rattle.std.specs.Io.KnownBytes.{Appends}
 use Rattle.pie_event.specs.declared.command.Event.{Event}
 use Rattle.pie_event.specs.declared.opening.Opening.{Opening}
-use Rattle.pie_book.specs.Core.{Shows}
+use Rattle.pie_book.specs.Core.{CoreView, Shows}
 use Rattle.pie_event.specs.Opening.{opening_refusal}
 use Rattle.pie_record.specs.declared.fault.TraceFault.{TraceFault}
-use Rattle.pie_record.specs.declared.fault.TraceFault.TheVariants as trace
-use Rattle.pie_record.specs.declared.history_record.Line.{Line}
 use Rattle.pie_record.specs.declared.history_record.Line.TheVariants.{Made}
 use Rattle.pie_record.specs.declared.version.Version.TheVariants.{Three}
 use Rattle.pie_record.specs.Fault.{is_device}
-use Rattle.pie_record.specs.FirstRecord.{version_of}
-use Rattle.pie_record.specs.HistoryLines.{Coming, after_opening, coming_from, history_opening, history_version}
-use Rattle.pie_record.specs.Opening.{opening_of}
-use Rattle.pie_record.specs.Records.{TakesRow}
+use Rattle.pie_record.specs.HistoryLines.{Coming, coming_after, coming_from, history_opening}
 use Rattle.pie_record.specs.Text.{Row, records_of}
-use Rattle.pie_record.proofs.Laws.{Appends-nothing, takes-found}
+use Rattle.pie_record.proofs.Laws.{Appends-nothing}
 use Rattle.pie_excerpt.specs.Beginning.{Beginning, GoesOn, is_resumed, resumed_of}
-use Rattle.pie_audit.specs.Text.{excerpt_fault, excerpt_lines, judged}
-use Rattle.pie_audit.proofs.AuditFacts.{excerpt-fault-is, excerpt-lines-are, goes-on-shows, same-beginning, whole-faulted}
+use Rattle.pie_audit.specs.Begun.{BegunBy, FaultedBy}
+use Rattle.pie_audit.specs.Text.{judged}
+use Rattle.pie_audit.proofs.AuditFacts.{excerpt-fault-is, excerpt-lines-are, goes-on-shows, same-beginning}
 use Rattle.pie_explanation.specs.declared.choice.Choice.{Choice}
 use Rattle.pie_explanation.specs.declared.explanation.Explained.{Explained}
 use Rattle.pie_explain.specs.declared.fault.ExplainFault.{ExplainFault}
@@ -28,34 +24,20 @@ use Rattle.pie_explain.specs.declared.fault.ExplainFault.TheVariants.{Trace}
 use Rattle.pie_explain.specs.Answer.{IsAsAudited, IsTold, Told}
 use Rattle.pie_explain.specs.Either.{ExplainsBy, ExplainsEither, ExplainsExcerpt, ExplainsWhole}
 use Rattle.pie_audit.specs.Start.{TellsSetter, from_opening, start_after}
-use Rattle.pie_explain.proofs.EndFacts.{Promises, answer-opening}
+use Rattle.pie_audit.proofs.SetterFacts.{tells-opening}
+use Rattle.pie_explain.proofs.EndFacts.{answer-opening}
 use Rattle.pie_explain.proofs.LineFacts.{since-opening}
 
 -- ---- a whole history
 
--- the first record opens nothing
-pub opened-fault : (choice : Choice) (whole : List Explained → List ℕ) (row : Row) (rows : List Row) (why : TraceFault) (old : Option (List ℕ))
-    → opening_of row ≡ Err why → ExplainsWhole choice whole (row ∷ rows) (Err (Trace why)) old old
-unfolding history_opening
-opened-fault choice whole row rows why old e = record {
-  audited = λ told. whole-faulted row rows why e;
-  answers = λ told. rw e refl;
-  writes = λ told. rw e (Appends-nothing old);
-}
-
--- .. or it opens
-pub opened-tells : (choice : Choice) (whole : List Explained → List ℕ) (row : Row) (known : Option (List Row)) (opening : Opening)
-    (coming : Option Coming) (result : Result ℕ ExplainFault) (old now : Option (List ℕ)) → opening_of row ≡ Ok opening
-    → coming ≡ option_map (coming_from (version_of row) 4294967296 2) known
-    → IfSome coming (λ all. IsAsAudited (judged opening all.lines all.fault) result)
-    → Promises from_opening opening choice whole [] coming result old now
-    → IfSome known (λ rows. ExplainsWhole choice whole (row ∷ rows) result old now)
-unfolding history_opening history_version after_opening
-opened-tells choice whole row None opening coming result old now opens is audited promised = tt
-opened-tells choice whole row (Some rows) opening coming result old now opens is audited promised =
-    let all : Coming = coming_from (version_of row) 4294967296 2 rows in
-    let said : IsAsAudited (judged opening all.lines all.fault) result = rw is at audited in
-    let told_of : IsTold result → Told from_opening opening choice whole [] all result old now = rw is at promised in
+-- it opens
+whole-tells : (choice : Choice) (whole : List Explained → List ℕ) (rows : List Row) (opening : Opening) (result : Result ℕ ExplainFault)
+    (old now : Option (List ℕ)) → history_opening rows ≡ Ok opening
+    → IsAsAudited (judged opening (coming_after 4294967296 rows).lines (coming_after 4294967296 rows).fault) result
+    → (IsTold result → Told from_opening opening choice whole [] (coming_after 4294967296 rows) result old now)
+    → ExplainsWhole choice whole rows result old now
+whole-tells choice whole rows opening result old now opens said told_of =
+    let all = coming_after 4294967296 rows in
     record {
       audited = rw opens said;
       answers = λ told. rw opens ((told_of told).answers ∙ answer-opening opening choice all.lines all.fault);
@@ -112,26 +94,47 @@ excerpt-tells choice whole rows begun result old now e accepted audited told_of 
     told_so opening past goes tells =
         told_of opening past (took opening past goes) (goes-on-shows rows begun opening past e goes).1 (tells-same opening past goes tells)
 
-pub resumed-tells : (choice : Choice) (whole : List Explained → List ℕ) (rows : List Row) (begun : Beginning) (left : Option (List Row))
-    (coming : Option Coming) (result : Result ℕ ExplainFault) (old now : Option (List ℕ)) → left ≡ Some begun.left
-    → resumed_of rows ≡ Ok begun → coming ≡ option_map (coming_from Three 4294967296 (begun.read + 1)) left
-    → opening_refusal begun.opening.limits begun.opening.moment ≡ None
-    → ((opening : Opening) (past : List Event) → opening_refusal opening.limits opening.moment ≡ None → Shows opening begun.core past
-    → TellsSetter begun.set_by opening past
-    → IfSome coming (λ all. IsAsAudited (judged opening (map Made past ++ all.lines) all.fault) result))
-    → ((opening : Opening) (past : List Event) → opening_refusal opening.limits opening.moment ≡ None → Shows opening begun.core past
-    → TellsSetter begun.set_by opening past
-    → IfSome coming (λ all. IsTold result → Told (start_after begun.set_by past) opening choice whole (map Made past) all result old now))
-    → ExplainsExcerpt choice whole rows result old now
-resumed-tells choice whole rows begun left coming result old now remain e is accepted audited told_of =
-    let known : coming ≡ Some (coming_from Three 4294967296 (begun.read + 1) begun.left) =
-    is ∙ ap (λ (l : Option (List Row)). option_map (coming_from Three 4294967296 (begun.read + 1)) l) remain
-    in
-    excerpt-tells choice whole rows begun result old now e accepted
-    (λ opening past took shows tells. rw known at (audited opening past took shows tells))
-    (λ opening past took shows tells. rw known at (told_of opening past took shows tells))
-
 -- ---- a text of either kind
+
+-- how it begins, and what is told of the lines after it
+begun-tells : (which : Bool) (choice : Choice) (whole : List Explained → List ℕ) (rows : List Row) (opening : Opening) (core : CoreView)
+    (set_by : Option ℕ) (coming : Option Coming) (result : Result ℕ ExplainFault) (old now : Option (List ℕ))
+    → BegunBy which rows opening core set_by coming → opening_refusal opening.limits opening.moment ≡ None
+    → ((o : Opening) (past : List Event) → opening_refusal o.limits o.moment ≡ None → Shows o core past → TellsSetter set_by o past
+    → IfSome coming (λ all. IsAsAudited (judged o (map Made past ++ all.lines) all.fault) result))
+    → ((o : Opening) (past : List Event) → opening_refusal o.limits o.moment ≡ None → Shows o core past → TellsSetter set_by o past
+    → IfSome coming (λ all. IsTold result → Told (start_after set_by past) o choice whole (map Made past) all result old now))
+    → ExplainsBy which choice whole rows result old now
+begun-tells false choice whole rows opening core set_by coming result old now begun accepted audited told_of =
+    let tells : TellsSetter set_by opening [] = rw begun.setter (tells-opening opening) in
+    let said : IsAsAudited (judged opening (coming_after 4294967296 rows).lines (coming_after 4294967296 rows).fault) result =
+    rw begun.comes at (audited opening [] accepted begun.shown tells)
+    in
+    let told : IsTold result → Told (start_after (Some 0) []) opening choice whole [] (coming_after 4294967296 rows) result old now =
+    rw (begun.comes, begun.setter) at (told_of opening [] accepted begun.shown tells)
+    in
+    whole-tells choice whole rows opening result old now begun.opened said told
+begun-tells true choice whole rows opening core set_by coming result old now begun accepted audited told_of =
+    excerpt-tells choice whole rows (record { opening = opening; set_by = set_by; core = core; read = begun.read; left = begun.left }) result old
+    now begun.resumed accepted
+    (λ o past took shows tells. rw begun.comes at (audited o past took shows tells))
+    (λ o past took shows tells. rw begun.comes at (told_of o past took shows tells))
+
+pub either-tells : (choice : Choice) (whole : List Explained → List ℕ) (known : Option (List ℕ)) (opening : Opening) (core : CoreView)
+    (set_by : Option ℕ) (coming : Option Coming) (result : Result ℕ ExplainFault) (old now : Option (List ℕ))
+    → IfSome known (λ text. BegunBy (is_resumed (records_of text)) (records_of text) opening core set_by coming)
+    → opening_refusal opening.limits opening.moment ≡ None
+    → ((o : Opening) (past : List Event) → opening_refusal o.limits o.moment ≡ None → Shows o core past → TellsSetter set_by o past
+    → IfSome coming (λ all. IsAsAudited (judged o (map Made past ++ all.lines) all.fault) result))
+    → ((o : Opening) (past : List Event) → opening_refusal o.limits o.moment ≡ None → Shows o core past → TellsSetter set_by o past
+    → IfSome coming (λ all. IsTold result → Told (start_after set_by past) o choice whole (map Made past) all result old now))
+    → IfSome known (λ text. ExplainsEither choice whole (records_of text) result old now)
+either-tells choice whole None opening core set_by coming result old now begun accepted audited told_of = tt
+either-tells choice whole (Some text) opening core set_by coming result old now begun accepted audited told_of =
+    begun-tells (is_resumed (records_of text)) choice whole (records_of text) opening core set_by coming result old now begun accepted audited
+    told_of
+
+-- ---- the first fault of its beginning
 
 ill-told : (why : TraceFault) → is_device why ≡ true → is_device why ≡ false → ⊥
 ill-told why d told = cc
@@ -151,33 +154,29 @@ device-tells true choice whole rows why old d = record {
   writes = λ opening past goes tells told. absurd (ill-told why d told);
 }
 
--- a text of no record
-none-tells : (choice : Choice) (whole : List Explained → List ℕ) (old : Option (List ℕ))
-    → ExplainsEither choice whole [] (Err (Trace trace.NoOpen)) old old
-unfolding history_opening
-none-tells choice whole old = record {
-  audited = λ told. refl;
-  answers = λ told. refl;
-  writes = λ told. Appends-nothing old;
+same-fault : (rows : List Row) (why other : TraceFault) → resumed_of rows ≡ Err why → resumed_of rows ≡ Err other → other ≡ why
+same-fault rows why other e f = cc
+
+fault-tells : (which : Bool) (choice : Choice) (whole : List Explained → List ℕ) (rows : List Row) (why : TraceFault) (old : Option (List ℕ))
+    → FaultedBy which rows why → ExplainsBy which choice whole rows (Err (Trace why)) old old
+fault-tells false choice whole rows why old e = record {
+  audited = λ told. rw e refl;
+  answers = λ told. rw e refl;
+  writes = λ told. rw e (Appends-nothing old);
+}
+fault-tells true choice whole rows why old e = record {
+  faulted = λ other f told. (ap (λ (w : TraceFault). Err (Trace w)) (sym (same-fault rows why other e f)), Appends-nothing old);
+  audited = λ opening past goes tells told. absurd (no-fault rows goes.beginning why goes.resumed e);
+  answers = λ opening past goes tells told. absurd (no-fault rows goes.beginning why goes.resumed e);
+  writes = λ opening past goes tells told. absurd (no-fault rows goes.beginning why goes.resumed e);
 }
 
-pub either-none : (choice : Choice) (whole : List Explained → List ℕ) (known : Option (List ℕ)) (why : TraceFault) (old : Option (List ℕ))
-    → (is_device why ≡ false → IfSome known (λ text. (records_of text ≡ []) × (why ≡ trace.NoOpen)))
+pub either-fault : (choice : Choice) (whole : List Explained → List ℕ) (known : Option (List ℕ)) (why : TraceFault) (old : Option (List ℕ))
+    → IfSome known (λ text. is_device why ≡ false → FaultedBy (is_resumed (records_of text)) (records_of text) why)
     → IfSome known (λ text. ExplainsEither choice whole (records_of text) (Err (Trace why)) old old)
-either-none choice whole None why old none = tt
-either-none choice whole (Some text) why old none = by (is_device why) refl
+either-fault choice whole None why old faulted = tt
+either-fault choice whole (Some text) why old faulted = by (is_device why) refl
   where
     by : (b : Bool) → is_device why ≡ b → ExplainsEither choice whole (records_of text) (Err (Trace why)) old old
     by true d = device-tells (is_resumed (records_of text)) choice whole (records_of text) why old d
-    by false d = rw ((none d).0, (none d).1) (none-tells choice whole old)
-
-pub either-tells : (choice : Choice) (whole : List Explained → List ℕ) (known : Option (List ℕ)) (later : Option (List Row)) (row : Row)
-    (which : Bool) (result : Result ℕ ExplainFault) (old now : Option (List ℕ)) → TakesRow (option_map records_of known) true row later
-    → ((rows : List Row) → which ≡ is_resumed (row ∷ rows)) → IfSome later (λ rows. ExplainsBy which choice whole (row ∷ rows) result old now)
-    → IfSome known (λ text. ExplainsEither choice whole (records_of text) result old now)
-either-tells choice whole None later row which result old now takes is tells = tt
-either-tells choice whole (Some text) later row which result old now takes is tells =
-    let took = takes-found (records_of text) row later takes in
-    let here : ExplainsBy which choice whole (row ∷ took.rest) result old now = rw took.remain at tells in
-    let there : ExplainsEither choice whole (row ∷ took.rest) result old now = rw (is took.rest) at here in
-    rw took.first there
+    by false d = fault-tells (is_resumed (records_of text)) choice whole (records_of text) why old (faulted d)

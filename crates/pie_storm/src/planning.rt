@@ -1,5 +1,5 @@
 //! The plan of a storm.
-ghost use Rattle.std.specs.Prelude.{◌≡◌, ◌+◌, ◌*◌, ◌<◌, ◌≤◌, IfOk, map};
+ghost use Rattle.std.specs.Prelude.{◌≡◌, ◌+◌, ◌*◌, ◌/◌, ◌^◌, ◌<◌, ◌≤◌, IfOk, map};
 ghost use Rattle.std.specs.List.{range_with_len};
 ghost use Rattle.rand_core.specs.Stream.{Stream};
 ghost use Rattle.pie_storm.specs.StormPlan.{IsStormPlan, arrival_at, arrivals_of, changes_of, departs_of, ecn_of, folds_of, held_by};
@@ -39,6 +39,26 @@ fn ecn_of(bits: u64) -> Ecn
     }
 }
 
+/// A product of small numbers, below a bound that is no product: so nobody who uses it has to bound one.
+fn product(count: u64, by: u64) -> u64
+    requires count { count ≤ 2 ^ 40 }
+    requires by { by ≤ 2 ^ 14 }
+    ensures value { result ≡ count * by }
+    ensures few { result ≤ count * 2 ^ 14 }
+{
+    count * by
+}
+
+/// Which burst a packet belongs to, counted from 1.
+fn burst_of(burst: u64, i: u64) -> u64
+    requires some { 1 ≤ burst }
+    requires i { i < 2 ^ 14 }
+    ensures value { result ≡ i / burst + 1 }
+    ensures few { result ≤ 2 ^ 14 }
+{
+    i / burst + 1
+}
+
 /// The moment at which a sender hands in a packet, counted from 0: that of the last packet of its burst.
 fn moment_of(packets: u64, burst: u64, i: u64) -> u64
     requires some { 1 ≤ burst }
@@ -47,7 +67,7 @@ fn moment_of(packets: u64, burst: u64, i: u64) -> u64
     requires i { i < packets }
     ensures { result ≡ moment_of packets burst i }
 {
-    ((i / burst + 1) * burst).min(packets) * PACKET_TIME
+    product(burst_of(burst, i), burst).min(packets) * PACKET_TIME
 }
 
 /// An arrival of this sender at this moment, counted from 0, by its next three random words.
@@ -115,6 +135,16 @@ fn all_arrivals(
     Ok(lists)
 }
 
+/// The moment of a departure, counted from 0.
+fn departure_of(senders: u64, load: u64, j: u64) -> u64
+    requires some { 1 ≤ senders }
+    requires load { load ≤ 200 }
+    requires j { j < 2 ^ 17 }
+    ensures { result ≡ (j + 1) * load * 10_000 / senders }
+{
+    product(j + 1, load) * LOAD_TIME / senders
+}
+
 /// A departure for each packet, spread evenly, where `load` packets come for each hundred that the link sends.
 fn departs_of(alloc: Global, senders: u64, packets: u64, load: u64) -> Result<Vec<u64>, AllocError>
     requires some { 1 ≤ senders }
@@ -123,9 +153,10 @@ fn departs_of(alloc: Global, senders: u64, packets: u64, load: u64) -> Result<Ve
     requires load { load ≤ 200 }
     ensures { IfOk result (λ list. list.items ≡ departs_of senders packets load) }
 {
-    let mut moments = Vec::with_capacity(alloc, (senders * packets) as usize)?;
-    for j in 0..senders * packets {
-        moments.push((j + 1) * load * LOAD_TIME / senders)?;
+    let count = product(senders, packets);
+    let mut moments = Vec::with_capacity(alloc, count as usize)?;
+    for j in 0..count {
+        moments.push(departure_of(senders, load, j))?;
     }
     Ok(moments)
 }
@@ -156,6 +187,16 @@ fn params_at(k: u64) -> Params
     }
 }
 
+/// The moment of a change, counted from 0.
+fn change_moment(packets: u64, changes: u64, k: u64) -> u64
+    requires packets { packets ≤ 10_000 }
+    requires changes { changes ≤ 100 }
+    requires k { k < changes }
+    ensures { result ≡ (k + 1) * packets * 1_000_000 / (changes + 1) }
+{
+    product(k + 1, packets) * PACKET_TIME / (changes + 1)
+}
+
 /// The changes of the parameters, spread evenly over the time in which packets arrive.
 fn changes_of(alloc: Global, packets: u64, changes: u64) -> Result<Vec<Change>, AllocError>
     requires packets { packets ≤ 10_000 }
@@ -165,7 +206,7 @@ fn changes_of(alloc: Global, packets: u64, changes: u64) -> Result<Vec<Change>, 
     let mut list = Vec::with_capacity(alloc, changes as usize)?;
     for k in 0..changes {
         list.push(Change {
-            moment: (k + 1) * packets * PACKET_TIME / (changes + 1),
+            moment: change_moment(packets, changes, k),
             params: params_at(k),
         })?;
     }
@@ -179,9 +220,10 @@ fn folds_of(alloc: Global, senders: u64, packets: u64, folds: u64) -> Result<Vec
     requires folds { folds ≤ 100 }
     ensures { IfOk result (λ list. list.items ≡ folds_of senders packets folds) }
 {
+    let events = product(senders, packets);
     let mut list = Vec::with_capacity(alloc, folds as usize)?;
     for _ in 0..folds {
-        list.push(senders * packets / folds)?;
+        list.push(events / folds)?;
     }
     Ok(list)
 }

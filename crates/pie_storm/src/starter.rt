@@ -7,13 +7,13 @@ ghost use Rattle.pie_book.specs.Decision.{IsLegal};
 ghost use Rattle.pie_book.specs.Registers.{registers_after};
 ghost use Rattle.pie_book.specs.Statistics.{stats_after};
 ghost use Rattle.pie_storm.specs.declared.plan.Plan.{Plan};
-ghost use Rattle.pie_kept.specs.Entries.{events_in};
+ghost use Rattle.pie_kept.specs.Entries.{events_in, number_of};
 ghost use Rattle.pie_link.specs.declared.refusal.LinkRefusal.{LinkRefusal};
 ghost use Rattle.pie_link.specs.Opening.{IsRefusedFor, link_refusal};
 ghost use Rattle.pie_storm.specs.Plans.{IsSound, opening_of, planned, senders, turn_of};
 ghost use Rattle.pie_storm.specs.Storms.{AllCameAt, AreFoldedAt, CameAt, IsEndOf, IsStorm, MadeAll, MadeFolds, NoneElseFoldsAt, OnlyMadeAt, folder};
 ghost use Rattle.pie_link.specs.Views.{StaysOne};
-ghost use Rattle.pie_lock.specs.Promises.{first_pass};
+ghost use Rattle.pie_lock.specs.Promises.{IsBothOf, first_pass};
 
 use crate::ending::{StormEnd, StormFault};
 use crate::gate::Gate;
@@ -189,6 +189,19 @@ fn work_at_once<R: Threads + Wait + Sync, G: Gate + Sync>(
     )
 }
 
+// Gathers a caller to those before it. Apart from `both`, where what is let go on each way out would be dear to prove.
+fn gathered(link: &Link, caller: Caller, last: Caller) -> Caller
+    requires own { (caller.lock ≡ link.now) × (last.lock ≡ link.now) }
+    requires beside { last.first ≡ caller.limit }
+    ensures { IsBothOf number_of caller last result }
+{
+    let mut both = caller;
+    let Ok(()) = link.gather(&mut both, last) else {
+        unreachable!()
+    };
+    both
+}
+
 // Gathers a worker's caller to those before it, with what both did.
 fn both(link: &Link, work: Work, last: Work) -> Work
     requires own { (work.caller.lock ≡ link.now) × (last.caller.lock ≡ link.now) }
@@ -211,12 +224,8 @@ fn both(link: &Link, work: Work, last: Work) -> Work
         result.caller.front result.folding.too_many }
 {
     entries_look_back();
-    let mut caller = work.caller;
-    let Ok(()) = link.gather(&mut caller, last.caller) else {
-        unreachable!()
-    };
     Work {
-        caller,
+        caller: gathered(link, work.caller, last.caller),
         too_soon: work.too_soon + last.too_soon,
         folding: last.folding,
     }
@@ -363,6 +372,13 @@ fn tail_of(alloc: Global, book: Book) -> Option<Vec<Recorded>>
     ensures { IfSome result (λ tail. tail.items ≡ book.tail) }
 {
     let mut book = book;
+    folded_tail(alloc, &mut book)
+}
+
+// The same, by a fold of as many events.
+fn folded_tail(alloc: Global, book: &mut Book) -> Option<Vec<Recorded>>
+    ensures { IfSome result (λ tail. tail.items ≡ book.old.tail) }
+{
     let held = book.tail_len() as u64;
     match book.fold(alloc, held) {
         Ok(tail) => Some(tail),

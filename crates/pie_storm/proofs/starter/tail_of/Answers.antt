@@ -1,6 +1,0 @@
-use Rattle.std.proofs.Common.{take, ap, ◌∙◌}
-use Rattle.pie_storm.proofs.Working.{take_whole}
-use Rattle.pie_storm.proofs.starter.tail_of.Goals as goal
-
-pub returns-in-Ok : goal.returns-in-Ok
-returns-in-Ok c = c.in-Ok.ensures.folded ∙ (ap (λ n. take n c.args.book.tail) c.tail_len-held.ensures.count ∙ take_whole c.args.book.tail)

@@ -18,6 +18,11 @@ field_names =
     ∷ codes "turned_on" ∷ codes "first_turned_on" ∷ codes "last_turned_on" ∷ codes "turned_off" ∷ codes "first_turned_off" ∷ codes "last_turned_off"
     ∷ codes "wait_99" ∷ codes "carried_bytes" ∷ codes "last_target" ∷ codes "last_burst_allowance" ∷ codes "time_above_target" ∷ [])
 
+-- numbers, each with a comma after it
+abbrev pub number_fields : List ℕ → List ℕ
+number_fields [] = []
+number_fields (number ∷ numbers) = decimal number ++ (codes "," ++ number_fields numbers)
+
 -- when events were
 unfoldable pub moment_fields : Series → List ℕ
 moment_fields moments = joined (decimal moments.count ∷ codes "," ∷ decimal moments.first ∷ codes "," ∷ decimal moments.last ∷ codes "," ∷ [])

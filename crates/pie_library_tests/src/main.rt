@@ -7,6 +7,7 @@
 //! that test alone.
 #![tactic(auto)]
 
+mod at_link;
 mod books;
 mod calls;
 mod links;

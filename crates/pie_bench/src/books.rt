@@ -105,18 +105,25 @@ pub(crate) fn apply(rt: &impl Print, alloc: Global, name: &str) -> Seen {
     }
 }
 
-/// An excerpt takes its room as it is made, and none as a book fills it: whether it did, and with how many events.
+/// Whether a book fills an excerpt, and with how many events.
+fn fill_out(book: &Book, excerpt: &mut Excerpt) -> Seen {
+    let is_filled = book.excerpt(excerpt).is_ok();
+    Seen::done(u64::from(is_filled), excerpt.tail().len() as u64)
+}
+
+/// An excerpt takes its room as it is made, and none as a book fills it.
+fn take_out(alloc: Global, book: &Book) -> Seen {
+    match Excerpt::with_room(alloc, book.opening()) {
+        Ok(mut excerpt) => fill_out(book, &mut excerpt),
+        Err(why) => Seen::refused(matches!(why, OpenRefusal::Memory), 0),
+    }
+}
+
 pub(crate) fn excerpt(rt: &impl Print, alloc: Global, name: &str) -> Seen {
     match full(alloc, 8) {
         Some(book) => {
             begin(rt, name);
-            match Excerpt::with_room(alloc, book.opening()) {
-                Ok(mut excerpt) => {
-                    let is_filled = book.excerpt(&mut excerpt).is_ok();
-                    Seen::done(u64::from(is_filled), excerpt.tail().len() as u64)
-                }
-                Err(why) => Seen::refused(matches!(why, OpenRefusal::Memory), 0),
-            }
+            take_out(alloc, &book)
         }
         None => Seen::NOTHING,
     }

@@ -2,6 +2,8 @@
 ghost use Rattle.std.specs.Prelude.{◌≡◌, IfOk, IfSome};
 ghost use Rattle.pie_link.specs.Views.{StaysOne};
 
+use crate::at_link;
+use crate::at_link::Waited;
 use crate::books::{limits, packet};
 use crate::seen::{Seen, begin};
 use pie_book::{Answer, Choices, FoldRefusal, Mode, OpenRefusal, Profile, Refusal};
@@ -14,7 +16,7 @@ use std::sync::Wait;
 fn arrival(link: &Link, caller: &mut Caller) -> Seen
     requires own { caller.old.lock ≡ link.now }
 {
-    match link.try_arrive(caller, 10, packet(1), 0) {
+    match at_link::try_arrive(link, caller, 10, packet(1), 0) {
         Ok(told) => Seen::done(told.number, 0),
         Err(_) => Seen::NOTHING,
     }
@@ -40,21 +42,14 @@ pub(crate) fn open(rt: &impl Print, alloc: Global, name: &str) -> Seen {
     }
 }
 
-/// A link for two callers.
-fn opened(alloc: Global) -> Result<(Link, Caller), LinkRefusal>
-    ensures { IfOk result (λ made. made.1.lock ≡ made.0) }
-{
-    Link::open(alloc, limits(8), Params::default_profile(), 0, 2)
-}
-
 /// Three events of one caller.
 fn three_events(link: &Link, one: &mut Caller)
     requires own { one.old.lock ≡ link.now }
     ensures { one.new.lock ≡ link.now }
 {
-    let _ = link.try_arrive(one, 1, packet(1), 0);
-    let _ = link.try_depart(one, 2);
-    let _ = link.try_depart(one, 3);
+    let _ = at_link::try_arrive(link, one, 1, packet(1), 0);
+    let _ = at_link::try_depart(link, one, 2);
+    let _ = at_link::try_depart(link, one, 3);
 }
 
 /// How many events the book of a link has, as a caller reads it; 0 where the lock is not free.
@@ -73,8 +68,8 @@ fn two_events(rt: &impl Print, link: &Link, one: &mut Caller, two: &mut Caller, 
     requires own { (one.old.lock ≡ link.now) × (two.old.lock ≡ link.now) }
 {
     begin(rt, name);
-    let has_arrived = link.try_arrive(two, 9, packet(9), 0).is_ok();
-    let has_left = link.try_depart(one, 9).is_ok();
+    let has_arrived = at_link::try_arrive(link, two, 9, packet(9), 0).is_ok();
+    let has_left = at_link::try_depart(link, one, 9).is_ok();
     Seen::done(u64::from(has_arrived && has_left), count(link, two))
 }
 
@@ -89,7 +84,7 @@ fn events_at(rt: &impl Print, link: &Link, one: &mut Caller, name: &str) -> Seen
 }
 
 pub(crate) fn events(rt: &impl Print, alloc: Global, name: &str) -> Seen {
-    match opened(alloc) {
+    match at_link::open(alloc, limits(8), 2) {
         Ok((link, mut one)) => events_at(rt, &link, &mut one, name),
         Err(_) => Seen::NOTHING,
     }
@@ -100,7 +95,7 @@ fn bursts_at<R: Wait + Print>(
     rt: &R,
     link: &Link,
     caller: &mut Caller,
-    answers: &mut Vec<Result<Told<Answer>, Refusal>>,
+    answers: &mut Vec<Waited>,
     name: &str,
 ) -> Seen
     requires own { caller.old.lock ≡ link.now }
@@ -111,10 +106,10 @@ fn bursts_at<R: Wait + Print>(
         word: 0,
     };
     begin(rt, name);
-    let _ = link.arrive_all(rt, caller, &[one], answers);
+    let _ = at_link::arrive_all(rt, link, caller, &[one], answers);
     let _ = link.try_arrive_all(caller, &[one], answers);
     let arrived = answers.len() as u64;
-    let _ = link.depart_all(rt, caller, 2, 3, answers);
+    let _ = at_link::depart_all(rt, link, caller, 2, 3, answers);
     Seen::done(arrived, answers.len() as u64)
 }
 
@@ -122,7 +117,7 @@ pub(crate) fn bursts<R: Wait + Print>(rt: &R, alloc: Global, name: &str) -> Seen
     let Ok(mut answers) = Vec::with_capacity(alloc, 7) else {
         return Seen::NOTHING;
     };
-    match opened(alloc) {
+    match at_link::open(alloc, limits(8), 2) {
         Ok((link, mut one)) => bursts_at(rt, &link, &mut one, &mut answers, name),
         Err(_) => Seen::NOTHING,
     }
@@ -143,8 +138,8 @@ fn fold_two<R: Wait>(rt: &R, link: &Link, caller: &mut Caller, how: How) -> Resu
     ensures stays { StaysOne caller.old caller.new }
 {
     match how {
-        How::Tries => match link.try_fold(caller, 2) {
-            Ok(told) => Ok((told.answer.len() as u64, told.number)),
+        How::Tries => match at_link::try_fold(link, caller, 2) {
+            Ok(seen) => Ok(seen),
             Err(why) => Err(matches!(why, Tried::Refused(FoldRefusal::Memory))),
         },
         How::Waits => match link.fold(rt, caller, 2) {
@@ -167,7 +162,7 @@ fn fold_at<R: Wait + Print>(rt: &R, link: &Link, caller: &mut Caller, how: How, 
 }
 
 pub(crate) fn fold<R: Wait + Print>(rt: &R, alloc: Global, how: How, name: &str) -> Seen {
-    match opened(alloc) {
+    match at_link::open(alloc, limits(8), 2) {
         Ok((link, mut one)) => fold_at(rt, &link, &mut one, how, name),
         Err(_) => Seen::NOTHING,
     }

@@ -7,6 +7,7 @@
 //! that test alone. Any other word names a measurement of what an event costs in a part of the controller, which bench/ has scripts for.
 #![tactic(auto)]
 
+mod at_link;
 mod books;
 mod calls;
 mod links;

@@ -1,6 +1,8 @@
 //! A history's commands, made again one after another at a link with one caller: of how many the link's answer is another one.
 ghost use Rattle.std.specs.Prelude.{◌≡◌};
 
+use crate::at_link;
+use crate::at_link::Waited;
 use crate::texts::next;
 use pie_book::{Answer, Choices, Command, Event, Mode, Opening, Refusal};
 use pie_link::{Caller, Link, Told};
@@ -23,12 +25,7 @@ pub(crate) fn all<I: Read + Drop, R: Wait + Print>(
 }
 
 /// Asks the link for a command, and waits for the answer.
-fn ask<R: Wait>(
-    rt: &R,
-    link: &Link,
-    caller: &mut Caller,
-    command: &Command,
-) -> Result<Told<Answer>, Refusal>
+fn ask<R: Wait>(rt: &R, link: &Link, caller: &mut Caller, command: &Command) -> Waited
     requires own { caller.old.lock ≡ link.now }
     ensures own { caller.new.lock ≡ link.now }
 {
@@ -37,11 +34,13 @@ fn ask<R: Wait>(
             moment,
             packet,
             word,
-        } => link.arrive(rt, caller, moment, packet, word),
-        Command::Depart { moment } => link.depart(rt, caller, moment),
-        Command::Update { moment } => link.update(rt, caller, moment),
-        Command::Reset { moment } => link.reset(rt, caller, moment),
-        Command::SetParams { moment, params } => link.set_params(rt, caller, moment, params),
+        } => at_link::arrive(rt, link, caller, moment, packet, word),
+        Command::Depart { moment } => at_link::depart(rt, link, caller, moment),
+        Command::Update { moment } => at_link::update(rt, link, caller, moment),
+        Command::Reset { moment } => at_link::reset(rt, link, caller, moment),
+        Command::SetParams { moment, params } => at_link::set_params(
+            rt, link, caller, moment, params,
+        ),
     }
 }
 

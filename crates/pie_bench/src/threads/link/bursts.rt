@@ -1,12 +1,16 @@
 //! Bursts of two threads at once. What one thread's bursts are answered is proved, and computed for worked rows (crates/pie_link/proofs).
 ghost use Rattle.std.specs.Prelude.{◌≡◌};
 
-use super::{opened, packet};
+use super::opened;
+use crate::at_link;
+use crate::at_link::{AtLink, places};
+use crate::books::packet;
 use pie_book::{Answer, Book};
 use pie_link::{Arrival, Caller, Link};
 use std::alloc::Global;
 use std::sync::Wait;
-use std::thread::{Threads, join};
+use std::thread;
+use std::thread::Threads;
 
 // A packet at moment 10.
 fn arrival(tag: u64) -> Arrival {
@@ -17,40 +21,41 @@ fn arrival(tag: u64) -> Arrival {
     }
 }
 
-// A burst of two packets with these tags.
-fn two_packets<R: Wait>(rt: &R, alloc: Global, link: &Link, caller: Caller, tag: u64) -> Caller
-    requires own { caller.lock ≡ link.now }
-    ensures { result.lock ≡ link.now }
-{
-    let mut mine = caller;
-    if let Ok(mut answers) = Vec::with_capacity(alloc, 2) {
-        let two = [arrival(tag), arrival(tag.wrapping_add(1))];
-        let _ = link.arrive_all(rt, &mut mine, &two, &mut answers);
+// A burst of two packets, with tags of this thread's; whether there was room for the answers.
+fn two_packets<R: Wait>(rt: &R, alloc: Global, mut at: AtLink) -> bool {
+    let tag = if at.place == 0 { 10 } else { 20 };
+    match Vec::with_capacity(alloc, 2) {
+        Ok(mut answers) => {
+            let two = [arrival(tag), arrival(tag + 1)];
+            at_link::arrive_all(rt, at.link, &mut at.caller, &two, &mut answers)
+        }
+        Err(_) => false,
     }
-    mine
 }
 
+// Whether two threads ended, each with such a burst.
 fn two_threads<R: Threads + Wait + Sync>(
     rt: &R,
     alloc: Global,
     link: &Link,
-    one: Caller,
-    two: Caller,
-) -> (Caller, Caller)
-    requires own { (one.lock ≡ link.now) × (two.lock ≡ link.now) }
-    ensures { (result.0.lock ≡ link.now) × (result.1.lock ≡ link.now) }
+    caller: &mut Caller,
+) -> bool
+    requires own { caller.old.lock ≡ link.now }
+    ensures { caller.new.lock ≡ link.now }
 {
-    join(
-        rt,
-        || -> Caller
-            requires { one.lock ≡ link.now }
-            ensures { result.lock ≡ link.entry.now }
-        { two_packets(rt, alloc, link, one, 10) },
-        || -> Caller
-            requires { two.lock ≡ link.now }
-            ensures { result.lock ≡ link.entry.now }
-        { two_packets(rt, alloc, link, two, 20) },
-    )
+    let both = places(alloc, link, caller, 2);
+    thread::map_vec(rt, both, &|at: AtLink| { two_packets(rt, alloc, at) }).is_ok()
+}
+
+// Whether a caller takes the number back that it shared.
+fn takes_back(link: &Link, caller: &mut Caller) -> bool
+    requires own { caller.old.lock ≡ link.now }
+    ensures { caller.new.lock ≡ link.now }
+{
+    match link.share(caller) {
+        Ok(other) => link.gather(caller, other).is_ok(),
+        Err(_) => false,
+    }
 }
 
 // Whether the event at a place is of this caller.
@@ -63,30 +68,25 @@ fn is_of(book: &Book, place: usize, caller: u16) -> bool {
 
 // Whether a book holds two bursts of two packets, one after the other.
 fn holds_two_bursts(book: &Book) -> bool {
-    let first = is_of(book, 0, 0) && is_of(book, 1, 0) && is_of(book, 2, 1) && is_of(book, 3, 1);
-    let second = is_of(book, 0, 1) && is_of(book, 1, 1) && is_of(book, 2, 0) && is_of(book, 3, 0);
+    let first = is_of(book, 0, 3) && is_of(book, 1, 3) && is_of(book, 2, 2) && is_of(book, 3, 2);
+    let second = is_of(book, 0, 2) && is_of(book, 1, 2) && is_of(book, 2, 3) && is_of(book, 3, 3);
     book.count() == 4 && (first || second)
 }
 
-// The same at a link that two threads shared.
-fn two_bursts_at_once<R: Threads + Wait + Sync>(rt: &R, alloc: Global) -> Option<bool> {
-    match opened(alloc, 8, 2) {
-        Some((link, mut one)) => {
-            let two = link.share(&mut one).ok()?;
-            let (mut one, two) = two_threads(rt, alloc, &link, one, two);
-            link.gather(&mut one, two).ok()?;
-            match link.close(one) {
-                Ok(book) => Some(holds_two_bursts(&book)),
-                Err(_) => None,
-            }
-        }
-        None => None,
-    }
-}
-
+// The same at a link that two threads shared, which is closed by a caller that has two of its four numbers.
 pub(crate) fn nothing_comes_between_the_packets_of_a_burst<R: Threads + Wait + Sync>(
     rt: &R,
     alloc: Global,
 ) -> bool {
-    two_bursts_at_once(rt, alloc) == Some(true)
+    match opened(alloc, 8, 4) {
+        Ok((link, mut one)) => {
+            let are_sent = two_threads(rt, alloc, &link, &mut one);
+            let is_back = takes_back(&link, &mut one);
+            match link.close(one) {
+                Ok(book) => are_sent && is_back && holds_two_bursts(&book),
+                Err(_) => false,
+            }
+        }
+        Err(_) => false,
+    }
 }

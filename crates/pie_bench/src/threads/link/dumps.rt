@@ -2,7 +2,9 @@
 //! on from another.
 ghost use Rattle.std.specs.Prelude.{◌≡◌};
 
-use super::packet;
+use crate::at_link;
+use crate::at_link::{AtLink, Waited, places};
+use crate::books::packet;
 use crossbeam_utils::Backoff;
 use pie_book::{
     Choices, Core, Event, Excerpt, Limits, Mode, Opening, Profile, Recorded, Registers, Resuming,
@@ -38,21 +40,6 @@ enum Work {
     Update,
     // Looks at the registers.
     Look,
-}
-
-// A thread at the link.
-#[derive(Drop)]
-struct AtLink<'a> {
-    link: &'a Link,
-    caller: Caller,
-    ghost own: { caller.lock ≡ link.now },
-}
-
-// What it does there.
-#[derive(Drop)]
-struct Job<'a> {
-    at: AtLink<'a>,
-    work: Work,
 }
 
 // Seven threads, beside the one that takes excerpts.
@@ -93,29 +80,37 @@ fn arrival(turn: u64) -> Arrival {
     }
 }
 
-// One turn of a thread.
-fn make_turn<R: Wait>(rt: &R, alloc: Global, at: &mut AtLink, work: Work, turn: u64) {
+// One turn of a thread, with room for its answers.
+fn make_turn_with<R: Wait>(
+    rt: &R,
+    at: &mut AtLink,
+    work: Work,
+    turn: u64,
+    answers: &mut Vec<Waited>,
+) {
     let moment = turn.wrapping_mul(BETWEEN);
-    let Ok(mut answers) = Vec::with_capacity(alloc, 4) else {
-        return;
-    };
     match work {
         Work::Dump => {}
         Work::Send => {
             let burst = [arrival(turn), arrival(turn), arrival(turn)];
-            let _ = at.link.arrive_all(rt, &mut at.caller, &burst, &mut answers);
+            let _ = at_link::arrive_all(rt, at.link, &mut at.caller, &burst, answers);
         }
         Work::Take => {
-            let _ = at
-                .link
-                .depart_all(rt, &mut at.caller, moment, 4, &mut answers);
+            let _ = at_link::depart_all(rt, at.link, &mut at.caller, moment, 4, answers);
         }
         Work::Update => {
-            let _ = at.link.update(rt, &mut at.caller, moment);
+            let _ = at_link::update(rt, at.link, &mut at.caller, moment);
         }
         Work::Look => {
-            let _ = at.link.registers(rt, &mut at.caller);
+            let _ = at_link::registers(rt, at.link, &mut at.caller);
         }
+    }
+}
+
+// One turn of a thread.
+fn make_turn<R: Wait>(rt: &R, alloc: Global, at: &mut AtLink, work: Work, turn: u64) {
+    if let Ok(mut answers) = Vec::with_capacity(alloc, 4) {
+        make_turn_with(rt, at, work, turn, &mut answers);
     }
 }
 
@@ -224,7 +219,7 @@ fn look_at(alloc: Global, excerpt: &Excerpt, seen: &mut Seen) {
 fn wait_for_more<R: Wait>(rt: &R, at: &mut AtLink, count: u64) {
     let backoff = Backoff::new();
     for _ in 0..TURNS {
-        if count < at.link.registers(rt, &mut at.caller).number {
+        if count < at_link::registers(rt, at.link, &mut at.caller).number {
             return;
         }
         backoff.snooze();
@@ -234,7 +229,7 @@ fn wait_for_more<R: Wait>(rt: &R, at: &mut AtLink, count: u64) {
 // Takes one excerpt out and looks at it.
 fn dump<R: Wait>(rt: &R, alloc: Global, at: &mut AtLink, excerpt: &mut Excerpt, seen: &mut Seen) {
     wait_for_more(rt, at, seen.count);
-    if at.link.excerpt(rt, &mut at.caller, excerpt).is_ok() {
+    if at_link::excerpt(rt, at.link, &mut at.caller, excerpt) {
         look_at(alloc, excerpt, seen);
     }
 }
@@ -253,9 +248,9 @@ fn dump_all<R: Wait>(rt: &R, alloc: Global, at: &mut AtLink, excerpt: &mut Excer
     (seen.clean, seen.grown)
 }
 
-// What a thread does. The one that takes the excerpts tells the others when they can end, and what it found.
-fn toil<R: Wait>(rt: &R, alloc: Global, done: &AtomicU64, job: Job) -> (u64, u64) {
-    let Job { mut at, work } = job;
+// What a thread does. The first one that takes the excerpts tells the others when they can end, and what it found.
+fn toil<R: Wait>(rt: &R, alloc: Global, done: &AtomicU64, mut at: AtLink) -> (u64, u64) {
+    let work = WORK[at.place % WORK.len()];
     if !matches!(work, Work::Dump) {
         make_turns(rt, alloc, done, &mut at, work);
         return (0, 0);
@@ -268,27 +263,14 @@ fn toil<R: Wait>(rt: &R, alloc: Global, done: &AtomicU64, job: Job) -> (u64, u64
     found
 }
 
-// A caller for each of the eight. (Without memory there are fewer, and the test fails.)
-fn jobs<'a>(alloc: Global, link: &'a Link, caller: &mut Caller) -> Vec<Job<'a>>
-    requires { caller.old.lock ≡ link.now }
-    ensures { caller.new.lock ≡ link.now }
-{
-    let mut jobs = Vec::new(alloc);
-    for work in &WORK {
-        if let Ok(caller) = link.share(caller) {
-            let at = AtLink { link, caller };
-            let _ = jobs.push(Job { at, work: *work });
-        }
-    }
-    jobs
-}
-
 // Whether an excerpt that is taken when all are done gives what the link holds then.
-fn is_whole<R: Wait>(rt: &R, alloc: Global, at: &mut AtLink) -> bool {
+fn is_whole<R: Wait>(rt: &R, alloc: Global, link: &Link, caller: &mut Caller) -> bool
+    requires own { caller.old.lock ≡ link.now }
+{
     match Excerpt::with_room(alloc, opening()) {
         Ok(mut excerpt) => {
-            let is_filled = at.link.excerpt(rt, &mut at.caller, &mut excerpt).is_ok();
-            let held = at.link.registers(rt, &mut at.caller).answer;
+            let is_filled = at_link::excerpt(rt, link, caller, &mut excerpt);
+            let held = at_link::registers(rt, link, caller).answer;
             is_filled && decided_again(alloc, &excerpt) == Some(held)
         }
         Err(_) => false,
@@ -306,11 +288,11 @@ fn at_link<R: Threads + Wait + Sync>(
 {
     let mut caller = caller;
     let done = AtomicU64::new(0);
-    let jobs = jobs(alloc, link, &mut caller);
-    let Ok(found) = thread::map_vec(rt, jobs, &|job: Job| { toil(rt, alloc, &done, job) }) else {
+    let all = places(alloc, link, &mut caller, WORK.len());
+    let Ok(found) = thread::map_vec(rt, all, &|at: AtLink| { toil(rt, alloc, &done, at) }) else {
         return None;
     };
-    let is_whole = is_whole(rt, alloc, &mut AtLink { link, caller });
+    let is_whole = is_whole(rt, alloc, link, &mut caller);
     if is_whole && found.len() == WORK.len() {
         found.first().copied()
     } else {

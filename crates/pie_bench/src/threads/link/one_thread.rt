@@ -3,7 +3,9 @@
 ghost use Rattle.std.specs.Prelude.{◌≡◌};
 ghost use Rattle.pie_link.specs.Views.{StaysOne};
 
-use super::{opened, packet};
+use super::opened;
+use crate::at_link;
+use crate::books::packet;
 use pie_book::{Answer, Book, FoldRefusal, Refusal};
 use pie_link::{Caller, Link, Told, Tried};
 use pie_params::Params;
@@ -28,7 +30,7 @@ fn first_calls(link: &Link, caller: &mut Caller) -> bool
     ensures stays { StaysOne caller.old caller.new }
 {
     let arrived = matches!(
-        link.try_arrive(caller, 10, packet(1), 0),
+        at_link::try_arrive(link, caller, 10, packet(1), 0),
         Ok(Told {
             answer: Answer::Enqueued,
             number: 1,
@@ -36,7 +38,7 @@ fn first_calls(link: &Link, caller: &mut Caller) -> bool
     );
     let shown = shows_one(link, caller);
     let left = matches!(
-        link.try_depart(caller, 20),
+        at_link::try_depart(link, caller, 20),
         Ok(Told {
             answer: Answer::Left(Packet {
                 tag: 1,
@@ -47,11 +49,11 @@ fn first_calls(link: &Link, caller: &mut Caller) -> bool
         })
     );
     let soon = matches!(
-        link.try_update(caller, 20),
+        at_link::try_update(link, caller, 20),
         Err(Tried::Refused(Refusal::TooSoon { due: 15_000_000 }))
     );
     let made = matches!(
-        link.try_update(caller, 15_000_000),
+        at_link::try_update(link, caller, 15_000_000),
         Ok(Told {
             answer: Answer::Updated {
                 delay: 0,
@@ -70,7 +72,7 @@ fn later_calls<R: Wait>(rt: &R, link: &Link, caller: &mut Caller) -> bool
     ensures stays { StaysOne caller.old caller.new }
 {
     let reset = matches!(
-        link.try_reset(caller, 15_000_000),
+        at_link::try_reset(link, caller, 15_000_000),
         Ok(Told {
             answer: Answer::Done,
             number: 4,
@@ -78,7 +80,7 @@ fn later_calls<R: Wait>(rt: &R, link: &Link, caller: &mut Caller) -> bool
     );
     let params = Params::default_profile();
     let set = matches!(
-        link.try_set_params(caller, 15_000_000, params),
+        at_link::try_set_params(link, caller, 15_000_000, params),
         Ok(Told {
             answer: Answer::Done,
             number: 5,
@@ -99,7 +101,7 @@ fn is_refused(link: &Link, caller: &mut Caller, n: u64, held: u64) -> bool
     requires own { caller.old.lock ≡ link.now }
     ensures stays { StaysOne caller.old caller.new }
 {
-    match link.try_fold(caller, n) {
+    match at_link::try_fold(link, caller, n) {
         Err(Tried::Refused(FoldRefusal::TooMany { held: told })) => told == held,
         _ => false,
     }
@@ -110,8 +112,8 @@ fn is_folded(link: &Link, caller: &mut Caller, n: u64, number: u64) -> bool
     requires own { caller.old.lock ≡ link.now }
     ensures stays { StaysOne caller.old caller.new }
 {
-    match link.try_fold(caller, n) {
-        Ok(told) => told.answer.len() as u64 == n && told.number == number,
+    match at_link::try_fold(link, caller, n) {
+        Ok(seen) => seen == (n, number),
         Err(_) => false,
     }
 }
@@ -123,7 +125,7 @@ fn depart_often(link: &Link, caller: &mut Caller, times: u32) -> u32
 {
     let mut empty = 0u32;
     for _ in 0..times {
-        match link.try_depart(caller, 1) {
+        match at_link::try_depart(link, caller, 1) {
             Ok(
                 Told {
                     answer: Answer::Empty,
@@ -160,7 +162,7 @@ fn all_calls<R: Wait>(rt: &R, link: &Link, caller: &mut Caller, upper: &mut Call
 // The book that the uppermost caller then closes, if all was so.
 fn book_from_above<R: Wait>(rt: &R, alloc: Global) -> Option<Book> {
     match opened(alloc, 70, 65535) {
-        Some((link, mut caller)) => {
+        Ok((link, mut caller)) => {
             let Ok(mut upper) = link.share(&mut caller) else {
                 return None;
             };
@@ -170,7 +172,7 @@ fn book_from_above<R: Wait>(rt: &R, alloc: Global) -> Option<Book> {
                 Ok(_) | Err(_) => None,
             }
         }
-        None => None,
+        Err(_) => None,
     }
 }
 

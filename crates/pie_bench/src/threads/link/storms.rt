@@ -1,7 +1,7 @@
 //! What no clause of a storm says: that its workers are at work at once, that a gate stands around each call, and that a fold finds what the tail
 //! holds. (Eight senders at once: tests/program/storms.sh.)
 
-use super::packet;
+use crate::books::packet;
 use crossbeam_utils::Backoff;
 use pie_book::{Event, Limits, Profile};
 use pie_params::{Elements, Params};

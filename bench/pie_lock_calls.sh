@@ -3,13 +3,13 @@
 # threads of which one holds the lock for 200 milliseconds while the others wait. No clause speaks of them. It ends with status 1
 # where a lock that nobody waits for makes any (a put that always wakes), where none of those who wait sleeps, or where they
 # yield time and again (a waiter that never sleeps).
-# usage: bench/pie_lock_calls.sh PIE_BENCH
+# usage: bench/pie_lock_calls.sh PIE_BENCH TESTS     TESTS: crates/pie_library_tests/out/pie_library_tests, as the gate leaves it
 set -eu
 command -v strace >/dev/null || { echo "bench/pie_lock_calls.sh: NOT RUN: no strace" >&2; exit 2; }
 python3 - "$@" <<'PY'
 import os, re, signal, subprocess, sys
 
-bench = sys.argv[1]
+bench, tests = sys.argv[1:]
 SLEEPERS = "those_that_sleep_at_a_held_lock_all_wake"
 # So many calls are enough to tell, and so many yields are those of waiters who first look again a few times.
 ENOUGH, FEW = 10_000, 200
@@ -49,7 +49,7 @@ def told(found):
 
 free, ended = calls([bench, "lock"], until="lock_uncontended")
 print(f"10000000 takes and puts of one thread: {told(free)}" + ("" if ended else ", and then it was stopped"))
-held, _ = calls([bench, SLEEPERS])
+held, _ = calls([tests, SLEEPERS])
 print(f"four threads, of which one holds the lock: {told(held)}")
 slept, yields = held.get("futex FUTEX_WAIT", 0), held.get("sched_yield", 0)
 sys.exit(not (ended and not free and slept >= 1 and yields <= FEW))

@@ -2,8 +2,8 @@
 """Makes the events of each worked history of tests/rows and tests/rows/choices again at a link that is opened as the history says, but for a full
 tail, which refuses nothing there: each answer is the recorded one, and each event has its number. A recorded answer that is changed is found.
 
-usage: tests/libraries/link_rows.py [PROGRAM]      PROGRAM: crates/pie_bench/out/pie_bench where none is given
-needs: pie_bench"""
+usage: tests/libraries/link_rows.py [PROGRAM]      PROGRAM: crates/pie_library_tests/out/pie_library_tests where none is given
+needs: pie_library_tests"""
 import os
 import subprocess
 import sys
@@ -11,7 +11,7 @@ import sys
 sys.path.insert(0, f"{os.path.dirname(os.path.abspath(__file__))}/../shared")
 from checks import NAME, ROOT, check, finish  # noqa: E402
 
-PROGRAM = os.path.abspath(sys.argv[1]) if sys.argv[1:] else ROOT / "crates/pie_bench/out/pie_bench"
+PROGRAM = os.path.abspath(sys.argv[1]) if sys.argv[1:] else ROOT / "crates/pie_library_tests/out/pie_library_tests"
 EVENTS = ("arrive", "depart", "update", "reset", "params")
 
 

@@ -2,8 +2,8 @@
 """Refuses, one after another, each request for memory that a call of the libraries makes: that one alone, and that one with all
 after it. The call answers want of memory in its own form and leaves what it promises. The first run in which nothing is left to
 refuse answers as with ample memory. Other calls answer as ever.
-usage: tests/libraries/refused_memory.py [PROGRAM]      PROGRAM: crates/pie_bench/out/pie_bench where none is given
-needs: pie_bench"""
+usage: tests/libraries/refused_memory.py [PROGRAM]      PROGRAM: crates/pie_library_tests/out/pie_library_tests where none is given
+needs: pie_library_tests"""
 import os
 import re
 import subprocess
@@ -14,7 +14,7 @@ sys.path.insert(0, f"{os.path.dirname(os.path.abspath(__file__))}/../shared")
 from checks import NAME, ROOT, check, finish, refusing  # noqa: E402
 
 # What each call answers, and what is seen then, where a request was refused, as regular expressions; nothing where it makes none. The numbers are
-# those that crates/pie_bench says: of a fold that is refused how many events there still are, of lines that the same comes again, of a text
+# those that crates/pie_library_tests says: of a fold that is refused how many events there still are, of lines that the same comes again, of a text
 # how many bytes of it were not written.
 REFUSED = {
     "Book::fold": r"memory, 1000, 0",
@@ -38,7 +38,7 @@ BEHIND = "a history at a link"
 ROOM = {"Book::fold": (64, 63)}
 # No call makes so many requests.
 MOST = 1000
-PROGRAM = os.path.abspath(sys.argv[1]) if sys.argv[1:] else f"{ROOT}/crates/pie_bench/out/pie_bench"
+PROGRAM = os.path.abspath(sys.argv[1]) if sys.argv[1:] else f"{ROOT}/crates/pie_library_tests/out/pie_library_tests"
 
 
 def calls_of(text):
@@ -63,7 +63,7 @@ class Program:
     def __init__(self):
         status, output, errors = run()
         self.ample = calls_of(output)
-        wanted, behind, _ = open(ROOT / "crates/pie_bench/stdout").read().partition(f"\n{BEHIND}")
+        wanted, behind, _ = open(ROOT / "crates/pie_library_tests/stdout").read().partition(f"\n{BEHIND}")
         check((status, errors) == (0, "") and behind and f"{wanted}\n" == output, "with ample memory:", status, errors, output)
         check(set(self.ample) == {*REFUSED, LAST}, "other calls than here:", set(self.ample) ^ {*REFUSED, LAST})
 

@@ -1,28 +1,19 @@
-//! `pie_bench`: the libraries on the bench. Its argument names what it makes; with none it makes what no clause forces of them and `pie` doesn't show.
-//!
-//! `calls` makes calls that can want memory and that the program makes otherwise or not at all, one after another, and says what they answered and
-//! what they left, and of calls that write whether they tell of a flush that fails; `tests/libraries/refused_memory.py` refuses each request for
-//! memory of each call in turn. `rows` makes the events of a history, which is read from standard input, again at a link;
-//! `tests/libraries/link_rows.py` hands it the worked histories. `threads` says of each test of threads whether it holds, and a test's name so of
-//! that test alone. Any other word names a measurement of what an event costs in a part of the controller, which bench/ has scripts for.
+//! `pie_bench`: what an event costs in each part of the controller, measured. Its argument names the measurement.
 #![tactic(auto)]
 
-mod at_link;
-mod books;
-mod calls;
-mod links;
-mod measures;
-mod rows;
-mod seen;
-mod texts;
-mod threads;
-mod wanted;
+mod at_once;
+mod book;
+mod bursts;
+mod control;
+mod early;
+mod link;
+mod lock;
+mod places;
+mod rate;
+mod report;
+mod words;
 
-use crate::calls::CALLS;
-use crate::seen::{begin, tell};
-use crate::texts::WRITES;
 use std::alloc::Global;
-use std::io::Read;
 use std::rt::Clock;
 use std::sync::Wait;
 use std::thread::Threads;
@@ -32,57 +23,35 @@ fn main(rt: HostRuntime) -> io::Result<()> {
     let mut words = env::args(&rt)?;
     let _program = words.next();
     match words.next() {
-        Some(name) => part(&rt, rt.alloc(), rt.stdin(), name.as_str()),
-        None => all(&rt, rt.alloc(), rt.stdin()),
+        Some(name) => measure(&rt, rt.alloc(), name.as_str()),
+        None => usage(&rt),
     }
 }
 
-/// The part that has this name.
-fn part<I: Read + Drop, R: Threads + Wait + Clock + Print + Sync>(
+/// Makes the measurement that has this name.
+fn measure<R: Threads + Wait + Clock + Print + Sync>(
     rt: &R,
     alloc: Global,
-    input: I,
     name: &str,
 ) -> io::Result<()> {
     match name {
-        "calls" => each_call_and_flush(rt, alloc),
-        "rows" => rows::all(rt, alloc, input),
-        "threads" => threads::each(rt, alloc),
-        _ => measures::named(rt, alloc, name),
+        "rate" => rate::measure(rt, alloc),
+        "control" => control::measure(rt, alloc),
+        "early" => early::measure(rt, alloc),
+        "lock" => lock::measure(rt, alloc),
+        "book" => book::measure(rt, alloc),
+        "link" => link::measure(rt, alloc),
+        "bursts1" => bursts::measure(rt, alloc, 1),
+        "bursts2" => bursts::measure(rt, alloc, 2),
+        "bursts3" => bursts::measure(rt, alloc, 3),
+        "bursts4" => bursts::measure(rt, alloc, 4),
+        "bursts8" => bursts::measure(rt, alloc, 8),
+        _ => usage(rt),
     }
 }
 
-/// Every part but the measurements.
-fn all<I: Read + Drop, R: Threads + Wait + Clock + Print + Sync>(
-    rt: &R,
-    alloc: Global,
-    input: I,
-) -> io::Result<()> {
-    each_call_and_flush(rt, alloc)?;
-    rows::all(rt, alloc, input)?;
-    threads::each(rt, alloc)
-}
-
-/// Makes each call, and says what was seen; and so of each flush.
-fn each_call_and_flush<R: Wait + Print>(rt: &R, alloc: Global) -> io::Result<()> {
-    each_call(rt, alloc)?;
-    each_flush(rt, alloc)
-}
-
-/// Makes each call, and says what was seen.
-fn each_call<R: Wait + Print>(rt: &R, alloc: Global) -> io::Result<()> {
-    for call in CALLS {
-        let seen = call.make(rt, alloc);
-        tell(rt, call.name(), seen)?;
-    }
-    Ok(())
-}
-
-/// Lets the flush fail of each call that writes.
-fn each_flush(rt: &impl Print, alloc: Global) -> io::Result<()> {
-    begin(rt, "flushes that fail");
-    for writes in WRITES {
-        tell(rt, writes.name(), writes.flushes(alloc))?;
-    }
-    Ok(())
+fn usage(rt: &impl Print) -> io::Result<()> {
+    println!(rt;
+        "pie_bench: name a measurement: rate, control, early, lock, book or link; of bursts bursts1, 2, 3, 4 or 8"
+    )
 }

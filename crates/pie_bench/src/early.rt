@@ -1,0 +1,93 @@
+//! What the decision on an arrival costs.
+
+use crate::report::{CALLS, INPUTS, ROUNDS, checksum, nanos};
+use crate::words::Words;
+use pie_control::Control;
+use pie_early::{Choice, Early, Offered};
+use pie_fixed::{Nanos, Prob};
+use pie_params::{Elements, Params};
+use pie_queue::Ecn;
+use std::alloc::{AllocError, Global};
+use std::io;
+use std::rt::Clock;
+use std::time::Instant;
+
+/// A twentieth, below which an arrival is considered by the old delay alone.
+const PROB: u64 = 50_000_000_000;
+
+/// Decides on one arrival, by a call that is not inlined, so that nothing of it is done once for many.
+#[inline(never)]
+fn decide(early: &mut Early, params: &Params, control: &Control, arrival: Offered) -> Choice {
+    early.consider(params, Elements::usual(), control, arrival)
+}
+
+/// Arrivals at a queue that holds more than two packets.
+fn arrivals(alloc: Global) -> Result<Vec<Offered>, AllocError> {
+    let mut words = Words::new();
+    let mut arrivals = Vec::with_capacity(alloc, INPUTS as usize)?;
+    for _ in 0..INPUTS {
+        let bytes = 4096 + words.below(200_000);
+        let ecn = match words.below(4) {
+            0 => Ecn::NotEct,
+            1 => Ecn::Ect1,
+            2 => Ecn::Ect0,
+            _ => Ecn::Ce,
+        };
+        let word = words.next();
+        arrivals.push(Offered {
+            bytes,
+            size: 1024,
+            ecn,
+            word,
+        })?;
+    }
+    Ok(arrivals)
+}
+
+fn consider(params: &Params, control: &Control, arrivals: &[Offered]) -> u64 {
+    let mut early = Early::opened();
+    let mut sum: u64 = 0;
+    for _ in 0..ROUNDS {
+        for arrival in arrivals {
+            let choice = decide(&mut early, params, control, *arrival);
+            sum = sum.wrapping_add(match choice {
+                Choice::Enqueue => 0,
+                Choice::Mark => 1,
+                Choice::Drop => 2,
+            });
+        }
+    }
+    sum.wrapping_add(early.accu().units())
+}
+
+/// Prints the time of an arrival that is considered, and of one that isn't, after all tests of that, since the
+/// probability and the old delay are low.
+pub fn measure<R: Clock + Print>(rt: &R, alloc: Global) -> io::Result<()> {
+    let arrivals = arrivals(alloc)?;
+    time_both(rt, arrivals.as_slice())
+}
+
+fn time_both<R: Clock + Print>(rt: &R, arrivals: &[Offered]) -> io::Result<()> {
+    let (Some(prob), Some(moment)) = (Prob::from_units(PROB), Nanos::from_units(0)) else {
+        return Ok(());
+    };
+    let long = Control::from_parts(prob, 15_000_000, 0, moment);
+    let short = Control::from_parts(prob, 1_000_000, 0, moment);
+    let considered = timed(rt, "early_considered", &long, arrivals)?;
+    let let_through = timed(rt, "early_not_considered", &short, arrivals)?;
+    checksum(rt, "early", considered.wrapping_add(let_through))
+}
+
+/// Prints the time of an arrival beside such a controller, and gives what the decisions add up to.
+fn timed<R: Clock + Print>(
+    rt: &R,
+    name: &str,
+    control: &Control,
+    arrivals: &[Offered],
+) -> io::Result<u64> {
+    let params = Params::default_profile();
+    let start = Instant::now(rt)?;
+    let sum = consider(&params, control, arrivals);
+    nanos(rt, name, start.elapsed(rt)?, CALLS)?;
+    Ok(sum)
+}

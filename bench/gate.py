@@ -56,7 +56,8 @@ def task_of(pid):
     program = next((it for it in words if re.search(r"/rt-run-[^/]+/bin/|^out/", it)), None)
     if program:
         crate = os.path.basename(program).partition(".")[0]
-        return (crate[: -len("_tests")], "tests") if crate.endswith("_tests") else (crate, "build and run")
+        is_tests = crate.endswith("_tests") and not os.path.isdir(f"{ROOT}/crates/{crate}")
+        return (crate[: -len("_tests")], "tests") if is_tests else (crate, "build and run")
     return None
 
 

@@ -9,15 +9,15 @@ use std::marker::Model;
 /// two up to 65536, the number below it is kept, which fits in 16 bits.
 #[derive(Clone, Copy, Debug, PartialEq, Eq)]
 pub struct Params {
+    limit_bytes: u32,
+    below_threshold: u16,
+    mean_pkt: u16,
     target: Nanos,
     t_update: Nanos,
     max_burst: Nanos,
     mark_ecnth: Prob,
     alpha: Gain,
     beta: Gain,
-    limit_bytes: u32,
-    below_threshold: u16,
-    mean_pkt: u16,
 }
 
 impl Model for Params {

@@ -45,7 +45,8 @@ def main():
         crate = next(it for it in rtlib.crates_below(ROOT) if it.name == CRATE)
         if is_left_by_the_gate(crate.below()):
             print("bindings/c/library.py: over the libraries that rt ci has proved", flush=True)
-            if crate.build_static([]) == 0:
+            # (by one process: two take a fifth more of the processors, which other scripts wait for)
+            if crate.build_static(["--jobs", "1"]) == 0:
                 return
     except (AttributeError, OSError, StopIteration, TypeError) as why:
         # (another toolchain may be arranged otherwise)

@@ -55,7 +55,7 @@ for history in "$work"/*/*.history; do
 done
 [ "$(grep -L '^lost,' "$work"/plain/*.history | wc -l)" -ge 100 ] || { echo "bindings/dpdk/check.sh: gaps in histories that have none"; exit 1; }
 step address timeout 60 out/address/pie-fwd "${eal[@]}" --vdev=net_null0 --vdev=net_ring0 --lcores "(0-2)@$cpus" -- \
-    --total-num-mbufs=8192 --rate 50mbit --for 2s --history /dev/null
+    --total-num-mbufs=8192 --rate 50mbit --for 1s --history /dev/null
 step pie-fwd timeout 120 ./fwd_test.py out/pie-fwd "$pie"
 echo "bindings/dpdk: $(grep -c '^stage_test: ' "$work/test.log") groups of tests, also with sanitizers; no mbuf is lost;" \
     "$(paste -s -d ';' "$work/slow.log"); $(cat "$work/pie-fwd.log")"

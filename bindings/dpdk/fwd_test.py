@@ -128,7 +128,7 @@ def full_speed():
     with tempfile.TemporaryDirectory() as work:
         pipe, first = f"{work}/history", Path(work, "first")
         os.mkfifo(pipe)
-        forward = subprocess.Popen(command(RING, "--total-num-mbufs=8192", "--rate", "1gbit", "--for", "2s", "--history", pipe),
+        forward = subprocess.Popen(command(RING, "--total-num-mbufs=8192", "--rate", "1gbit", "--for", "1s", "--history", pipe),
                                    stdout=subprocess.PIPE, text=True)
         lines, gaps, lost, size = 0, 0, 0, 0
         with open(pipe, "rb") as history, first.open("wb") as kept:
@@ -175,7 +175,7 @@ def paced():
     with tempfile.TemporaryDirectory() as work:
         path = f"{work}/history"
         since = now()
-        status, printed, errors = run(PACED, "--rate", "20mbit", "--receive", "24mbit", "--for", "3s", "--history", path)
+        status, printed, errors = run(PACED, "--rate", "20mbit", "--receive", "24mbit", "--for", "2s", "--history", path)
         events = events_of(told(printed))
         assert status == 0 and Path(path).read_bytes().count(NEWLINE) == events + 2, (status, printed, errors)
         audited(path)
@@ -190,7 +190,7 @@ def flight():
         process = subprocess.Popen(command(RING, "--total-num-mbufs=8192", "--rate", "10gbit", "--flight", path, "--flight-events", str(kept)),
                                    stdout=subprocess.PIPE, stderr=subprocess.PIPE, text=True)
         texts = []
-        for _ in range(3):
+        for _ in range(30):
             assert LINE.match(process.stdout.readline())
             process.send_signal(signal.SIGUSR1)
             said = process.stderr.readline()
@@ -198,13 +198,14 @@ def flight():
                 continue
             assert said == f"pie-fwd: --flight {path}: written\n", said
             texts.append(audited(path))
+            if len(texts) == 3:
+                break
         process.send_signal(signal.SIGINT)
         printed = process.communicate(timeout=60)[0]
         told(printed)
-        assert process.returncode == 0 and texts and all(last > before > 0 for before, last in texts), (printed, texts)
-        assert all(one[1] <= other[1] for one, other in zip(texts, texts[1:])), texts
-        assert len(texts) < 2 or audited(f"{path}.before") == texts[-2]
-        words = ["--rate", "20mbit", "--receive", "40mbit", "--flight-wait", "30ms", "--for", "2s", "--flight", path, "--packets", "400"]
+        assert process.returncode == 0 and len(texts) == 3 and all(last > before > 0 for before, last in texts), (printed, texts)
+        assert texts[0][1] <= texts[1][1] <= texts[2][1] and audited(f"{path}.before") == texts[1], texts
+        words = ["--rate", "20mbit", "--receive", "40mbit", "--flight-wait", "30ms", "--for", "1s", "--flight", path, "--packets", "400"]
         since = now()
         status, printed, errors = run(PACED, *words)
         assert status == 0 and errors.startswith(f"pie-fwd: --flight {path}: written\n"), (printed, errors)
@@ -219,7 +220,7 @@ def segments():
     """A history in segments, of which the last ones are kept: each stands alone, and begins where the one before ends."""
     with tempfile.TemporaryDirectory() as work:
         path, since = Path(work, "history"), now()
-        status, printed, errors = run(PACED, "--rate", "20mbit", "--receive", "24mbit", "--for", "3s", "--history", str(path), "--rotate", "64kb",
+        status, printed, errors = run(PACED, "--rate", "20mbit", "--receive", "24mbit", "--for", "2s", "--history", str(path), "--rotate", "64kb",
                                       "--segments", "3")
         events = events_of(told(printed))
         names = sorted(os.listdir(work), key=lambda name: int(name.rpartition(".")[2]))

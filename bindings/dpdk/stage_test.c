@@ -799,13 +799,13 @@ static void *write_flights(void *argument) {
     uint64_t last = 0;
     for (int i = 0; i < 8 || !__atomic_load_n(&are_done, __ATOMIC_SEQ_CST); i++) {
         snprintf(name, sizeof name, "flight-threads-%d", i % 8);
-        FILE *file = open_history(name);
-        int answer = pie_stage_flight(argument, write_to, file);
-        EXPECT(fclose(file) == 0 && (answer == PIE_FLIGHT_DONE || answer == PIE_FLIGHT_GONE));
-        if (answer == PIE_FLIGHT_GONE) {
-            i--;
-            continue;
-        }
+        int answer;
+        do { // (until a copy isn't overwritten, so that no file stays empty: when the others have ended, none is)
+            FILE *file = open_history(name);
+            answer = pie_stage_flight(argument, write_to, file);
+            EXPECT(fclose(file) == 0);
+        } while (answer == PIE_FLIGHT_GONE);
+        EXPECT(answer == PIE_FLIGHT_DONE);
         struct resumed resumed = read_resumed(name);
         EXPECT(resumed.before + resumed.events >= last);
         last = resumed.before + resumed.events;

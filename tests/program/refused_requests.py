@@ -1,8 +1,8 @@
 #!/usr/bin/env python3
-"""Refuses the built program each request for memory, each read, each write and each start of a thread in turn, once and from there on
-(tests/shared/refuse.c): it ends with its fault, and what it wrote before is a beginning of what it writes where nothing is refused. So of a long
-text, whose pages are many; of short ones that are read and written 7 bytes at a time, of each subcommand that reads or writes; and of a storm. So
-too each request by which it makes, writes, moves and removes the file of -o: then what was there is there, or all that there was to write.
+"""Refuses the built program each request for memory, each read and each write in turn, once and from there on (tests/shared/refuse.c): it ends with
+its fault, and what it wrote before is a beginning of what it writes where nothing is refused. So of a long text, whose pages are many; and of short
+ones that are read and written 7 bytes at a time, of each subcommand that reads or writes. So too each request by which it makes, writes, moves and
+removes the file of -o: then what was there is there, or all that there was to write. refused_storms.py beside this does so of a storm.
 
 usage: tests/program/refused_requests.py [PROGRAM]      PROGRAM: crates/pie/out/pie where none is given
 needs: program, an early start"""
@@ -12,24 +12,10 @@ import tempfile
 
 sys.path.insert(0, f"{os.path.dirname(os.path.abspath(__file__))}/../shared")
 from checks import NAME, check, finish, refusing  # noqa: E402
+from refused import ONCE_AND_ON, STEP, in_turn  # noqa: E402
 from running import MEMORY, READ, READERS, TRACE, WRITE, run  # noqa: E402
 
-THREAD = b"pie: a thread could not be started\n"
 FAULTS = {"REFUSE_MEMORY": MEMORY, "REFUSE_READ": READ, "REFUSE_WRITE": WRITE}
-# Of the requests one alone is refused, or all from there on.
-ONCE_AND_ON = [{}, {"REFUSE_ON": "1"}]
-STEP = 7
-
-
-def in_turn(library, met, words, given, variable, on, **more):
-    """What the program answers with its first such request refused, with its second, and so on, and whether it made it; the last time it did not."""
-    for place in range(1, 10_000):
-        if os.path.exists(met):
-            os.remove(met)
-        got = run(words, given, LD_PRELOAD=library, REFUSE_MET=met, **{variable: str(place)}, **on, **more)
-        yield place, got, os.path.exists(met)
-        if not os.path.exists(met):
-            return
 
 
 def told(words, says, errors):
@@ -153,43 +139,15 @@ def outputs_refused(library, met, name, words, given):
             print(f"{NAME}: {name} -o {''.join(forced)}: REFUSE_FILE at {place - 1} places{' and all after them' if on else ''}")
 
 
-def is_clean(history):
-    """Whether the whole lines of what a storm wrote are a history, if there is one."""
-    lines = history.splitlines(keepends=True)
-    whole = [line for line in lines if line.endswith(b"\n")]
-    return not whole or run(["audit"], b"".join(whole))[:2] == (0, b"clean,%d\n" % (len(whole) - 1))
-
-
-def storm_refused(library, met):
-    """A storm of which each request for memory, each write and each start of a thread is refused ends: with its fault, or with a history
-    that is audited clean where it did without. What it wrote before its fault is a beginning of a history, and none of its threads runs on."""
-    few, many = ["storm", "--senders", "3", "--packets", "4"], ["storm", "--senders", "3", "--packets", "500"]
-    rows = [("REFUSE_MEMORY", [MEMORY, THREAD], few, {}), ("REFUSE_THREAD", [THREAD], few, {}),
-            # (long enough for several writes; and short, some bytes at a time)
-            ("REFUSE_WRITE", [WRITE], many, {}), ("REFUSE_WRITE", [WRITE], ["storm", "--senders", "2", "--packets", "1"], {"REFUSE_STEP": str(STEP)})]
-    for variable, says, words, more in rows:
-        for on in ONCE_AND_ON:
-            for place, (status, output, errors), is_refused in in_turn(library, met, words, b"", variable, on, REFUSE_ALONE="1", **more):
-                is_done = status == 0 and not errors and output.endswith(b"\n")
-                # (a list that grows asks once more, for less)
-                may_do_without = not is_refused or variable == "REFUSE_MEMORY" and not on
-                check(status == 1 and errors in says and is_refused or is_done and may_do_without, "storm", variable, place, on, status, errors[:100])
-                check(is_clean(output), "storm", variable, place, on, "wrote no beginning of a history")
-            check(place > 1, "storm:", variable, "met nothing")
-            check(place == 8 or variable != "REFUSE_THREAD", "storm: seven threads are started, not", place - 1)
-            print(f"{NAME}: storm: {variable} at {place - 1} places{' and all after them' if on else ''}")
-
-
 def main():
     status, history, errors = run(["run"], TRACE)
     check((status, errors) == (0, b""), "the trace itself", status, errors)
     with tempfile.TemporaryDirectory() as room:
-        library, met = refusing(room, "memory, read, write or start of a thread"), f"{room}/met"
+        library, met = refusing(room, "memory, read or write"), f"{room}/met"
         if library:
             long_text(library, met)
             short_texts(library, met)
             faults_before(library, met, history)
-            storm_refused(library, met)
     finish()
 
 

@@ -1,0 +1,55 @@
+#!/usr/bin/env python3
+"""Refuses a storm of the built program each request for memory, each write and each start of a thread in turn, once and from there on
+(tests/shared/refuse.c). Where a thread is missing the others look for it many times over before they go on without it, and beside other work each
+look is a wait for a processor: so it runs alone.
+
+usage: tests/program/refused_storms.py [PROGRAM]      PROGRAM: crates/pie/out/pie where none is given
+needs: program, quiet"""
+import os
+import sys
+import tempfile
+
+sys.path.insert(0, f"{os.path.dirname(os.path.abspath(__file__))}/../shared")
+from checks import NAME, check, finish, refusing  # noqa: E402
+from refused import ONCE_AND_ON, STEP, in_turn  # noqa: E402
+from running import MEMORY, WRITE, run  # noqa: E402
+
+THREAD = b"pie: a thread could not be started\n"
+
+
+def is_clean(history):
+    """Whether the whole lines of what a storm wrote are a history, if there is one."""
+    lines = history.splitlines(keepends=True)
+    whole = [line for line in lines if line.endswith(b"\n")]
+    return not whole or run(["audit"], b"".join(whole))[:2] == (0, b"clean,%d\n" % (len(whole) - 1))
+
+
+def storm_refused(library, met):
+    """A storm of which each request for memory, each write and each start of a thread is refused ends: with its fault, or with a history
+    that is audited clean where it did without. What it wrote before its fault is a beginning of a history, and none of its threads runs on."""
+    few, many = ["storm", "--senders", "3", "--packets", "4"], ["storm", "--senders", "3", "--packets", "500"]
+    rows = [("REFUSE_MEMORY", [MEMORY, THREAD], few, {}), ("REFUSE_THREAD", [THREAD], few, {}),
+            # (long enough for several writes; and short, some bytes at a time)
+            ("REFUSE_WRITE", [WRITE], many, {}), ("REFUSE_WRITE", [WRITE], ["storm", "--senders", "2", "--packets", "1"], {"REFUSE_STEP": str(STEP)})]
+    for variable, says, words, more in rows:
+        for on in ONCE_AND_ON:
+            for place, (status, output, errors), is_refused in in_turn(library, met, words, b"", variable, on, REFUSE_ALONE="1", **more):
+                is_done = status == 0 and not errors and output.endswith(b"\n")
+                # (a list that grows asks once more, for less)
+                may_do_without = not is_refused or variable == "REFUSE_MEMORY" and not on
+                check(status == 1 and errors in says and is_refused or is_done and may_do_without, "storm", variable, place, on, status, errors[:100])
+                check(is_clean(output), "storm", variable, place, on, "wrote no beginning of a history")
+            check(place > 1, "storm:", variable, "met nothing")
+            check(place == 8 or variable != "REFUSE_THREAD", "storm: seven threads are started, not", place - 1)
+            print(f"{NAME}: storm: {variable} at {place - 1} places{' and all after them' if on else ''}")
+
+
+def main():
+    with tempfile.TemporaryDirectory() as room:
+        library = refusing(room, "memory, write or start of a thread")
+        if library:
+            storm_refused(library, f"{room}/met")
+    finish()
+
+
+main()

@@ -5,6 +5,7 @@ from running import run
 
 # Of the requests one alone is refused, or all from there on.
 ONCE_AND_ON = [{}, {"REFUSE_ON": "1"}]
+# How many bytes a read or a write moves at the most, where each is to move few.
 STEP = 7
 
 

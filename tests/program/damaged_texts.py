@@ -12,7 +12,6 @@ usage: tests/program/damaged_texts.py [PROGRAM [every [K N]]]      PROGRAM: crat
 needs: program, an early start"""
 import os
 import random
-import signal
 import sys
 import tempfile
 from concurrent.futures import ProcessPoolExecutor
@@ -45,31 +44,7 @@ def wanted(name, text):
     return status, output.encode("latin-1"), errors.encode("latin-1")
 
 
-class Streams:
-    """The standard streams of one program after another, as files in memory: a pipe each costs twice the time."""
-
-    def __init__(self):
-        self.files = [os.memfd_create(name) for name in ("input", "output", "errors")]
-
-    def ran(self, words, text):
-        """The status, the output and the error stream that these words end with of this text."""
-        for file in self.files:
-            os.ftruncate(file, 0)
-            os.lseek(file, 0, os.SEEK_SET)
-        os.pwrite(self.files[0], text, 0)
-        places = [(os.POSIX_SPAWN_DUP2, file, number) for number, file in enumerate(self.files)]
-        child = os.posix_spawn(words[0], words, os.environ, file_actions=places)
-        signal.alarm(60)
-        status = os.waitstatus_to_exitcode(os.waitpid(child, 0)[1])
-        signal.alarm(0)
-        return status, *(os.pread(file, os.fstat(file).st_size, 0) for file in self.files[1:])
-
-    def close(self):
-        for file in self.files:
-            os.close(file)
-
-
-def audits_differing(program, streams, texts):
+def audits_differing(program, texts):
     """What differs when all these texts are audited as files, by one call for those that have to end with the same status."""
     found, by_status = [], {}
     for what, text in texts:
@@ -81,7 +56,7 @@ def audits_differing(program, streams, texts):
             for name, (_, text, _) in zip(names, its):
                 with open(name, "wb") as file:
                     file.write(text)
-            got = streams.ran([program, "audit", *names], b"")
+            got = run(["audit", *names], b"", program)
         output = b"".join(f"{name}: ".encode() + out for name, (_, _, (out, _)) in zip(names, its) if out)
         errors = b"".join(f"pie: {name}: ".encode() + error.removeprefix(b"pie: ") for name, (_, _, (_, error)) in zip(names, its) if error)
         if got != (status, output, errors):
@@ -98,15 +73,13 @@ def one_more(place, names):
 
 def differing(program, texts):
     """Of these texts, each with what was done to it and its commands, those of which a command ends with something else."""
-    streams = Streams()
-    found = audits_differing(program, streams, [(what, text) for what, text, names in texts if "audit" in names])
+    found = audits_differing(program, [(what, text) for what, text, names in texts if "audit" in names])
     for what, text, names in texts:
         for name in names:
             if name != "audit":
-                got, want = streams.ran([program, *name.split()], text), wanted(name, text)
+                got, want = run(name.split(), text, program), wanted(name, text)
                 if got != want:
                     found.append(f"{name}: {what}: {got} and not {want}")
-    streams.close()
     return found
 
 

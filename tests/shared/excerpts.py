@@ -3,7 +3,7 @@ import subprocess
 import tempfile
 from pathlib import Path
 
-from running import PROGRAM
+from running import PROGRAM, run
 
 
 def audited(texts, *words):
@@ -20,8 +20,8 @@ def audited(texts, *words):
 
 def explained(text, *words):
     """The status of `pie explain` of a text as CSV, and the records that it writes, of which the first is the header."""
-    ran = subprocess.run([PROGRAM, "explain", *words, "--csv"], input=text, capture_output=True, text=True, check=False)
-    return ran.returncode, [line.split(",") for line in ran.stdout.splitlines()]
+    status, output, _ = run(["explain", *words, "--csv"], text.encode())
+    return status, [line.split(",") for line in output.decode().splitlines()]
 
 
 def rows_within(whole, before, last, is_known=True):

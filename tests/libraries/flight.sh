@@ -22,7 +22,7 @@ text = open("include/pie_flight.h").read()
 assert old in text, old
 open(to, "w").write(text.replace(old, new, 1))
 END
-    "$cc" -std=c11 -O2 -I"$work" -o "$work/wrong" "tests/libraries/${4:-flight}.c" "$lib" -pthread || exit 1
+    "$cc" -std=c11 -O0 -I"$work" -o "$work/wrong" "tests/libraries/${4:-flight}.c" "$lib" -pthread || exit 1
     if (cd "$work" && timeout 120 ./wrong 1 "${5:-50000}") > "$work/said" 2>&1; then
         echo "$script: not found: $1"
         failed=1

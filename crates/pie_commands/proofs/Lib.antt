@@ -2,6 +2,7 @@ mod AuditFacts
 mod CutFacts
 mod EndFacts
 mod ExamplesChoice
+mod ExamplesJoined
 mod ExplainFacts
 mod JointFacts
 mod MomentFacts

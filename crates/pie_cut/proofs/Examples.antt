@@ -51,6 +51,10 @@ use Rattle.pie_cut.specs.Segment.{every_answer, segment}
 use Rattle.pie_cut.specs.Span.{is_past, is_reached}
 use Rattle.pie_cut.specs.Told.{whole_answer}
 use Rattle.pie_event.specs.declared.setter.Setter.TheVariants as setter
+use Rattle.pie_book.specs.Core.{CoreView}
+use Rattle.pie_cut.specs.declared.joined.Joint.TheVariants.{Follows, Gap, Unlike}
+use Rattle.pie_cut.specs.Joined.{EndView, JoinsBy}
+use Rattle.std.proofs.Common.{ap, arith}
 
 -- ---- spans
 
@@ -179,3 +183,23 @@ times : (text_of_cut (numbers 1 1) timed ≡ codes "arrive,1,30,7,1500,ect0,0,en
     × (clock_of_cut (numbers 1 1) (history (codes "empty")) ≡ Some None)
 unfolding worked
 times = (refl, refl, refl, refl, refl, refl, refl, refl, refl)
+
+-- ---- joints
+
+-- what a text ends with after so many events
+abbrev ended : Opening → CoreView → ℕ → EndView
+ended opening core count = record { opening = opening; core = record core { count = count } }
+
+-- after an end at event 100: what begins with exactly that follows; after event 103 three events are missing, after event 99 one is in both; with
+-- the same number and another limit of packets it stands on something else
+joints : (opening : Opening) (core : CoreView)
+    → JoinsBy (ended opening core 100) opening (record core { count = 100 }) Follows
+    × JoinsBy (ended opening core 100) opening (record core { count = 103 }) (Gap 100 104)
+    × JoinsBy (ended opening core 100) opening (record core { count = 99 }) (Gap 100 100)
+    × JoinsBy (ended opening (record core { packets = 7 }) 100) opening (record core { packets = 8; count = 100 }) (Unlike 100)
+joints opening core = (
+  (refl, refl),
+  (refl, refl, λ e. omega (arith, e)),
+  (refl, refl, λ e. omega (arith, e)),
+  (refl, refl, λ opening core. omega (arith, ap (λ c. c.packets) core)),
+)

@@ -1,33 +1,22 @@
 //! Why no excerpt was written, or none to its end.
 
 use pie_record::TraceFault;
-use std::fmt;
 use thiserror::Error;
 
 /// Why no excerpt was written, or none to its end (this project's own).
 #[derive(Clone, Copy, Debug, PartialEq, Eq, Error)]
 pub enum CutFault {
     /// The text has this fault, or a device failed, or there was no memory.
+    #[error("{0}")]
     Trace(TraceFault),
     /// The event with this number is not what the rules give there, and it is not after the last event that is wanted. Where the excerpt had
     /// begun, this event is the last that was written.
+    #[error("event {event} is not what the rules give there, so what comes after it is not cut")]
     Differs {
         /// The number of the event, counted from 1.
         event: u64,
     },
     /// No event of the text has a number and an effective moment that are wanted.
+    #[error("no event of the text is wanted")]
     NoEvents,
-}
-
-impl fmt::Display for CutFault {
-    fn fmt<W: fmt::Write>(&self, f: &mut fmt::Formatter<W>) -> fmt::Result {
-        match *self {
-            CutFault::Trace(why) => write!(f, "{why}"),
-            CutFault::Differs { event } => write!(
-                f,
-                "event {event} is not what the rules give there, so what comes after it is not cut"
-            ),
-            CutFault::NoEvents => f.write_str("no event of the text is wanted"),
-        }
-    }
 }

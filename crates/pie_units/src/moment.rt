@@ -4,7 +4,6 @@ ghost use Rattle.pie_units.specs.Moment.{moment_fault, moment_in};
 
 use crate::unit::Kind;
 use crate::written::{UnitFault, read};
-use std::fmt;
 use std::str::FromStr;
 use thiserror::Error;
 
@@ -12,30 +11,14 @@ use thiserror::Error;
 #[derive(Clone, Copy, Debug, PartialEq, Eq, Error)]
 pub enum MomentFault {
     /// It is written otherwise.
+    #[error("a moment is whole nanoseconds, or a number with ns, us, ms or s, such as 1500000, 1.5ms or 2s")]
     NotAMoment,
     /// It isn't a whole number of nanoseconds, or has more than 18 decimals.
+    #[error("a moment is no more precise than a nanosecond")]
     TooFine,
     /// It is above 2^60 - 1 nanoseconds.
+    #[error("a moment is at most 1152921504606846975 ns")]
     TooLate,
-}
-
-impl MomentFault {
-    /// Why, in words.
-    pub(crate) fn text(self) -> &'static str {
-        match self {
-            MomentFault::NotAMoment => {
-                "a moment is whole nanoseconds, or a number with ns, us, ms or s, such as 1500000, 1.5ms or 2s"
-            }
-            MomentFault::TooFine => "a moment is no more precise than a nanosecond",
-            MomentFault::TooLate => "a moment is at most 1152921504606846975 ns",
-        }
-    }
-}
-
-impl fmt::Display for MomentFault {
-    fn fmt<W: fmt::Write>(&self, f: &mut fmt::Formatter<W>) -> fmt::Result {
-        f.write_str(self.text())
-    }
 }
 
 /// A moment, or a length of time, in nanoseconds: at most 2^60 - 1.

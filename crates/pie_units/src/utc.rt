@@ -25,27 +25,11 @@ const ZEROS: &[u8] = b"000000000";
 #[derive(Clone, Copy, Debug, PartialEq, Eq, Error)]
 pub enum UtcFault {
     /// It is written otherwise, or there is no such date or hour.
+    #[error("a time of day is written in UTC as 2026-11-24T20:00:00Z, with at most nine decimals of a second")]
     NotUtc,
     /// It is before 1970, or above 2^64 - 1 nanoseconds after its beginning.
+    #[error("a time of day is from 1970 to 2554-07-21T23:34:33.709551615Z")]
     OutOfRange,
-}
-
-impl UtcFault {
-    /// Why, in words.
-    pub(crate) fn text(self) -> &'static str {
-        match self {
-            UtcFault::NotUtc => {
-                "a time of day is written in UTC as 2026-11-24T20:00:00Z, with at most nine decimals of a second"
-            }
-            UtcFault::OutOfRange => "a time of day is from 1970 to 2554-07-21T23:34:33.709551615Z",
-        }
-    }
-}
-
-impl fmt::Display for UtcFault {
-    fn fmt<W: fmt::Write>(&self, f: &mut fmt::Formatter<W>) -> fmt::Result {
-        f.write_str(self.text())
-    }
 }
 
 /// A time of day: so many nanoseconds after 1970-01-01T00:00:00Z, leap seconds not counted. It is written with nine decimals of a second.

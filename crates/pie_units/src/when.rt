@@ -4,7 +4,6 @@ ghost use Rattle.pie_units.specs.When.{is_date, when_in};
 
 use crate::moment::{MomentFault, moment_in};
 use crate::utc::{UtcFault, utc_in};
-use std::fmt;
 use std::str::FromStr;
 use thiserror::Error;
 
@@ -21,25 +20,11 @@ pub enum When {
 #[derive(Clone, Copy, Debug, PartialEq, Eq, Error)]
 pub enum WhenFault {
     /// It is no moment.
+    #[error("{0}")]
     Moment(MomentFault),
     /// It is no time of day.
+    #[error("{0}")]
     Utc(UtcFault),
-}
-
-impl WhenFault {
-    /// Why, in words.
-    fn text(self) -> &'static str {
-        match self {
-            WhenFault::Moment(why) => why.text(),
-            WhenFault::Utc(why) => why.text(),
-        }
-    }
-}
-
-impl fmt::Display for WhenFault {
-    fn fmt<W: fmt::Write>(&self, f: &mut fmt::Formatter<W>) -> fmt::Result {
-        f.write_str(self.text())
-    }
 }
 
 /// Whether a text begins as a date does: its fifth byte is `-`, which no moment has.

@@ -238,12 +238,12 @@ def compare_limits(header):
 
 
 def refusals_in(source):
-    """Of each call the codes that it refuses by, in the order of its body: pie_arrive's stand in `arrive`, an opening's in `open`."""
+    """Of each call the codes that it refuses by, in the order of its body: pie_arrive's stand in `arrive`, an opening's in `refusal`."""
     codes = {}
     for name, body in re.findall(r"^(?:pub extern \"C\" |pub\(crate\) )?fn (\w+)\(.*?^\{\n(.*?)^\}", source.text, re.S | re.M):
         codes[name] = ["PIE_" + code for code in dict.fromkeys(re.findall(r"\b(BAD_\w+|TOO_SOON|NOT_WAITED)\b", body))]
     orders = {name: codes[name] or codes.get(name[4:], []) for name in codes if name.startswith("pie_")}
-    opening = codes.get("open", [])
+    opening = codes.get("refusal", [])
     apart = {"pie_depart": codes.get("depart", []), "pie_depart_waited": codes.get("depart_stamped", [])}
     return {**orders, **apart, "pie_open_with": opening,
             "pie_open": [code for code in opening if code not in ("PIE_BAD_PROFILE", "PIE_BAD_CHOICES")]}

@@ -1,14 +1,13 @@
 //! What an event costs, decided alone and decided and recorded, on a link with 8 per cent more arriving than leaving.
 
-use crate::report::{checksum, nanos};
+use crate::places::open;
+use crate::report::{Report, Word};
 use crate::words::Words;
-use pie_book::{Answer, Book, Choices, Command, Core, Limits, Mode, Profile, Recorded};
-use pie_params::{Elements, Params};
+use pie_book::{Answer, Book, Command, Core, Limits, Mode, Recorded};
+use pie_params::Params;
 use pie_queue::{Ecn, Packet};
 use std::alloc::Global;
-use std::io;
 use std::rt::Clock;
-use std::time::Instant;
 
 /// How many events a measurement makes: some 230 seconds of the link's time.
 const EVENTS: u64 = 4_000_000;
@@ -137,55 +136,66 @@ fn record(alloc: Global, book: &mut Book) -> u64 {
 }
 
 /// Prints the time of one event that is decided only (`Core::step`), and the mean wait of a packet.
-fn time_core<R: Clock + Print>(rt: &R, core: &mut Core) -> io::Result<()> {
-    let start = Instant::now(rt)?;
+fn time_core<R: Clock + Print>(report: &mut Report<R>, core: &mut Core) {
+    let start = report.start();
     let sum = decide(core);
-    nanos(rt, "book_decided", start.elapsed(rt)?, EVENTS)?;
-    checksum(rt, "book_decided", sum)?;
+    report.nanos("book_decided", start, EVENTS);
+    report.checksum("book_decided", sum);
     let stats = core.stats();
     let wait = stats.waited / u128::from(stats.left).max(1);
-    println!(rt; "book_mean_wait {wait} ns")?;
-    println!(rt; "book_early {} packets", stats.early)
+    let early = u128::from(stats.early);
+    report.line(&[
+        Word::Text("book_mean_wait "),
+        Word::Number(wait),
+        Word::Text(" ns"),
+    ]);
+    report.line(&[
+        Word::Text("book_early "),
+        Word::Number(early),
+        Word::Text(" packets"),
+    ]);
 }
 
 /// Prints the time of one event that is decided and recorded (`Book::apply`).
 fn time_book<R: Clock + Print>(
-    rt: &R,
+    report: &mut Report<R>,
     alloc: Global,
-    name: &str,
+    name: &'static str,
     book: &mut Book,
-) -> io::Result<()> {
-    let start = Instant::now(rt)?;
+) {
+    let start = report.start();
     let sum = record(alloc, book);
-    nanos(rt, name, start.elapsed(rt)?, EVENTS)?;
-    checksum(rt, name, sum)
+    report.nanos(name, start, EVENTS);
+    report.checksum(name, sum);
 }
 
-fn measure_core<R: Clock + Print>(rt: &R, alloc: Global) -> io::Result<()> {
-    match Core::open(alloc, limits(), Params::default_profile(), 0) {
-        Ok(mut core) => time_core(rt, &mut core),
-        Err(_) => Ok(()),
+fn measure_core<R: Clock + Print>(report: &mut Report<R>, alloc: Global) {
+    if let Ok(mut core) = Core::open(alloc, limits(), Params::default_profile(), 0) {
+        time_core(report, &mut core);
     }
 }
 
-fn measure_book<R: Clock + Print>(rt: &R, alloc: Global, name: &str, mode: Mode) -> io::Result<()> {
-    let choices = Choices {
-        mode,
-        profile: Profile::One,
-        elements: Elements::usual(),
-    };
-    match Book::open_with(alloc, limits(), Params::default_profile(), 0, choices) {
-        Ok(mut book) => time_book(rt, alloc, name, &mut book),
-        Err(_) => Ok(()),
+fn measure_book<R: Clock + Print>(
+    report: &mut Report<R>,
+    alloc: Global,
+    name: &'static str,
+    mode: Mode,
+) {
+    if let Some(mut book) = open(alloc, limits(), mode) {
+        time_book(report, alloc, name, &mut book);
     }
 }
 
 /// Prints the time of one event decided only, decided and recorded in a bounded book that is folded whenever its tail is
 /// full, and in a rolling one; and the bytes of an event that is handed out.
-pub fn measure<R: Clock + Print>(rt: &R, alloc: Global) -> io::Result<()> {
-    measure_core(rt, alloc)?;
-    measure_book(rt, alloc, "book_recorded_bounded", Mode::Bounded)?;
-    measure_book(rt, alloc, "book_recorded_rolling", Mode::Rolling)?;
-    let event = size_of::<Recorded>();
-    println!(rt; "book_event {event} bytes")
+pub fn measure<R: Clock + Print>(report: &mut Report<R>, alloc: Global) {
+    measure_core(report, alloc);
+    measure_book(report, alloc, "book_recorded_bounded", Mode::Bounded);
+    measure_book(report, alloc, "book_recorded_rolling", Mode::Rolling);
+    let event = size_of::<Recorded>() as u128;
+    report.line(&[
+        Word::Text("book_event "),
+        Word::Number(event),
+        Word::Text(" bytes"),
+    ]);
 }

@@ -7,18 +7,17 @@
 
 use crate::at_once::{Work, toil_at_once};
 use crate::places::{AtLink, AtMutex, Job, link_jobs, mutex_jobs, open_book, open_link};
-use crate::report::{line, since};
+use crate::report::{Report, Word};
 use crossbeam_utils::Backoff;
 use pie_book::{Answer, Book, Command, Refusal};
 use pie_link::{Arrival, Told};
 use pie_queue::{Ecn, Packet};
 use std::alloc::{AllocError, Global};
-use std::io;
 use std::rt::Clock;
 use std::sync::atomic::{AtomicU64, Ordering};
 use std::sync::{Mutex, Wait};
 use std::thread::Threads;
-use std::time::{Duration, Instant};
+use std::time::Instant;
 
 /// How many packets a burst has.
 const BURSTS: [u64; 4] = [1, 8, 32, 128];
@@ -152,11 +151,26 @@ impl Tally {
     }
 }
 
+/// A burst of packets, and room for what they are answered.
+#[derive(Drop)]
+struct Room {
+    arrivals: Vec<Arrival>,
+    answers: Answers,
+}
+
+fn room_for(alloc: Global, burst: u64) -> Result<Room, AllocError> {
+    let arrivals = burst_of(alloc, burst)?;
+    match Vec::with_capacity(alloc, burst as usize) {
+        Ok(answers) => Ok(Room { arrivals, answers }),
+        Err(why) => Err(why),
+    }
+}
+
 /// A burst of so many packets of 64 bytes.
 fn burst_of(alloc: Global, burst: u64) -> Result<Vec<Arrival>, AllocError> {
-    let mut arrivals = Vec::new(alloc);
+    let mut arrivals = Vec::with_capacity(alloc, burst as usize)?;
     for tag in 0..burst {
-        arrivals.push(Arrival {
+        let _ = arrivals.push(Arrival {
             moment: 0,
             packet: Packet {
                 tag,
@@ -164,7 +178,7 @@ fn burst_of(alloc: Global, burst: u64) -> Result<Vec<Arrival>, AllocError> {
                 ecn: Ecn::NotEct,
             },
             word: 0,
-        })?;
+        });
     }
     Ok(arrivals)
 }
@@ -234,19 +248,15 @@ impl Bursts for AtLink<'_> {
 }
 
 /// One thread that has its place alone: a burst of packets, and then of departures, in turn.
-fn work_alone<R: Wait, P: Bursts>(
-    rt: &R,
-    place: &mut P,
-    arrivals: &mut [Arrival],
-    answers: &mut Answers,
-) -> Tally {
+fn work_alone<R: Wait, P: Bursts>(rt: &R, place: &mut P, room: &mut Room) -> Tally {
+    let Room { arrivals, answers } = room;
     let mut tally = Tally::new();
     let burst = arrivals.len();
     for turn in 0..PACKETS / (burst as u64).max(1) {
         let moment = turn.wrapping_mul(BETWEEN);
-        come_at(arrivals, moment);
+        come_at(arrivals.as_mut_slice(), moment);
         answers.clear();
-        place.hand_in(rt, arrivals, answers);
+        place.hand_in(rt, arrivals.as_slice(), answers);
         tally.add_all(answers);
         answers.clear();
         place.send(rt, moment, burst, answers);
@@ -255,14 +265,14 @@ fn work_alone<R: Wait, P: Bursts>(
     tally
 }
 
-/// Bursts of packets of one thread among several.
+/// Bursts of packets of one thread among several; the number is how often an event was of another one.
 fn enqueue<R: Wait, P: Bursts>(
     rt: &R,
     course: &Course,
     place: &mut P,
     arrivals: &mut [Arrival],
     answers: &mut Answers,
-) -> Tally {
+) -> u64 {
     let mut tally = Tally::new();
     let bursts = PACKETS / (arrivals.len() as u64).max(1);
     for turn in 0..bursts {
@@ -276,20 +286,20 @@ fn enqueue<R: Wait, P: Bursts>(
         course.queued.fetch_add(queued, Ordering::SeqCst);
     }
     course.ended.fetch_add(1, Ordering::SeqCst);
-    tally
+    tally.changes
 }
 
-/// Bursts of departures of one thread among several.
+/// Bursts of departures of one thread among several; the number is as above.
 fn depart<R: Wait, P: Bursts>(
     rt: &R,
     course: &Course,
     place: &mut P,
     answers: &mut Answers,
-) -> Tally {
+) -> u64 {
     let mut tally = Tally::new();
     for turn in 0..LOOKS {
         if !course.has_more() {
-            return tally;
+            break;
         }
         answers.clear();
         place.send(
@@ -303,168 +313,201 @@ fn depart<R: Wait, P: Bursts>(
         let left = tally.left.wrapping_sub(before);
         course.left.fetch_add(left, Ordering::SeqCst);
     }
-    tally
+    tally.changes
+}
+
+/// The job of one thread.
+fn work<R: Wait, P: Bursts>(rt: &R, course: &Course, job: &mut Job<P>, room: &mut Room) -> u64 {
+    let Room { arrivals, answers } = room;
+    if job.sends {
+        depart(rt, course, &mut job.place, answers)
+    } else {
+        enqueue(rt, course, &mut job.place, arrivals.as_mut_slice(), answers)
+    }
 }
 
 /// What is counted is how often an event was of another thread.
 impl<P: Bursts + Drop> Work<Course> for Job<P> {
-    fn toil<R: Wait>(self, rt: &R, what: &Course) -> u64 {
-        let Job { mut place, sends } = self;
-        let (Ok(mut arrivals), Ok(mut answers)) = (
-            burst_of(what.alloc, what.burst),
-            Vec::with_capacity(what.alloc, what.burst as usize),
-        ) else {
-            return 0;
-        };
-        let tally = if sends {
-            depart(rt, what, &mut place, &mut answers)
-        } else {
-            enqueue(rt, what, &mut place, arrivals.as_mut_slice(), &mut answers)
-        };
-        tally.changes
+    fn toil<R: Wait>(mut self, rt: &R, what: &Course) -> u64 {
+        match room_for(what.alloc, what.burst) {
+            Ok(mut room) => work(rt, what, &mut self, &mut room),
+            Err(_) => 0,
+        }
     }
 }
 
-/// Prints what was made in this time, of so many packets.
-fn tell(
-    rt: &impl Print,
-    name: &str,
+/// A measurement: so many threads, with bursts of so many packets, at the place of this name.
+#[derive(Clone, Copy)]
+struct Measurement {
+    name: &'static str,
     burst: u64,
     threads: u16,
-    spent: Duration,
-    tally: Tally,
-) -> io::Result<()> {
-    let packets = u64::from(threads.max(2))
-        .saturating_sub(1)
-        .saturating_mul(PACKETS);
-    let events = tally.queued.saturating_add(tally.left);
-    let rate = u128::from(events) * 1_000_000_000 / spent.as_nanos().max(1);
-    let queued = u128::from(tally.queued.min(tally.left)) * 1000 / u128::from(packets).max(1);
-    let changes = u128::from(tally.changes);
-    line(rt, name, burst, threads, "", rate, "events/s")?;
-    line(rt, name, burst, threads, "_left", queued, "per_mille")?;
-    line(rt, name, burst, threads, "_changes", changes, "changes")
+}
+
+impl Measurement {
+    /// Prints one of its numbers.
+    fn line<R: Clock + Print>(
+        &self,
+        report: &mut Report<R>,
+        what: &'static str,
+        number: u128,
+        unit: &'static str,
+    ) {
+        report.line(&[
+            Word::Text(self.name),
+            Word::Text("_"),
+            Word::Number(u128::from(self.burst)),
+            Word::Text("_threads_"),
+            Word::Number(u128::from(self.threads)),
+            Word::Text(what),
+            Word::Text(" "),
+            Word::Number(number),
+            Word::Text(" "),
+            Word::Text(unit),
+        ]);
+    }
+
+    /// Prints what was made since then, of so many packets.
+    fn tell<R: Clock + Print>(&self, report: &mut Report<R>, start: Option<Instant>, tally: Tally) {
+        let spent = report.since(start).max(1);
+        let packets = u64::from(self.threads.max(2))
+            .saturating_sub(1)
+            .saturating_mul(PACKETS);
+        let events = tally.queued.saturating_add(tally.left);
+        let rate = u128::from(events) * 1_000_000_000 / spent;
+        let queued = u128::from(tally.queued.min(tally.left)) * 1000 / u128::from(packets).max(1);
+        self.line(report, "", rate, "events/s");
+        self.line(report, "_left", queued, "per_mille");
+        self.line(report, "_changes", u128::from(tally.changes), "changes");
+    }
 }
 
 /// Bursts of one thread.
 fn time_alone<R: Wait + Clock + Print, P: Bursts>(
-    rt: &R,
+    report: &mut Report<R>,
     alloc: Global,
-    name: &str,
-    burst: u64,
+    what: Measurement,
     place: &mut P,
-) -> io::Result<()> {
-    let mut arrivals = burst_of(alloc, burst)?;
-    let mut answers = Vec::with_capacity(alloc, burst as usize)?;
-    let start = Instant::now(rt);
-    let tally = work_alone(rt, place, arrivals.as_mut_slice(), &mut answers);
-    match since(rt, start) {
-        Ok(spent) => tell(rt, name, burst, 1, spent, tally),
-        Err(why) => Err(why),
+) {
+    match room_for(alloc, what.burst) {
+        Ok(mut room) => {
+            let start = report.start();
+            let tally = work_alone(report.rt, place, &mut room);
+            what.tell(report, start, tally);
+        }
+        Err(why) => report.lacks(why),
     }
 }
 
 /// Bursts of several threads, each of which has one of the jobs.
 fn time_at_once<R: Threads + Wait + Clock + Print + Sync, P: Bursts + Send + Drop>(
-    rt: &R,
+    report: &mut Report<R>,
     alloc: Global,
-    name: &str,
-    burst: u64,
-    threads: u16,
+    what: Measurement,
     jobs: Result<Vec<Job<P>>, AllocError>,
-) -> io::Result<()> {
-    let jobs = jobs?;
-    let enqueuers = (jobs.len() as u64).saturating_sub(1);
-    let course = Course::new(alloc, burst, enqueuers);
-    let start = Instant::now(rt);
-    let changes = toil_at_once(rt, jobs, &course);
-    let spent = since(rt, start)?;
-    let tally = Tally {
-        queued: course.queued.load(Ordering::SeqCst),
-        left: course.left.load(Ordering::SeqCst),
-        changes,
-        last: 0,
+) {
+    match jobs {
+        Ok(jobs) => {
+            let course = Course::new(alloc, what.burst, (jobs.len() as u64).saturating_sub(1));
+            let start = report.start();
+            let changes = toil_at_once(report.rt, jobs, &course);
+            let tally = Tally {
+                queued: course.queued.load(Ordering::SeqCst),
+                left: course.left.load(Ordering::SeqCst),
+                changes,
+                last: 0,
+            };
+            what.tell(report, start, tally);
+        }
+        Err(why) => report.lacks(why),
+    }
+}
+
+fn alone<R: Wait + Clock + Print>(report: &mut Report<R>, alloc: Global, burst: u64) {
+    let what = Measurement {
+        name: "burst_alone",
+        burst,
+        threads: 1,
     };
-    tell(rt, name, burst, threads, spent, tally)
-}
-
-// What is measured has book, link and mutex by reference: a `?` that lets one go takes long to prove.
-fn alone<R: Wait + Clock + Print>(rt: &R, alloc: Global, burst: u64) -> io::Result<()> {
-    match open_book(alloc, ROOM) {
-        Some(mut book) => time_alone(rt, alloc, "burst_alone", burst, &mut book),
-        None => Ok(()),
+    if let Some(mut book) = open_book(alloc, ROOM) {
+        time_alone(report, alloc, what, &mut book);
     }
 }
 
-fn alone_at_mutex<R: Wait + Clock + Print>(rt: &R, alloc: Global, burst: u64) -> io::Result<()> {
-    match open_book(alloc, ROOM) {
-        Some(book) => {
-            let mutex = Mutex::new(book);
-            let mut place = AtMutex { mutex: &mutex };
-            time_alone(rt, alloc, "burst_mutex", burst, &mut place)
-        }
-        None => Ok(()),
-    }
-}
-
-fn alone_at_link<R: Wait + Clock + Print>(rt: &R, alloc: Global, burst: u64) -> io::Result<()> {
-    match open_link(alloc, ROOM, 1) {
-        Some((link, caller)) => {
-            let link = &link;
-            let mut place = AtLink { link, caller };
-            time_alone(rt, alloc, "burst_link", burst, &mut place)
-        }
-        None => Ok(()),
-    }
-}
-
-fn at_link<R: Threads + Wait + Clock + Print + Sync>(
-    rt: &R,
-    alloc: Global,
-    threads: u16,
-    burst: u64,
-) -> io::Result<()> {
-    match open_link(alloc, ROOM, 10) {
-        Some((link, caller)) => {
-            let jobs = link_jobs(alloc, &link, caller, threads);
-            time_at_once(rt, alloc, "burst_link", burst, threads, jobs)
-        }
-        None => Ok(()),
+fn alone_at_mutex<R: Wait + Clock + Print>(report: &mut Report<R>, alloc: Global, burst: u64) {
+    let what = Measurement {
+        name: "burst_mutex",
+        burst,
+        threads: 1,
+    };
+    if let Some(book) = open_book(alloc, ROOM) {
+        let mutex = Mutex::new(book);
+        time_alone(report, alloc, what, &mut AtMutex { mutex: &mutex });
     }
 }
 
 fn at_mutex<R: Threads + Wait + Clock + Print + Sync>(
-    rt: &R,
+    report: &mut Report<R>,
     alloc: Global,
     threads: u16,
     burst: u64,
-) -> io::Result<()> {
-    match open_book(alloc, ROOM) {
-        Some(book) => {
-            let mutex = Mutex::new(book);
-            let jobs = mutex_jobs(alloc, &mutex, threads);
-            time_at_once(rt, alloc, "burst_mutex", burst, threads, jobs)
-        }
-        None => Ok(()),
+) {
+    let what = Measurement {
+        name: "burst_mutex",
+        burst,
+        threads,
+    };
+    if let Some(book) = open_book(alloc, ROOM) {
+        let mutex = Mutex::new(book);
+        let jobs = mutex_jobs(alloc, &mutex, threads);
+        time_at_once(report, alloc, what, jobs);
+    }
+}
+
+fn alone_at_link<R: Wait + Clock + Print>(report: &mut Report<R>, alloc: Global, burst: u64) {
+    let what = Measurement {
+        name: "burst_link",
+        burst,
+        threads: 1,
+    };
+    if let Some((link, caller)) = open_link(alloc, ROOM, 1) {
+        let link = &link;
+        time_alone(report, alloc, what, &mut AtLink { link, caller });
+    }
+}
+
+fn at_link<R: Threads + Wait + Clock + Print + Sync>(
+    report: &mut Report<R>,
+    alloc: Global,
+    threads: u16,
+    burst: u64,
+) {
+    let what = Measurement {
+        name: "burst_link",
+        burst,
+        threads,
+    };
+    if let Some((link, caller)) = open_link(alloc, ROOM, 10) {
+        let jobs = link_jobs(alloc, &link, caller, threads);
+        time_at_once(report, alloc, what, jobs);
     }
 }
 
 /// Prints how many events bursts of 1, 8, 32 and 128 packets make in a second by so many threads, of which one sends, at the link and at the
 /// mutex; by one thread also at a book that it has alone.
 pub fn measure<R: Threads + Wait + Clock + Print + Sync>(
-    rt: &R,
+    report: &mut Report<R>,
     alloc: Global,
     threads: u16,
-) -> io::Result<()> {
+) {
     for burst in BURSTS {
         if threads == 1 {
-            alone(rt, alloc, burst)?;
-            alone_at_mutex(rt, alloc, burst)?;
-            alone_at_link(rt, alloc, burst)?;
+            alone(report, alloc, burst);
+            alone_at_mutex(report, alloc, burst);
+            alone_at_link(report, alloc, burst);
         } else {
-            at_link(rt, alloc, threads, burst)?;
-            at_mutex(rt, alloc, threads, burst)?;
+            at_link(report, alloc, threads, burst);
+            at_mutex(report, alloc, threads, burst);
         }
     }
-    Ok(())
 }

@@ -1,15 +1,13 @@
 //! What an update of the probability costs.
 ghost use Rattle.std.specs.Prelude.{◌<◌, ◌≤◌, ◌^◌};
 
-use crate::report::{CALLS, INPUTS, ROUNDS, checksum, nanos};
+use crate::report::{CALLS, INPUTS, ROUNDS, Report};
 use crate::words::Words;
 use pie_control::{Control, delay, next_probability};
 use pie_fixed::{Nanos, ONE, Prob};
 use pie_params::{Params, Step};
 use std::alloc::{AllocError, Global};
-use std::io;
 use std::rt::Clock;
-use std::time::Instant;
 
 /// What an update is given: the delay and the moment, the state before it, and the queue from which a delay is computed.
 #[derive(Clone, Copy)]
@@ -35,14 +33,14 @@ fn inputs(alloc: Global) -> Result<Vec<Input>, AllocError> {
         let prob = words.below(ONE) >> shift;
         let moment = u64::from(index) * 15_000_000;
         if let (Some(prob), Some(moment)) = (Prob::from_units(prob), Nanos::from_units(moment)) {
-            updates.push(Input {
+            let _ = updates.push(Input {
                 delay: words.below(40_000_000),
                 old: words.below(40_000_000),
                 prob,
                 moment,
                 bytes: words.below(262_144),
                 average: 1 + words.below(100_000_000),
-            })?;
+            });
         }
     }
     Ok(updates)
@@ -91,25 +89,27 @@ fn compute_delays(threshold: u64, updates: &[Input]) -> u64
 }
 
 /// Prints the time of an update, of the next probability alone and of a delay.
-pub fn measure<R: Clock + Print>(rt: &R, alloc: Global) -> io::Result<()> {
-    let updates = inputs(alloc)?;
-    time_all(rt, updates.as_slice())
+pub fn measure<R: Clock + Print>(report: &mut Report<R>, alloc: Global) {
+    match inputs(alloc) {
+        Ok(updates) => time_all(report, updates.as_slice()),
+        Err(why) => report.lacks(why),
+    }
 }
 
-fn time_all<R: Clock + Print>(rt: &R, updates: &[Input]) -> io::Result<()> {
+fn time_all<R: Clock + Print>(report: &mut Report<R>, updates: &[Input]) {
     let params = Params::default_profile();
     let Some(opening) = Nanos::from_units(0) else {
-        return Ok(());
+        return;
     };
-    let start = Instant::now(rt)?;
+    let start = report.start();
     let updated = make_updates(&params, opening, updates);
-    nanos(rt, "control_update", start.elapsed(rt)?, CALLS)?;
-    let start = Instant::now(rt)?;
+    report.nanos("control_update", start, CALLS);
+    let start = report.start();
     let probabilities = compute_probabilities(&params, updates);
-    nanos(rt, "control_next_probability", start.elapsed(rt)?, CALLS)?;
-    let start = Instant::now(rt)?;
+    report.nanos("control_next_probability", start, CALLS);
+    let start = report.start();
     let delays = compute_delays(params.dq_threshold(), updates);
-    nanos(rt, "control_delay", start.elapsed(rt)?, CALLS)?;
+    report.nanos("control_delay", start, CALLS);
     let sum = updated.wrapping_add(probabilities).wrapping_add(delays);
-    checksum(rt, "control", sum)
+    report.checksum("control", sum);
 }

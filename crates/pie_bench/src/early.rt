@@ -1,6 +1,6 @@
 //! What the decision on an arrival costs.
 
-use crate::report::{CALLS, INPUTS, ROUNDS, checksum, nanos};
+use crate::report::{CALLS, INPUTS, ROUNDS, Report};
 use crate::words::Words;
 use pie_control::Control;
 use pie_early::{Choice, Early, Offered};
@@ -8,9 +8,7 @@ use pie_fixed::{Nanos, Prob};
 use pie_params::{Elements, Params};
 use pie_queue::Ecn;
 use std::alloc::{AllocError, Global};
-use std::io;
 use std::rt::Clock;
-use std::time::Instant;
 
 /// A twentieth, below which an arrival is considered by the old delay alone.
 const PROB: u64 = 50_000_000_000;
@@ -34,12 +32,12 @@ fn arrivals(alloc: Global) -> Result<Vec<Offered>, AllocError> {
             _ => Ecn::Ce,
         };
         let word = words.next();
-        arrivals.push(Offered {
+        let _ = arrivals.push(Offered {
             bytes,
             size: 1024,
             ecn,
             word,
-        })?;
+        });
     }
     Ok(arrivals)
 }
@@ -62,32 +60,34 @@ fn consider(params: &Params, control: &Control, arrivals: &[Offered]) -> u64 {
 
 /// Prints the time of an arrival that is considered, and of one that isn't, after all tests of that, since the
 /// probability and the old delay are low.
-pub fn measure<R: Clock + Print>(rt: &R, alloc: Global) -> io::Result<()> {
-    let arrivals = arrivals(alloc)?;
-    time_both(rt, arrivals.as_slice())
+pub fn measure<R: Clock + Print>(report: &mut Report<R>, alloc: Global) {
+    match arrivals(alloc) {
+        Ok(arrivals) => time_both(report, arrivals.as_slice()),
+        Err(why) => report.lacks(why),
+    }
 }
 
-fn time_both<R: Clock + Print>(rt: &R, arrivals: &[Offered]) -> io::Result<()> {
+fn time_both<R: Clock + Print>(report: &mut Report<R>, arrivals: &[Offered]) {
     let (Some(prob), Some(moment)) = (Prob::from_units(PROB), Nanos::from_units(0)) else {
-        return Ok(());
+        return;
     };
     let long = Control::from_parts(prob, 15_000_000, 0, moment);
     let short = Control::from_parts(prob, 1_000_000, 0, moment);
-    let considered = timed(rt, "early_considered", &long, arrivals)?;
-    let let_through = timed(rt, "early_not_considered", &short, arrivals)?;
-    checksum(rt, "early", considered.wrapping_add(let_through))
+    let considered = timed(report, "early_considered", &long, arrivals);
+    let let_through = timed(report, "early_not_considered", &short, arrivals);
+    report.checksum("early", considered.wrapping_add(let_through));
 }
 
 /// Prints the time of an arrival beside such a controller, and gives what the decisions add up to.
 fn timed<R: Clock + Print>(
-    rt: &R,
-    name: &str,
+    report: &mut Report<R>,
+    name: &'static str,
     control: &Control,
     arrivals: &[Offered],
-) -> io::Result<u64> {
+) -> u64 {
     let params = Params::default_profile();
-    let start = Instant::now(rt)?;
+    let start = report.start();
     let sum = consider(&params, control, arrivals);
-    nanos(rt, name, start.elapsed(rt)?, CALLS)?;
-    Ok(sum)
+    report.nanos(name, start, CALLS);
+    sum
 }

@@ -3,15 +3,13 @@
 
 use crate::at_once::{Work, time_at_once};
 use crate::places::{AtLink, AtMutex, Job, link_jobs, mutex_jobs, open_book, open_link};
-use crate::report::{checksum, nanos};
+use crate::report::Report;
 use pie_book::Command;
 use pie_queue::{Ecn, Packet};
 use std::alloc::Global;
-use std::io;
 use std::rt::Clock;
 use std::sync::{Mutex, Wait};
 use std::thread::Threads;
-use std::time::Instant;
 
 /// How many events there are with no contention: every other one is an arrival, and each of them departs again.
 const UNCONTENDED: u64 = 5_000_000;
@@ -95,78 +93,76 @@ impl<P: Single + Drop> Work<u64> for Job<P> {
 
 /// Prints the time of an event of one thread.
 fn time_alone<R: Wait + Clock + Print, P: Single>(
-    rt: &R,
-    name: &str,
+    report: &mut Report<R>,
+    name: &'static str,
     place: &mut P,
-) -> io::Result<u64> {
-    let start = Instant::now(rt)?;
-    let events = call_alone(rt, place);
-    nanos(rt, name, start.elapsed(rt)?, UNCONTENDED)?;
-    Ok(events)
+) -> u64 {
+    let start = report.start();
+    let events = call_alone(report.rt, place);
+    report.nanos(name, start, UNCONTENDED);
+    events
 }
 
-// What is measured has link and mutex by reference: a `?` that lets a link go takes long to prove.
-fn alone_at_link<R: Wait + Clock + Print>(rt: &R, alloc: Global) -> io::Result<u64> {
+fn alone_at_link<R: Wait + Clock + Print>(report: &mut Report<R>, alloc: Global) -> u64 {
     match open_link(alloc, PACKETS, 1) {
         Some((link, caller)) => {
             let link = &link;
             let mut place = AtLink { link, caller };
-            time_alone(rt, "link_uncontended", &mut place)
+            time_alone(report, "link_uncontended", &mut place)
         }
-        None => Ok(0),
+        None => 0,
     }
 }
 
-fn alone_at_mutex<R: Wait + Clock + Print>(rt: &R, alloc: Global) -> io::Result<u64> {
+fn alone_at_mutex<R: Wait + Clock + Print>(report: &mut Report<R>, alloc: Global) -> u64 {
     match open_book(alloc, PACKETS) {
         Some(book) => {
             let mutex = Mutex::new(book);
             let mut place = AtMutex { mutex: &mutex };
-            time_alone(rt, "link_mutex_uncontended", &mut place)
+            time_alone(report, "link_mutex_uncontended", &mut place)
         }
-        None => Ok(0),
+        None => 0,
     }
 }
 
 fn contended_at_link<R: Threads + Wait + Clock + Print + Sync>(
-    rt: &R,
+    report: &mut Report<R>,
     alloc: Global,
     enqueuers: u16,
-) -> io::Result<u64> {
+) -> u64 {
     match open_link(alloc, PACKETS, 10) {
         Some((link, caller)) => {
             let jobs = link_jobs(alloc, &link, caller, enqueuers.saturating_add(1));
-            time_at_once(rt, "link", enqueuers, jobs, PER_THREAD)
+            time_at_once(report, "link", enqueuers, jobs, PER_THREAD)
         }
-        None => Ok(0),
+        None => 0,
     }
 }
 
 fn contended_at_mutex<R: Threads + Wait + Clock + Print + Sync>(
-    rt: &R,
+    report: &mut Report<R>,
     alloc: Global,
     enqueuers: u16,
-) -> io::Result<u64> {
+) -> u64 {
     match open_book(alloc, PACKETS) {
         Some(book) => {
             let mutex = Mutex::new(book);
             let jobs = mutex_jobs(alloc, &mutex, enqueuers.saturating_add(1));
-            time_at_once(rt, "link_mutex", enqueuers, jobs, PER_THREAD)
+            time_at_once(report, "link_mutex", enqueuers, jobs, PER_THREAD)
         }
-        None => Ok(0),
+        None => 0,
     }
 }
 
 /// Prints the time of an event with no contention, and how many there are in a second by 1, 2, 4 and 8 threads that enqueue
 /// beside one that sends, for the link and for the mutex.
-pub fn measure<R: Threads + Wait + Clock + Print + Sync>(rt: &R, alloc: Global) -> io::Result<()> {
-    let linked = alone_at_link(rt, alloc)?;
-    let plain = alone_at_mutex(rt, alloc)?;
-    checksum(rt, "link_uncontended", linked.wrapping_add(plain))?;
+pub fn measure<R: Threads + Wait + Clock + Print + Sync>(report: &mut Report<R>, alloc: Global) {
+    let linked = alone_at_link(report, alloc);
+    let plain = alone_at_mutex(report, alloc);
+    report.checksum("link_uncontended", linked.wrapping_add(plain));
     for enqueuers in ENQUEUERS {
-        let linked = contended_at_link(rt, alloc, enqueuers)?;
-        let plain = contended_at_mutex(rt, alloc, enqueuers)?;
-        checksum(rt, "link_threads", linked.wrapping_add(plain))?;
+        let linked = contended_at_link(report, alloc, enqueuers);
+        let plain = contended_at_mutex(report, alloc, enqueuers);
+        report.checksum("link_threads", linked.wrapping_add(plain));
     }
-    Ok(())
 }

@@ -4,14 +4,12 @@ ghost use Rattle.std.specs.Prelude.{◌≡◌, Some};
 ghost use Rattle.pie_lock.specs.Tally.{Tells};
 
 use crate::at_once::{Work, time_at_once};
-use crate::report::{checksum, nanos, since};
+use crate::report::Report;
 use pie_lock::{Counter, CounterEntry, Held, Pass, RuledLock, no_entries, one_entry};
 use std::alloc::{AllocError, Global};
-use std::io;
 use std::rt::Clock;
 use std::sync::{Mutex, Wait};
 use std::thread::Threads;
-use std::time::Instant;
 
 const UNCONTENDED: u64 = 10_000_000;
 
@@ -93,18 +91,18 @@ impl Work<u64> for AtMutex<'_> {
 }
 
 /// So many threads at the lock.
-fn all_at_lock(
+fn all_at_lock<'a>(
     alloc: Global,
-    lock: &RuledLock<Counter>,
-    mut pass: Pass<Counter>,
+    lock: &'a RuledLock<Counter>,
+    pass: &mut Pass<Counter>,
     threads: u16,
-) -> Result<Vec<AtLock>, AllocError>
-    requires { pass.lock ≡ lock.now }
+) -> Result<Vec<AtLock<'a>>, AllocError>
+    requires { pass.old.lock ≡ lock.now }
 {
-    let mut all = Vec::new(alloc);
+    let mut all = Vec::with_capacity(alloc, usize::from(threads))?;
     for _ in 0..threads {
-        if let Ok(pass) = lock.share(&mut pass) {
-            all.push(AtLock { lock, pass })?;
+        if let Ok(pass) = lock.share(pass) {
+            let _ = all.push(AtLock { lock, pass });
         }
     }
     Ok(all)
@@ -116,69 +114,68 @@ fn all_at_mutex(
     mutex: &Mutex<Counter>,
     threads: u16,
 ) -> Result<Vec<AtMutex>, AllocError> {
-    let mut all = Vec::new(alloc);
+    let mut all = Vec::with_capacity(alloc, usize::from(threads))?;
     for _ in 0..threads {
-        all.push(AtMutex { mutex })?;
+        let _ = all.push(AtMutex { mutex });
     }
     Ok(all)
 }
 
 /// Prints the time of an uncontended take and put, and how many there are in a second by 1, 2, 4 and 8 threads, for the
 /// lock and for the mutex.
-pub fn measure<R: Threads + Wait + Clock + Print + Sync>(rt: &R, alloc: Global) -> io::Result<()> {
-    let ruled = alone_at_lock(rt, alloc)?;
-    let plain = alone_at_mutex(rt)?;
-    checksum(rt, "lock_uncontended", ruled.wrapping_add(plain))?;
+pub fn measure<R: Threads + Wait + Clock + Print + Sync>(report: &mut Report<R>, alloc: Global) {
+    let ruled = alone_at_lock(report, alloc);
+    let plain = alone_at_mutex(report);
+    report.checksum("lock_uncontended", ruled.wrapping_add(plain));
     for threads in THREADS {
-        let ruled = contended_at_lock(rt, alloc, threads)?;
-        let plain = contended_at_mutex(rt, alloc, threads)?;
-        checksum(rt, "lock_threads", ruled.wrapping_add(plain))?;
+        let ruled = contended_at_lock(report, alloc, threads);
+        let plain = contended_at_mutex(report, alloc, threads);
+        report.checksum("lock_threads", ruled.wrapping_add(plain));
     }
-    Ok(())
 }
 
-fn alone_at_lock<R: Wait + Clock + Print>(rt: &R, alloc: Global) -> io::Result<u64> {
-    let Ok((lock, pass)) = RuledLock::new(alloc, Counter::new(), 1) else {
-        return Ok(0);
-    };
-    let start = Instant::now(rt);
-    let pass = add_many(rt, &lock, pass, UNCONTENDED);
-    let spent = since(rt, start);
-    let total = total(lock, pass);
-    nanos(rt, "lock_uncontended", spent?, UNCONTENDED)?;
-    Ok(total)
+fn alone_at_lock<R: Wait + Clock + Print>(report: &mut Report<R>, alloc: Global) -> u64 {
+    match RuledLock::new(alloc, Counter::new(), 1) {
+        Ok((lock, pass)) => {
+            let start = report.start();
+            let pass = add_many(report.rt, &lock, pass, UNCONTENDED);
+            report.nanos("lock_uncontended", start, UNCONTENDED);
+            total(lock, pass)
+        }
+        Err(_) => 0,
+    }
 }
 
-fn alone_at_mutex<R: Wait + Clock + Print>(rt: &R) -> io::Result<u64> {
+fn alone_at_mutex<R: Wait + Clock + Print>(report: &mut Report<R>) -> u64 {
     let mutex = Mutex::new(Counter::new());
-    let start = Instant::now(rt)?;
-    AtMutex { mutex: &mutex }.toil(rt, &UNCONTENDED);
-    nanos(rt, "mutex_uncontended", start.elapsed(rt)?, UNCONTENDED)?;
-    Ok(mutex.lock(rt).total())
+    let start = report.start();
+    AtMutex { mutex: &mutex }.toil(report.rt, &UNCONTENDED);
+    report.nanos("mutex_uncontended", start, UNCONTENDED);
+    mutex.lock(report.rt).total()
 }
 
 fn contended_at_lock<R: Threads + Wait + Clock + Print + Sync>(
-    rt: &R,
+    report: &mut Report<R>,
     alloc: Global,
     threads: u16,
-) -> io::Result<u64> {
+) -> u64 {
     match RuledLock::new(alloc, Counter::new(), PASSES) {
-        Ok((lock, pass)) => {
-            let all = all_at_lock(alloc, &lock, pass, threads);
-            time_at_once(rt, "lock", threads, all, PER_THREAD)
+        Ok((lock, mut pass)) => {
+            let all = all_at_lock(alloc, &lock, &mut pass, threads);
+            time_at_once(report, "lock", threads, all, PER_THREAD)
         }
-        Err(_) => Ok(0),
+        Err(_) => 0,
     }
 }
 
 fn contended_at_mutex<R: Threads + Wait + Clock + Print + Sync>(
-    rt: &R,
+    report: &mut Report<R>,
     alloc: Global,
     threads: u16,
-) -> io::Result<u64> {
+) -> u64 {
     let mutex = Mutex::new(Counter::new());
     let all = all_at_mutex(alloc, &mutex, threads);
-    time_at_once(rt, "mutex", threads, all, PER_THREAD)
+    time_at_once(report, "mutex", threads, all, PER_THREAD)
 }
 
 // What was added under the lock.

@@ -13,6 +13,7 @@ mod rate;
 mod report;
 mod words;
 
+use crate::report::{Report, Word};
 use std::alloc::Global;
 use std::rt::Clock;
 use std::sync::Wait;
@@ -22,36 +23,48 @@ use std::{env, io};
 fn main(rt: HostRuntime) -> io::Result<()> {
     let mut words = env::args(&rt)?;
     let _program = words.next();
+    let mut report = Report::new(&rt);
     match words.next() {
-        Some(name) => measure(&rt, rt.alloc(), name.as_str()),
-        None => usage(&rt),
+        Some(name) => measure(&mut report, rt.alloc(), name.as_str()),
+        None => usage(&mut report),
     }
+    report.end()
 }
 
 /// Makes the measurement that has this name.
 fn measure<R: Threads + Wait + Clock + Print + Sync>(
-    rt: &R,
+    report: &mut Report<R>,
     alloc: Global,
     name: &str,
-) -> io::Result<()> {
+) {
     match name {
-        "rate" => rate::measure(rt, alloc),
-        "control" => control::measure(rt, alloc),
-        "early" => early::measure(rt, alloc),
-        "lock" => lock::measure(rt, alloc),
-        "book" => book::measure(rt, alloc),
-        "link" => link::measure(rt, alloc),
-        "bursts1" => bursts::measure(rt, alloc, 1),
-        "bursts2" => bursts::measure(rt, alloc, 2),
-        "bursts3" => bursts::measure(rt, alloc, 3),
-        "bursts4" => bursts::measure(rt, alloc, 4),
-        "bursts8" => bursts::measure(rt, alloc, 8),
-        _ => usage(rt),
+        "rate" => rate::measure(report, alloc),
+        "control" => control::measure(report, alloc),
+        "early" => early::measure(report, alloc),
+        "lock" => lock::measure(report, alloc),
+        "book" => book::measure(report, alloc),
+        "link" => link::measure(report, alloc),
+        _ => match threads_of(name) {
+            Some(threads) => bursts::measure(report, alloc, threads),
+            None => usage(report),
+        },
     }
 }
 
-fn usage(rt: &impl Print) -> io::Result<()> {
-    println!(rt;
-        "pie_bench: name a measurement: rate, control, early, lock, book or link; of bursts bursts1, 2, 3, 4 or 8"
-    )
+/// How many threads make the bursts that have this name.
+fn threads_of(name: &str) -> Option<u16> {
+    match name {
+        "bursts1" => Some(1),
+        "bursts2" => Some(2),
+        "bursts3" => Some(3),
+        "bursts4" => Some(4),
+        "bursts8" => Some(8),
+        _ => None,
+    }
+}
+
+fn usage<R: Clock + Print>(report: &mut Report<R>) {
+    let usage =
+        "pie_bench: name a measurement: rate, control, early, lock, book or link; of bursts bursts1, 2, 3, 4 or 8";
+    report.line(&[Word::Text(usage)]);
 }

@@ -38,9 +38,9 @@ fn limits(packets: u32) -> Limits {
     }
 }
 
-fn choices() -> Choices {
+fn choices(mode: Mode) -> Choices {
     Choices {
-        mode: Mode::Rolling,
+        mode,
         profile: Profile::One,
         elements: Elements::usual(),
     }
@@ -51,7 +51,14 @@ pub fn open_link(alloc: Global, packets: u32, callers: u16) -> Option<(Link, Cal
     ensures { IfSome result (λ pair. pair.1.lock ≡ pair.0) }
 {
     let params = Params::default_profile();
-    match Link::open_with(alloc, limits(packets), params, 0, callers, choices()) {
+    match Link::open_with(
+        alloc,
+        limits(packets),
+        params,
+        0,
+        callers,
+        choices(Mode::Rolling),
+    ) {
         Ok(pair) => Some(pair),
         Err(_) => None,
     }
@@ -59,13 +66,12 @@ pub fn open_link(alloc: Global, packets: u32, callers: u16) -> Option<(Link, Cal
 
 /// The same book by itself.
 pub fn open_book(alloc: Global, packets: u32) -> Option<Book> {
-    match Book::open_with(
-        alloc,
-        limits(packets),
-        Params::default_profile(),
-        0,
-        choices(),
-    ) {
+    open(alloc, limits(packets), Mode::Rolling)
+}
+
+/// A book with these limits.
+pub fn open(alloc: Global, limits: Limits, mode: Mode) -> Option<Book> {
+    match Book::open_with(alloc, limits, Params::default_profile(), 0, choices(mode)) {
         Ok(book) => Some(book),
         Err(_) => None,
     }
@@ -80,12 +86,12 @@ pub fn link_jobs(
 ) -> Result<Vec<Job<AtLink>>, AllocError>
     requires { caller.lock ≡ link.now }
 {
-    let mut jobs = Vec::new(alloc);
+    let mut jobs = Vec::with_capacity(alloc, usize::from(threads))?;
     let mut sends = true;
     for _ in 0..threads {
         if let Ok(caller) = link.share(&mut caller) {
             let place = AtLink { link, caller };
-            jobs.push(Job { place, sends })?;
+            let _ = jobs.push(Job { place, sends });
         }
         sends = false;
     }
@@ -98,11 +104,11 @@ pub fn mutex_jobs(
     mutex: &Mutex<Book>,
     threads: u16,
 ) -> Result<Vec<Job<AtMutex>>, AllocError> {
-    let mut jobs = Vec::new(alloc);
+    let mut jobs = Vec::with_capacity(alloc, usize::from(threads))?;
     let mut sends = true;
     for _ in 0..threads {
         let place = AtMutex { mutex };
-        jobs.push(Job { place, sends })?;
+        let _ = jobs.push(Job { place, sends });
         sends = false;
     }
     Ok(jobs)

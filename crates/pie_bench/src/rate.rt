@@ -1,14 +1,12 @@
 //! What a departure costs the estimate of the departure rate.
 ghost use Rattle.std.specs.Prelude.{◌<◌, ◌≤◌};
 
-use crate::report::{CALLS, INPUTS, ROUNDS, checksum, nanos};
+use crate::report::{CALLS, INPUTS, ROUNDS, Report};
 use crate::words::Words;
 use pie_fixed::Nanos;
 use pie_rate::Rate;
 use std::alloc::{AllocError, Global};
-use std::io;
 use std::rt::Clock;
-use std::time::Instant;
 
 /// The bytes that each departure leaves behind: enough for a cycle to begin at any threshold.
 const LEFT: u64 = 100_000;
@@ -43,7 +41,7 @@ fn departures(alloc: Global, least: u32, span: u64) -> Result<Vec<Departure>, Al
         let moment = u64::from(index).wrapping_mul(2000);
         let moment = moment.wrapping_add(words.below(2000));
         if let Some(moment) = Nanos::from_units(moment) {
-            departures.push(Departure { size, moment })?;
+            let _ = departures.push(Departure { size, moment });
         }
     }
     Ok(departures)
@@ -78,34 +76,41 @@ fn depart(departures: &[Departure], run: usize, threshold: u64) -> u64
 
 /// Prints the time of a departure that closes no cycle, of one that closes a cycle and begins the next, and of one
 /// among packets of 64 to 1500 bytes at the default threshold, where about one in 22 closes a cycle.
-pub fn measure<R: Clock + Print>(rt: &R, alloc: Global) -> io::Result<()> {
-    let mixed = departures(alloc, 64, 1437)?;
-    let large = departures(alloc, 1024, 477)?;
-    time_all(rt, mixed.as_slice(), large.as_slice())
+pub fn measure<R: Clock + Print>(report: &mut Report<R>, alloc: Global) {
+    match departures(alloc, 64, 1437) {
+        Ok(mixed) => measure_beside(report, alloc, mixed.as_slice()),
+        Err(why) => report.lacks(why),
+    }
 }
 
-fn time_all<R: Clock + Print>(rt: &R, mixed: &[Departure], large: &[Departure]) -> io::Result<()> {
+fn measure_beside<R: Clock + Print>(report: &mut Report<R>, alloc: Global, mixed: &[Departure]) {
+    match departures(alloc, 1024, 477) {
+        Ok(large) => time_all(report, mixed, large.as_slice()),
+        Err(why) => report.lacks(why),
+    }
+}
+
+fn time_all<R: Clock + Print>(report: &mut Report<R>, mixed: &[Departure], large: &[Departure]) {
     let whole = INPUTS as usize;
-    let open = timed(rt, "rate_departed_open", mixed, OPEN_RUN, LARGE)?;
-    let closing = timed(rt, "rate_departed_closing", large, whole, SMALL)?;
-    let either = timed(rt, "rate_departed_mixed", mixed, whole, DEFAULT)?;
-    checksum(rt, "rate", open.wrapping_add(closing).wrapping_add(either))
+    let open = timed(report, "rate_departed_open", mixed, OPEN_RUN, LARGE);
+    let closing = timed(report, "rate_departed_closing", large, whole, SMALL);
+    let either = timed(report, "rate_departed_mixed", mixed, whole, DEFAULT);
+    report.checksum("rate", open.wrapping_add(closing).wrapping_add(either));
 }
 
 /// Prints the time of each departure, and gives what the estimates add up to.
 fn timed<R: Clock + Print>(
-    rt: &R,
-    name: &str,
+    report: &mut Report<R>,
+    name: &'static str,
     departures: &[Departure],
     run: usize,
     threshold: u64,
-) -> io::Result<u64>
+) -> u64
     requires run { 0 < run }
     requires threshold { threshold ≤ 65536 }
 {
-    let start = Instant::now(rt)?;
+    let start = report.start();
     let sum = depart(departures, run, threshold);
-    let spent = start.elapsed(rt)?;
-    nanos(rt, name, spent, CALLS)?;
-    Ok(sum)
+    report.nanos(name, start, CALLS);
+    sum
 }

@@ -25,10 +25,10 @@ use Rattle.pie_aqm.proofs.Sounds.{Sound_call}
 use Rattle.pie_c.specs.declared.params.PieParams.{PieParams}
 use Rattle.pie_c.specs.declared.state.PieState.{PieState}
 use Rattle.pie_c.specs.Calls.{Arrives, Leaves, arrival_refusal, departure_refusal, if_taken, is_bad_size, kept_if_refused, moment_refusal}
-use Rattle.pie_c.specs.Calls.{packet_refusal, unless_refused}
+use Rattle.pie_c.specs.Calls.{opening_refusal, packet_refusal, params_refusal, reset_refusal, unless_refused}
 use Rattle.pie_c.specs.Params.{params_of, raw_of}
 use Rattle.pie_c.specs.State.{choices_of, elements_of, held_in, is_sound, last_moment, profile_number, profile_of, state_of, takes_stamps}
-use Rattle.pie_c.specs.State.{with_arrival, with_departure, with_rate, with_registers}
+use Rattle.pie_c.specs.State.{are_in_range, with_arrival, with_departure, with_rate, with_registers}
 use Rattle.pie_c.proofs.Sound.{choice-from, held-sound, held-state, kept-arrived, kept-departed, kept-moment, kept-waited, params-from, parts-of, profile-back, state-held}
 use Rattle.pie_c.proofs.Sound.{state-sound}
 
@@ -58,6 +58,42 @@ taken-by-rate s size left moment own rate = rw (own, rate) refl
 pub moment-taken : (moment : ℕ) → moment ≤ last_moment → moment_refusal moment ≡ 0
 unfolding moment_refusal
 moment-taken moment m = let early : nat_lt last_moment moment ≡ false = grind (arith, nat_tests) in rw early refl
+
+pub reset-taken : (s : PieState) (moment : ℕ) → is_sound s ≡ true → moment ≤ last_moment → reset_refusal s moment ≡ 0
+unfolding reset_refusal
+reset-taken s moment sound m = let early : nat_lt last_moment moment ≡ false = grind (arith, nat_tests) in rw (sound, early) refl
+
+pub params-taken : (s : PieState) (p : PieParams) (moment : ℕ) → is_sound s ≡ true → are_in_range p ≡ true → moment ≤ last_moment
+    → params_refusal s p moment ≡ 0
+unfolding params_refusal
+params-taken s p moment sound good m =
+    let early : nat_lt last_moment moment ≡ false = grind (arith, nat_tests) in
+    rw (sound, good, early) refl
+
+-- .. and of an opening what that says
+pub record Opens (p : PieParams) (at number flags : ℕ) : Type 0 where
+  pub params : are_in_range p ≡ true
+  pub moment : at < 2 ^ 60
+  pub profile : ((number == 1) || (number == 2)) ≡ true
+  pub choices : flags ≤ 15
+
+pub opening-taken : (p : PieParams) (moment profile choices : ℕ) → opening_refusal p moment profile choices ≡ 0 → Opens p moment profile choices
+unfolding opening_refusal
+opening-taken p moment profile choices free =
+    by (are_in_range p) (nat_lt last_moment moment) ((profile == 1) || (profile == 2)) (nat_lt 15 choices) refl refl refl refl free
+  where
+    code : (good late known many : Bool) → ℕ
+    code good late known many = if not good then 107 else if late then 101 else if not known then 113 else if many then 117 else 0
+
+    by : (good late known many : Bool) → are_in_range p ≡ good → nat_lt last_moment moment ≡ late → ((profile == 1) || (profile == 2)) ≡ known
+        → nat_lt 15 choices ≡ many
+        → code good late known many ≡ 0 → Opens p moment profile choices
+    by false late known many g l k m free = cc
+    by true true known many g l k m free = cc
+    by true false false many g l k m free = cc
+    by true false true true g l k m free = cc
+    by true false true false g l k m free =
+        record { params = g; moment = grind (arith, nat_tests); profile = k; choices = grind (arith, nat_tests) }
 
 threshold-of : (s : PieState) → is_sound s ≡ true → s.params.dq_threshold ≤ 65536
 threshold-of s sound = let parts = parts-of s sound in (threshold-holds (raw_of s.params) (params-from s.params parts.params)).1

@@ -12,7 +12,8 @@ ghost use Rattle.pie_c.specs.Calls.{Arrives, Leaves, arrival_of, arrival_refusal
 ghost use Rattle.pie_c.specs.Calls.{reset_refusal, state_refusal, unless_refused, update_refusal, updated_by, waited_refusal};
 
 use crate::checked::{
-    ecn, elements, is_bad_size, is_sound, raw, raw_with, takes_stamps, usual_but_delay,
+    are_in_range, ecn, elements, is_bad_size, is_sound, raw, raw_with, takes_stamps,
+    usual_but_delay,
 };
 use crate::code::{
     BAD_ARRIVED, BAD_ECN, BAD_MOMENT, BAD_PARAMS, BAD_QUEUE, BAD_SIZE, BAD_STATE, DONE, NOT_WAITED,
@@ -23,7 +24,7 @@ use crate::state::PieState;
 use crate::updated::PieUpdated;
 use pie_aqm::Arrival;
 use pie_fixed::MAX_NANOS;
-use pie_params::{Elements, Params};
+use pie_params::Elements;
 
 /// The most bytes that a queue holds: the greatest byte limit.
 const MAX_QUEUED: u64 = 1 << 30;
@@ -420,7 +421,7 @@ pub extern "C" fn pie_set_params(state: &mut PieState, params: &PieParams, momen
 
 /// The same, to be compiled where it is called.
 #[inline(always)]
-#[tactic(auto, unfolding(crate::specs::Calls::params_refusal, crate::specs::State::are_in_range))]
+#[tactic(auto, unfolding(crate::specs::Calls::params_refusal))]
 pub(crate) fn set_params(state: &mut PieState, params: &PieParams, moment: u64) -> u32
     ensures answer { result ≡ params_refusal state.old params.now moment }
     ensures after { state.new ≡ kept_if_refused (params_refusal state.old params.now moment) state.old
@@ -433,7 +434,7 @@ pub(crate) fn set_params(state: &mut PieState, params: &PieParams, moment: u64) 
     if !is_sound(state) {
         return BAD_STATE;
     }
-    if Params::from_raw(params.raw()).is_none() {
+    if !are_in_range(params) {
         return BAD_PARAMS;
     }
     if moment > MAX_NANOS {

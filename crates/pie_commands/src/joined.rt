@@ -173,10 +173,14 @@ pub(crate) fn join_files<H: NamedFiles + Clock, R: Read + Drop, W: Write, E: Wri
             rt, alloc, is_shown, name, &mut given, &mut end, output, errors,
         ) {
             Ok(told) => told,
-            Err(_) => return faulted(errors, TraceFault::Write),
+            Err(_) => {
+                drop(end);
+                return faulted(errors, TraceFault::Write);
+            }
         };
         unfound = any_unfound(unfound, finding_in(told));
         broken = any_broken(broken, told);
     }
+    drop(end);
     worst(unfound, broken)
 }

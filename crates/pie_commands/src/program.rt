@@ -1,6 +1,7 @@
 //! The whole program over a list of words, a reader, files and two writers.
-ghost use Rattle.std.specs.Prelude.{◌≡◌, ◌≤◌, ◌⊎◌, ◌∷◌, List, IfSome, Some, codes, false, true, map, string_bytes};
-ghost use Rattle.clap.specs.Words.{Text, kind_of};
+ghost use Rattle.std.specs.Prelude.{◌≡◌, ◌≤◌, ◌⊎◌, ◌∷◌, List, IfOk, IfSome, Some, codes, false, true, map, option_map, string_bytes};
+ghost use Rattle.clap.specs.Matches.{subcommand_name_of};
+ghost use Rattle.clap.specs.Words.{Row, Text, found_of, kind_of, rows_of, subcommand_rows_of};
 ghost use Rattle.clap.specs.declared.error.kind.ErrorKind.{ErrorKind};
 ghost use Rattle.pie_options.specs.declared.subcommand.Subcommand.{Subcommand};
 ghost use Rattle.pie_options.specs.Subcommands.{word_of};
@@ -21,8 +22,8 @@ ghost use Rattle.pie_commands.specs.Tuning.{EndsParams};
 use crate::end::{DONE, End, FAULT, failed, fault};
 use crate::perform::performed;
 use crate::screen::Screen;
-use clap::Error;
 use clap::error::ErrorKind;
+use clap::{ArgMatches, Error};
 use pie_files::NamedFiles;
 use pie_options::{Subcommand, options};
 use std::alloc::Global;
@@ -150,13 +151,34 @@ fn answer<H: Threads + Wait + Sync + NamedFiles + Screen, R: Read + Drop, W: Wri
         Ok(matches) => matches,
         Err(error) => return End::with_status(mistake(error, output, errors)),
     };
+    match asked_of(&matches) {
+        Ok((subcommand, options)) => {
+            let end = performed(rt, alloc, subcommand, options, input, output, errors);
+            drop(matches);
+            end
+        }
+        Err(why) => {
+            drop(matches);
+            failed(errors, why)
+        }
+    }
+}
+
+/// The subcommand that the words ask for, and what they give its options.
+fn asked_of<'a, 'b>(
+    matches: &'b ArgMatches<'a>,
+) -> Result<(Subcommand, &'b ArgMatches<'a>), &'static str>
+    ensures name { IfOk result (λ asked. Some (word_of asked.0) ≡ subcommand_name_of matches.now) }
+    ensures rows { IfOk result (λ asked. Some (rows_of (found_of asked.1.now))
+        ≡ option_map (λ (given : Text × List Row). given.1) (subcommand_rows_of matches.now)) }
+{
     let Some((name, options)) = matches.subcommand() else {
-        return failed(errors, "no subcommand");
+        return Err("no subcommand");
     };
-    let Some(subcommand) = Subcommand::named(name) else {
-        return failed(errors, "unknown subcommand");
-    };
-    performed(rt, alloc, subcommand, options, input, output, errors)
+    match Subcommand::named(name) {
+        Some(subcommand) => Ok((subcommand, options)),
+        None => Err("unknown subcommand"),
+    }
 }
 
 /// What `clap` says of the words: help, or a mistake.

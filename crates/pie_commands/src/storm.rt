@@ -178,7 +178,9 @@ pub(crate) fn make_storm<H: Threads + Wait + Sync, W: Write, E: Write>(
     if flag(options, "count") {
         say_counts(errors, events);
     }
-    match write_storm(alloc, &made.plan, events, output) {
+    let written = write_storm(alloc, &made.plan, events, output);
+    drop(made);
+    match written {
         Ok(()) => DONE,
         Err(why) => fault(errors, why),
     }

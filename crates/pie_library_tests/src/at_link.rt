@@ -3,12 +3,13 @@
 ghost use Rattle.std.specs.Prelude.{◌≡◌, IfOk};
 ghost use Rattle.pie_link.specs.Views.{StaysOne};
 
-use pie_book::{Answer, Excerpt, FoldRefusal, Limits, Refusal, Registers};
+use pie_book::{Answer, Command, Excerpt, FoldRefusal, Limits, Refusal, Registers};
 use pie_link::{Arrival, Caller, Link, LinkRefusal, Told, Tried};
 use pie_params::Params;
-use pie_queue::Packet;
 use std::alloc::Global;
 use std::sync::Wait;
+use std::thread;
+use std::thread::Threads;
 
 /// What a call at a free link answers.
 pub(crate) type Answered = Result<Told<Answer>, Tried<Refusal>>;
@@ -60,98 +61,65 @@ pub(crate) fn places<'a>(
     all
 }
 
-pub(crate) fn try_arrive(
-    link: &Link,
-    caller: &mut Caller,
-    moment: u64,
-    packet: Packet,
-    word: u64,
-) -> Answered
-    requires own { caller.old.lock ≡ link.now }
-    ensures stays { StaysOne caller.old caller.new }
-{
-    link.try_arrive(caller, moment, packet, word)
+/// The work of one of several threads at a link.
+pub(crate) trait Work {
+    /// Does it; the numbers say what was found.
+    fn toil<R: Wait>(&self, rt: &R, at: &mut AtLink) -> (u64, u64);
 }
 
-pub(crate) fn try_depart(link: &Link, caller: &mut Caller, moment: u64) -> Answered
-    requires own { caller.old.lock ≡ link.now }
-    ensures stays { StaysOne caller.old caller.new }
-{
-    link.try_depart(caller, moment)
-}
-
-pub(crate) fn try_update(link: &Link, caller: &mut Caller, moment: u64) -> Answered
-    requires own { caller.old.lock ≡ link.now }
-    ensures stays { StaysOne caller.old caller.new }
-{
-    link.try_update(caller, moment)
-}
-
-pub(crate) fn try_reset(link: &Link, caller: &mut Caller, moment: u64) -> Answered
-    requires own { caller.old.lock ≡ link.now }
-    ensures stays { StaysOne caller.old caller.new }
-{
-    link.try_reset(caller, moment)
-}
-
-pub(crate) fn try_set_params(
-    link: &Link,
-    caller: &mut Caller,
-    moment: u64,
-    params: Params,
-) -> Answered
-    requires own { caller.old.lock ≡ link.now }
-    ensures stays { StaysOne caller.old caller.new }
-{
-    link.try_set_params(caller, moment, params)
-}
-
-pub(crate) fn arrive<R: Wait>(
+/// So many threads do this at once: what each found, where all ended.
+pub(crate) fn at_once<R: Threads + Wait + Sync, W: Work + Sync>(
     rt: &R,
+    alloc: Global,
     link: &Link,
     caller: &mut Caller,
-    moment: u64,
-    packet: Packet,
-    word: u64,
-) -> Waited
+    count: usize,
+    work: &W,
+) -> Option<Vec<(u64, u64)>>
     requires own { caller.old.lock ≡ link.now }
-    ensures stays { StaysOne caller.old caller.new }
+    ensures { caller.new.lock ≡ link.now }
 {
-    link.arrive(rt, caller, moment, packet, word)
+    let all = places(alloc, link, caller, count);
+    match thread::map_vec(rt, all, &|mut at: AtLink| { work.toil(rt, &mut at) }) {
+        Ok(found) => Some(found),
+        Err(_) => None,
+    }
 }
 
-pub(crate) fn depart<R: Wait>(rt: &R, link: &Link, caller: &mut Caller, moment: u64) -> Waited
+/// Asks the link for a command, where it is free.
+pub(crate) fn try_ask(link: &Link, caller: &mut Caller, command: Command) -> Answered
     requires own { caller.old.lock ≡ link.now }
     ensures stays { StaysOne caller.old caller.new }
 {
-    link.depart(rt, caller, moment)
+    match command {
+        Command::Arrive {
+            moment,
+            packet,
+            word,
+        } => link.try_arrive(caller, moment, packet, word),
+        Command::Depart { moment } => link.try_depart(caller, moment),
+        Command::Update { moment } => link.try_update(caller, moment),
+        Command::Reset { moment } => link.try_reset(caller, moment),
+        Command::SetParams { moment, params } => link.try_set_params(caller, moment, params),
+    }
 }
 
-pub(crate) fn update<R: Wait>(rt: &R, link: &Link, caller: &mut Caller, moment: u64) -> Waited
+/// Asks the link for a command, and waits for the answer.
+pub(crate) fn ask<R: Wait>(rt: &R, link: &Link, caller: &mut Caller, command: Command) -> Waited
     requires own { caller.old.lock ≡ link.now }
     ensures stays { StaysOne caller.old caller.new }
 {
-    link.update(rt, caller, moment)
-}
-
-pub(crate) fn reset<R: Wait>(rt: &R, link: &Link, caller: &mut Caller, moment: u64) -> Waited
-    requires own { caller.old.lock ≡ link.now }
-    ensures stays { StaysOne caller.old caller.new }
-{
-    link.reset(rt, caller, moment)
-}
-
-pub(crate) fn set_params<R: Wait>(
-    rt: &R,
-    link: &Link,
-    caller: &mut Caller,
-    moment: u64,
-    params: Params,
-) -> Waited
-    requires own { caller.old.lock ≡ link.now }
-    ensures stays { StaysOne caller.old caller.new }
-{
-    link.set_params(rt, caller, moment, params)
+    match command {
+        Command::Arrive {
+            moment,
+            packet,
+            word,
+        } => link.arrive(rt, caller, moment, packet, word),
+        Command::Depart { moment } => link.depart(rt, caller, moment),
+        Command::Update { moment } => link.update(rt, caller, moment),
+        Command::Reset { moment } => link.reset(rt, caller, moment),
+        Command::SetParams { moment, params } => link.set_params(rt, caller, moment, params),
+    }
 }
 
 pub(crate) fn registers<R: Wait>(rt: &R, link: &Link, caller: &mut Caller) -> Told<Registers>

@@ -27,26 +27,19 @@ pub(crate) fn packet(tag: u64) -> Packet
     }
 }
 
-/// So many packets arrive, each with its moment as tag.
-fn arrive_often(book: &mut Book, count: u64) {
-    for moment in 0..count {
-        let command = Command::Arrive {
-            moment,
-            packet: packet(moment),
-            word: 0,
-        };
-        let _ = book.apply(1, command);
+/// The arrival of a packet with this tag.
+pub(crate) fn arrive(moment: u64, tag: u64) -> Command {
+    Command::Arrive {
+        moment,
+        packet: packet(tag),
+        word: 0,
     }
 }
 
-/// A bounded book with a tail of so many events, that many of which arrived.
-fn full(alloc: Global, tail: u32) -> Option<Book> {
-    match Book::open(alloc, limits(tail), Params::default_profile(), 0) {
-        Ok(mut book) => {
-            arrive_often(&mut book, u64::from(tail));
-            Some(book)
-        }
-        Err(_) => None,
+/// So many packets arrive, each with its moment as tag.
+fn arrive_often(book: &mut Book, count: u64) {
+    for moment in 0..count {
+        let _ = book.apply(1, arrive(moment, moment));
     }
 }
 
@@ -74,17 +67,6 @@ fn fold_one(alloc: Global, book: &mut Book) -> Seen {
     }
 }
 
-/// A fold of one event from a full tail of a thousand requests room for one.
-pub(crate) fn fold(rt: &impl Print, alloc: Global, name: &str) -> Seen {
-    match full(alloc, 1000) {
-        Some(mut book) => {
-            begin(rt, name);
-            fold_one(alloc, &mut book)
-        }
-        None => Seen::NOTHING,
-    }
-}
-
 /// A book takes its events and refuses one more for a full tail, without a request for memory: how many there are.
 fn fill(book: &mut Book) -> Seen {
     arrive_often(book, 8);
@@ -93,16 +75,6 @@ fn fill(book: &mut Book) -> Seen {
         Err(Refusal::HistoryFull)
     );
     Seen::done(book.count(), u64::from(is_full))
-}
-
-pub(crate) fn apply(rt: &impl Print, alloc: Global, name: &str) -> Seen {
-    match Book::open(alloc, limits(8), Params::default_profile(), 0) {
-        Ok(mut book) => {
-            begin(rt, name);
-            fill(&mut book)
-        }
-        Err(_) => Seen::NOTHING,
-    }
 }
 
 /// Whether a book fills an excerpt, and with how many events.
@@ -119,12 +91,51 @@ fn take_out(alloc: Global, book: &Book) -> Seen {
     }
 }
 
-pub(crate) fn excerpt(rt: &impl Print, alloc: Global, name: &str) -> Seen {
-    match full(alloc, 8) {
-        Some(book) => {
-            begin(rt, name);
-            take_out(alloc, &book)
+/// A call at a book.
+#[derive(Clone, Copy)]
+pub(crate) enum AtBook {
+    /// A fold of one event from a full tail of a thousand, which requests room for one.
+    Fold,
+    /// Events until the tail is full.
+    Apply,
+    /// An excerpt of a full tail of eight.
+    Excerpt,
+}
+
+impl AtBook {
+    /// How many events the book's tail holds, and how many come before the call.
+    fn sizes(self) -> (u32, u64) {
+        match self {
+            AtBook::Fold => (1000, 1000),
+            AtBook::Apply => (8, 0),
+            AtBook::Excerpt => (8, 8),
         }
-        None => Seen::NOTHING,
+    }
+
+    /// Makes it, at a book that had so many events.
+    fn make_after(
+        self,
+        rt: &impl Print,
+        alloc: Global,
+        book: &mut Book,
+        events: u64,
+        name: &str,
+    ) -> Seen {
+        arrive_often(book, events);
+        begin(rt, name);
+        match self {
+            AtBook::Fold => fold_one(alloc, book),
+            AtBook::Apply => fill(book),
+            AtBook::Excerpt => take_out(alloc, book),
+        }
+    }
+
+    /// Makes it, at a bounded book.
+    pub(crate) fn make(self, rt: &impl Print, alloc: Global, name: &str) -> Seen {
+        let (tail, events) = self.sizes();
+        match Book::open(alloc, limits(tail), Params::default_profile(), 0) {
+            Ok(mut book) => self.make_after(rt, alloc, &mut book, events, name),
+            Err(_) => Seen::NOTHING,
+        }
     }
 }

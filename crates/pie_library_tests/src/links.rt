@@ -4,9 +4,9 @@ ghost use Rattle.pie_link.specs.Views.{StaysOne};
 
 use crate::at_link;
 use crate::at_link::Waited;
-use crate::books::{limits, packet};
+use crate::books::{arrive, limits, packet};
 use crate::seen::{Seen, begin};
-use pie_book::{Answer, Choices, FoldRefusal, Mode, OpenRefusal, Profile, Refusal};
+use pie_book::{Answer, Choices, Command, FoldRefusal, Mode, OpenRefusal, Profile, Refusal};
 use pie_link::{Arrival, Caller, Link, LinkRefusal, Told, Tried};
 use pie_params::{Elements, Params};
 use std::alloc::Global;
@@ -16,29 +16,34 @@ use std::sync::Wait;
 fn arrival(link: &Link, caller: &mut Caller) -> Seen
     requires own { caller.old.lock ≡ link.now }
 {
-    match at_link::try_arrive(link, caller, 10, packet(1), 0) {
+    match at_link::try_ask(link, caller, arrive(10, 1)) {
         Ok(told) => Seen::done(told.number, 0),
         Err(_) => Seen::NOTHING,
     }
 }
 
-pub(crate) fn open(rt: &impl Print, alloc: Global, name: &str) -> Seen {
-    let params = Params::default_profile();
-    let choices = Choices {
+/// Why there is no link.
+fn refused(why: LinkRefusal) -> Seen {
+    let is_memory = matches!(
+        why,
+        LinkRefusal::Memory | LinkRefusal::Book(OpenRefusal::Memory)
+    );
+    Seen::refused(is_memory, 0)
+}
+
+fn choices() -> Choices {
+    Choices {
         mode: Mode::Rolling,
         profile: Profile::Two,
         elements: Elements::usual(),
-    };
+    }
+}
+
+pub(crate) fn open(rt: &impl Print, alloc: Global, name: &str) -> Seen {
     begin(rt, name);
-    match Link::open_with(alloc, limits(8), params, 0, 3, choices) {
+    match Link::open_with(alloc, limits(8), Params::default_profile(), 0, 3, choices()) {
         Ok((link, mut caller)) => arrival(&link, &mut caller),
-        Err(why) => {
-            let is_memory = matches!(
-                why,
-                LinkRefusal::Memory | LinkRefusal::Book(OpenRefusal::Memory)
-            );
-            Seen::refused(is_memory, 0)
-        }
+        Err(why) => refused(why),
     }
 }
 
@@ -47,9 +52,9 @@ fn three_events(link: &Link, one: &mut Caller)
     requires own { one.old.lock ≡ link.now }
     ensures { one.new.lock ≡ link.now }
 {
-    let _ = at_link::try_arrive(link, one, 1, packet(1), 0);
-    let _ = at_link::try_depart(link, one, 2);
-    let _ = at_link::try_depart(link, one, 3);
+    let _ = at_link::try_ask(link, one, arrive(1, 1));
+    let _ = at_link::try_ask(link, one, Command::Depart { moment: 2 });
+    let _ = at_link::try_ask(link, one, Command::Depart { moment: 3 });
 }
 
 /// How many events the book of a link has, as a caller reads it; 0 where the lock is not free.
@@ -68,8 +73,8 @@ fn two_events(rt: &impl Print, link: &Link, one: &mut Caller, two: &mut Caller, 
     requires own { (one.old.lock ≡ link.now) × (two.old.lock ≡ link.now) }
 {
     begin(rt, name);
-    let has_arrived = at_link::try_arrive(link, two, 9, packet(9), 0).is_ok();
-    let has_left = at_link::try_depart(link, one, 9).is_ok();
+    let has_arrived = at_link::try_ask(link, two, arrive(9, 9)).is_ok();
+    let has_left = at_link::try_ask(link, one, Command::Depart { moment: 9 }).is_ok();
     Seen::done(u64::from(has_arrived && has_left), count(link, two))
 }
 
@@ -79,13 +84,6 @@ fn events_at(rt: &impl Print, link: &Link, one: &mut Caller, name: &str) -> Seen
 {
     match link.share(one) {
         Ok(mut two) => two_events(rt, link, one, &mut two, name),
-        Err(_) => Seen::NOTHING,
-    }
-}
-
-pub(crate) fn events(rt: &impl Print, alloc: Global, name: &str) -> Seen {
-    match at_link::open(alloc, limits(8), 2) {
-        Ok((link, mut one)) => events_at(rt, &link, &mut one, name),
         Err(_) => Seen::NOTHING,
     }
 }
@@ -113,12 +111,18 @@ fn bursts_at<R: Wait + Print>(
     Seen::done(arrived, answers.len() as u64)
 }
 
-pub(crate) fn bursts<R: Wait + Print>(rt: &R, alloc: Global, name: &str) -> Seen {
-    let Ok(mut answers) = Vec::with_capacity(alloc, 7) else {
-        return Seen::NOTHING;
-    };
-    match at_link::open(alloc, limits(8), 2) {
-        Ok((link, mut one)) => bursts_at(rt, &link, &mut one, &mut answers, name),
+/// They, where there is room for their answers.
+fn bursts<R: Wait + Print>(
+    rt: &R,
+    alloc: Global,
+    link: &Link,
+    caller: &mut Caller,
+    name: &str,
+) -> Seen
+    requires own { caller.old.lock ≡ link.now }
+{
+    match Vec::with_capacity(alloc, 7) {
+        Ok(mut answers) => bursts_at(rt, link, caller, &mut answers, name),
         Err(_) => Seen::NOTHING,
     }
 }
@@ -161,9 +165,37 @@ fn fold_at<R: Wait + Print>(rt: &R, link: &Link, caller: &mut Caller, how: How, 
     }
 }
 
-pub(crate) fn fold<R: Wait + Print>(rt: &R, alloc: Global, how: How, name: &str) -> Seen {
-    match at_link::open(alloc, limits(8), 2) {
-        Ok((link, mut one)) => fold_at(rt, &link, &mut one, how, name),
-        Err(_) => Seen::NOTHING,
+/// A call at a link, or some that are made together.
+#[derive(Clone, Copy)]
+pub(crate) enum AtLink {
+    Events,
+    Bursts,
+    Fold(How),
+}
+
+impl AtLink {
+    fn make_at<R: Wait + Print>(
+        self,
+        rt: &R,
+        alloc: Global,
+        link: &Link,
+        caller: &mut Caller,
+        name: &str,
+    ) -> Seen
+        requires own { caller.old.lock ≡ link.now }
+    {
+        match self {
+            AtLink::Events => events_at(rt, link, caller, name),
+            AtLink::Bursts => bursts(rt, alloc, link, caller, name),
+            AtLink::Fold(how) => fold_at(rt, link, caller, how, name),
+        }
+    }
+
+    /// Makes it, at a bounded link with two numbers.
+    pub(crate) fn make<R: Wait + Print>(self, rt: &R, alloc: Global, name: &str) -> Seen {
+        match at_link::open(alloc, limits(8), 2) {
+            Ok((link, mut one)) => self.make_at(rt, alloc, &link, &mut one, name),
+            Err(_) => Seen::NOTHING,
+        }
     }
 }

@@ -2,10 +2,9 @@
 ghost use Rattle.std.specs.Prelude.{◌≡◌};
 
 use crate::at_link;
-use crate::at_link::Waited;
 use crate::texts::next;
-use pie_book::{Answer, Choices, Command, Event, Mode, Opening, Refusal};
-use pie_link::{Caller, Link, Told};
+use pie_book::{Choices, Event, Mode, Opening};
+use pie_link::{Caller, Link, LinkRefusal};
 use pie_trace::{HistoryLines, Line};
 use std::alloc::Global;
 use std::io;
@@ -19,28 +18,17 @@ pub(crate) fn all<I: Read + Drop, R: Wait + Print>(
     input: I,
 ) -> io::Result<()> {
     match HistoryLines::open(alloc, input) {
-        Ok((mut lines, opening)) => replay(rt, alloc, &mut lines, &opening),
+        Ok((mut lines, opening)) => tell(rt, replay(rt, alloc, &mut lines, &opening)),
         Err(why) => println!(rt; "a history at a link: {why:?}"),
     }
 }
 
-/// Asks the link for a command, and waits for the answer.
-fn ask<R: Wait>(rt: &R, link: &Link, caller: &mut Caller, command: &Command) -> Waited
-    requires own { caller.old.lock ≡ link.now }
-    ensures own { caller.new.lock ≡ link.now }
-{
-    match *command {
-        Command::Arrive {
-            moment,
-            packet,
-            word,
-        } => at_link::arrive(rt, link, caller, moment, packet, word),
-        Command::Depart { moment } => at_link::depart(rt, link, caller, moment),
-        Command::Update { moment } => at_link::update(rt, link, caller, moment),
-        Command::Reset { moment } => at_link::reset(rt, link, caller, moment),
-        Command::SetParams { moment, params } => at_link::set_params(
-            rt, link, caller, moment, params,
-        ),
+/// Prints what came of it.
+fn tell(rt: &impl Print, replayed: Result<Option<(u64, u64)>, LinkRefusal>) -> io::Result<()> {
+    match replayed {
+        Ok(Some((events, others))) => println!(rt; "{events} events, {others} with another answer"),
+        Ok(None) => println!(rt; "a history at a link: a line that can't be read"),
+        Err(why) => println!(rt; "a history at a link: {why:?}"),
     }
 }
 
@@ -55,7 +43,7 @@ fn is_answered<R: Wait>(
     requires own { caller.old.lock ≡ link.now }
     ensures own { caller.new.lock ≡ link.now }
 {
-    match ask(rt, link, caller, &event.command) {
+    match at_link::ask(rt, link, caller, event.command) {
         Ok(told) => told.answer == event.answer && told.number == number,
         Err(_) => false,
     }
@@ -86,14 +74,14 @@ fn compare<I: Read + Drop, R: Wait>(
     None
 }
 
-/// Makes the events at a link that is opened as the history says, and prints what came of it. The link is a rolling one, so that a full tail
-/// refuses nothing: a `folded` record of the history has made room where it has to.
-fn replay<I: Read + Drop, R: Wait + Print>(
+/// Makes the events at a link that is opened as the history says. The link is a rolling one, so that a full tail refuses nothing: a `folded` record
+/// of the history has made room where it has to.
+fn replay<I: Read + Drop, R: Wait>(
     rt: &R,
     alloc: Global,
     lines: &mut HistoryLines<I>,
     opening: &Opening,
-) -> io::Result<()> {
+) -> Result<Option<(u64, u64)>, LinkRefusal> {
     let Opening {
         moment,
         limits,
@@ -105,12 +93,7 @@ fn replay<I: Read + Drop, R: Wait + Print>(
         ..choices
     };
     match Link::open_with(alloc, limits, params, moment, 1, rolling) {
-        Ok((link, mut caller)) => match compare(rt, lines, &link, &mut caller) {
-            Some((events, others)) => {
-                println!(rt; "{events} events, {others} with another answer")
-            }
-            None => println!(rt; "a history at a link: a line that can't be read"),
-        },
-        Err(why) => println!(rt; "a history at a link: {why:?}"),
+        Ok((link, mut caller)) => Ok(compare(rt, lines, &link, &mut caller)),
+        Err(why) => Err(why),
     }
 }

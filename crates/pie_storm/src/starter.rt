@@ -19,7 +19,7 @@ use crate::ending::{StormEnd, StormFault};
 use crate::gate::Gate;
 use crate::plan::Plan;
 use crate::worker::{Folding, Replies, Work, make_calls};
-use pie_book::{Book, Recorded};
+use pie_book::{Book, Event, Recorded};
 use pie_link::{Caller, Link, LinkRefusal, entries_look_back};
 use std::alloc::{AllocError, Global};
 use std::sync::Wait;
@@ -82,9 +82,8 @@ fn start<'s, E: 's, R: Threads + Wait + Sync, G: Gate + Sync>(
     requires new { caller.front ≡ [] }
     requires sound { IsSound plan.now }
     requires few { planned plan.now ≤ 2 ^ 20 }
-    ensures link { IfOk result (λ worker. worker.promise.link.now ≡ link.now) }
-    ensures plan { IfOk result (λ worker. worker.promise.plan.now ≡ plan.now) }
-    ensures caller { IfOk result (λ worker. worker.promise.caller ≡ caller.first) }
+    ensures { IfOk result (λ worker. (worker.promise.link.now ≡ link.now) × (worker.promise.plan.now ≡ plan.now)
+        × (worker.promise.caller ≡ caller.first)) }
 {
     let number = caller.first();
     let Ok(replies) = room_for_replies(alloc, plan, number) else {
@@ -338,44 +337,44 @@ fn end_of(
     ensures stats { (events : List Event) → Tells book events → IfOk result (λ end. end.stats ≡ stats_after book.opening events) }
     ensures counts { IfOk result (λ end. (folding.is_short_of_memory ≡ false) × (end.too_soon ≡ too_soon) × (end.too_many ≡ folding.too_many)) }
 {
-    let Folding {
-        events,
-        too_many,
-        is_short_of_memory,
-    } = folding;
-    if is_short_of_memory {
-        return Err(StormFault::Memory);
-    }
-    let mut events = events;
+    let (mut book, mut folding) = (book, folding);
     let registers = book.registers();
     let stats = book.stats();
-    let Some(mut tail) = tail_of(alloc, book) else {
-        return Err(StormFault::Memory);
-    };
-    let Ok(()) = events.append(&mut tail) else {
-        return Err(StormFault::Memory);
-    };
-    let Ok(events) = Recorded::events(alloc, &events) else {
-        return Err(StormFault::Memory);
-    };
-    Ok(StormEnd {
-        events,
-        too_soon,
-        too_many,
-        registers,
-        stats,
-    })
+    let too_many = folding.too_many;
+    match all_events(alloc, &mut book, &mut folding) {
+        Some(events) => Ok(StormEnd {
+            events,
+            too_soon,
+            too_many,
+            registers,
+            stats,
+        }),
+        None => Err(StormFault::Memory),
+    }
 }
 
-// The events of a book's tail, where there is memory for them.
-fn tail_of(alloc: Global, book: Book) -> Option<Vec<Recorded>>
-    ensures { IfSome result (λ tail. tail.items ≡ book.tail) }
+// The folded events, and then the tail of the closed book, where none is missing and there is memory for all. It has book and folding by
+// reference, since each way out would let them go.
+fn all_events(alloc: Global, book: &mut Book, folding: &mut Folding) -> Option<Vec<Event>>
+    ensures events { IfSome result (λ events. events.items ≡ folding.old.events.items ++ book.old.tail) }
+    ensures well { IfSome result (λ _. folding.old.is_short_of_memory ≡ false) }
 {
-    let mut book = book;
-    folded_tail(alloc, &mut book)
+    if folding.is_short_of_memory {
+        return None;
+    }
+    let Some(mut tail) = folded_tail(alloc, book) else {
+        return None;
+    };
+    let Ok(()) = folding.events.append(&mut tail) else {
+        return None;
+    };
+    match Recorded::events(alloc, &folding.events) {
+        Ok(events) => Some(events),
+        Err(_) => None,
+    }
 }
 
-// The same, by a fold of as many events.
+// The events of a book's tail, where there is memory for them: they are handed out by a fold of as many.
 fn folded_tail(alloc: Global, book: &mut Book) -> Option<Vec<Recorded>>
     ensures { IfSome result (λ tail. tail.items ≡ book.old.tail) }
 {

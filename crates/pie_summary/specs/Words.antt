@@ -1,5 +1,5 @@
 -- A summary in words: what became of the arrivals and why, how long packets waited, what the updates made, and when the controller turned.
-use Rattle.std.specs.Prelude.{ℕ, ◌-◌, ◌/◌, ◌^◌, ◌==◌, min, max, List, [], ◌∷◌, slice_index, codes, if◌then◌else◌}
+use Rattle.std.specs.Prelude.{ℕ, ◌-◌, ◌/◌, ◌^◌, ◌==◌, min, max, List, [], ◌∷◌, ◌++◌, slice_index, codes, if◌then◌else◌}
 use Rattle.std.specs.Fmt.{decimal}
 use Rattle.pie_aqm.specs.CauseName.{place_of_cause, word_of_cause}
 use Rattle.pie_explanation.specs.Words.{joined, millis, per_cent, share}
@@ -33,6 +33,11 @@ unfoldable pub cause_row : CauseName → List ℕ → ℕ → List ℕ
 cause_row name causes all =
     if slice_index causes (place_of_cause name) == 0 then []
     else row_words (word_of_cause name) (slice_index causes (place_of_cause name)) all
+
+-- .. each of these, one after another
+abbrev pub cause_rows : List CauseName → List ℕ → ℕ → List ℕ
+cause_rows [] causes all = []
+cause_rows (name ∷ names) causes all = cause_row name causes all ++ cause_rows names causes all
 
 unfoldable pub first_causes : List ℕ → ℕ → List ℕ
 first_causes causes all =

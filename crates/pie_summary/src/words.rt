@@ -1,8 +1,8 @@
 //! A summary in words.
 ghost use Rattle.std.specs.Prelude.{◌≡◌, ◌++◌, OnOk, string_bytes};
-ghost use Rattle.pie_summary.specs.Words.{arrival_words, arrived_words, carried_words, cause_row, cause_words, delay_words, dropped_words, first_causes, head_words};
-ghost use Rattle.pie_summary.specs.Words.{later_words, left_words, mean, middle_causes, prob_words, queued_words, row_words, sum_causes, title};
-ghost use Rattle.pie_summary.specs.Words.{target_words, turned_words, update_words, verdict_words, wait_99, word_causes, words};
+ghost use Rattle.pie_summary.specs.Words.{arrival_words, arrived_words, carried_words, cause_row, cause_rows, cause_words, delay_words, dropped_words, head_words};
+ghost use Rattle.pie_summary.specs.Words.{later_words, left_words, mean, prob_words, queued_words, row_words};
+ghost use Rattle.pie_summary.specs.Words.{target_words, turned_words, update_words, verdict_words, wait_99, words};
 
 use crate::ranges::Ranges;
 use crate::series::Series;
@@ -56,58 +56,46 @@ fn push_dropped(page: &mut String, answers: &[u64; 9], all: u64) -> Result<(), A
     push_row(page, "dropped, no room in packets", answers[4], all)
 }
 
-/// How many arrivals each cause decided: no room, turned off, a burst.
-#[tactic(auto, unfolding(crate::specs::Words::first_causes))]
-fn push_first(page: &mut String, causes: &[u64; 16], all: u64) -> Result<(), AllocError>
-    ensures { OnOk result (string_bytes page.new ≡ string_bytes page.old ++ first_causes causes.now all) }
+/// How many arrivals each of these causes decided, where it decided some.
+fn push_rows(
+    page: &mut String,
+    names: &[CauseName],
+    causes: &[u64; 16],
+    all: u64,
+) -> Result<(), AllocError>
+    ensures { OnOk result (string_bytes page.new ≡ string_bytes page.old ++ cause_rows names.now causes.now all) }
 {
-    push_cause(page, CauseName::NoRoomInBytes, causes, all)?;
-    push_cause(page, CauseName::NoRoomInPackets, causes, all)?;
-    push_cause(page, CauseName::Inactive, causes, all)?;
-    push_cause(page, CauseName::BurstAllowed, causes, all)
+    match names {
+        [] => Ok(()),
+        [first, rest @ ..] => {
+            push_cause(page, *first, causes, all)?;
+            push_rows(page, rest, causes, all)
+        }
+    }
 }
 
-/// .. little delay, little that waits, a small probability.
-#[tactic(auto, unfolding(crate::specs::Words::middle_causes))]
-fn push_middle(page: &mut String, causes: &[u64; 16], all: u64) -> Result<(), AllocError>
-    ensures { OnOk result (string_bytes page.new ≡ string_bytes page.old ++ middle_causes causes.now all) }
-{
-    push_cause(page, CauseName::LowDelay, causes, all)?;
-    push_cause(page, CauseName::ShortQueue, causes, all)?;
-    push_cause(page, CauseName::NoProbability, causes, all)?;
-    push_cause(page, CauseName::LittleAccumulated, causes, all)
-}
-
-/// .. the accumulated probability.
-#[tactic(auto, unfolding(crate::specs::Words::sum_causes))]
-fn push_by_sum(page: &mut String, causes: &[u64; 16], all: u64) -> Result<(), AllocError>
-    ensures { OnOk result (string_bytes page.new ≡ string_bytes page.old ++ sum_causes causes.now all) }
-{
-    push_cause(page, CauseName::PickedBySum, causes, all)?;
-    push_cause(page, CauseName::PickedBySumNotCapable, causes, all)?;
-    push_cause(page, CauseName::PickedBySumNotBelow, causes, all)
-}
-
-/// .. the random word.
-#[tactic(auto, unfolding(crate::specs::Words::word_causes))]
-fn push_by_word(page: &mut String, causes: &[u64; 16], all: u64) -> Result<(), AllocError>
-    ensures { OnOk result (string_bytes page.new ≡ string_bytes page.old ++ word_causes causes.now all) }
-{
-    push_cause(page, CauseName::PickedByWord, causes, all)?;
-    push_cause(page, CauseName::PickedByWordNotCapable, causes, all)?;
-    push_cause(page, CauseName::PickedByWordNotBelow, causes, all)?;
-    push_cause(page, CauseName::WordNotBelow, causes, all)
-}
-
-/// How many arrivals each cause decided.
-#[tactic(auto, unfolding(crate::specs::Words::cause_words))]
+/// How many arrivals each cause decided, in the order of the decision.
 fn push_causes(page: &mut String, causes: &[u64; 16], all: u64) -> Result<(), AllocError>
     ensures { OnOk result (string_bytes page.new ≡ string_bytes page.old ++ cause_words causes.now all) }
 {
-    push_first(page, causes, all)?;
-    push_middle(page, causes, all)?;
-    push_by_sum(page, causes, all)?;
-    push_by_word(page, causes, all)
+    let names = [
+        CauseName::NoRoomInBytes,
+        CauseName::NoRoomInPackets,
+        CauseName::Inactive,
+        CauseName::BurstAllowed,
+        CauseName::LowDelay,
+        CauseName::ShortQueue,
+        CauseName::NoProbability,
+        CauseName::LittleAccumulated,
+        CauseName::PickedBySum,
+        CauseName::PickedBySumNotCapable,
+        CauseName::PickedBySumNotBelow,
+        CauseName::PickedByWord,
+        CauseName::PickedByWordNotCapable,
+        CauseName::PickedByWordNotBelow,
+        CauseName::WordNotBelow,
+    ];
+    push_rows(page, &names, causes, all)
 }
 
 /// The mean of a series, rounded down; 0 where it is empty.
@@ -248,21 +236,12 @@ fn push_verdicts(page: &mut String, arrived: &Series, answers: &[u64; 9]) -> Res
     push_dropped(page, answers, arrived.count)
 }
 
-/// What stands before the causes.
-#[tactic(auto, unfolding(crate::specs::Words::title))]
-fn push_title(page: &mut String) -> Result<(), AllocError>
-    ensures { OnOk result (string_bytes page.new ≡ string_bytes page.old ++ title) }
-{
-    page.push_str("  by what decided them\n")
-}
-
 /// What became of the arrivals, and why.
-#[tactic(auto, unfolding(crate::specs::Words::arrival_words))]
 fn push_arrivals(page: &mut String, sums: &Sums) -> Result<(), AllocError>
     ensures { OnOk result (string_bytes page.new ≡ string_bytes page.old ++ arrival_words sums.now) }
 {
     push_verdicts(page, &sums.arrived, &sums.answers)?;
-    push_title(page)?;
+    write!(page, "  by what decided them\n")?;
     push_causes(page, &sums.causes, sums.arrived.count)
 }
 

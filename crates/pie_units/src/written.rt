@@ -103,6 +103,15 @@ fn parts_of(whole: &[u8], decimals: &[u8]) -> u128
     number_after(digits, zeros)
 }
 
+/// What a number of at most 18 decimals comes to in a unit that is so many.
+fn product_of(whole: &[u8], decimals: &[u8], scale: u64) -> Result<u64, UnitFault>
+    requires few { length decimals.now ≤ 18 }
+    requires some { 1 ≤ scale }
+    ensures { result ≡ whole_in (parts_of whole.now decimals.now * scale) }
+{
+    whole_in(parts_of(whole, decimals).saturating_mul(u128::from(scale)))
+}
+
 /// What a number comes to in a unit that is so many.
 fn value_by(whole: &[u8], decimals: &[u8], scale: u64) -> Result<u64, UnitFault>
     requires { 1 ≤ scale }
@@ -114,7 +123,7 @@ fn value_by(whole: &[u8], decimals: &[u8], scale: u64) -> Result<u64, UnitFault>
     if decimals.len() > 18 {
         return Err(UnitFault::TooPrecise);
     }
-    whole_in(parts_of(whole, decimals).saturating_mul(u128::from(scale)))
+    product_of(whole, decimals, scale)
 }
 
 /// What the number with these digits, and this text behind them, comes to.

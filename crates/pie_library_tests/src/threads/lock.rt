@@ -55,6 +55,21 @@ fn busy(lock: &RuledLock<Counter>, pass: Pass<Counter>) -> Option<Pass<Counter>>
     }
 }
 
+// A call of the pass that met a lock that was held.
+fn add_after(
+    lock: &RuledLock<Counter>,
+    back: Option<Pass<Counter>>,
+    amount: u64,
+) -> Option<Pass<Counter>>
+    requires own { IfSome back (λ pass. pass.lock ≡ lock.now) }
+    ensures { IfSome result (λ pass. pass.lock ≡ lock.now) }
+{
+    match back {
+        Some(pass) => add(lock, pass, amount),
+        None => None,
+    }
+}
+
 // A call of one pass, in whose midst another pass meets a lock that is held; and then a call of that one.
 fn add_in_turn(
     lock: &RuledLock<Counter>,
@@ -69,26 +84,77 @@ fn add_in_turn(
         Ok(held) => {
             let back = busy(lock, two);
             let one = add_and_put(lock, held, caller, 5);
-            let two = add(lock, back?, 7)?;
-            Some((one, two))
+            match add_after(lock, back, 7) {
+                Some(two) => Some((one, two)),
+                None => None,
+            }
         }
         Err(_) => None,
     }
 }
 
-// The same by the lowest and the middle one of three passes, which are then gathered: a pass with all numbers, if the ranges that do not touch
-// were not gathered.
-fn add_and_gather(lock: &RuledLock<Counter>, mut one: Pass<Counter>) -> Option<Pass<Counter>>
+// Two passes with a number each, the higher one behind: those that a third shares.
+fn two_shared(
+    lock: &RuledLock<Counter>,
+    one: &mut Pass<Counter>,
+) -> Option<(Pass<Counter>, Pass<Counter>)>
+    requires own { one.old.lock ≡ lock.now }
+    ensures own { one.new.lock ≡ lock.now }
+    ensures shared { IfSome result (λ both. (both.0.lock ≡ lock.now) × (both.1.lock ≡ lock.now)) }
+{
+    match lock.share(one) {
+        Ok(last) => match lock.share(one) {
+            Ok(middle) => Some((middle, last)),
+            Err(_) => None,
+        },
+        Err(_) => None,
+    }
+}
+
+// Whether one pass gathers two others, and the last only behind the middle one: it has all numbers then, if the ranges that do not touch were not
+// gathered.
+fn gathers(
+    lock: &RuledLock<Counter>,
+    one: &mut Pass<Counter>,
+    middle: Pass<Counter>,
+    last: Pass<Counter>,
+) -> bool
+    requires own { (one.old.lock ≡ lock.now) × (middle.lock ≡ lock.now) × (last.lock ≡ lock.now) }
+    ensures own { one.new.lock ≡ lock.now }
+{
+    match lock.gather(one, last) {
+        Ok(()) => false,
+        Err(last) => lock.gather(one, middle).is_ok() & lock.gather(one, last).is_ok(),
+    }
+}
+
+// The same by the lowest and the middle one of three passes, which are then gathered.
+fn add_and_gather(
+    lock: &RuledLock<Counter>,
+    one: Pass<Counter>,
+    middle: Pass<Counter>,
+    last: Pass<Counter>,
+) -> Option<Pass<Counter>>
+    requires own { (one.lock ≡ lock.now) × (middle.lock ≡ lock.now) × (last.lock ≡ lock.now) }
+    ensures { IfSome result (λ pass. pass.lock ≡ lock.now) }
+{
+    let (mut one, middle) = add_in_turn(lock, one, middle)?;
+    if gathers(lock, &mut one, middle, last) {
+        Some(one)
+    } else {
+        None
+    }
+}
+
+// A pass that shares two others does so with them.
+fn share_and_gather(lock: &RuledLock<Counter>, mut one: Pass<Counter>) -> Option<Pass<Counter>>
     requires own { one.lock ≡ lock.now }
     ensures { IfSome result (λ pass. pass.lock ≡ lock.now) }
 {
-    let last = lock.share(&mut one).ok()?;
-    let middle = lock.share(&mut one).ok()?;
-    let (mut one, middle) = add_in_turn(lock, one, middle)?;
-    let last = lock.gather(&mut one, last).err()?;
-    lock.gather(&mut one, middle).ok()?;
-    lock.gather(&mut one, last).ok()?;
-    Some(one)
+    match two_shared(lock, &mut one) {
+        Some((middle, last)) => add_and_gather(lock, one, middle, last),
+        None => None,
+    }
 }
 
 // The count and the total of a lock that closes; nothing where it is held.
@@ -104,10 +170,10 @@ fn closed(lock: RuledLock<Counter>, pass: Pass<Counter>) -> Option<(u64, u64)>
 // What a lock with so many numbers has counted after the calls of two passes.
 fn counted(alloc: Global, numbers: u16) -> Option<(u64, u64)> {
     match RuledLock::new(alloc, Counter::new(), numbers) {
-        Ok((lock, pass)) => {
-            let pass = add_and_gather(&lock, pass)?;
-            closed(lock, pass)
-        }
+        Ok((lock, pass)) => match share_and_gather(&lock, pass) {
+            Some(pass) => closed(lock, pass),
+            None => None,
+        },
         Err(_) => None,
     }
 }
@@ -141,9 +207,25 @@ fn sold_by_two(lock: &RuledLock<Till>, mut pass: Pass<Till>) -> Option<Pass<Till
     requires own { pass.lock ≡ lock.now }
     ensures { IfSome result (λ pass. pass.lock ≡ lock.now) }
 {
-    let other = lock.share(&mut pass).ok()?;
-    drop(try_sell(lock, other).ok()?);
-    try_sell(lock, pass).ok()
+    let is_sold = match lock.share(&mut pass) {
+        Ok(other) => try_sell(lock, other).is_ok(),
+        Err(_) => false,
+    };
+    if is_sold {
+        try_sell(lock, pass).ok()
+    } else {
+        None
+    }
+}
+
+// The sales of a till that closes.
+fn sales_of(lock: RuledLock<Till>, pass: Pass<Till>) -> Option<u64>
+    requires own { pass.lock ≡ lock }
+{
+    match lock.close(pass) {
+        Ok(till) => Some(till.sales),
+        Err(_) => None,
+    }
 }
 
 // The sales of a till after them.
@@ -153,13 +235,10 @@ fn sales(alloc: Global) -> Option<u64> {
         sales: 0,
     };
     match RuledLock::new(alloc, till, 2) {
-        Ok((lock, pass)) => {
-            let pass = sold_by_two(&lock, pass)?;
-            let Ok(till) = lock.close(pass) else {
-                return None;
-            };
-            Some(till.sales)
-        }
+        Ok((lock, pass)) => match sold_by_two(&lock, pass) {
+            Some(pass) => sales_of(lock, pass),
+            None => None,
+        },
         Err(_) => None,
     }
 }

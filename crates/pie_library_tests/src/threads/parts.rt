@@ -21,69 +21,76 @@ fn says<T: Display>(alloc: Global, it: &T, want: &str) -> bool {
     }
 }
 
-/// The refusals of a command.
+/// Whether each of these is said so.
+fn say<T: Display>(alloc: Global, texts: &[(T, &'static str)]) -> bool {
+    let mut are_said = true;
+    for (it, want) in texts {
+        are_said &= says(alloc, it, want);
+    }
+    are_said
+}
+
+/// The refusals of a command, and of a lock.
 fn say_why_a_command_is_refused(alloc: Global) -> bool {
-    says(alloc, &Refusal::Moment, "moment out of range")
-        && says(alloc, &Refusal::Size, "packet size out of range")
-        && says(
-            alloc,
-            &Refusal::TooSoon { due: 5 },
-            "the update is due at 5",
-        )
-        && says(alloc, &Refusal::Exhausted, "no more events")
-        && says(alloc, &Refusal::HistoryFull, "the tail is full")
+    let commands = [
+        (Refusal::Moment, "moment out of range"),
+        (Refusal::Size, "packet size out of range"),
+        (Refusal::TooSoon { due: 5 }, "the update is due at 5"),
+        (Refusal::Exhausted, "no more events"),
+        (Refusal::HistoryFull, "the tail is full"),
+    ];
+    let locks = [
+        (LockRefusal::NoNumbers, "a lock needs one number at least"),
+        (LockRefusal::Memory, "no memory for the lock"),
+    ];
+    say(alloc, &commands) & say(alloc, &locks)
 }
 
-/// Those of an opening, of a fold, of parameters, of a queue, and of a trace longer than a test can run.
+/// Those of an opening, of a fold, and of numbers that no core goes on from.
 fn say_why_others_are_refused(alloc: Global) -> bool {
-    let held = FoldRefusal::TooMany { held: 4 };
-    let bad = BadParam(Field::DqThreshold);
-    says(alloc, &OpenRefusal::BadLimits, "limits out of range")
-        && says(alloc, &OpenRefusal::Moment, "moment out of range")
-        && says(alloc, &OpenRefusal::Memory, "out of memory")
-        && says(alloc, &held, "the tail holds 4 events")
-        && says(alloc, &FoldRefusal::Memory, "out of memory")
-        && says(
-            alloc,
-            &bad,
-            "the parameter dq_threshold is out of its range",
-        )
-        && says(alloc, &Memory, "out of memory")
-        && says(alloc, &TraceFault::TooLong, "too many records")
+    let openings = [
+        (OpenRefusal::BadLimits, "limits out of range"),
+        (OpenRefusal::Moment, "moment out of range"),
+        (OpenRefusal::Memory, "out of memory"),
+    ];
+    let folds = [
+        (FoldRefusal::TooMany { held: 4 }, "the tail holds 4 events"),
+        (FoldRefusal::Memory, "out of memory"),
+    ];
+    let resumings = [
+        (ResumeRefusal::Count, "more events than the limits allow"),
+        (ResumeRefusal::Statistics, "statistics out of range"),
+    ];
+    say(alloc, &openings) & say(alloc, &folds) & say(alloc, &resumings)
 }
 
-/// Those of numbers that no core goes on from, and of their packets.
-fn say_why_none_goes_on(alloc: Global) -> bool {
-    says(
+/// Those of parameters, of a queue and its packets, of a trace longer than a test can run, and of a pass.
+fn say_what_is_wrong(alloc: Global) -> bool {
+    let param = says(
         alloc,
-        &ResumeRefusal::Count,
-        "more events than the limits allow",
-    ) && says(alloc, &ResumeRefusal::Statistics, "statistics out of range")
-        && says(
-            alloc,
-            &QueueRefusal::Order,
-            "a packet that arrived before its predecessor",
-        )
-        && says(
-            alloc,
-            &EndRefusal::Missing,
-            "fewer packets than were announced",
-        )
-}
-
-/// Those of a lock and of a pass.
-fn say_what_a_lock_lacks(alloc: Global) -> bool {
-    says(
+        &BadParam(Field::DqThreshold),
+        "the parameter dq_threshold is out of its range",
+    );
+    let queue = says(alloc, &Memory, "out of memory");
+    let trace = says(alloc, &TraceFault::TooLong, "too many records");
+    let order = says(
         alloc,
-        &LockRefusal::NoNumbers,
-        "a lock needs one number at least",
-    ) && says(alloc, &LockRefusal::Memory, "no memory for the lock")
-        && says(alloc, &OneNumber, "a pass with one number can't be shared")
+        &QueueRefusal::Order,
+        "a packet that arrived before its predecessor",
+    );
+    let end = says(
+        alloc,
+        &EndRefusal::Missing,
+        "fewer packets than were announced",
+    );
+    let pass = says(alloc, &OneNumber, "a pass with one number can't be shared");
+    param & queue & trace & order & end & pass
 }
 
 pub(crate) fn refusals_in_words(alloc: Global) -> bool {
-    let is_said = say_why_a_command_is_refused(alloc) && say_why_others_are_refused(alloc);
-    is_said && say_why_none_goes_on(alloc) && say_what_a_lock_lacks(alloc)
+    say_why_a_command_is_refused(alloc)
+        & say_why_others_are_refused(alloc)
+        & say_what_is_wrong(alloc)
 }
 
 /// Whether there is memory for a ring of the greatest size.
@@ -124,34 +131,22 @@ fn is_history(alloc: Global, mode: Mode, profile: Profile, params: RawParams, wa
     }
 }
 
+/// The history of each kind of opening.
+const OPENINGS: [(Mode, Profile, &[u8]); 4] = [
+    (Mode::Bounded, Profile::One, b"open,0,4,16,100\n"),
+    (Mode::Rolling, Profile::One, b"rolling,0,4,16,100\n"),
+    (Mode::Bounded, Profile::Two, b"open2,2,bounded,0,4,16,100\n"),
+    (Mode::Rolling, Profile::Two, b"open2,2,rolling,0,4,16,100\n"),
+];
+
 /// Whether each opening with the default parameters is written: a writing that gives up for some openings meets its contract.
 fn are_openings_written(alloc: Global) -> bool {
     let params = Params::default_profile().raw();
-    is_history(
-        alloc,
-        Mode::Bounded,
-        Profile::One,
-        params,
-        b"open,0,4,16,100\n",
-    ) && is_history(
-        alloc,
-        Mode::Rolling,
-        Profile::One,
-        params,
-        b"rolling,0,4,16,100\n",
-    ) && is_history(
-        alloc,
-        Mode::Bounded,
-        Profile::Two,
-        params,
-        b"open2,2,bounded,0,4,16,100\n",
-    ) && is_history(
-        alloc,
-        Mode::Rolling,
-        Profile::Two,
-        params,
-        b"open2,2,rolling,0,4,16,100\n",
-    )
+    let mut are_written = true;
+    for (mode, profile, want) in OPENINGS {
+        are_written &= is_history(alloc, mode, profile, params, want);
+    }
+    are_written
 }
 
 /// Whether an opening with other parameters has all nine.

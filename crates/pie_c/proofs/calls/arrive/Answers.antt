@@ -1,12 +1,12 @@
-use Rattle.std.proofs.Common.{◌≡◌, ◌≤◌, ◌==◌, ◌∙◌, sym, ap, arith, refl, rules}
+use Rattle.std.proofs.Common.{◌≡◌, ◌≤◌, ◌==◌, ◌^◌, ◌∙◌, nat_lt, true, false, sym, ap, arith, refl}
 use Rattle.std.proofs.lemmas.Bool.Decides.{nat_tests}
 use Rattle.pie_queue.specs.declared.ecn.Ecn.{Ecn}
 use Rattle.pie_aqm.specs.declared.verdict.Arrival.{Arrival}
 use Rattle.pie_aqm.specs.Calls.{Arrive}
 use Rattle.pie_aqm.specs.Steps.{arrived, verdict}
 use Rattle.pie_c.specs.declared.state.PieState.{PieState}
-use Rattle.pie_c.specs.Calls.{arrival_of, arrival_refusal, verdict_number}
-use Rattle.pie_c.specs.State.{held_in, with_arrival}
+use Rattle.pie_c.specs.Calls.{arrival_of, arrival_refusal, is_bad_size, verdict_number}
+use Rattle.pie_c.specs.State.{held_in, last_moment, with_arrival}
 use Rattle.pie_c.proofs.Packets.{arrival-taken, arrived-state, handed, kept-later, leaves, moment-later, untouched, verdict-later}
 use Rattle.pie_c.proofs.calls.arrive.Goals as goal
 use Rattle.pie_c.proofs.calls.arrive.Goals.{After-of_verdict}
@@ -28,22 +28,40 @@ module _ (c : After-of_verdict) where
       (omega arith)
 
   left : c.keep_arrived.new.self ≡ with_arrival state (arrived (held_in state) arrival c.args.moment)
-  left = c.keep_arrived.ensures ∙ kept-later state _ _ _ c.args.moment _ _ c.reach.ensures c.raw_with-held.ensures c.arrive-verdict.ensures.after
+  left = c.keep_arrived.ensures ∙ kept-later state _ _ _ c.args.moment _ _ c.reach.ensures c.raw_with-held.ensures.held c.arrive-verdict.ensures.after
       (ap with_ecn c.in-Some.ensures.value)
 
   decided : c.arrive-verdict.result ≡ verdict (held_in state) arrival
-  decided = verdict-later state _ _ _ c.args.moment _ _ c.reach.ensures c.raw_with-held.ensures c.arrive-verdict.ensures.verdict
+  decided = verdict-later state _ _ _ c.args.moment _ _ c.reach.ensures c.raw_with-held.ensures.held c.arrive-verdict.ensures.verdict
       (ap with_ecn c.in-Some.ensures.value)
 
 pub keep_arrived-requires : goal.keep_arrived-requires
-keep_arrived-requires c = moment-later c.reach.new.self _ _ _ c.raw_with-held.ensures c.arrive-verdict.ensures.after
+keep_arrived-requires c = moment-later c.reach.new.self _ _ _ c.raw_with-held.ensures.held c.arrive-verdict.ensures.after
+
+pub returns-then-moment-gt-MAX_NANOS : goal.returns-then-moment-gt-MAX_NANOS
+unfolding arrival_refusal
+returns-then-moment-gt-MAX_NANOS c =
+    let a = c.args in
+    let late : nat_lt last_moment a.moment ≡ true = grind (arith, nat_tests) in
+    untouched a.state.now _ _ a.moment 101 (rw late refl) refl
+
+pub returns-then-is_bad_size : goal.returns-then-is_bad_size
+unfolding arrival_refusal
+returns-then-is_bad_size c =
+    let a = c.args in
+    let early : nat_lt last_moment a.moment ≡ false = grind (arith, nat_tests) in
+    let bad : is_bad_size a.size ≡ true = sym c.is_bad_size.ensures ∙ c.if-is_bad_size.true in
+    untouched a.state.now _ _ a.moment 102 (rw (early, bad) refl) refl
 
 pub returns-then-queued-gt-MAX_QUEUED : goal.returns-then-queued-gt-MAX_QUEUED
 unfolding arrival_refusal
 returns-then-queued-gt-MAX_QUEUED c =
     let a = c.args in
-    let is : arrival_refusal a.queued a.size a.bits a.moment ≡ 112 = search rules in
-    untouched a.state.now _ _ a.moment 112 is refl
+    let early : nat_lt last_moment a.moment ≡ false = grind (arith, nat_tests) in
+    let good : is_bad_size a.size ≡ false = sym c.is_bad_size.ensures ∙ c.if-is_bad_size.false in
+    let known : nat_lt 3 a.bits ≡ false = grind (c.in-Some.ensures.two, arith, nat_tests) in
+    let many : nat_lt (2 ^ 30) a.queued ≡ true = grind (arith, nat_tests) in
+    untouched a.state.now _ _ a.moment 112 (rw (early, good, known, many) refl) refl
 
 pub returns : goal.returns
 unfolding arrival_refusal

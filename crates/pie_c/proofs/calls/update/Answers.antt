@@ -1,4 +1,4 @@
-use Rattle.std.proofs.Common.{◌≡◌, ◌∙◌, ap, arith, rules, true}
+use Rattle.std.proofs.Common.{◌≡◌, ◌∙◌, ap, arith, rules, sym, true}
 use Rattle.pie_aqm.proofs.Sounds.{Sound_call, stays_sound}
 use Rattle.pie_aqm.specs.Calls.{Update}
 use Rattle.pie_aqm.specs.Held.{Held}
@@ -10,10 +10,10 @@ use Rattle.pie_c.proofs.Sound.{held-sound}
 use Rattle.pie_c.proofs.calls.update.Goals as goal
 
 pub due-requires : goal.due-requires
-due-requires c = rw c.raw-held.ensures (held-sound c.args.state.now (search rules))
+due-requires c = rw c.raw-held.ensures (held-sound c.args.state.now (sym c.is_sound.ensures ∙ c.if-not-is_sound.false))
 
 pub made-requires : goal.made-requires
-made-requires c = rw c.raw-held.ensures (held-sound c.args.state.now (search rules))
+made-requires c = rw c.raw-held.ensures (held-sound c.args.state.now (sym c.is_sound.ensures ∙ c.if-not-is_sound.false))
 
 pub returns-then-max-due-clause-answer : goal.returns-then-max-due-clause-answer
 unfolding held_in update_refusal
@@ -22,13 +22,14 @@ returns-then-max-due-clause-answer c =
     rw (soon, c.made.ensures) (ap (λ (h : Held). updated_with 103 h.control.old_delay h) c.raw-held.ensures)
 
 pub update-delay-requires-clause-sound : goal.update-delay-requires-clause-sound
-update-delay-requires-clause-sound c = rw c.raw-held.ensures (held-sound c.args.state.now (search rules))
+update-delay-requires-clause-sound c = rw c.raw-held.ensures (held-sound c.args.state.now (sym c.is_sound.ensures ∙ c.if-not-is_sound.false))
 
 pub made-requires-2 : goal.made-requires-2
 made-requires-2 c =
     let a = c.args in
     stays_sound _ _ (c.update-delay.ensures.after ∙ ap (λ (h : Held). updated h a.queued a.moment) c.raw-held.ensures)
-    (Sound_call (held_in a.state.now) (held-sound a.state.now (search rules)) (Update a.queued a.moment) (omega arith))
+    (Sound_call (held_in a.state.now) (held-sound a.state.now (sym c.is_sound.ensures ∙ c.if-not-is_sound.false)) (Update a.queued a.moment)
+    (omega arith))
 
 pub returns-clause-after : goal.returns-clause-after
 unfolding update_refusal
@@ -43,6 +44,6 @@ returns-clause-sound c sound =
 pub returns-clause-shows : goal.returns-clause-shows
 returns-clause-shows c opened events free =
     let a = c.args in
-    let sound : is_sound a.state.now ≡ true = search rules in
+    let sound : is_sound a.state.now ≡ true = sym c.is_sound.ensures ∙ c.if-not-is_sound.false in
     shows-call a.state.now _ (Update a.queued a.moment)
     (update_refusal a.state.now a.queued a.moment) sound (returns-clause-after c) opened events free

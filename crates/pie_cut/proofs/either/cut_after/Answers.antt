@@ -19,4 +19,4 @@ returns g c = λ past accepted shows tells.
     } in
     let kept = c.cutter_after-cutter.ensures.kept in
     let begun = c.cutter_after-cutter.ensures.cuts start past old counted begins in
-    rw kept.0 at (c.cut_from.ensures.told start opening (map Made past) (counted ∙ sym kept.1) kept.2 (rw (← kept.0) at begun))
+    rw kept.0 at (c.cut_from-result.ensures.told start opening (map Made past) (counted ∙ sym kept.1) kept.2 (rw (← kept.0) at begun))

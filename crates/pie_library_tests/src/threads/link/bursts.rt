@@ -1,15 +1,14 @@
 //! Bursts of two threads at once. What one thread's bursts are answered is proved, and computed for worked rows (crates/pie_link/proofs).
 ghost use Rattle.std.specs.Prelude.{◌≡◌};
 
-use super::opened;
+use super::{Held, closes_with, opened};
 use crate::at_link;
-use crate::at_link::{AtLink, places};
+use crate::at_link::{AtLink, Work, at_once};
 use crate::books::packet;
 use pie_book::{Answer, Book};
 use pie_link::{Arrival, Caller, Link};
 use std::alloc::Global;
 use std::sync::Wait;
-use std::thread;
 use std::thread::Threads;
 
 // A packet at moment 10.
@@ -21,15 +20,20 @@ fn arrival(tag: u64) -> Arrival {
     }
 }
 
-// A burst of two packets, with tags of this thread's; whether there was room for the answers.
-fn two_packets<R: Wait>(rt: &R, alloc: Global, mut at: AtLink) -> bool {
-    let tag = if at.place == 0 { 10 } else { 20 };
-    match Vec::with_capacity(alloc, 2) {
-        Ok(mut answers) => {
-            let two = [arrival(tag), arrival(tag + 1)];
-            at_link::arrive_all(rt, at.link, &mut at.caller, &two, &mut answers)
+// A burst of two packets, with tags of this thread's.
+#[derive(Drop)]
+struct TwoPackets {
+    alloc: Global,
+}
+
+impl Work for TwoPackets {
+    fn toil<R: Wait>(&self, rt: &R, at: &mut AtLink) -> (u64, u64) {
+        let tag = if at.place == 0 { 10 } else { 20 };
+        let two = [arrival(tag), arrival(tag + 1)];
+        if let Ok(mut answers) = Vec::with_capacity(self.alloc, 2) {
+            let _ = at_link::arrive_all(rt, at.link, &mut at.caller, &two, &mut answers);
         }
-        Err(_) => false,
+        (0, 0)
     }
 }
 
@@ -43,8 +47,7 @@ fn two_threads<R: Threads + Wait + Sync>(
     requires own { caller.old.lock ≡ link.now }
     ensures { caller.new.lock ≡ link.now }
 {
-    let both = places(alloc, link, caller, 2);
-    thread::map_vec(rt, both, &|at: AtLink| { two_packets(rt, alloc, at) }).is_ok()
+    at_once(rt, alloc, link, caller, 2, &TwoPackets { alloc }).is_some()
 }
 
 // Whether a caller takes the number back that it shared.
@@ -66,11 +69,18 @@ fn is_of(book: &Book, place: usize, caller: u16) -> bool {
     }
 }
 
+// Whether its events are of these callers.
+fn are_of(book: &Book, callers: [u16; 4]) -> bool {
+    let mut are = true;
+    for place in 0..4 {
+        are &= is_of(book, place, callers[place]);
+    }
+    are
+}
+
 // Whether a book holds two bursts of two packets, one after the other.
-fn holds_two_bursts(book: &Book) -> bool {
-    let first = is_of(book, 0, 3) && is_of(book, 1, 3) && is_of(book, 2, 2) && is_of(book, 3, 2);
-    let second = is_of(book, 0, 2) && is_of(book, 1, 2) && is_of(book, 2, 3) && is_of(book, 3, 3);
-    book.count() == 4 && (first || second)
+pub(super) fn holds_two_bursts(book: &Book) -> bool {
+    book.count() == 4 && (are_of(book, [3, 3, 2, 2]) || are_of(book, [2, 2, 3, 3]))
 }
 
 // The same at a link that two threads shared, which is closed by a caller that has two of its four numbers.
@@ -82,10 +92,7 @@ pub(crate) fn nothing_comes_between_the_packets_of_a_burst<R: Threads + Wait + S
         Ok((link, mut one)) => {
             let are_sent = two_threads(rt, alloc, &link, &mut one);
             let is_back = takes_back(&link, &mut one);
-            match link.close(one) {
-                Ok(book) => are_sent && is_back && holds_two_bursts(&book),
-                Err(_) => false,
-            }
+            are_sent & is_back & closes_with(link, one, Held::TwoBursts)
         }
         Err(_) => false,
     }

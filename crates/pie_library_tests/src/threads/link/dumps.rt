@@ -3,11 +3,12 @@
 ghost use Rattle.std.specs.Prelude.{◌≡◌};
 
 use crate::at_link;
-use crate::at_link::{AtLink, Waited, places};
+use crate::at_link::{AtLink, Waited, Work, at_once};
 use crate::books::packet;
 use crossbeam_utils::Backoff;
 use pie_book::{
-    Choices, Core, Event, Excerpt, Limits, Mode, Opening, Profile, Recorded, Registers, Resuming,
+    Choices, Command, Core, Event, Excerpt, Limits, Mode, Opening, Profile, Recorded, Registers,
+    Resuming,
 };
 use pie_link::{Arrival, Caller, Link};
 use pie_params::{Elements, Params};
@@ -15,7 +16,6 @@ use pie_queue::Waiting;
 use std::alloc::Global;
 use std::sync::Wait;
 use std::sync::atomic::{AtomicU64, Ordering};
-use std::thread;
 use std::thread::Threads;
 
 // How many excerpts are taken out.
@@ -29,7 +29,7 @@ const BETWEEN: u64 = 100_000;
 
 // What a thread does in each of its turns.
 #[derive(Clone, Copy)]
-enum Work {
+enum Task {
     // Takes excerpts out, and looks at them.
     Dump,
     // Hands in a burst of packets.
@@ -43,15 +43,15 @@ enum Work {
 }
 
 // Seven threads, beside the one that takes excerpts.
-const WORK: [Work; 8] = [
-    Work::Dump,
-    Work::Send,
-    Work::Send,
-    Work::Send,
-    Work::Send,
-    Work::Take,
-    Work::Update,
-    Work::Look,
+const TASKS: [Task; 8] = [
+    Task::Dump,
+    Task::Send,
+    Task::Send,
+    Task::Send,
+    Task::Send,
+    Task::Take,
+    Task::Update,
+    Task::Look,
 ];
 
 fn opening() -> Opening {
@@ -81,46 +81,35 @@ fn arrival(turn: u64) -> Arrival {
 }
 
 // One turn of a thread, with room for its answers.
-fn make_turn_with<R: Wait>(
-    rt: &R,
-    at: &mut AtLink,
-    work: Work,
-    turn: u64,
-    answers: &mut Vec<Waited>,
-) {
+fn make_turn<R: Wait>(rt: &R, at: &mut AtLink, task: Task, turn: u64, answers: &mut Vec<Waited>) {
     let moment = turn.wrapping_mul(BETWEEN);
-    match work {
-        Work::Dump => {}
-        Work::Send => {
+    match task {
+        Task::Dump => {}
+        Task::Send => {
             let burst = [arrival(turn), arrival(turn), arrival(turn)];
             let _ = at_link::arrive_all(rt, at.link, &mut at.caller, &burst, answers);
         }
-        Work::Take => {
+        Task::Take => {
             let _ = at_link::depart_all(rt, at.link, &mut at.caller, moment, 4, answers);
         }
-        Work::Update => {
-            let _ = at_link::update(rt, at.link, &mut at.caller, moment);
+        Task::Update => {
+            let _ = at_link::ask(rt, at.link, &mut at.caller, Command::Update { moment });
         }
-        Work::Look => {
+        Task::Look => {
             let _ = at_link::registers(rt, at.link, &mut at.caller);
         }
     }
 }
 
-// One turn of a thread.
-fn make_turn<R: Wait>(rt: &R, alloc: Global, at: &mut AtLink, work: Work, turn: u64) {
-    if let Ok(mut answers) = Vec::with_capacity(alloc, 4) {
-        make_turn_with(rt, at, work, turn, &mut answers);
-    }
-}
-
 // The turns of a thread, until the excerpts have been taken.
-fn make_turns<R: Wait>(rt: &R, alloc: Global, done: &AtomicU64, at: &mut AtLink, work: Work) {
+fn make_turns<R: Wait>(rt: &R, alloc: Global, done: &AtomicU64, at: &mut AtLink, task: Task) {
     for turn in 0..TURNS {
         if done.load(Ordering::SeqCst) == 1 {
-            return;
+            break;
         }
-        make_turn(rt, alloc, at, work, turn);
+        if let Ok(mut answers) = Vec::with_capacity(alloc, 4) {
+            make_turn(rt, at, task, turn, &mut answers);
+        }
     }
 }
 
@@ -136,15 +125,13 @@ fn hand_over(resuming: &mut Resuming, waiting: &[Waiting]) -> bool {
     true
 }
 
-// The core that goes on from what an excerpt stands on.
-fn resumed(alloc: Global, excerpt: &Excerpt) -> Option<Core> {
-    let Ok(mut resuming) = Core::resume(alloc, excerpt.opening().limits, excerpt.standing()) else {
-        return None;
-    };
-    if !hand_over(&mut resuming, excerpt.waiting()) {
-        return None;
+// The core that goes on, where all that waited was handed over.
+fn resumed(mut resuming: Resuming, waiting: &[Waiting]) -> Option<Core> {
+    if hand_over(&mut resuming, waiting) {
+        resuming.end().ok()
+    } else {
+        None
     }
-    resuming.end().ok()
 }
 
 // Decides an event again, and tells whether it is answered as it was.
@@ -162,17 +149,28 @@ fn all_agree(core: &mut Core, events: &[Recorded]) -> bool {
     true
 }
 
-// What a core holds that decided an excerpt again, where each event is answered as it was.
-fn decided_again(alloc: Global, excerpt: &Excerpt) -> Option<Registers> {
-    match resumed(alloc, excerpt) {
-        Some(mut core) => {
-            if all_agree(&mut core, excerpt.events()) {
-                Some(core.registers())
-            } else {
-                None
-            }
-        }
+// What a core holds that decided these events again, where each is answered as it was.
+fn registers_after(core: &mut Core, events: &[Recorded]) -> Option<Registers> {
+    if all_agree(core, events) {
+        Some(core.registers())
+    } else {
+        None
+    }
+}
+
+// The same of one that goes on from what an excerpt stands on.
+fn registers_behind(resuming: Resuming, excerpt: &Excerpt) -> Option<Registers> {
+    match resumed(resuming, excerpt.waiting()) {
+        Some(mut core) => registers_after(&mut core, excerpt.events()),
         None => None,
+    }
+}
+
+// What a core holds that decided an excerpt again.
+fn decided_again(alloc: Global, excerpt: &Excerpt) -> Option<Registers> {
+    match Core::resume(alloc, excerpt.opening().limits, excerpt.standing()) {
+        Ok(resuming) => registers_behind(resuming, excerpt),
+        Err(_) => None,
     }
 }
 
@@ -248,19 +246,35 @@ fn dump_all<R: Wait>(rt: &R, alloc: Global, at: &mut AtLink, excerpt: &mut Excer
     (seen.clean, seen.grown)
 }
 
-// What a thread does. The first one that takes the excerpts tells the others when they can end, and what it found.
-fn toil<R: Wait>(rt: &R, alloc: Global, done: &AtomicU64, mut at: AtLink) -> (u64, u64) {
-    let work = WORK[at.place % WORK.len()];
-    if !matches!(work, Work::Dump) {
-        make_turns(rt, alloc, done, &mut at, work);
-        return (0, 0);
-    }
-    let found = match Excerpt::with_room(alloc, opening()) {
-        Ok(mut excerpt) => dump_all(rt, alloc, &mut at, &mut excerpt),
+// Takes all excerpts out, where there is room for one.
+fn dump_with_room<R: Wait>(rt: &R, alloc: Global, at: &mut AtLink) -> (u64, u64) {
+    match Excerpt::with_room(alloc, opening()) {
+        Ok(mut excerpt) => dump_all(rt, alloc, at, &mut excerpt),
         Err(_) => (0, 0),
-    };
-    done.store(1, Ordering::SeqCst);
-    found
+    }
+}
+
+// What threads do at once. The first one that takes the excerpts tells the others when they can end, and what it found.
+#[derive(Drop)]
+struct Dumping {
+    alloc: Global,
+    done: AtomicU64,
+}
+
+impl Work for Dumping {
+    fn toil<R: Wait>(&self, rt: &R, at: &mut AtLink) -> (u64, u64) {
+        match TASKS[at.place % TASKS.len()] {
+            Task::Dump => {
+                let found = dump_with_room(rt, self.alloc, at);
+                self.done.store(1, Ordering::SeqCst);
+                found
+            }
+            task => {
+                make_turns(rt, self.alloc, &self.done, at, task);
+                (0, 0)
+            }
+        }
+    }
 }
 
 // Whether an excerpt that is taken when all are done gives what the link holds then.
@@ -277,24 +291,47 @@ fn is_whole<R: Wait>(rt: &R, alloc: Global, link: &Link, caller: &mut Caller) ->
     }
 }
 
-// How many excerpts were clean and how many had grown, where all eight threads ended and the last excerpt is whole.
+// What the first of all eight threads found.
+fn first_found(found: &[(u64, u64)]) -> Option<(u64, u64)> {
+    if found.len() == TASKS.len() {
+        found.first().copied()
+    } else {
+        None
+    }
+}
+
+// How many excerpts were clean and how many had grown, where all eight threads ended.
+fn all_toil<R: Threads + Wait + Sync>(
+    rt: &R,
+    alloc: Global,
+    link: &Link,
+    caller: &mut Caller,
+) -> Option<(u64, u64)>
+    requires own { caller.old.lock ≡ link.now }
+    ensures { caller.new.lock ≡ link.now }
+{
+    let dumping = Dumping {
+        alloc,
+        done: AtomicU64::new(0),
+    };
+    match at_once(rt, alloc, link, caller, TASKS.len(), &dumping) {
+        Some(found) => first_found(found.as_slice()),
+        None => None,
+    }
+}
+
+// The same, where the last excerpt is whole too.
 fn at_link<R: Threads + Wait + Sync>(
     rt: &R,
     alloc: Global,
     link: &Link,
-    caller: Caller,
+    caller: &mut Caller,
 ) -> Option<(u64, u64)>
-    requires own { caller.lock ≡ link.now }
+    requires own { caller.old.lock ≡ link.now }
 {
-    let mut caller = caller;
-    let done = AtomicU64::new(0);
-    let all = places(alloc, link, &mut caller, WORK.len());
-    let Ok(found) = thread::map_vec(rt, all, &|at: AtLink| { toil(rt, alloc, &done, at) }) else {
-        return None;
-    };
-    let is_whole = is_whole(rt, alloc, link, &mut caller);
-    if is_whole && found.len() == WORK.len() {
-        found.first().copied()
+    let found = all_toil(rt, alloc, link, caller);
+    if is_whole(rt, alloc, link, caller) {
+        found
     } else {
         None
     }
@@ -308,7 +345,7 @@ fn dumped<R: Threads + Wait + Sync>(rt: &R, alloc: Global) -> Option<(u64, u64)>
         choices,
     } = opening();
     match Link::open_with(alloc, limits, params, moment, 9, choices) {
-        Ok((link, caller)) => at_link(rt, alloc, &link, caller),
+        Ok((link, mut caller)) => at_link(rt, alloc, &link, &mut caller),
         Err(_) => None,
     }
 }

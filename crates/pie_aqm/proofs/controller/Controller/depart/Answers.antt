@@ -14,11 +14,18 @@ invariant_of-self c =
     = uncapped (held_by c.self.inside.raw) _ a.size a.left c.units.result c.units-2.result small.1 c.depart.ensures in
     stays_sound _ _ after (Sound_call _ c.self.invariant (Depart a.size a.left c.units.result c.units-2.result) (omega (arith, c.units-2.ensures)))
 
+pub returns-clause-after : goal.returns-clause-after
+returns-clause-after c =
+    let a = c.args in
+    let small = threshold-holds (held_by c.self.inside.raw).params c.self.invariant.params in
+    rw (← c.units.ensures.value, ← c.units-2.ensures.value, ← c.self.view_is)
+    (uncapped (held_by c.self.inside.raw) _ a.size a.left c.units.result c.units-2.result small.1 c.depart.ensures)
+
+pub returns-clause-threshold : goal.returns-clause-threshold
+returns-clause-threshold c = rw (← c.self.view_is) (threshold-holds (held_by c.self.inside.raw).params c.self.invariant.params).1
+
 pub returns-clause-shows : goal.returns-clause-shows
 returns-clause-shows c opened events shows =
     let a = c.args in
-    let small = threshold-holds (held_by c.self.inside.raw).params c.self.invariant.params in
-    let after : held_by c.depart.new.self ≡ after_call a.self.now (Depart a.size a.left a.since a.moment)
-    = rw (← c.units.ensures.value, ← c.units-2.ensures.value, ← c.self.view_is)
-    (uncapped (held_by c.self.inside.raw) _ a.size a.left c.units.result c.units-2.result small.1 c.depart.ensures) in
-    moved _ _ _ _ after (Shows-depart opened events a.self.now shows a.size a.left a.since a.moment (rw (← c.self.view_is) small.1))
+    moved _ _ _ _ (returns-clause-after c)
+    (Shows-depart opened events a.self.now shows a.size a.left a.since a.moment (returns-clause-threshold c))

@@ -93,7 +93,7 @@ fn take_out(alloc: Global, book: &Book) -> Seen {
 
 /// A call at a book.
 #[derive(Clone, Copy)]
-pub(crate) enum AtBook {
+pub(crate) enum BookCall {
     /// A fold of one event from a full tail of a thousand, which requests room for one.
     Fold,
     /// Events until the tail is full.
@@ -102,13 +102,13 @@ pub(crate) enum AtBook {
     Excerpt,
 }
 
-impl AtBook {
+impl BookCall {
     /// How many events the book's tail holds, and how many come before the call.
     fn sizes(self) -> (u32, u64) {
         match self {
-            AtBook::Fold => (1000, 1000),
-            AtBook::Apply => (8, 0),
-            AtBook::Excerpt => (8, 8),
+            BookCall::Fold => (1000, 1000),
+            BookCall::Apply => (8, 0),
+            BookCall::Excerpt => (8, 8),
         }
     }
 
@@ -124,9 +124,9 @@ impl AtBook {
         arrive_often(book, events);
         begin(rt, name);
         match self {
-            AtBook::Fold => fold_one(alloc, book),
-            AtBook::Apply => fill(book),
-            AtBook::Excerpt => take_out(alloc, book),
+            BookCall::Fold => fold_one(alloc, book),
+            BookCall::Apply => fill(book),
+            BookCall::Excerpt => take_out(alloc, book),
         }
     }
 

@@ -1,7 +1,7 @@
 //! Each call that is made, by its name.
 
-use crate::books::AtBook;
-use crate::links::{AtLink, How};
+use crate::books::BookCall;
+use crate::links::{How, LinkCall};
 use crate::seen::Seen;
 use crate::texts::Writes;
 use crate::{links, texts};
@@ -11,9 +11,9 @@ use std::sync::Wait;
 /// A call, or some that are made together.
 #[derive(Clone, Copy)]
 pub(crate) enum Call {
-    Book(AtBook),
+    Book(BookCall),
     Open,
-    Link(AtLink),
+    Link(LinkCall),
     Lines,
     Audit,
     Writes(Writes),
@@ -21,14 +21,14 @@ pub(crate) enum Call {
 
 /// All of them.
 pub(crate) const CALLS: [Call; 12] = [
-    Call::Book(AtBook::Fold),
-    Call::Book(AtBook::Apply),
-    Call::Book(AtBook::Excerpt),
+    Call::Book(BookCall::Fold),
+    Call::Book(BookCall::Apply),
+    Call::Book(BookCall::Excerpt),
     Call::Open,
-    Call::Link(AtLink::Events),
-    Call::Link(AtLink::Bursts),
-    Call::Link(AtLink::Fold(How::Tries)),
-    Call::Link(AtLink::Fold(How::Waits)),
+    Call::Link(LinkCall::Events),
+    Call::Link(LinkCall::Bursts),
+    Call::Link(LinkCall::Fold(How::Tries)),
+    Call::Link(LinkCall::Fold(How::Waits)),
     Call::Lines,
     Call::Audit,
     Call::Writes(Writes::Run),
@@ -39,14 +39,14 @@ impl Call {
     /// How it is printed.
     pub(crate) fn name(self) -> &'static str {
         match self {
-            Call::Book(AtBook::Fold) => "Book::fold",
-            Call::Book(AtBook::Apply) => "Book::apply",
-            Call::Book(AtBook::Excerpt) => "Excerpt::with_room",
+            Call::Book(BookCall::Fold) => "Book::fold",
+            Call::Book(BookCall::Apply) => "Book::apply",
+            Call::Book(BookCall::Excerpt) => "Excerpt::with_room",
             Call::Open => "Link::open_with",
-            Call::Link(AtLink::Events) => "Link::try_arrive",
-            Call::Link(AtLink::Bursts) => "Link::arrive_all",
-            Call::Link(AtLink::Fold(How::Tries)) => "Link::try_fold",
-            Call::Link(AtLink::Fold(How::Waits)) => "Link::fold",
+            Call::Link(LinkCall::Events) => "Link::try_arrive",
+            Call::Link(LinkCall::Bursts) => "Link::arrive_all",
+            Call::Link(LinkCall::Fold(How::Tries)) => "Link::try_fold",
+            Call::Link(LinkCall::Fold(How::Waits)) => "Link::fold",
             Call::Lines => "HistoryLines",
             Call::Audit => "audit",
             Call::Writes(writes) => writes.name(),

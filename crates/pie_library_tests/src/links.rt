@@ -167,13 +167,13 @@ fn fold_at<R: Wait + Print>(rt: &R, link: &Link, caller: &mut Caller, how: How, 
 
 /// A call at a link, or some that are made together.
 #[derive(Clone, Copy)]
-pub(crate) enum AtLink {
+pub(crate) enum LinkCall {
     Events,
     Bursts,
     Fold(How),
 }
 
-impl AtLink {
+impl LinkCall {
     fn make_at<R: Wait + Print>(
         self,
         rt: &R,
@@ -185,9 +185,9 @@ impl AtLink {
         requires own { caller.old.lock ≡ link.now }
     {
         match self {
-            AtLink::Events => events_at(rt, link, caller, name),
-            AtLink::Bursts => bursts(rt, alloc, link, caller, name),
-            AtLink::Fold(how) => fold_at(rt, link, caller, how, name),
+            LinkCall::Events => events_at(rt, link, caller, name),
+            LinkCall::Bursts => bursts(rt, alloc, link, caller, name),
+            LinkCall::Fold(how) => fold_at(rt, link, caller, how, name),
         }
     }
 

@@ -1,7 +1,7 @@
 #!/usr/bin/env python3
 """Builds the static library, crates/pie_c/out/libpie_c.a. `rt lib` does that too, and proves again what it has no kept work of: in a
 fresh clone all crates below pie_c. Where the gate has just proved these (`rt ci` leaves each library in out/rlib, with no stamp), and no
-source is newer than they are, pie_c alone is proved and compiled, over them."""
+source is newer than they are, pie_c alone is proved and compiled, over them; and where the library is newer than all of these, it stays."""
 import importlib.machinery
 import importlib.util
 import os
@@ -30,12 +30,13 @@ def newest(folder):
     return max(map(os.path.getmtime, files))
 
 
-def is_left_by_the_gate(crates):
-    """Whether `rt ci` left the library of each, and nothing changed since."""
+def left_by_the_gate(crates):
+    """When `rt ci` left the last of the libraries of these, or nothing where one is not there, or something changed since."""
     made, stamped = [f"{it.folder}/out/rlib/{it.name}.rlib" for it in crates], [f"{it.folder}/out/rlib/stamp" for it in crates]
     if not all(map(os.path.isdir, made)) or any(map(os.path.exists, stamped)):
-        return False
-    return max(newest(it.folder) for it in crates) < min(map(os.path.getmtime, made))
+        return None
+    times = [os.path.getmtime(it) for it in made]
+    return max(times) if max(newest(it.folder) for it in crates) < min(times) else None
 
 
 def main():
@@ -43,7 +44,11 @@ def main():
     try:
         rtlib = toolchain()
         crate = next(it for it in rtlib.crates_below(ROOT) if it.name == CRATE)
-        if is_left_by_the_gate(crate.below()):
+        left = left_by_the_gate(crate.below())
+        if left:
+            library = f"{crate.folder}/out/lib{CRATE}.a"
+            if os.path.isfile(library) and max(left, newest(crate.folder)) < os.path.getmtime(library):
+                return
             print("bindings/c/library.py: over the libraries that rt ci has proved", flush=True)
             # (by one process: two take a fifth more of the processors, which other scripts wait for)
             if crate.build_static(["--jobs", "1"]) == 0:

@@ -49,7 +49,7 @@ step test timeout 120 out/stage_test "${eal[@]}" --lcores "0@$cpus" -- "$work/pl
 step test-address timeout 120 out/address/stage_test "${eal[@]}" --lcores "0@$cpus" -- "$work/address"
 step test-thread timeout 120 out/thread/stage_test "${eal[@]}" --lcores "0@$cpus" -- "$work/thread" threads
 step slow timeout 120 out/stage_measure "${eal[@]}" --lcores "0@$cpus" -- slow "$work/plain"
-step null timeout 60 out/stage_measure "${eal[@]}" --lcores "(0-1)@$cpus" --vdev=net_null0 --vdev=net_null1 -- rate 1 1 "$work/plain/null.history"
+step null timeout 60 out/stage_measure "${eal[@]}" --lcores "(0-1)@$cpus" --vdev=net_null0 --vdev=net_null1 -- rate 0.2 1 "$work/plain/null.history"
 for history in "$work"/*/*.history; do
     step audit audited "$history"
 done

@@ -171,11 +171,11 @@ def device_full():
 
 
 def paced():
-    """The history of some seconds of real time is whole."""
+    """The history of a second of real time is whole."""
     with tempfile.TemporaryDirectory() as work:
         path = f"{work}/history"
         since = now()
-        status, printed, errors = run(PACED, "--rate", "20mbit", "--receive", "24mbit", "--for", "2s", "--history", path)
+        status, printed, errors = run(PACED, "--rate", "40mbit", "--receive", "48mbit", "--for", "1s", "--history", path)
         events = events_of(told(printed))
         assert status == 0 and Path(path).read_bytes().count(NEWLINE) == events + 2, (status, printed, errors)
         audited(path)
@@ -220,7 +220,7 @@ def segments():
     """A history in segments, of which the last ones are kept: each stands alone, and begins where the one before ends."""
     with tempfile.TemporaryDirectory() as work:
         path, since = Path(work, "history"), now()
-        status, printed, errors = run(PACED, "--rate", "20mbit", "--receive", "24mbit", "--for", "2s", "--history", str(path), "--rotate", "64kb",
+        status, printed, errors = run(PACED, "--rate", "100mbit", "--receive", "120mbit", "--for", "1s", "--history", str(path), "--rotate", "64kb",
                                       "--segments", "3")
         events = events_of(told(printed))
         names = sorted(os.listdir(work), key=lambda name: int(name.rpartition(".")[2]))

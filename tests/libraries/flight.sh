@@ -5,11 +5,11 @@
 # are stopped between two words. Then sixteen wrong recorders, each of which is found.
 # What cannot be tried here is told on a line that begins with NOT RUN.
 #
-# usage: tests/libraries/flight.sh [EVENTS]      EVENTS: 100000 where none are given
+# usage: tests/libraries/flight.sh [EVENTS]      EVENTS: 50000 where none are given
 # needs: library
 set -u
 . "$(dirname "$0")/../shared/header_test.sh"
-header_test flight 1 "${1:-100000}"
+header_test flight 1 "${1:-50000}"
 header_test flight_steps 1 200
 
 # wrong NAME OLD NEW [TEST COUNT]: a header with this change is found

@@ -1,10 +1,9 @@
 #!/usr/bin/env python3
 """Refuses a storm of the built program each request for memory, each write and each start of a thread in turn, once and from there on
-(tests/shared/refuse.c). The threads of a storm look for one another many times over, and for one that is missing 100,000 times, before they go on;
-beside other work each look can be a wait for a processor: so it runs alone.
+(tests/shared/refuse.c). The threads of a storm wait for one that is missing, a third of a second or more, before they go on.
 
 usage: tests/program/refused_storms.py [PROGRAM]      PROGRAM: crates/pie/out/pie where none is given
-needs: program, quiet"""
+needs: program"""
 import os
 import sys
 import tempfile

@@ -423,73 +423,41 @@ fn time_at_once<R: Threads + Wait + Clock + Print + Sync, P: Bursts + Send + Dro
     }
 }
 
-fn alone<R: Wait + Clock + Print>(report: &mut Report<R>, alloc: Global, burst: u64) {
-    let what = Measurement {
-        name: "burst_alone",
-        burst,
-        threads: 1,
-    };
+fn at_book<R: Wait + Clock + Print>(report: &mut Report<R>, alloc: Global, what: Measurement) {
     if let Some(mut book) = open_book(alloc, ROOM) {
         time_alone(report, alloc, what, &mut book);
-    }
-}
-
-fn alone_at_mutex<R: Wait + Clock + Print>(report: &mut Report<R>, alloc: Global, burst: u64) {
-    let what = Measurement {
-        name: "burst_mutex",
-        burst,
-        threads: 1,
-    };
-    if let Some(book) = open_book(alloc, ROOM) {
-        let mutex = Mutex::new(book);
-        time_alone(report, alloc, what, &mut AtMutex { mutex: &mutex });
     }
 }
 
 fn at_mutex<R: Threads + Wait + Clock + Print + Sync>(
     report: &mut Report<R>,
     alloc: Global,
-    threads: u16,
-    burst: u64,
+    what: Measurement,
 ) {
-    let what = Measurement {
-        name: "burst_mutex",
-        burst,
-        threads,
-    };
     if let Some(book) = open_book(alloc, ROOM) {
         let mutex = Mutex::new(book);
-        let jobs = mutex_jobs(alloc, &mutex, threads);
-        time_at_once(report, alloc, what, jobs);
-    }
-}
-
-fn alone_at_link<R: Wait + Clock + Print>(report: &mut Report<R>, alloc: Global, burst: u64) {
-    let what = Measurement {
-        name: "burst_link",
-        burst,
-        threads: 1,
-    };
-    if let Some((link, caller)) = open_link(alloc, ROOM, 1) {
-        let link = &link;
-        time_alone(report, alloc, what, &mut AtLink { link, caller });
+        if what.threads == 1 {
+            time_alone(report, alloc, what, &mut AtMutex { mutex: &mutex });
+        } else {
+            let jobs = mutex_jobs(alloc, &mutex, what.threads);
+            time_at_once(report, alloc, what, jobs);
+        }
     }
 }
 
 fn at_link<R: Threads + Wait + Clock + Print + Sync>(
     report: &mut Report<R>,
     alloc: Global,
-    threads: u16,
-    burst: u64,
+    what: Measurement,
 ) {
-    let what = Measurement {
-        name: "burst_link",
-        burst,
-        threads,
-    };
-    if let Some((link, caller)) = open_link(alloc, ROOM, 10) {
-        let jobs = link_jobs(alloc, &link, caller, threads);
-        time_at_once(report, alloc, what, jobs);
+    if let Some((link, mut caller)) = open_link(alloc, ROOM, 10) {
+        let link = &link;
+        if what.threads == 1 {
+            time_alone(report, alloc, what, &mut AtLink { link, caller });
+        } else {
+            let jobs = link_jobs(alloc, link, &mut caller, what.threads);
+            time_at_once(report, alloc, what, jobs);
+        }
     }
 }
 
@@ -501,13 +469,15 @@ pub fn measure<R: Threads + Wait + Clock + Print + Sync>(
     threads: u16,
 ) {
     for burst in BURSTS {
+        let what = |name| Measurement {
+            name,
+            burst,
+            threads,
+        };
         if threads == 1 {
-            alone(report, alloc, burst);
-            alone_at_mutex(report, alloc, burst);
-            alone_at_link(report, alloc, burst);
-        } else {
-            at_link(report, alloc, threads, burst);
-            at_mutex(report, alloc, threads, burst);
+            at_book(report, alloc, what("burst_alone"));
         }
+        at_link(report, alloc, what("burst_link"));
+        at_mutex(report, alloc, what("burst_mutex"));
     }
 }

@@ -131,8 +131,8 @@ fn contended_at_link<R: Threads + Wait + Clock + Print + Sync>(
     enqueuers: u16,
 ) -> u64 {
     match open_link(alloc, PACKETS, 10) {
-        Some((link, caller)) => {
-            let jobs = link_jobs(alloc, &link, caller, enqueuers.saturating_add(1));
+        Some((link, mut caller)) => {
+            let jobs = link_jobs(alloc, &link, &mut caller, enqueuers.saturating_add(1));
             time_at_once(report, "link", enqueuers, jobs, PER_THREAD)
         }
         None => 0,

@@ -78,18 +78,18 @@ pub fn open(alloc: Global, limits: Limits, mode: Mode) -> Option<Book> {
 }
 
 /// Work at the link for so many threads, the first of which sends.
-pub fn link_jobs(
+pub fn link_jobs<'a>(
     alloc: Global,
-    link: &Link,
-    mut caller: Caller,
+    link: &'a Link,
+    caller: &mut Caller,
     threads: u16,
-) -> Result<Vec<Job<AtLink>>, AllocError>
-    requires { caller.lock ≡ link.now }
+) -> Result<Vec<Job<AtLink<'a>>>, AllocError>
+    requires { caller.old.lock ≡ link.now }
 {
     let mut jobs = Vec::with_capacity(alloc, usize::from(threads))?;
     let mut sends = true;
     for _ in 0..threads {
-        if let Ok(caller) = link.share(&mut caller) {
+        if let Ok(caller) = link.share(caller) {
             let place = AtLink { link, caller };
             let _ = jobs.push(Job { place, sends });
         }

@@ -12,7 +12,7 @@ use Rattle.pie_params.specs.declared.elements.Step.TheVariants.{Capped, Uncapped
 use Rattle.pie_params.specs.declared.elements.Size.{Size}
 use Rattle.pie_params.specs.declared.elements.Size.TheVariants.{Unscaled, Scaled}
 use Rattle.pie_params.specs.Elements.{usual}
-use Rattle.pie_c.specs.State.{choices_of, elements_of}
+use Rattle.pie_c.specs.State.{choices_of, delay_flag, elements_of, picking_flag, size_flag, step_flag}
 
 of-parts : (d : Delay) (p : Picking) (t : Step) (z : Size)
     → elements_of (choices_of (record { delay = d; picking = p; step = t; size = z })) ≡ record { delay = d; picking = p; step = t; size = z }
@@ -39,25 +39,23 @@ elements-back e = of-parts e.delay e.picking e.step e.size
 
 pub few-choices : (e : Elements) → choices_of e ≤ 15
 unfolding choices_of
-few-choices e = by e.delay e.picking e.step e.size
+few-choices e = omega (arith, delay e.delay, picking e.picking, step e.step, size e.size)
   where
-    by : (d : Delay) (p : Picking) (t : Step) (z : Size) → choices_of (record { delay = d; picking = p; step = t; size = z }) ≤ 15
-    by Rate Derandomized Capped Unscaled = omega arith
-    by Rate Derandomized Capped Scaled = omega arith
-    by Rate Derandomized Uncapped Unscaled = omega arith
-    by Rate Derandomized Uncapped Scaled = omega arith
-    by Rate Random Capped Unscaled = omega arith
-    by Rate Random Capped Scaled = omega arith
-    by Rate Random Uncapped Unscaled = omega arith
-    by Rate Random Uncapped Scaled = omega arith
-    by Stamp Derandomized Capped Unscaled = omega arith
-    by Stamp Derandomized Capped Scaled = omega arith
-    by Stamp Derandomized Uncapped Unscaled = omega arith
-    by Stamp Derandomized Uncapped Scaled = omega arith
-    by Stamp Random Capped Unscaled = omega arith
-    by Stamp Random Capped Scaled = omega arith
-    by Stamp Random Uncapped Unscaled = omega arith
-    by Stamp Random Uncapped Scaled = omega arith
+    delay : (d : Delay) → delay_flag d ≤ 1
+    delay Rate = omega arith
+    delay Stamp = omega arith
+
+    picking : (p : Picking) → picking_flag p ≤ 2
+    picking Derandomized = omega arith
+    picking Random = omega arith
+
+    step : (t : Step) → step_flag t ≤ 4
+    step Capped = omega arith
+    step Uncapped = omega arith
+
+    size : (z : Size) → size_flag z ≤ 8
+    size Unscaled = omega arith
+    size Scaled = omega arith
 
 pub choices-back : (n : ℕ) → n ≤ 15 → choices_of (elements_of n) ≡ n
 unfolding elements_of choices_of

@@ -24,7 +24,7 @@ use Rattle.pie_aqm.proofs.Laws.{Shows_call, moved}
 use Rattle.pie_aqm.proofs.Sounds.{Sound_call}
 use Rattle.pie_c.specs.declared.params.PieParams.{PieParams}
 use Rattle.pie_c.specs.declared.state.PieState.{PieState}
-use Rattle.pie_c.specs.Calls.{Arrives, Leaves, arrival_refusal, departure_refusal, if_taken, is_bad_size, kept_if_refused, moment_refusal}
+use Rattle.pie_c.specs.Calls.{Arrives, Leaves, Makes, arrival_refusal, departure_refusal, if_taken, is_bad_size, kept_if_refused, moment_refusal}
 use Rattle.pie_c.specs.Calls.{opening_refusal, packet_refusal, params_refusal, reset_refusal, unless_refused}
 use Rattle.pie_c.specs.Params.{params_of, raw_of}
 use Rattle.pie_c.specs.State.{choices_of, elements_of, held_in, is_sound, last_moment, profile_number, profile_of, state_of, takes_stamps}
@@ -141,6 +141,23 @@ leaves s t call refusal left taken = record {
   after = left;
   sound = λ sound. stays-sound s t call refusal sound (left sound) taken;
   shows = λ o events sound. shows-call s t call refusal sound (left sound) o events;
+}
+
+-- .. of a call that checks the state
+pub makes : (s t : PieState) (call : Call) (refusal : ℕ) → is_sound s ≡ true → t ≡ kept_if_refused refusal s (after_call (held_in s) call)
+    → (refusal ≡ 0 → IsTaken call) → Makes s call refusal t
+makes s t call refusal sound left taken = record {
+  after = left;
+  sound = λ _. stays-sound s t call refusal sound left taken;
+  shows = shows-call s t call refusal sound left;
+}
+
+-- .. and where it is refused
+pub unmade : (s : PieState) (call : Call) (refusal : ℕ) → (refusal == 0) ≡ false → Makes s call refusal s
+unmade s call refusal some = record {
+  after = rw some refl;
+  sound = λ sound. sound;
+  shows = λ o events free. let none : (refusal == 0) ≡ true = rw free refl in cc;
 }
 
 -- a refused arrival leaves all as it was

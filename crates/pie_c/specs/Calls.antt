@@ -27,6 +27,11 @@ kept_if_refused refusal before after = if refusal == 0 then state_of after else 
 abbrev pub if_taken : ℕ → PieState → PieState → PieState
 if_taken refusal before after = if refusal == 0 then after else before
 
+-- what such a call answers and leaves, where it is refused by this number and else leaves this
+pub record Takes (before : PieState) (refusal : ℕ) (after : PieState) (code : ℕ) (left : PieState) : Type 0 where
+  pub answer : code ≡ refusal
+  pub fields : left ≡ if_taken refusal before after
+
 -- a packet's size is outside 1 to 65535 bytes
 abbrev pub is_bad_size : ℕ → Bool
 is_bad_size size = (size == 0) || nat_lt 65535 size
@@ -74,6 +79,14 @@ pub record Leaves (before : PieState) (call : Call) (refusal : ℕ) (left : PieS
   pub sound : is_sound before ≡ true → is_sound left ≡ true
   pub shows : (opened : Opened) (events : List ControllerEvent) → is_sound before ≡ true → refusal ≡ 0
       → Shows opened events (held_in before)
+      → Shows opened (events ++ shown_by (held_in before) call ∷ []) (held_in left)
+
+-- what a call that checks the whole state leaves, where it is refused by this number: in every field what the controller then holds; a sound
+-- state stays sound and, where it showed what came before, shows the call too
+pub record Makes (before : PieState) (call : Call) (refusal : ℕ) (left : PieState) : Type 0 where
+  pub after : left ≡ kept_if_refused refusal before (after_call (held_in before) call)
+  pub sound : is_sound before ≡ true → is_sound left ≡ true
+  pub shows : (opened : Opened) (events : List ControllerEvent) → refusal ≡ 0 → Shows opened events (held_in before)
       → Shows opened (events ++ shown_by (held_in before) call ∷ []) (held_in left)
 
 -- what an arrival answers and leaves, where it is refused by this number: of any state each field, and of a sound one what the

@@ -1,15 +1,15 @@
 //! The calls on a state. Those for each packet read the state's numbers as they are: their rules are total, so nothing of the state
 //! is checked. The others refuse a state that isn't sound. Each refuses what it is handed out of its range, lets the controller
 //! make its step, and writes back what that changed.
-ghost use Rattle.std.specs.Prelude.{◌≡◌, ◌^◌, ◌<◌, ◌∷◌, [], ◌++◌, List, if◌then◌else◌, max, true};
+ghost use Rattle.std.specs.Prelude.{◌≡◌, ◌∷◌, [], ◌++◌, List, if◌then◌else◌, max, true};
 ghost use Rattle.pie_aqm.specs.Calls.{Arrive, Change, Depart, Pass, Restart, Update, after_call, shown_by};
 ghost use Rattle.pie_aqm.specs.Events.{ControllerEvent, Opened};
 ghost use Rattle.pie_aqm.specs.History.{Shows};
 ghost use Rattle.pie_aqm.specs.Steps.{arrived, capped, departed, verdict};
 ghost use Rattle.pie_c.specs.Params.{raw_of};
 ghost use Rattle.pie_c.specs.State.{elements_of, held_in, is_sound, takes_stamps, with_departure, with_rate};
-ghost use Rattle.pie_c.specs.Calls.{Arrives, Leaves, arrival_of, arrival_refusal, departure_refusal, if_taken, kept_if_refused, moment_refusal, params_refusal};
-ghost use Rattle.pie_c.specs.Calls.{reset_refusal, state_refusal, unless_refused, update_refusal, updated_by, waited_refusal};
+ghost use Rattle.pie_c.specs.Calls.{Arrives, Leaves, Makes, Takes, arrival_of, arrival_refusal, departure_refusal, if_taken, kept_if_refused};
+ghost use Rattle.pie_c.specs.Calls.{moment_refusal, params_refusal, reset_refusal, state_refusal, unless_refused, update_refusal, updated_by, waited_refusal};
 
 use crate::checked::{
     are_in_range, ecn, elements, is_bad_size, is_sound, raw, raw_with, takes_stamps,
@@ -154,7 +154,6 @@ pub extern "C" fn pie_depart(state: &mut PieState, size: u32, left: u64, moment:
 #[inline(always)]
 fn depart_counted(state: &mut PieState, size: u32, left: u64, moment: u64) -> bool
     ensures taken { result ≡ true → departure_refusal state.old size left moment ≡ 0 }
-    ensures within { result ≡ true → moment < 2 ^ 60 }
     ensures after { state.new ≡ (if result then with_rate state.old (departed (capped (held_in state.old)) size left 0 moment) else state.old) }
 {
     if left <= MAX_QUEUED && moment <= MAX_NANOS && size != 0 {
@@ -169,9 +168,8 @@ fn depart_counted(state: &mut PieState, size: u32, left: u64, moment: u64) -> bo
 /// Takes in any other packet. A function of its own, and so is what it calls: what they take costs the others nothing then.
 #[inline(never)]
 fn depart_otherwise(state: &mut PieState, moment: u64, size: u32, left: u64) -> u32
-    ensures answer { result ≡ departure_refusal state.old size left moment }
-    ensures fields { state.new ≡ if_taken (departure_refusal state.old size left moment) state.old
-        (with_rate state.old (departed (capped (held_in state.old)) size left 0 moment)) }
+    ensures { Takes state.old (departure_refusal state.old size left moment)
+        (with_rate state.old (departed (capped (held_in state.old)) size left 0 moment)) result state.new }
 {
     if depart_unmeasured(state, size, left, moment) {
         return DONE;
@@ -183,7 +181,6 @@ fn depart_otherwise(state: &mut PieState, moment: u64, size: u32, left: u64) -> 
 #[inline(always)]
 fn depart_unmeasured(state: &mut PieState, size: u32, left: u64, moment: u64) -> bool
     ensures taken { result ≡ true → departure_refusal state.old size left moment ≡ 0 }
-    ensures within { result ≡ true → moment < 2 ^ 60 }
     ensures after { state.new ≡ (if result then with_rate state.old (departed (capped (held_in state.old)) size left 0 moment) else state.old) }
 {
     if moment > MAX_NANOS || is_bad_size(size) || !raw(state).is_unmeasured(left) {
@@ -197,9 +194,8 @@ fn depart_unmeasured(state: &mut PieState, size: u32, left: u64, moment: u64) ->
 #[inline(never)]
 #[tactic(auto, unfolding(crate::specs::Calls::packet_refusal))]
 fn depart(state: &mut PieState, size: u32, left: u64, moment: u64) -> u32
-    ensures answer { result ≡ departure_refusal state.old size left moment }
-    ensures fields { state.new ≡ if_taken (departure_refusal state.old size left moment) state.old
-        (with_rate state.old (departed (capped (held_in state.old)) size left 0 moment)) }
+    ensures { Takes state.old (departure_refusal state.old size left moment)
+        (with_rate state.old (departed (capped (held_in state.old)) size left 0 moment)) result state.new }
 {
     if moment > MAX_NANOS {
         return BAD_MOMENT;
@@ -251,16 +247,6 @@ pub(crate) fn depart_waited(
         (with_departure state.old (departed (capped (held_in state.old)) size left arrived moment)) }
     ensures held { Leaves state.old (Depart size left arrived moment) (waited_refusal state.old size left arrived moment) state.new }
 {
-    depart_by(state, size, left, arrived, moment)
-}
-
-/// The same.
-#[inline(always)]
-fn depart_by(state: &mut PieState, size: u32, left: u64, arrived: u64, moment: u64) -> u32
-    ensures answer { result ≡ waited_refusal state.old size left arrived moment }
-    ensures fields { state.new ≡ if_taken (waited_refusal state.old size left arrived moment) state.old
-        (with_departure state.old (departed (capped (held_in state.old)) size left arrived moment)) }
-{
     if takes_stamps(state) {
         depart_stamped(state, size, left, arrived, moment)
     } else {
@@ -273,9 +259,8 @@ fn depart_by(state: &mut PieState, size: u32, left: u64, arrived: u64, moment: u
 #[tactic(auto, unfolding(crate::specs::Calls::packet_refusal))]
 fn depart_stamped(state: &mut PieState, size: u32, left: u64, arrived: u64, moment: u64) -> u32
     requires { takes_stamps state.old ≡ true }
-    ensures answer { result ≡ waited_refusal state.old size left arrived moment }
-    ensures fields { state.new ≡ if_taken (waited_refusal state.old size left arrived moment) state.old
-        (with_departure state.old (departed (capped (held_in state.old)) size left arrived moment)) }
+    ensures { Takes state.old (waited_refusal state.old size left arrived moment)
+        (with_departure state.old (departed (capped (held_in state.old)) size left arrived moment)) result state.new }
 {
     if moment > MAX_NANOS {
         return BAD_MOMENT;
@@ -343,12 +328,7 @@ pub extern "C" fn pie_update(state: &mut PieState, queued: u64, moment: u64) -> 
 #[tactic(auto, unfolding(crate::specs::Calls::update_refusal))]
 pub(crate) fn update(state: &mut PieState, queued: u64, moment: u64) -> PieUpdated
     ensures answer { result ≡ updated_by state.old queued moment }
-    ensures after { state.new ≡ kept_if_refused (update_refusal state.old queued moment) state.old
-        (after_call (held_in state.old) (Update queued moment)) }
-    ensures sound { is_sound state.old ≡ true → is_sound state.new ≡ true }
-    ensures shows { (opened : Opened) (events : List ControllerEvent) → update_refusal state.old queued moment ≡ 0
-        → Shows opened events (held_in state.old)
-        → Shows opened (events ++ shown_by (held_in state.old) (Update queued moment) ∷ []) (held_in state.new) }
+    ensures made { Makes state.old (Update queued moment) (update_refusal state.old queued moment) state.new }
 {
     if !is_sound(state) {
         return PieUpdated::refused(BAD_STATE);
@@ -386,10 +366,7 @@ pub extern "C" fn pie_reset(state: &mut PieState, moment: u64) -> u32
 #[tactic(auto, unfolding(crate::specs::Calls::reset_refusal))]
 pub(crate) fn reset(state: &mut PieState, moment: u64) -> u32
     ensures answer { result ≡ reset_refusal state.old moment }
-    ensures after { state.new ≡ kept_if_refused (reset_refusal state.old moment) state.old (after_call (held_in state.old) (Restart moment)) }
-    ensures sound { is_sound state.old ≡ true → is_sound state.new ≡ true }
-    ensures shows { (opened : Opened) (events : List ControllerEvent) → reset_refusal state.old moment ≡ 0 → Shows opened events (held_in state.old)
-        → Shows opened (events ++ shown_by (held_in state.old) (Restart moment) ∷ []) (held_in state.new) }
+    ensures made { Makes state.old (Restart moment) (reset_refusal state.old moment) state.new }
 {
     if !is_sound(state) {
         return BAD_STATE;
@@ -424,12 +401,7 @@ pub extern "C" fn pie_set_params(state: &mut PieState, params: &PieParams, momen
 #[tactic(auto, unfolding(crate::specs::Calls::params_refusal))]
 pub(crate) fn set_params(state: &mut PieState, params: &PieParams, moment: u64) -> u32
     ensures answer { result ≡ params_refusal state.old params.now moment }
-    ensures after { state.new ≡ kept_if_refused (params_refusal state.old params.now moment) state.old
-        (after_call (held_in state.old) (Change (raw_of params.now) moment)) }
-    ensures sound { is_sound state.old ≡ true → is_sound state.new ≡ true }
-    ensures shows { (opened : Opened) (events : List ControllerEvent) → params_refusal state.old params.now moment ≡ 0
-        → Shows opened events (held_in state.old)
-        → Shows opened (events ++ shown_by (held_in state.old) (Change (raw_of params.now) moment) ∷ []) (held_in state.new) }
+    ensures made { Makes state.old (Change (raw_of params.now) moment) (params_refusal state.old params.now moment) state.new }
 {
     if !is_sound(state) {
         return BAD_STATE;

@@ -1,10 +1,9 @@
 -- How a subcommand ends that never began, and a run, a migration and an audit.
-use Rattle.std.proofs.Common.{◌≡◌, ◌^◌, ℕ, List, [], ◌∷◌, Option, Some, None, inl, inr, refl}
-use Rattle.std.specs.Prelude.{Bool, true, false, IfErr, IfOk, IfSome, Result, Ok, Err}
+use Rattle.std.proofs.Common.{◌≡◌, ◌≤◌, ◌^◌, ℕ, List, [], ◌∷◌, Option, Some, None, arith, inl, inr, refl, subst}
+use Rattle.std.specs.Prelude.{◌⊎◌, Bool, true, false, IfErr, IfOk, IfSome, Result, Ok, Err}
 use Rattle.std.specs.Io.KnownBytes.{Appends}
 use Rattle.clap.specs.Words.{Text}
 use Rattle.pie_record.specs.declared.fault.TraceFault.{TraceFault}
-use Rattle.pie_record.specs.declared.fault.TraceFault.TheVariants as trace_fault
 use Rattle.pie_record.specs.Fault.{IsTold, is_device}
 use Rattle.pie_trace.specs.declared.run.RunEnd.{RunEnd}
 use Rattle.pie_trace.specs.Resumed.{RunsBy, RunsEither}
@@ -14,9 +13,28 @@ use Rattle.pie_excerpt.specs.Beginning.{is_resumed}
 use Rattle.pie_audit.specs.declared.auditor.Finding.{Finding}
 use Rattle.pie_audit.specs.declared.auditor.Finding.TheVariants as finding
 use Rattle.pie_audit.specs.Text.{FindsEither, finding_line}
+use Rattle.pie_commands.specs.declared.end.End.{End}
 use Rattle.pie_commands.specs.declared.end.End.TheVariants.{Done, Differs, Fault, Failed}
 use Rattle.pie_commands.specs.JointEnds.{EndsEither, EndsOfFiles}
-use Rattle.pie_commands.specs.Ends.{EndsAudit, EndsMigrate, EndsRun, end_of, run_ends, run_ends_by}
+use Rattle.pie_commands.specs.Ends.{EndsAudit, EndsMigrate, EndsRun, TellsFound, audit_ends, end_found, end_of, run_ends, run_ends_by, status_of}
+
+-- ---- the status
+
+pub status-most : (end : End) → status_of end ≤ 2
+status-most Done = omega arith
+status-most Differs = omega arith
+status-most (Fault why) = omega arith
+status-most Failed = omega arith
+
+-- where an event differs it is 2
+pub no-difference : (end : End) → status_of end ≤ 1 → end ≡ Differs → ⊥
+no-difference end most is =
+    let two : status_of Differs ≤ 1 = subst (λ (e : End). status_of e ≤ 1) is most in
+    omega arith
+
+pub no-difference-by : {P : Type 0} (end : End) → (status_of end ≡ 1) ⊎ ((status_of end ≡ 0) × P) → end ≡ Differs → ⊥
+no-difference-by end (inl one) is = no-difference end (omega arith) is
+no-difference-by end (inr done) is = no-difference end (omega (arith, done.0)) is
 
 -- ---- before a subcommand begins
 
@@ -84,31 +102,23 @@ EndsMigrate-told (Some text) given before now ends faults writes =
 -- ---- `pie audit`
 
 -- the finding's line was written
-pub EndsAudit-clean : (known : Option (List ℕ)) (events : ℕ) (before now : Option (List ℕ))
-    → IfSome known (λ text. FindsEither (records_of text) (Ok (finding.Clean events)))
-    → Appends before now (finding_line (finding.Clean events)) → IfSome known (λ text. EndsAudit text Done before now)
-EndsAudit-clean None events before now found written = tt
-EndsAudit-clean (Some text) events before now found written = (events, found, written)
+audit-written : (finds : Result Finding TraceFault → Type 0) (found : Finding) (before now : Option (List ℕ)) → finds (Ok found)
+    → Appends before now (finding_line found) → audit_ends finds (end_found found) before now
+audit-written finds (finding.Clean events) before now is written = (events, is, written)
+audit-written finds (finding.Differs event) before now is written = (event, is, written)
 
-pub EndsAudit-differs : (known : Option (List ℕ)) (event : ℕ) (before now : Option (List ℕ))
-    → IfSome known (λ text. FindsEither (records_of text) (Ok (finding.Differs event)))
-    → Appends before now (finding_line (finding.Differs event)) → IfSome known (λ text. EndsAudit text Differs before now)
-EndsAudit-differs None event before now found written = tt
-EndsAudit-differs (Some text) event before now found written = (event, found, written)
+-- .. or could not be; or there is a fault
+audit-told : (finds : Result Finding TraceFault → Type 0) (found : Result Finding TraceFault) (end : End) (before now : Option (List ℕ)) → finds found
+    → TellsFound found end before now → audit_ends finds end before now
+audit-told finds (Ok found) end before now is (inl unwritten) = rw unwritten ((λ told. cc), inr (found, is, refl))
+audit-told finds (Ok found) end before now is (inr written) = rw written.0 (audit-written finds found before now is written.1)
+audit-told finds (Err why) end before now is tells = rw tells.0 ((λ told. is), inl tells.1)
 
--- it could not be written
-pub EndsAudit-unwritten : (known : Option (List ℕ)) (told : Finding) (before now : Option (List ℕ))
-    → IfSome known (λ text. FindsEither (records_of text) (Ok told))
-    → IfSome known (λ text. EndsAudit text (Fault trace_fault.Write) before now)
-EndsAudit-unwritten None told before now found = tt
-EndsAudit-unwritten (Some text) told before now found = (λ told_so. cc, inr (told, found, refl))
-
--- there is a fault
-pub EndsAudit-faulted : (known : Option (List ℕ)) (why : TraceFault) (before : Option (List ℕ))
-    → IfSome known (λ text. FindsEither (records_of text) (Err why))
-    → IfSome known (λ text. EndsAudit text (Fault why) before before)
-EndsAudit-faulted None why before faults = tt
-EndsAudit-faulted (Some text) why before faults = (λ told. faults, inl refl)
+pub EndsAudit-told : (known : Option (List ℕ)) (found : Result Finding TraceFault) (end : End) (before now : Option (List ℕ))
+    → TellsFound found end before now → IfSome known (λ text. FindsEither (records_of text) found)
+    → IfSome known (λ text. EndsAudit text end before now)
+EndsAudit-told None found end before now tells finds = tt
+EndsAudit-told (Some text) found end before now tells finds = audit-told (FindsEither (records_of text)) found end before now finds tells
 
 -- ---- of files
 

@@ -1,7 +1,6 @@
 -- An audit of the files of one history, one after another.
-use Rattle.std.proofs.Common.{◌≡◌, ◌∙◌, ◌+◌, ◌<◌, ℕ, List, [], ◌∷◌, ◌++◌, add-one, get_or, length, take, Bool, false, Option, Some, None, refl}
+use Rattle.std.proofs.Common.{◌≡◌, ◌∙◌, ℕ, List, [], ◌∷◌, ◌++◌, Bool, false, Option, None, refl}
 use Rattle.std.proofs.Common.{subst, ap}
-use Rattle.std.proofs.Math.Seq.{take-suc}
 use Rattle.std.specs.Prelude.{◌||◌}
 use Rattle.std.specs.List.{flat_map}
 use Rattle.std.specs.Io.KnownBytes.{Appends}
@@ -11,22 +10,11 @@ use Rattle.clap.specs.Words.{Text}
 use Rattle.pie_record.proofs.Laws.{Appends-both, Appends-nothing}
 use Rattle.pie_cut.specs.declared.joined.Joined.{Joined}
 use Rattle.pie_cut.specs.Joined.{EndView}
-use Rattle.pie_files.specs.Files.{ReadsNamed}
-use Rattle.pie_files.proofs.FileFacts.{Stays, reads-given}
 use Rattle.pie_commands.specs.declared.end.End.{End}
 use Rattle.pie_commands.specs.AuditEnds.{is_unfound}
-use Rattle.pie_commands.specs.JointEnds.{AreJoined, EndsEither, EndsOfFiles, JoinsFile, JoinsFiles, JoinsKnown, JoinsRead, ToldJoined, finding_in}
+use Rattle.pie_commands.specs.JointEnds.{AreJoined, EndsEither, EndsOfFiles, JoinsFile, JoinsFiles, ToldJoined, finding_in}
 use Rattle.pie_commands.specs.JointEnds.{is_broken, lines_of, told_lines}
 use Rattle.pie_commands.proofs.AuditFacts.{any-more}
-
--- what is told of a file is told of its text
-pub joint-given : {R : Type 0} (remaining : R → Option (List ℕ)) (first : R) (input : Option R) (files : Text → Option (List ℕ)) (name : Text)
-    (before : Option EndView) (told : Option Joined) (after : Option EndView) → Stays first input
-    → JoinsRead (ReadsNamed remaining input files name) before told after → JoinsFile (remaining first) files name before told after
-joint-given remaining first input files name before None after stays joins = joins
-joint-given remaining first input files name before (Some joined) after stays joins =
-    subst (λ (known : Option (List ℕ)). JoinsKnown known before (Some joined) after)
-    (reads-given remaining first input files name joins.0 stays joins.1) joins.2
 
 -- one file more at the end
 joined-more : (input : Option (List ℕ)) (files : Text → Option (List ℕ)) (before : Option EndView) (told : List ToldJoined)
@@ -68,16 +56,6 @@ joins-more input files names unfound broken end after before mid now name told j
   any_unfound = any-more (λ (t : ToldJoined). is_unfound (finding_in t.1)) joins.told (name, told) unfound joins.any_unfound;
   any_broken = any-more (λ (t : ToldJoined). is_broken t.1) joins.told (name, told) broken joins.any_broken;
 }
-
--- ---- the names so far
-
-pub joins-taken : (input : Option (List ℕ)) (files : Text → Option (List ℕ)) (names : List Text) (place : ℕ) (name : Text)
-    (unfound broken : Bool) (end : Option EndView) (before now : Option (List ℕ)) → place < length names
-    → name ≡ get_or names place [] → JoinsFiles input files (take place names ++ name ∷ []) unfound broken end before now
-    → JoinsFiles input files (take (place + 1) names) unfound broken end before now
-joins-taken input files names place name unfound broken end before now within is joins =
-    rw (add-one place, take-suc names place [] within) (subst (λ (n : Text). JoinsFiles input files (take place names ++ n ∷ []) unfound broken
-    end before now) is joins)
 
 -- ---- either audit
 

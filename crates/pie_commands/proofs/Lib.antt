@@ -4,6 +4,7 @@ mod EndFacts
 mod ExamplesChoice
 mod ExamplesJoined
 mod ExplainFacts
+mod FileAuditFacts
 mod JointFacts
 mod MomentFacts
 mod OutputFacts

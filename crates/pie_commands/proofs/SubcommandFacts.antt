@@ -1,18 +1,22 @@
 -- What each subcommand promises, where it never began, where files hold more than they did, and where its words are found.
-use Rattle.std.proofs.Common.{◌≡◌, ◌∙◌, ℕ, List, [], ◌∷◌, Option, Some, None, Bool, true, false, codes, refl, ap, inl, inr, subst}
-use Rattle.std.specs.Prelude.{IfSome, All, ◌⊎◌, Ok, if◌then◌else◌}
+use Rattle.std.proofs.Common.{◌≡◌, ◌∙◌, ℕ, List, [], ◌∷◌, Option, Some, None, Bool, true, false, codes, refl, inl, inr, subst, sym}
+use Rattle.std.specs.Prelude.{IfErr, IfOk, IfSome, All, ◌⊎◌, Result, Ok, Err, if◌then◌else◌, option_map}
 use Rattle.std.specs.Str.{bytes_eq}
 use Rattle.std.proofs.lemmas.List.Elements.{All-weaker}
-use Rattle.clap.specs.Words.{Row, Text}
+use Rattle.clap.specs.Words.{App, HasMatchesOf, Row, Text, kind_of, subcommand_name_of, subcommand_rows_of, takes}
+use Rattle.clap.specs.declared.error.Error.{Error}
+use Rattle.clap.specs.declared.error.kind.ErrorKind.TheVariants.{OutOfMemory}
+use Rattle.clap.specs.declared.parser.matches.ArgMatches.{ArgMatches}
 use Rattle.pie_record.specs.Text.{records_of}
 use Rattle.pie_audit.specs.Text.{FindsEither}
 use Rattle.pie_audit.specs.declared.auditor.Finding.{Finding}
 use Rattle.pie_commands.specs.declared.end.End.{End}
-use Rattle.pie_commands.specs.declared.end.End.TheVariants.{Failed}
+use Rattle.pie_commands.specs.declared.end.End.TheVariants.{Differs, Failed}
 use Rattle.pie_options.specs.declared.subcommand.Subcommand.{Subcommand}
 use Rattle.pie_options.specs.declared.subcommand.Subcommand.TheVariants.{Run, Audit, Explain, Cut, Migrate, Storm, Params}
-use Rattle.pie_options.specs.Words.{file_in, files_in, is_forced, is_joined}
+use Rattle.pie_options.specs.Words.{file_in, files_in, is_forced, is_joined, options_in, pie_app}
 use Rattle.pie_options.specs.Subcommands.{word_of}
+use Rattle.pie_options.proofs.WordFacts.{options-in, same-word, subcommand-found}
 use Rattle.pie_cut.specs.declared.joined.Joined.{Joined}
 use Rattle.pie_cut.specs.Joined.{EndView, JoinsText}
 use Rattle.pie_files.specs.Files.{text_given}
@@ -22,11 +26,11 @@ use Rattle.pie_commands.specs.CutEnds.{EndsCut}
 use Rattle.pie_commands.specs.Ends.{EndsMigrate, EndsRun, status_of}
 use Rattle.pie_commands.specs.ExplainEnds.{EndsExplain}
 use Rattle.pie_commands.specs.JointEnds.{AreJoined, EndsEither, EndsJoined, EndsOfFiles, JoinsFile, ToldJoined}
-use Rattle.pie_commands.specs.Subcommands.{EndsAs, EndsTo, output_for}
+use Rattle.pie_commands.specs.Subcommands.{Answers, EndsAs, EndsTo, Finds, may_differ, output_for}
 use Rattle.pie_commands.proofs.CutFacts.{EndsCut-failed}
 use Rattle.pie_commands.proofs.EndFacts.{EndsEither-failed, EndsMigrate-failed, EndsRun-failed}
 use Rattle.pie_commands.proofs.ExplainFacts.{EndsExplain-failed}
-use Rattle.pie_commands.proofs.OutputFacts.{ends-failed}
+use Rattle.pie_commands.proofs.OutputFacts.{ends-failed, ends-keep, keeps-same}
 
 -- a subcommand that never began has failed, and wrote nothing
 EndsAs-failed : (subcommand : Subcommand) (options : List Row) (input : Option (List ℕ)) (files : Held) (before now : Option (List ℕ)) → now ≡ before
@@ -40,7 +44,7 @@ EndsAs-failed Migrate options input files before now same = EndsMigrate-failed (
 EndsAs-failed Storm options input files before now same = inl refl
 EndsAs-failed Params options input files before now same = inl refl
 
-pub EndsTo-failed : (subcommand : Subcommand) (options : List Row) (input : Option (List ℕ)) (files : Held) (before now : Option (List ℕ))
+EndsTo-failed : (subcommand : Subcommand) (options : List Row) (input : Option (List ℕ)) (files : Held) (before now : Option (List ℕ))
     → now ≡ before → EndsTo subcommand options input files files Failed before now
 EndsTo-failed subcommand options input files before now same =
     ends-failed (output_for subcommand options) (file_in options) (is_forced options) files (EndsAs subcommand options input files) before now same
@@ -154,10 +158,53 @@ EndsAs-kept Migrate options input old new end before now keeps ended =
 EndsAs-kept Storm options input old new end before now keeps ended = ended
 EndsAs-kept Params options input old new end before now keeps ended = ended
 
--- ---- an event can differ in three of them
-pub may-differ : (subcommand : Subcommand) (found : Option Text) → found ≡ Some (word_of subcommand)
-    → (subcommand ≡ Audit) ⊎ (subcommand ≡ Explain) ⊎ (subcommand ≡ Cut)
+-- ---- the program over words
+
+-- an event can differ in three of them
+pub may-differ : (found : Option Text)
+    → (subcommand : Subcommand) × (may_differ subcommand ≡ true) × (found ≡ Some (word_of subcommand))
     → (found ≡ Some (codes "audit")) ⊎ (found ≡ Some (codes "explain")) ⊎ (found ≡ Some (codes "cut"))
-may-differ subcommand found is (inl audit) = inl (is ∙ ap (λ (s : Subcommand). Some (word_of s)) audit)
-may-differ subcommand found is (inr (inl explain)) = inr (inl (is ∙ ap (λ (s : Subcommand). Some (word_of s)) explain))
-may-differ subcommand found is (inr (inr cut)) = inr (inr (is ∙ ap (λ (s : Subcommand). Some (word_of s)) cut))
+may-differ found (Run, can, is) = cc
+may-differ found (Audit, can, is) = inl is
+may-differ found (Explain, can, is) = inr (inl is)
+may-differ found (Cut, can, is) = inr (inr is)
+may-differ found (Migrate, can, is) = cc
+may-differ found (Storm, can, is) = cc
+may-differ found (Params, can, is) = cc
+
+-- what `clap` answers is what it finds in the words
+pub finds-so : (app : App) (words : List Text) (result : Result ArgMatches Error) → app ≡ pie_app → IfOk result (HasMatchesOf app words)
+    → IfErr result (λ why. takes app words ≡ true → kind_of why ≡ OutOfMemory) → Finds words result
+finds-so app words (Ok matches) is matched passes = subst (λ (a : App). HasMatchesOf a words matches) is matched
+finds-so app words (Err why) is matched passes = subst (λ (a : App). takes a words ≡ true → kind_of why ≡ OutOfMemory) is passes
+
+-- the subcommand that it found was performed
+pub answers-performed : (words : List Text) (matches : ArgMatches) (subcommand : Subcommand) (rows : List Row) (input : Option (List ℕ))
+    (old new : Held) (end : End) (before now : Option (List ℕ)) → HasMatchesOf pie_app words matches
+    → Some (word_of subcommand) ≡ subcommand_name_of matches
+    → Some rows ≡ option_map (λ (given : Text × List Row). given.1) (subcommand_rows_of matches)
+    → (end ≡ Differs → may_differ subcommand ≡ true) → EndsTo subcommand rows input old new end before now
+    → Answers words input old new end before now
+answers-performed words matches subcommand rows input old new end before now matched name given differs ended =
+    let found = subcommand-found pie_app words matches (word_of subcommand) (word_of subcommand) refl matched name refl in
+    record {
+      keeps = λ one. ends-keep (output_for subcommand rows) (file_in rows) (is_forced rows) old new (EndsAs subcommand rows input old) end before now
+          one ended;
+      differs = λ is. (subcommand, differs is, found);
+      ends = λ other asks.
+          subst (λ (s : Subcommand). EndsTo s (options_in words) input old new end before now)
+          (same-word subcommand other (sym found ∙ asks.found))
+          (subst (λ (options : List Row). EndsTo subcommand options input old new end before now)
+          (sym (options-in pie_app words matches rows refl matched given)) ended);
+    }
+
+-- no subcommand began
+pub answers-failed : (words : List Text) (input : Option (List ℕ)) (held : Held) (end : End) (before now : Option (List ℕ))
+    → (end ≡ Differs → ⊥) → (takes pie_app words ≡ true → (end ≡ Failed) × (now ≡ before)) → Answers words input held held end before now
+answers-failed words input held end before now same fails = record {
+  keeps = λ one. keeps-same held;
+  differs = λ is. absurd (same is);
+  ends = λ subcommand asks.
+      let failed = fails asks.taken in
+      rw failed.0 (EndsTo-failed subcommand (options_in words) input held before now failed.1);
+}

@@ -18,6 +18,7 @@ use Rattle.pie_units.specs.declared.when.WhenFault.{WhenFault}
 use Rattle.pie_explanation.specs.Output.{pages}
 use Rattle.pie_summary.specs.Digest.{digest_of}
 use Rattle.pie_summary.specs.Summary.{summary_of}
+use Rattle.pie_commands.specs.declared.explain.Tale.{Tale}
 
 -- ---- moments
 
@@ -111,7 +112,7 @@ choice_at (Some which) (Ok from) (Ok to) (Ok every) =
 choice_at _ _ _ _ = None
 
 -- what these options choose; nothing where they don't say it as they have to
-abbrev pub choice_of : List Row → Option Choice
+unfoldable pub choice_of : List Row → Option Choice
 choice_of options =
     if is_by_wall options && is_summary options then None
     else choice_at (which_of options) (bound_given (codes "from") options) (bound_given (codes "to") options) (moment_given (codes "every") options)
@@ -134,3 +135,7 @@ tale_by false digest every form = pages form
 
 abbrev pub tale_of : List Row → List Explained → List ℕ
 tale_of options = tale_by (is_summary options) (is_digest options) (every_of options) (form_of options)
+
+-- .. as this says
+abbrev pub told_by : Tale → List Explained → List ℕ
+told_by tale = tale_by tale.summary tale.digest tale.every tale.form

@@ -17,6 +17,9 @@ use Rattle.pie_units.specs.declared.moment.MomentFault.{MomentFault}
 use Rattle.pie_options.specs.Words.{number_given}
 use Rattle.pie_commands.specs.declared.end.End.{End}
 use Rattle.pie_commands.specs.declared.end.End.TheVariants.{Done, Differs, Fault, Failed}
+use Rattle.pie_commands.specs.declared.cut.Pieces.{Pieces}
+use Rattle.pie_commands.specs.declared.cut.Pieces.TheVariants.{One}
+use Rattle.pie_commands.specs.declared.cut.Pieces.TheVariants as pieces
 use Rattle.pie_commands.specs.declared.cut.Wanted.{Wanted}
 use Rattle.pie_commands.specs.declared.cut.Wanted.TheVariants.{Part, Last, Every}
 use Rattle.pie_commands.specs.Choice.{moment_given}
@@ -66,7 +69,7 @@ wanted_at event more last every (Ok from) (Ok to) = if are_in_order from to then
 wanted_at _ _ _ _ _ _ = None
 
 -- what these options choose; nothing where they don't say it as they have to
-abbrev pub wanted_of : List Row → Option Wanted
+unfoldable pub wanted_of : List Row → Option Wanted
 wanted_of options = wanted_at (number_given (codes "event") options) (number_given (codes "around") options) (number_given (codes "last") options)
     (number_given (codes "every") options) (moment_given (codes "from") options) (moment_given (codes "to") options)
 
@@ -92,6 +95,15 @@ EndsBy cuts end before now = ((end ≡ Failed) × (now ≡ before)) ⊎ ((given 
 -- into segments
 abbrev pub CutsSegments : ℕ → List Fields → Result ℕ CutFault → Option (List ℕ) → Option (List ℕ) → Type 0
 CutsSegments every rows given before now = TextTold every_answer (IsInSegments every) (is_resumed rows) rows given before now
+
+-- into pieces of either kind, which are wanted so
+abbrev pub CutsInto : Pieces → List Fields → Result ℕ CutFault → Option (List ℕ) → Option (List ℕ) → Type 0
+CutsInto (One span) rows given before now = CutsEither span rows given before now
+CutsInto (pieces.Every every) rows given before now = CutsSegments every rows given before now
+
+abbrev pub wanted_by : Pieces → Wanted
+wanted_by (One span) = Part span
+wanted_by (pieces.Every every) = Every every
 
 -- the last so many events, once this was found to be the number of the last, or a fault was found
 abbrev pub CutsUpTo : ℕ → Result ℕ TraceFault → List Fields → Result ℕ CutFault → Option (List ℕ) → Option (List ℕ) → Type 0

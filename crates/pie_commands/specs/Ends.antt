@@ -71,6 +71,16 @@ counts_line end = codes "pie: " ++ (decimal end.events ++ (codes " events, " ++ 
 
 -- ---- `pie audit`
 
+-- the end of an audit that found this
+abbrev pub end_found : Finding → End
+end_found (finding.Clean events) = Done
+end_found (finding.Differs event) = Differs
+
+-- an audit with this answer ended so: at a fault nothing was written, and else the line of the finding; or that could not be written
+abbrev pub TellsFound : Result Finding TraceFault → End → Option (List ℕ) → Option (List ℕ) → Type 0
+TellsFound (Err why) end before now = (end ≡ Fault why) × (now ≡ before)
+TellsFound (Ok found) end before now = (end ≡ Fault trace_fault.Write) ⊎ ((end ≡ end_found found) × Appends before now (finding_line found))
+
 -- a text is found to be so, and the line of that is written; or it has a fault, and nothing is written. Or the reader or memory failed,
 -- and nothing is written; or the line could not be written
 abbrev pub audit_ends : (Result Finding TraceFault → Type 0) → End → Option (List ℕ) → Option (List ℕ) → Type 0

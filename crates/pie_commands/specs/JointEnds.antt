@@ -66,11 +66,6 @@ JoinsKnown known before None after = after ≡ None
 JoinsKnown known before (Some joined) after =
     IsLeftBy joined.finding after × IfSome known (λ text. JoinsText (records_of text) before joined after)
 
--- .. of a text that was read so; or it could not be
-abbrev pub JoinsRead : (Option (List ℕ) → Type 0) → Option EndView → Option Joined → Option EndView → Type 0
-JoinsRead reads before None after = after ≡ None
-JoinsRead reads before (Some joined) after = (known : Option (List ℕ)) × reads known × JoinsKnown known before (Some joined) after
-
 -- .. of the file of this name
 abbrev pub JoinsFile : Option (List ℕ) → (Text → Option (List ℕ)) → Text → Option EndView → Option Joined → Option EndView → Type 0
 JoinsFile input files name before told after = JoinsKnown (text_given input files (Some name)) before told after

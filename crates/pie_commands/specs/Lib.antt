@@ -3,6 +3,7 @@ pub mod Choice
 pub mod CutEnds
 pub mod Ends
 pub mod ExplainEnds
+pub mod FileAudits
 pub mod JointEnds
 pub mod Outputs
 pub mod StormEnds

@@ -1,12 +1,17 @@
--- What each subcommand promises: how it ends, and what it writes.
-use Rattle.std.specs.Prelude.{ℕ, List, Option, None, IfSome}
-use Rattle.clap.specs.Words.{Row, Text}
+-- What each subcommand promises: how it ends, and what it writes; and what the program does that finds one in words.
+use Rattle.std.specs.Prelude.{ℕ, ◌≡◌, Bool, true, false, List, Option, Some, None, Result, Ok, Err, IfSome}
+use Rattle.clap.specs.Words.{HasMatchesOf, Row, Text, kind_of, takes}
+use Rattle.clap.specs.declared.error.Error.{Error}
+use Rattle.clap.specs.declared.error.kind.ErrorKind.TheVariants.{OutOfMemory}
+use Rattle.clap.specs.declared.parser.matches.ArgMatches.{ArgMatches}
 use Rattle.pie_options.specs.declared.subcommand.Subcommand.{Subcommand}
 use Rattle.pie_options.specs.declared.subcommand.Subcommand.TheVariants.{Run, Audit, Explain, Cut, Migrate, Storm, Params}
-use Rattle.pie_options.specs.Words.{file_in, files_in, is_forced, is_joined, output_in}
+use Rattle.pie_options.specs.Subcommands.{word_of}
+use Rattle.pie_options.specs.Words.{Asks, file_in, files_in, is_forced, is_joined, options_in, output_in, pie_app, subcommand_in}
 use Rattle.pie_files.specs.Files.{text_given}
-use Rattle.pie_files.specs.Output.{Held}
+use Rattle.pie_files.specs.Output.{Held, Keeps}
 use Rattle.pie_commands.specs.declared.end.End.{End}
+use Rattle.pie_commands.specs.declared.end.End.TheVariants.{Differs}
 use Rattle.pie_commands.specs.CutEnds.{EndsCut}
 use Rattle.pie_commands.specs.Ends.{EndsMigrate, EndsRun, status_of}
 use Rattle.pie_commands.specs.ExplainEnds.{EndsExplain}
@@ -40,3 +45,27 @@ output_for Params options = None
 abbrev pub EndsTo : Subcommand → List Row → Option (List ℕ) → Held → Held → End → Option (List ℕ) → Option (List ℕ) → Type 0
 EndsTo subcommand options input old new =
     EndsIn (output_for subcommand options) (file_in options) (is_forced options) old new (EndsAs subcommand options input old)
+
+-- an event can differ in what three of them read
+abbrev pub may_differ : Subcommand → Bool
+may_differ Run = false
+may_differ Audit = true
+may_differ Explain = true
+may_differ Cut = true
+may_differ Migrate = false
+may_differ Storm = false
+may_differ Params = false
+
+-- ---- the words
+
+-- this is what `clap` finds in words; what it takes, it refuses for want of memory alone
+abbrev pub Finds : List Text → Result ArgMatches Error → Type 0
+Finds words (Ok matches) = HasMatchesOf pie_app words matches
+Finds words (Err why) = takes pie_app words ≡ true → kind_of why ≡ OutOfMemory
+
+-- the program over words ends so: with the status 1 each file holds what it held; an event differs only in a subcommand in which one can; and the
+-- subcommand that the words ask for ends as it promises
+pub record Answers (words : List Text) (input : Option (List ℕ)) (old new : Held) (end : End) (before now : Option (List ℕ)) : Type 0 where
+  pub keeps : status_of end ≡ 1 → Keeps old new
+  pub differs : end ≡ Differs → (subcommand : Subcommand) × (may_differ subcommand ≡ true) × (subcommand_in words ≡ Some (word_of subcommand))
+  pub ends : (subcommand : Subcommand) → Asks (word_of subcommand) words → EndsTo subcommand (options_in words) input old new end before now

@@ -1,21 +1,20 @@
 //! `pie cut`: what the words choose, and how cutting it out ends.
-ghost use Rattle.std.specs.Prelude.{◌≡◌, ◌<◌, false, Some, IfSome, codes, option_map};
+ghost use Rattle.std.specs.Prelude.{◌≡◌, false, Some, IfSome, codes, option_map};
 ghost use Rattle.std.specs.Str.{bytes_eq};
 ghost use Rattle.clap.specs.Words.{found_of, rows_of};
 ghost use Rattle.pie_record.specs.Text.{records_of};
-ghost use Rattle.pie_cut.specs.Answer.{CutsEither};
 ghost use Rattle.pie_cut.specs.Last.{LastEither};
 ghost use Rattle.pie_files.specs.Files.{text_given};
 ghost use Rattle.pie_options.specs.Words.{file_in};
-ghost use Rattle.pie_commands.specs.CutEnds.{CutsLast, CutsSegments, EndsBy, EndsCut, HasSome, at_moments, chosen, cut_ends, end_of_cut};
-ghost use Rattle.pie_commands.specs.CutEnds.{ends_last, is_named, segments, wanted_of};
+ghost use Rattle.pie_commands.specs.CutEnds.{CutsInto, CutsLast, EndsBy, EndsCut, HasSome, at_moments, chosen, cut_ends, end_of_cut};
+ghost use Rattle.pie_commands.specs.CutEnds.{ends_last, is_named, segments, wanted_by, wanted_of};
 
-use crate::end::{End, failed, fault, faulted};
+use crate::end::{End, failed, faulted};
 use crate::moments::{NO_ORDER, are_in_order, moment_of};
 use crate::screen::{Screen, shows_progress};
 use clap::ArgMatches;
 use pie_cut::{CutFault, Span, cut_either, cut_every, last_number};
-use pie_files::{NamedFiles, Watched, named_fault, reader_of};
+use pie_files::{NamedFiles, Watched, fault, named_fault, reader_of};
 use pie_options::{file, number};
 use pie_trace::TraceFault;
 use std::alloc::Global;
@@ -30,6 +29,15 @@ pub(crate) enum Wanted {
     /// The last so many.
     Last(u64),
     /// All, in segments of so many.
+    Every(u64),
+}
+
+/// What is cut out of a text while it is read.
+#[derive(Clone, Copy)]
+pub(crate) enum Pieces {
+    /// One part, of these events.
+    One(Span),
+    /// All events, in segments of so many.
     Every(u64),
 }
 
@@ -88,6 +96,7 @@ fn chosen(
 }
 
 /// What these options choose, with a line on `errors` where they don't say it as they have to.
+#[tactic(auto, unfolding(crate::specs::CutEnds::wanted_of))]
 fn wanted_of<E: Write>(options: &ArgMatches<'_>, errors: &mut E) -> Option<Wanted>
     ensures chosen { result ≡ wanted_of (rows_of (found_of options.now)) }
     ensures some { IfSome result HasSome }
@@ -99,14 +108,14 @@ fn wanted_of<E: Write>(options: &ArgMatches<'_>, errors: &mut E) -> Option<Wante
         return None;
     };
     if !are_in_order(from, to) {
-        let _ = fault(errors, NO_ORDER);
+        fault(errors, NO_ORDER);
         return None;
     }
     let (event, around) = (number(options, "event"), number(options, "around"));
     let (last, every) = (number(options, "last"), number(options, "every"));
     let wanted = chosen(event, around, last, every, at_moments(from, to));
     if wanted.is_none() {
-        let _ = fault(errors, NO_PART);
+        fault(errors, NO_PART);
     }
     wanted
 }
@@ -119,87 +128,65 @@ fn ended<E: Write>(errors: &mut E, given: Result<u64, CutFault>) -> End
         Ok(_) => End::Done,
         Err(CutFault::Trace(why)) => faulted(errors, why),
         Err(CutFault::Differs { event }) => {
-            let _ = fault(errors, CutFault::Differs { event });
+            fault(errors, CutFault::Differs { event });
             End::Differs
         }
         Err(CutFault::NoEvents) => failed(errors, CutFault::NoEvents),
     }
 }
 
-/// Cuts these events out of what is handed in. Progress is told on `errors` where it `is_shown`.
-fn cut_part<H: Clock, R: Read + Drop, W: Write, E: Write>(
-    rt: &H,
+/// Cuts these pieces out of a text.
+fn cut_out<R: Read + Drop, W: Write>(
     alloc: Global,
-    is_shown: bool,
-    span: Span,
-    input: R,
+    reader: R,
     output: &mut W,
-    errors: &mut E,
-) -> End
-    ensures { IfSome (R.remaining input) (λ text. EndsBy (CutsEither span (records_of text)) result (W.contents output.old)
-        (W.contents output.new)) }
+    pieces: Pieces,
+) -> Result<u64, CutFault>
+    requires { HasSome (wanted_by pieces) }
+    ensures { IfSome (R.remaining reader) (λ text. CutsInto pieces (records_of text) result (W.contents output.old) (W.contents output.new)) }
 {
-    let watched = Watched::new(input, &mut *errors, rt, is_shown);
-    let given = cut_either(alloc, watched, output, span);
-    ended(errors, given)
-}
-
-/// .. these events out of what the options name.
-fn cut_part_of<H: NamedFiles + Clock, R: Read + Drop, W: Write, E: Write>(
-    rt: &H,
-    alloc: Global,
-    is_shown: bool,
-    span: Span,
-    name: Option<&str>,
-    input: R,
-    output: &mut W,
-    errors: &mut E,
-) -> End
-    ensures { IfSome (text_given (R.remaining input) (H.holds rt.now) (option_map (λ name. name.now) name.entry))
-        (λ text. EndsBy (CutsEither span (records_of text)) result (W.contents output.old) (W.contents output.new)) }
-{
-    match reader_of(rt, name, input, errors) {
-        Some(reader) => cut_part(rt, alloc, is_shown, span, reader, output, errors),
-        None => End::Failed,
+    match pieces {
+        Pieces::One(span) => cut_either(alloc, reader, output, span),
+        Pieces::Every(every) => cut_every(alloc, reader, output, every),
     }
 }
 
-/// Cuts what is handed in into segments of so many events.
-fn cut_segments<H: Clock, R: Read + Drop, W: Write, E: Write>(
+/// .. out of what is handed in. Progress is told on `errors` where it `is_shown`.
+fn cut_input<H: Clock, R: Read + Drop, W: Write, E: Write>(
     rt: &H,
     alloc: Global,
     is_shown: bool,
-    every: u64,
+    pieces: Pieces,
     input: R,
     output: &mut W,
     errors: &mut E,
 ) -> End
-    requires { 0 < every }
-    ensures { IfSome (R.remaining input) (λ text. EndsBy (CutsSegments every (records_of text)) result (W.contents output.old)
+    requires { HasSome (wanted_by pieces) }
+    ensures { IfSome (R.remaining input) (λ text. EndsBy (CutsInto pieces (records_of text)) result (W.contents output.old)
         (W.contents output.new)) }
 {
     let watched = Watched::new(input, &mut *errors, rt, is_shown);
-    let given = cut_every(alloc, watched, output, every);
+    let given = cut_out(alloc, watched, output, pieces);
     ended(errors, given)
 }
 
-/// .. what the options name.
-fn cut_segments_of<H: NamedFiles + Clock, R: Read + Drop, W: Write, E: Write>(
+/// .. out of what the options name.
+fn cut_pieces<H: NamedFiles + Clock, R: Read + Drop, W: Write, E: Write>(
     rt: &H,
     alloc: Global,
     is_shown: bool,
-    every: u64,
+    pieces: Pieces,
     name: Option<&str>,
     input: R,
     output: &mut W,
     errors: &mut E,
 ) -> End
-    requires { 0 < every }
+    requires { HasSome (wanted_by pieces) }
     ensures { IfSome (text_given (R.remaining input) (H.holds rt.now) (option_map (λ name. name.now) name.entry))
-        (λ text. EndsBy (CutsSegments every (records_of text)) result (W.contents output.old) (W.contents output.new)) }
+        (λ text. EndsBy (CutsInto pieces (records_of text)) result (W.contents output.old) (W.contents output.new)) }
 {
     match reader_of(rt, name, input, errors) {
-        Some(reader) => cut_segments(rt, alloc, is_shown, every, reader, output, errors),
+        Some(reader) => cut_input(rt, alloc, is_shown, pieces, reader, output, errors),
         None => End::Failed,
     }
 }
@@ -256,8 +243,17 @@ fn cut_last<H: NamedFiles + Clock, R: Read + Drop, W: Write, E: Write>(
         None => End::Failed,
         Some(Err(why)) => faulted(errors, why),
         Some(Ok(number)) => {
-            let span = Span::last(number, many);
-            cut_part_of(rt, alloc, is_shown, span, Some(name), input, output, errors)
+            let pieces = Pieces::One(Span::last(number, many));
+            cut_pieces(
+                rt,
+                alloc,
+                is_shown,
+                pieces,
+                Some(name),
+                input,
+                output,
+                errors,
+            )
         }
     }
 }
@@ -305,9 +301,13 @@ fn cut_wanted<H: NamedFiles + Clock, R: Read + Drop, W: Write, E: Write>(
         (W.contents output.new)) }
 {
     match wanted {
-        Wanted::Part(span) => cut_part_of(rt, alloc, is_shown, span, name, input, output, errors),
+        Wanted::Part(span) => {
+            let pieces = Pieces::One(span);
+            cut_pieces(rt, alloc, is_shown, pieces, name, input, output, errors)
+        }
         Wanted::Every(every) => {
-            cut_segments_of(rt, alloc, is_shown, every, name, input, output, errors)
+            let pieces = Pieces::Every(every);
+            cut_pieces(rt, alloc, is_shown, pieces, name, input, output, errors)
         }
         Wanted::Last(many) => cut_last_of(rt, alloc, is_shown, many, name, input, output, errors),
     }
@@ -322,22 +322,16 @@ pub(crate) fn cut<H: NamedFiles + Screen, R: Read + Drop, W: Write, E: Write>(
     output: &mut W,
     errors: &mut E,
 ) -> End
-    ensures cuts { IfSome (text_given (R.remaining input) (H.holds rt.now) (file_in (rows_of (found_of options.now))))
+    ensures { IfSome (text_given (R.remaining input) (H.holds rt.now) (file_in (rows_of (found_of options.now))))
         (λ text. EndsCut (rows_of (found_of options.now)) (file_in (rows_of (found_of options.now))) text result (W.contents output.old)
         (W.contents output.new)) }
 {
-    let Some(wanted) = wanted_of(options, errors) else {
-        return End::Failed;
-    };
-    let is_shown = shows_progress(rt, options, true);
-    cut_wanted(
-        rt,
-        alloc,
-        is_shown,
-        wanted,
-        file(options),
-        input,
-        output,
-        errors,
-    )
+    match wanted_of(options, errors) {
+        Some(wanted) => {
+            let is_shown = shows_progress(rt, options, true);
+            let name = file(options);
+            cut_wanted(rt, alloc, is_shown, wanted, name, input, output, errors)
+        }
+        None => End::Failed,
+    }
 }

@@ -1,18 +1,12 @@
 //! How the program ends, and the exit status that says so.
-ghost use Rattle.std.specs.Prelude.{◌≡◌, ◌≤◌};
+ghost use Rattle.std.specs.Prelude.{◌≡◌};
 ghost use Rattle.pie_commands.specs.Ends.{end_of, settled, status_of};
 ghost use Rattle.pie_commands.specs.Outputs.{is_whole};
 
+use pie_files::fault;
 use pie_trace::TraceFault;
 use std::fmt::Display;
 use std::io::Write;
-
-/// All went well.
-pub(crate) const DONE: u8 = 0;
-/// A fault, whose text is on the error stream.
-pub(crate) const FAULT: u8 = 1;
-/// An event of a history differs.
-pub(crate) const DIFFERS: u8 = 2;
 
 /// How `pie` ended.
 #[derive(Clone, Copy)]
@@ -33,9 +27,9 @@ impl End {
         ensures { result ≡ status_of self }
     {
         match self {
-            End::Done => DONE,
-            End::Differs => DIFFERS,
-            End::Fault(_) | End::Failed => FAULT,
+            End::Done => 0,
+            End::Differs => 2,
+            End::Fault(_) | End::Failed => 1,
         }
     }
 
@@ -55,27 +49,6 @@ impl End {
         }
         self
     }
-
-    /// The end of what answers an exit status.
-    pub(crate) fn with_status(status: u8) -> End
-        requires { status ≤ 2 }
-        ensures status { status_of result ≡ status }
-        ensures failed { status ≡ 1 → result ≡ End.Failed }
-    {
-        match status {
-            DONE => End::Done,
-            DIFFERS => End::Differs,
-            _ => End::Failed,
-        }
-    }
-}
-
-/// Writes the line of a fault, and answers its status. Where that line can't be written the status is the same.
-pub(crate) fn fault<E: Write, D: Display + Drop>(errors: &mut E, text: D) -> u8
-    ensures { result ≡ 1 }
-{
-    pie_files::fault(errors, text);
-    FAULT
 }
 
 /// The end of a run or a migration with this answer, with a line on `errors` where it is a fault. It knows no more of the answer.
@@ -92,7 +65,7 @@ pub(crate) fn ended<T: Copy, E: Write>(errors: &mut E, given: Result<T, TraceFau
 pub(crate) fn faulted<E: Write>(errors: &mut E, why: TraceFault) -> End
     ensures { result ≡ End.Fault why }
 {
-    let _ = fault(errors, why);
+    fault(errors, why);
     End::Fault(why)
 }
 
@@ -100,6 +73,6 @@ pub(crate) fn faulted<E: Write>(errors: &mut E, why: TraceFault) -> End
 pub(crate) fn failed<E: Write, D: Display + Drop>(errors: &mut E, text: D) -> End
     ensures { result ≡ End.Failed }
 {
-    let _ = fault(errors, text);
+    fault(errors, text);
     End::Failed
 }

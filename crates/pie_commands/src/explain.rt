@@ -1,5 +1,5 @@
 //! `pie explain`: which events the words choose, and how explaining them ends.
-ghost use Rattle.std.specs.Prelude.{◌≡◌, ◌≤◌, Err, IfSome};
+ghost use Rattle.std.specs.Prelude.{◌≡◌, Err, IfSome, Some};
 ghost use Rattle.clap.specs.Words.{found_of, rows_of};
 ghost use Rattle.pie_record.specs.Text.{records_of};
 ghost use Rattle.pie_explain.specs.Either.{ExplainsEither};
@@ -7,15 +7,15 @@ ghost use Rattle.pie_files.specs.Files.{text_given};
 ghost use Rattle.pie_options.specs.Words.{file_in};
 ghost use Rattle.pie_commands.specs.Ends.{status_of};
 ghost use Rattle.pie_commands.specs.Choice.{bound_given, choice_of, chosen, every_of, form_of, in_order, is_by_wall, is_digest, is_summary, lasts};
-ghost use Rattle.pie_commands.specs.Choice.{tale_by, which_of};
-ghost use Rattle.pie_commands.specs.ExplainEnds.{EndsExplain, answer_status};
+ghost use Rattle.pie_commands.specs.Choice.{tale_of, told_by, which_of};
+ghost use Rattle.pie_commands.specs.ExplainEnds.{EndsExplain, answer_status, explain_ends};
 
-use crate::end::{DIFFERS, DONE, End, FAULT, fault};
+use crate::end::End;
 use crate::moments::{NO_ORDER, moment, moment_of};
 use crate::screen::{Screen, shows_progress};
 use clap::ArgMatches;
 use pie_explain::{Choice, ExplainFault, Form, Which, explain_either};
-use pie_files::{NamedFiles, Watched, reader_of};
+use pie_files::{NamedFiles, Watched, fault, reader_of};
 use pie_options::{file, flag, number};
 use pie_summary::{Digest, Summary};
 use pie_units::{When, WhenFault};
@@ -143,15 +143,16 @@ fn which_of(options: &ArgMatches<'_>) -> Option<Which>
 }
 
 /// What these options choose, with a line on `errors` where they don't say it as they have to.
+#[tactic(auto, unfolding(crate::specs::Choice::choice_of))]
 fn choice_of<E: Write>(options: &ArgMatches<'_>, errors: &mut E) -> Option<Choice>
     ensures { result ≡ choice_of (rows_of (found_of options.now)) }
 {
     let Some(which) = which_of(options) else {
-        let _ = fault(errors, NO_CHOICE);
+        fault(errors, NO_CHOICE);
         return None;
     };
     if is_by_wall(options) && is_summary(options) {
-        let _ = fault(errors, NO_WALL);
+        fault(errors, NO_WALL);
         return None;
     }
     let Ok(from) = bound_of(options, "from", errors) else {
@@ -164,11 +165,11 @@ fn choice_of<E: Write>(options: &ArgMatches<'_>, errors: &mut E) -> Option<Choic
         return None;
     };
     if !lasts(every) {
-        let _ = fault(errors, NO_PERIOD);
+        fault(errors, NO_PERIOD);
         return None;
     }
     if !in_order(from, to) {
-        let _ = fault(errors, NO_ORDER);
+        fault(errors, NO_ORDER);
         return None;
     }
     Some(Choice { which, from, to })
@@ -186,22 +187,44 @@ fn form_of(options: &ArgMatches<'_>) -> Form
     }
 }
 
+/// How the explanations of chosen events are told.
+#[derive(Clone, Copy)]
+pub(crate) struct Tale {
+    /// As summaries, of all or of each period.
+    summary: bool,
+    /// With what there is to say of lost and marked packets between them.
+    digest: bool,
+    every: Option<u64>,
+    form: Form,
+}
+
+/// How these options want the explanations to be told.
+fn tale_of(options: &ArgMatches<'_>) -> Tale
+    ensures { told_by result ≡ tale_of (rows_of (found_of options.now)) }
+{
+    let (summary, digest) = (is_summary(options), is_digest(options));
+    Tale {
+        summary,
+        digest,
+        every: every_of(options),
+        form: form_of(options),
+    }
+}
+
 /// Writes what there is to say of the chosen events: of each, or summaries, or summaries and of the lost and marked packets.
 fn tell<R: Read + Drop, W: Write>(
     alloc: Global,
     input: R,
     output: &mut W,
     choice: Choice,
-    summary: bool,
-    digest: bool,
-    every: Option<u64>,
-    form: Form,
+    tale: Tale,
 ) -> Result<u64, ExplainFault>
-    ensures { IfSome (R.remaining input) (λ text. ExplainsEither choice (tale_by summary digest every form) (records_of text) result
-        (W.contents output.old) (W.contents output.new)) }
+    ensures { IfSome (R.remaining input) (λ text. ExplainsEither choice (told_by tale) (records_of text) result (W.contents output.old)
+        (W.contents output.new)) }
 {
+    let (form, every) = (tale.form, tale.every);
     let summaries = Summary { form, every };
-    match (summary, digest) {
+    match (tale.summary, tale.digest) {
         (true, true) => {
             explain_either(alloc, input, output, choice, Digest { summary: summaries })
         }
@@ -210,36 +233,55 @@ fn tell<R: Read + Drop, W: Write>(
     }
 }
 
-/// The status where a history was not explained to its end.
-fn fault_status(why: ExplainFault) -> u8
-    ensures { result ≡ answer_status (Err why) }
+/// The end where a history was not explained to its end.
+fn end_at(why: ExplainFault) -> End
+    ensures { status_of result ≡ answer_status (Err why) }
 {
     match why {
-        ExplainFault::Differs { .. } => DIFFERS,
+        ExplainFault::Differs { .. } => End::Differs,
         ExplainFault::Trace(_)
         | ExplainFault::Earlier { .. }
         | ExplainFault::NoEvent { .. }
         | ExplainFault::NoTag { .. }
-        | ExplainFault::NoneWithin => FAULT,
+        | ExplainFault::NoneWithin => End::Failed,
     }
 }
 
-/// The status of what `explain` answers, with a line on `errors` where it is no `Ok`.
-fn ended<E: Write>(errors: &mut E, given: Result<u64, ExplainFault>) -> u8
-    ensures { result ≡ answer_status given }
+/// The end of what `explain` answers, with a line on `errors` where it is no `Ok`.
+fn ended<E: Write>(errors: &mut E, given: Result<u64, ExplainFault>) -> End
+    ensures { status_of result ≡ answer_status given }
 {
     match given {
-        Ok(_) => DONE,
+        Ok(_) => End::Done,
         Err(why) => {
-            let _ = fault(errors, why);
-            fault_status(why)
+            fault(errors, why);
+            end_at(why)
         }
     }
 }
 
-/// `pie explain`: writes what there is to say of the chosen events of a history, or of a text that goes on from the middle of one, up to its first fault and the first event that
-/// differs. Ends with 2 where an event differs, and with 1 where the history has a fault, where the options choose no events, where
-/// no event is the chosen one, and where the reader, the writer or memory fails: each is told on `errors`. So is progress, where it `is_shown`.
+/// Explains the chosen events of what is handed in, and tells progress on `errors` where it `is_shown`.
+fn explain_chosen<H: Clock, R: Read + Drop, W: Write, E: Write>(
+    rt: &H,
+    alloc: Global,
+    is_shown: bool,
+    choice: Choice,
+    tale: Tale,
+    input: R,
+    output: &mut W,
+    errors: &mut E,
+) -> End
+    ensures { IfSome (R.remaining input) (λ text. explain_ends (Some choice) (told_by tale) text (status_of result) (W.contents output.old)
+        (W.contents output.new)) }
+{
+    let watched = Watched::new(input, &mut *errors, rt, is_shown);
+    let given = tell(alloc, watched, output, choice, tale);
+    ended(errors, given)
+}
+
+/// `pie explain`: writes what there is to say of the chosen events of a history, or of a text that goes on from the middle of one, up to its first
+/// fault and the first event that differs, at which it ends so. It has failed where the history has a fault, where the options choose no events,
+/// where no event is the chosen one, and where the reader, the writer or memory fails: each is told on `errors`.
 fn explain_input<H: Clock, R: Read + Drop, W: Write, E: Write>(
     rt: &H,
     alloc: Global,
@@ -248,28 +290,17 @@ fn explain_input<H: Clock, R: Read + Drop, W: Write, E: Write>(
     input: R,
     output: &mut W,
     errors: &mut E,
-) -> u8
-    ensures status { result ≤ 2 }
-    ensures explains { IfSome (R.remaining input) (λ text. EndsExplain (rows_of (found_of options.now)) text result (W.contents output.old)
+) -> End
+    ensures { IfSome (R.remaining input) (λ text. EndsExplain (rows_of (found_of options.now)) text (status_of result) (W.contents output.old)
         (W.contents output.new)) }
 {
-    let Some(choice) = choice_of(options, errors) else {
-        return FAULT;
-    };
-    let (summary, digest) = (is_summary(options), is_digest(options));
-    let every = every_of(options);
-    let watched = Watched::new(input, &mut *errors, rt, is_shown);
-    let given = tell(
-        alloc,
-        watched,
-        output,
-        choice,
-        summary,
-        digest,
-        every,
-        form_of(options),
-    );
-    ended(errors, given)
+    match choice_of(options, errors) {
+        Some(choice) => {
+            let tale = tale_of(options);
+            explain_chosen(rt, alloc, is_shown, choice, tale, input, output, errors)
+        }
+        None => End::Failed,
+    }
 }
 
 /// `pie explain` of what the options name.
@@ -281,15 +312,12 @@ pub(crate) fn explain<H: NamedFiles + Screen, R: Read + Drop, W: Write, E: Write
     output: &mut W,
     errors: &mut E,
 ) -> End
-    ensures status { status_of result ≤ 2 }
-    ensures explains { IfSome (text_given (R.remaining input) (H.holds rt.now) (file_in (rows_of (found_of options.now))))
+    ensures { IfSome (text_given (R.remaining input) (H.holds rt.now) (file_in (rows_of (found_of options.now))))
         (λ text. EndsExplain (rows_of (found_of options.now)) text (status_of result) (W.contents output.old) (W.contents output.new)) }
 {
     let is_shown = shows_progress(rt, options, true);
     match reader_of(rt, file(options), input, errors) {
-        Some(reader) => End::with_status(explain_input(
-            rt, alloc, options, is_shown, reader, output, errors,
-        )),
+        Some(reader) => explain_input(rt, alloc, options, is_shown, reader, output, errors),
         None => End::Failed,
     }
 }

@@ -8,7 +8,7 @@ mod audit;
 mod cut;
 mod end;
 mod explain;
-mod joined;
+mod file_audits;
 mod migrate;
 mod moments;
 mod params;

@@ -2,9 +2,10 @@
 ghost use Rattle.std.specs.Prelude.{◌≡◌, codes, IfSome, Ok};
 ghost use Rattle.clap.specs.Words.{first_of, found_of, rows_of};
 ghost use Rattle.pie_tuning.specs.Units.{packets_of, rate_of, time_of};
+ghost use Rattle.pie_commands.specs.Ends.{status_of};
 ghost use Rattle.pie_commands.specs.Tuning.{AsksFor, EndsParams, given_or};
 
-use crate::end::{DONE, FAULT, fault};
+use crate::end::{End, failed};
 use clap::ArgMatches;
 use pie_book::Limits;
 use pie_options::{flag, number, number_or};
@@ -118,24 +119,24 @@ pub(crate) fn params<W: Write, E: Write>(
     options: &ArgMatches<'_>,
     output: &mut W,
     errors: &mut E,
-) -> u8
-    ensures { EndsParams (rows_of (found_of options.now)) result (W.contents output.old) (W.contents output.new) }
+) -> End
+    ensures { EndsParams (rows_of (found_of options.now)) (status_of result) (W.contents output.old) (W.contents output.new) }
 {
     let Some(asked) = asked_in(options, errors) else {
-        return FAULT;
+        return End::Failed;
     };
     let params = match Params::check(params_for(&asked)) {
         Ok(params) => params,
-        Err(why) => return fault(errors, why),
+        Err(why) => return failed(errors, why),
     };
     if asked.packets == 0 || u64::from(Limits::MOST_PACKETS) < asked.packets {
-        return fault(errors, "--limit is 1 to 1048576 packets");
+        return failed(errors, "--limit is 1 to 1048576 packets");
     }
     say_rounded(options, errors);
     say_short(&asked, &params.raw(), errors);
     let opening = opening_for(asked.packets as u32, elements_for(&asked), params);
     match write_opening(&opening, output) {
-        Ok(()) => DONE,
-        Err(_) => fault(errors, "cannot write the output"),
+        Ok(()) => End::Done,
+        Err(_) => failed(errors, "cannot write the output"),
     }
 }

@@ -1,12 +1,10 @@
 //! A subcommand with its options, over the writer that is handed in or the file that the options name.
-ghost use Rattle.std.specs.Prelude.{◌≡◌, ◌≤◌, ◌⊎◌, option_map};
+ghost use Rattle.std.specs.Prelude.{◌≡◌, option_map, true};
 ghost use Rattle.clap.specs.Words.{found_of, rows_of};
-ghost use Rattle.pie_options.specs.declared.subcommand.Subcommand.{Subcommand};
 ghost use Rattle.pie_options.specs.Words.{file_in, is_forced};
 ghost use Rattle.pie_commands.specs.declared.end.End.{End};
-ghost use Rattle.pie_commands.specs.Ends.{status_of};
 ghost use Rattle.pie_commands.specs.Outputs.{EndsAt};
-ghost use Rattle.pie_commands.specs.Subcommands.{EndsAs, EndsTo, output_for};
+ghost use Rattle.pie_commands.specs.Subcommands.{EndsAs, EndsTo, may_differ, output_for};
 
 use crate::audit::audit;
 use crate::cut::cut;
@@ -36,9 +34,7 @@ fn perform<H: Threads + Wait + Sync + NamedFiles + Screen, R: Read + Drop, W: Wr
     output: &mut W,
     errors: &mut E,
 ) -> End
-    ensures status { status_of result ≤ 2 }
-    ensures differs { result ≡ End.Differs → (subcommand ≡ Subcommand.Audit) ⊎ (subcommand ≡ Subcommand.Explain)
-        ⊎ (subcommand ≡ Subcommand.Cut) }
+    ensures differs { result ≡ End.Differs → may_differ subcommand ≡ true }
     ensures ends { EndsAs subcommand (rows_of (found_of options.now)) (R.remaining input) (H.holds rt.now) result (W.contents output.old)
         (W.contents output.new) }
 {
@@ -48,8 +44,8 @@ fn perform<H: Threads + Wait + Sync + NamedFiles + Screen, R: Read + Drop, W: Wr
         Subcommand::Explain => explain(rt, alloc, options, input, output, errors),
         Subcommand::Cut => cut(rt, alloc, options, input, output, errors),
         Subcommand::Migrate => migrate(rt, alloc, options, input, output, errors),
-        Subcommand::Storm => End::with_status(make_storm(rt, alloc, options, output, errors)),
-        Subcommand::Params => End::with_status(params(options, output, errors)),
+        Subcommand::Storm => make_storm(rt, alloc, options, output, errors),
+        Subcommand::Params => params(options, output, errors),
     }
 }
 
@@ -63,9 +59,7 @@ fn perform_for<H: Threads + Wait + Sync + NamedFiles + Screen, R: Read + Drop, E
     input: R,
     errors: &mut E,
 ) -> End
-    ensures status { status_of result ≤ 2 }
-    ensures differs { result ≡ End.Differs → (subcommand ≡ Subcommand.Audit) ⊎ (subcommand ≡ Subcommand.Explain)
-        ⊎ (subcommand ≡ Subcommand.Cut) }
+    ensures differs { result ≡ End.Differs → may_differ subcommand ≡ true }
     ensures ends { EndsAt (file_in (rows_of (found_of options.now))) (is_forced (rows_of (found_of options.now))) name.now (H.holds rt.old)
         (H.holds rt.new) (EndsAs subcommand (rows_of (found_of options.now)) (R.remaining input) (H.holds rt.old)) result }
 {
@@ -108,9 +102,7 @@ pub(crate) fn performed<
     output: &mut W,
     errors: &mut E,
 ) -> End
-    ensures status { status_of result ≤ 2 }
-    ensures differs { result ≡ End.Differs → (subcommand ≡ Subcommand.Audit) ⊎ (subcommand ≡ Subcommand.Explain)
-        ⊎ (subcommand ≡ Subcommand.Cut) }
+    ensures differs { result ≡ End.Differs → may_differ subcommand ≡ true }
     ensures ends { EndsTo subcommand (rows_of (found_of options.now)) (R.remaining input) (H.holds rt.old) (H.holds rt.new) result
         (W.contents output.old) (W.contents output.new) }
 {

@@ -3,7 +3,6 @@ ghost use Rattle.std.specs.Prelude.{◌≡◌, ◌≤◌, ◌⊎◌, ◌∷◌, 
 ghost use Rattle.clap.specs.Matches.{subcommand_name_of};
 ghost use Rattle.clap.specs.Words.{Row, Text, found_of, kind_of, rows_of, subcommand_rows_of};
 ghost use Rattle.clap.specs.declared.error.kind.ErrorKind.{ErrorKind};
-ghost use Rattle.pie_options.specs.declared.subcommand.Subcommand.{Subcommand};
 ghost use Rattle.pie_options.specs.Subcommands.{word_of};
 ghost use Rattle.pie_options.specs.Words.{AskFor, Asks, file_in, files_in, is_forced, is_joined, options_in, output_in, subcommand_in};
 ghost use Rattle.pie_files.specs.Files.{text_given};
@@ -16,10 +15,10 @@ ghost use Rattle.pie_commands.specs.ExplainEnds.{EndsExplain};
 ghost use Rattle.pie_commands.specs.JointEnds.{EndsJoined};
 ghost use Rattle.pie_commands.specs.Outputs.{EndsIn};
 ghost use Rattle.pie_commands.specs.StormEnds.{EndsStorm};
-ghost use Rattle.pie_commands.specs.Subcommands.{EndsTo};
+ghost use Rattle.pie_commands.specs.Subcommands.{Answers, Finds};
 ghost use Rattle.pie_commands.specs.Tuning.{EndsParams};
 
-use crate::end::{DONE, End, FAULT, failed, fault};
+use crate::end::{End, failed};
 use crate::perform::performed;
 use crate::screen::Screen;
 use clap::error::ErrorKind;
@@ -122,45 +121,39 @@ pub fn command<H: Threads + Wait + Sync + NamedFiles + Screen, R: Read + Drop, W
     ensures params { Asks (codes "params") (map string_bytes words.now)
         → EndsParams (options_in (map string_bytes words.now)) (status_of result) (W.contents output.old) (W.contents output.new) }
 {
-    answer(rt, alloc, words, input, output, errors)
+    let found = matches_of(alloc, words);
+    let end = answer(rt, alloc, &found, input, output, errors);
+    drop(found);
+    end
 }
 
-/// What `command` does: each subcommand as it promises.
+/// What `clap` finds in the words; or what it says of them, help or a mistake.
+fn matches_of<'a>(alloc: Global, words: &'a [String]) -> Result<ArgMatches<'a>, Error>
+    ensures { Finds (map string_bytes words.now) result }
+{
+    options(alloc)?.try_get_matches_from(words)
+}
+
+/// Performs the subcommand that was found in words; or says what `clap` says of them.
 fn answer<H: Threads + Wait + Sync + NamedFiles + Screen, R: Read + Drop, W: Write, E: Write>(
     rt: &mut H,
     alloc: Global,
-    words: &[String],
+    found: &Result<ArgMatches<'_>, Error>,
     input: R,
     output: &mut W,
     errors: &mut E,
 ) -> End
-    ensures status { status_of result ≤ 2 }
-    ensures keeps { status_of result ≡ 1 → Keeps (H.holds rt.old) (H.holds rt.new) }
-    ensures differs { result ≡ End.Differs → (subcommand_in (map string_bytes words.now) ≡ Some (codes "audit"))
-        ⊎ (subcommand_in (map string_bytes words.now) ≡ Some (codes "explain"))
-        ⊎ (subcommand_in (map string_bytes words.now) ≡ Some (codes "cut")) }
-    ensures ends { (subcommand : Subcommand) → Asks (word_of subcommand) (map string_bytes words.now)
-        → EndsTo subcommand (options_in (map string_bytes words.now)) (R.remaining input) (H.holds rt.old) (H.holds rt.new) result
-        (W.contents output.old) (W.contents output.new) }
+    ensures { (words : List Text) → Finds words found.now
+        → Answers words (R.remaining input) (H.holds rt.old) (H.holds rt.new) result (W.contents output.old) (W.contents output.new) }
 {
-    let options = match options(alloc) {
-        Ok(options) => options,
-        Err(_) => return failed(errors, "out of memory"),
-    };
-    let matches = match options.try_get_matches_from(words) {
-        Ok(matches) => matches,
-        Err(error) => return End::with_status(mistake(error, output, errors)),
-    };
-    match asked_of(&matches) {
-        Ok((subcommand, options)) => {
-            let end = performed(rt, alloc, subcommand, options, input, output, errors);
-            drop(matches);
-            end
-        }
-        Err(why) => {
-            drop(matches);
-            failed(errors, why)
-        }
+    match found {
+        Ok(matches) => match asked_of(matches) {
+            Ok((subcommand, options)) => {
+                performed(rt, alloc, subcommand, options, input, output, errors)
+            }
+            Err(why) => failed(errors, why),
+        },
+        Err(why) => mistake(why, output, errors),
     }
 }
 
@@ -182,19 +175,19 @@ fn asked_of<'a, 'b>(
 }
 
 /// What `clap` says of the words: help, or a mistake.
-fn mistake<W: Write, E: Write>(error: Error, output: &mut W, errors: &mut E) -> u8
-    ensures status { result ≤ 1 }
-    ensures memory { kind_of error ≡ ErrorKind.OutOfMemory → (result ≡ 1) × (W.contents output.new ≡ W.contents output.old) }
+fn mistake<W: Write, E: Write>(error: &Error, output: &mut W, errors: &mut E) -> End
+    ensures same { result ≡ End.Differs → ⊥ }
+    ensures memory { kind_of error.now ≡ ErrorKind.OutOfMemory → (result ≡ End.Failed) × (W.contents output.new ≡ W.contents output.old) }
 {
     if matches!(error.kind(), ErrorKind::OutOfMemory) {
-        return fault(errors, "out of memory");
+        return failed(errors, "out of memory");
     }
     if error.use_stderr() {
         let _ = write!(errors, "{error}");
-        return FAULT;
+        return End::Failed;
     }
     match write!(output, "{error}") {
-        Ok(()) => DONE,
-        Err(_) => fault(errors, "cannot write the output"),
+        Ok(()) => End::Done,
+        Err(_) => failed(errors, "cannot write the output"),
     }
 }

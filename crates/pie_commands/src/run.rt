@@ -25,10 +25,16 @@ fn write_counts<E: Write>(end: &RunEnd, errors: &mut E) -> io::Result<()>
     writeln!(errors, "pie: {events} events, {refused} refused records")
 }
 
-/// Says on `errors` how many events and refused records a run without a fault had. A failed write is passed over.
-fn say_counts<E: Write>(errors: &mut E, given: &Result<RunEnd, TraceFault>) {
+/// Says on `errors` how many events and refused records a run without a fault had, where the options ask for it. A failed write is passed over.
+fn say_counts<E: Write>(
+    options: &ArgMatches<'_>,
+    given: &Result<RunEnd, TraceFault>,
+    errors: &mut E,
+) {
     if let Ok(end) = given {
-        let _ = write_counts(end, errors);
+        if flag(options, "count") {
+            let _ = write_counts(end, errors);
+        }
     }
 }
 
@@ -37,7 +43,7 @@ fn say_counts<E: Write>(errors: &mut E, given: &Result<RunEnd, TraceFault>) {
 fn run_input<H: Clock, R: Read + Drop, W: Write, E: Write>(
     rt: &H,
     alloc: Global,
-    is_counted: bool,
+    options: &ArgMatches<'_>,
     is_shown: bool,
     input: R,
     output: &mut W,
@@ -48,9 +54,7 @@ fn run_input<H: Clock, R: Read + Drop, W: Write, E: Write>(
 {
     let watched = Watched::new(input, &mut *errors, rt, is_shown);
     let given = run_either(alloc, watched, output);
-    if is_counted {
-        say_counts(errors, &given);
-    }
+    say_counts(options, &given, errors);
     ended(errors, given)
 }
 
@@ -69,15 +73,7 @@ pub(crate) fn run<H: NamedFiles + Screen, R: Read + Drop, W: Write, E: Write>(
 {
     let is_shown = shows_progress(rt, options, true);
     match reader_of(rt, file(options), input, errors) {
-        Some(reader) => run_input(
-            rt,
-            alloc,
-            flag(options, "count"),
-            is_shown,
-            reader,
-            output,
-            errors,
-        ),
+        Some(reader) => run_input(rt, alloc, options, is_shown, reader, output, errors),
         None => End::Failed,
     }
 }

@@ -1,12 +1,13 @@
 //! `pie storm`: the storm that the options ask for, whose history is written.
 ghost use Rattle.std.specs.Prelude.{◌≡◌, Some};
 ghost use Rattle.clap.specs.Words.{found_of, rows_of};
+ghost use Rattle.pie_commands.specs.Ends.{status_of};
 ghost use Rattle.pie_commands.specs.StormEnds.{EndsStorm, choice_in, delay_in, elements_in, numbers_in, picking_in};
 ghost use Rattle.pie_commands.specs.StormEnds.{profile_by, size_in, step_in};
 ghost use Rattle.pie_options.specs.Words.{profile_in};
 ghost use Rattle.pie_storm.specs.StormPlan.{HasStormRange};
 
-use crate::end::{DONE, fault};
+use crate::end::{End, failed};
 use clap::ArgMatches;
 use pie_book::{Event, Profile};
 use pie_options::{flag, number_or};
@@ -19,6 +20,7 @@ use std::io::Write;
 use std::marker::Sync;
 use std::sync::Wait;
 use std::thread::Threads;
+use std::time::Clock;
 
 /// How many senders a storm has where the words name no number.
 const SENDERS: u64 = 2;
@@ -156,33 +158,31 @@ fn numbers_of(options: &ArgMatches<'_>, elements: Elements) -> StormNumbers
     }
 }
 
-/// `pie storm`: makes the storm that these options ask for, audits its events and writes their history. Ends with 0, or with 1
+/// `pie storm`: makes the storm that these options ask for, audits its events and writes their history. It is done, or has failed
 /// where the word of a choice is none of its own, or memory, a thread or the writer fails.
-pub(crate) fn make_storm<H: Threads + Wait + Sync, W: Write, E: Write>(
+pub(crate) fn make_storm<H: Threads + Wait + Clock + Sync, W: Write, E: Write>(
     rt: &H,
     alloc: Global,
     options: &ArgMatches<'_>,
     output: &mut W,
     errors: &mut E,
-) -> u8
-    ensures { EndsStorm (rows_of (found_of options.now)) result (W.contents output.old) (W.contents output.new) }
+) -> End
+    ensures { EndsStorm (rows_of (found_of options.now)) (status_of result) (W.contents output.old) (W.contents output.new) }
 {
     let Some(elements) = elements_of(options) else {
-        return fault(errors, NO_CHOICE);
+        return failed(errors, NO_CHOICE);
     };
     let made = match pie_storm::make_storm(rt, alloc, numbers_of(options, elements)) {
         Ok(made) => made,
-        Err(why) => return fault(errors, why),
+        Err(why) => return failed(errors, why),
     };
     let events = made.end.events.as_slice();
-    if flag(options, "count") {
-        say_counts(errors, events);
-    }
+    say_counts(options, events, errors);
     let written = write_storm(alloc, &made.plan, events, output);
     drop(made);
     match written {
-        Ok(()) => DONE,
-        Err(why) => fault(errors, why),
+        Ok(()) => End::Done,
+        Err(why) => failed(errors, why),
     }
 }
 
@@ -199,8 +199,10 @@ fn changes_of_caller(events: &[Event]) -> u64 {
     changes.saturating_sub(1)
 }
 
-/// Says on `errors` how many events there are, and how many changes of caller. A failed write is passed over.
-fn say_counts<E: Write>(errors: &mut E, events: &[Event]) {
-    let (count, changes) = (events.len(), changes_of_caller(events));
-    let _ = writeln!(errors, "pie: {count} events, {changes} changes of caller");
+/// Says on `errors` how many events there are, and how many changes of caller, where the options ask for it. A failed write is passed over.
+fn say_counts<E: Write>(options: &ArgMatches<'_>, events: &[Event], errors: &mut E) {
+    if flag(options, "count") {
+        let (count, changes) = (events.len(), changes_of_caller(events));
+        let _ = writeln!(errors, "pie: {count} events, {changes} changes of caller");
+    }
 }

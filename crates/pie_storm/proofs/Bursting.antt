@@ -28,10 +28,10 @@ use Rattle.pie_kept.specs.Commands.{refusal_in}
 use Rattle.pie_kept.specs.EntryLaws.{EntriesLookBack}
 use Rattle.pie_kept.specs.Entries.{entries_of, events_in, number_of, tail_in}
 use Rattle.pie_link.specs.Bursts.{AnswersAll, IsBurst}
-use Rattle.pie_link.specs.Views.{LinkView, CallerView}
+use Rattle.pie_link.specs.Views.{LinkView, CallerView, StaysOne}
 use Rattle.pie_storm.specs.declared.plan.Plan.{Plan}
 use Rattle.pie_storm.specs.Plans.{IsFair, IsSound, commands_of}
-use Rattle.pie_storm.specs.Storms.{EachGoes, Goes, GoesOrEnds, IsCutShort, IsMade, OnlyMadeAt, events_of}
+use Rattle.pie_storm.specs.Storms.{AddedByAll, EachGoes, Goes, GoesOrEnds, IsCutShort, IsMade, OnlyMadeAt, TakesTurn, events_of}
 use Rattle.pie_storm.proofs.PlanCommands.{fair_at}
 use Rattle.pie_storm.proofs.Working.{drop_next, full_after, goes_event, goes_seen, own_same, which}
 use Rattle.pie_storm.proofs.FoldsMade.{own_same as entries_same}
@@ -58,16 +58,6 @@ pub take_drop : {A : Type 0} (n : ℕ) (xs : List A) → take n xs ++ drop n xs 
 take_drop zero xs = refl
 take_drop (suc n) [] = refl
 take_drop (suc n) (x ∷ xs) = ap (λ l. x ∷ l) (take_drop n xs)
-
--- a turn of no commands
-pub turn_of_none : (link : LinkView) (number : ℕ) (commands : List Command) (k count : ℕ) (front : List Event) (passed : ℕ) → count ≡ 0
-    → EachGoes link number commands k front passed → GoesOrEnds link number commands (k + count) front passed (Some 0)
-unfolding GoesOrEnds
-turn_of_none link number commands k count front passed none goes =
-    let here : k ≡ k + count = omega (arith, none) in
-    let same : passed ≡ passed + 0 = omega arith in
-    subst (λ (n : ℕ). EachGoes link number commands (k + count) front n) same
-    (subst (λ (n : ℕ). EachGoes link number commands n front passed) here goes)
 
 -- what stands first of what is left
 at_drop : (xs : List Command) (k : ℕ) (x : Command) (ys : List Command) → drop k xs ≡ x ∷ ys → slice_get xs k ≡ Some x
@@ -240,7 +230,7 @@ burst_at_link law link plan k passed (a ∷ later) rest replies before after one
     (events_in (history ++ entries_to always opening before.first history (map arrive (a ∷ later)))))) (sym burst.answered) comes)
 
 -- all of a burst was taken
-pub burst_taken : (law : EntriesLookBack) (link : LinkView) (plan : Plan) (k n passed : ℕ) (burst : List Arrival) (rest : List Command)
+burst_taken : (law : EntriesLookBack) (link : LinkView) (plan : Plan) (k n passed : ℕ) (burst : List Arrival) (rest : List Command)
     (replies : List Reply) (before after : CallerView) → before.limit ≡ before.first + 1 → IsSound plan → 1 ≤ length burst
     → drop k (commands_of plan before.first) ≡ map arrive burst ++ rest → AnswersAll always link before (map arrive burst) [] replies after
     → All IsOk replies → length burst ≡ n
@@ -256,7 +246,7 @@ burst_taken law link plan k n passed burst rest replies before after one sound s
     (burst_at_link law link plan k passed burst rest replies before after one sound some left answers goes opening from)))
 
 -- one of its arrivals was refused
-pub burst_short : (law : EntriesLookBack) (link : LinkView) (plan : Plan) (k n passed : ℕ) (burst : List Arrival) (rest : List Command)
+burst_short : (law : EntriesLookBack) (link : LinkView) (plan : Plan) (k n passed : ℕ) (burst : List Arrival) (rest : List Command)
     (replies : List Reply) (before after : CallerView) → before.limit ≡ before.first + 1 → IsSound plan → 1 ≤ length burst
     → drop k (commands_of plan before.first) ≡ map arrive burst ++ rest → AnswersAll always link before (map arrive burst) [] replies after
     → (All IsOk replies → ⊥)
@@ -281,7 +271,7 @@ all_made opening caller h (command ∷ later) =
     All-append IsMade added (entries_to always opening caller (h ++ added) later) (one_made caller command (reply_in opening h command))
     (all_made opening caller (h ++ added) later)
 
-pub burst_only : (link : LinkView) (commands : List Command) (replies : List Reply) (before after : CallerView) → before.limit ≡ before.first + 1
+burst_only : (link : LinkView) (commands : List Command) (replies : List Reply) (before after : CallerView) → before.limit ≡ before.first + 1
     → AnswersAll always link before commands [] replies after → OnlyMadeAt link before.first before.front → OnlyMadeAt link before.first after.front
 unfolding AnswersAll OnlyMadeAt
 burst_only link [] replies before after one answers only opening from =
@@ -299,3 +289,28 @@ burst_only link (command ∷ later) replies before after one answers only openin
     (subst (λ (es : List Entry). All IsMade es) (sym s.1) (only opening from))
     (All-filter (λ (e : Entry). is_within before.first (before.first + 1) (number_of e)) IsMade made
     (all_made opening before.first history (command ∷ later)))))
+
+-- ---- a sender's turn
+
+pub burst_turn : (law : EntriesLookBack) (link : LinkView) (plan : Plan) (k n : ℕ) (burst : List Arrival) (rest : List Command)
+    (replies : List Reply) (soon : Option ℕ) (before after : CallerView) → before.limit ≡ before.first + 1 → IsSound plan → 1 ≤ n
+    → length burst ≡ n
+    → drop k (commands_of plan before.first) ≡ map arrive burst ++ rest → AnswersAll always link before (map arrive burst) [] replies after
+    → AddedByAll replies soon → StaysOne before after
+    → TakesTurn link (commands_of plan before.first) k (k + n) before after soon
+burst_turn law link plan k n burst rest replies soon before after one sound some long left answers (inl taken) stays =
+    subst (λ (s : Option ℕ). TakesTurn link (commands_of plan before.first) k (k + n) before after s) (sym taken.1) (record {
+      stays = stays;
+      few = omega arith;
+      goes = λ passed. burst_taken law link plan k n passed burst rest replies before after one sound (omega (arith, some, long)) left answers
+          taken.0 long;
+      only_made = burst_only link (map arrive burst) replies before after one answers;
+    })
+burst_turn law link plan k n burst rest replies soon before after one sound some long left answers (inr refused) stays =
+    subst (λ (s : Option ℕ). TakesTurn link (commands_of plan before.first) k (k + n) before after s) (sym refused.1) (record {
+      stays = stays;
+      few = tt;
+      goes = λ passed. burst_short law link plan k n passed burst rest replies before after one sound (omega (arith, some, long)) left answers
+          refused.0;
+      only_made = burst_only link (map arrive burst) replies before after one answers;
+    })

@@ -1,5 +1,5 @@
 -- What is known of all workers of a storm together.
-use Rattle.std.proofs.Common.{◌≡◌, ℕ, zero, suc, ◌+◌, ◌<◌, ◌≤◌, List, [], ◌∷◌, ◌++◌, length, refl, ap, sym, ◌∙◌, subst, inl, inr, ⊎_elim, arith}
+use Rattle.std.proofs.Common.{◌≡◌, ℕ, zero, suc, ◌+◌, ◌<◌, ◌≤◌, List, [], ◌∷◌, ◌++◌, false, length, refl, ap, sym, ◌∙◌, subst, inl, inr, ⊎_elim, arith}
 use Rattle.std.specs.List.{All}
 use Rattle.std.proofs.lemmas.List.Elements.{All-nil}
 use mathlib.Core.List.{IsPrefix}
@@ -14,13 +14,16 @@ use Rattle.pie_event.specs.declared.command.Command.{Command}
 use Rattle.pie_event.specs.declared.command.Event.{Event}
 use Rattle.pie_event.specs.declared.opening.Opening.{Opening}
 use Rattle.pie_storm.specs.declared.plan.Plan.{Plan}
+use Rattle.pie_storm.specs.declared.worker.Folding.{Folding}
+use Rattle.pie_storm.specs.declared.worker.Work.{Work}
 use Rattle.pie_storm.specs.Plans.{commands_of}
 use Rattle.pie_kept.specs.declared.entry.Entry.{Entry}
 use Rattle.pie_kept.specs.Entries.{entries_of, events_in, number_of}
 use Rattle.pie_kept.specs.EntryLaws.{EntriesLookBack}
 use Rattle.pie_storm.specs.Storms.{events_of, caller_of, folder, AreMade, CameOf, AllCameOf, CameAt, AllCameAt, IsMade, NoneElseFolds, NoneElseFoldsAt}
-use Rattle.pie_storm.specs.Storms.{OnlyMadeAt}
+use Rattle.pie_storm.specs.Storms.{Begins, IsWorkBelow, IsWorkOf, OnlyMadeAt}
 use Rattle.pie_link.specs.Views.{LinkView, CallerView}
+use Rattle.pie_storm.proofs.FoldsMade.{folds_on}
 use Rattle.pie_storm.proofs.OwnEvents.{events-go_on}
 
 -- what was made in a history was made in one that goes on from there
@@ -95,7 +98,7 @@ same_entries first limit f l h k is_first is_limit on =
     (subst (λ (m : ℕ). own number_of first m k ≡ own number_of first m h) is_limit on.1)
 
 -- a caller behind the others is gathered to them
-pub gathered : (law : EntriesLookBack) (link : LinkView) (plan : Plan) (n : ℕ) (p q r : CallerView) (passed its : ℕ)
+gathered : (law : EntriesLookBack) (link : LinkView) (plan : Plan) (n : ℕ) (p q r : CallerView) (passed its : ℕ)
     → p.first ≡ 0 → p.limit ≡ n → q.first ≡ n → q.limit ≡ n + 1 → IsBothOf number_of p q r
     → AllCameAt link plan n (events_in p.front) passed → CameAt link plan n (events_in q.front) its
     → AllCameAt link plan (suc n) (events_in r.front) (passed + its)
@@ -160,7 +163,7 @@ alone_gathered link plan n p q r p_first p_limit q_first q_limit both none only 
     both.3
 
 -- both fronts begin the one of both, which has no more of the caller behind the others
-pub behind_same : (p q r : CallerView) → q.limit ≡ q.first + 1 → IsBothOf number_of p q r
+behind_same : (p q r : CallerView) → q.limit ≡ q.first + 1 → IsBothOf number_of p q r
     → IsPrefix q.front r.front × (entries_of q.first r.front ≡ entries_of q.first q.front)
 behind_same p q r one both =
     let P : List Entry → Type 0 = λ front. IsPrefix q.front front × (entries_of q.first front ≡ entries_of q.first q.front) in
@@ -169,36 +172,55 @@ behind_same p q r one both =
     (λ behind. subst P (sym behind.1) (behind.0.0, same_entries q.first q.limit q.first (q.first + 1) q.front p.front refl one behind.0))
     both.3
 
--- the same with the numbers that the callers have
-pub gathered_to : (law : EntriesLookBack) (link : LinkView) (plan : Plan) (p q r : CallerView) (passed its : ℕ)
-    → p.first ≡ 0 → q.first ≡ p.limit → q.limit ≡ p.limit + 1 → IsBothOf number_of p q r
-    → AllCameAt link plan p.limit (events_in p.front) passed → CameAt link plan q.first (events_in q.front) its
-    → AllCameAt link plan r.limit (events_in r.front) (passed + its)
-gathered_to law link plan p q r passed its p_first q_first q_limit both all one =
-    let limit : r.limit ≡ suc p.limit = omega (arith, both.2, q_limit) in
-    subst (λ (n : ℕ). AllCameAt link plan n (events_in r.front) (passed + its)) (sym limit)
-    (gathered law link plan p.limit p q r passed its p_first refl q_first q_limit both all
-    (subst (λ (n : ℕ). CameAt link plan n (events_in q.front) its) q_first one))
-
-pub alone_to : (link : LinkView) (plan : Plan) (p q r : CallerView) → p.first ≡ 0 → q.first ≡ p.limit → q.limit ≡ p.limit + 1
-    → IsBothOf number_of p q r
-    → NoneElseFoldsAt link plan p.limit p.front → ((q.first ≡ folder plan → ⊥) → OnlyMadeAt link q.first q.front)
-    → NoneElseFoldsAt link plan r.limit r.front
-alone_to link plan p q r p_first q_first q_limit both none only =
-    let limit : r.limit ≡ suc p.limit = omega (arith, both.2, q_limit) in
-    subst (λ (n : ℕ). NoneElseFoldsAt link plan n r.front) (sym limit)
-    (alone_gathered link plan p.limit p q r p_first refl q_first q_limit both none
-    (subst (λ (n : ℕ). (n ≡ folder plan → ⊥) → OnlyMadeAt link n q.front) q_first only))
+-- what the worker behind the others did is gathered to what they did
+pub together : (law : EntriesLookBack) (link : LinkView) (plan : Plan) (n : ℕ) (work last : Work) (caller : CallerView)
+    → IsBothOf number_of work.caller last.caller caller → IsWorkBelow link plan n work → IsWorkOf link plan n last
+    → IsWorkBelow link plan (n + 1) (record { caller = caller; too_soon = work.too_soon + last.too_soon; folding = last.folding })
+together law link plan n work last caller both below its =
+    let p = work.caller in
+    let q = last.caller in
+    let next : suc n ≡ n + 1 = omega arith in
+    let one : q.limit ≡ q.first + 1 = omega (arith, its.made.first, its.made.limit) in
+    let longer = behind_same p q caller one both in record {
+      lock = both.0 ∙ below.lock;
+      first = omega (arith, both.1, below.first);
+      limit = omega (arith, both.2, below.limit, its.made.limit);
+      came = subst (λ (m : ℕ). AllCameAt link plan m (events_in caller.front) (work.too_soon + last.too_soon)) next
+          (gathered law link plan n p q caller work.too_soon last.too_soon below.first below.limit its.made.first its.made.limit both below.came
+          its.made.came);
+      few = omega (arith, below.few, its.made.few);
+      none_else = subst (λ (m : ℕ). NoneElseFoldsAt link plan m caller.front) next
+          (alone_gathered link plan n p q caller below.first below.limit its.made.first its.made.limit both below.none_else its.only_made);
+      folds = λ all.
+          let is : n ≡ folder plan = omega (arith, all) in
+          folds_on law link (folder plan) (last.folding.is_short_of_memory ≡ false) plan.folds.items last.folding.events.items q.front caller.front
+          last.folding.too_many longer.0
+          (subst (λ (m : ℕ). entries_of m caller.front ≡ entries_of m q.front) (its.made.first ∙ is) longer.1) (its.folds is);
+    }
 
 -- the starter alone has made nothing
-pub starter_alone : (link : LinkView) (plan : Plan) (limit : ℕ) (front : List Entry) → limit ≡ 1 → front ≡ []
+nothing_came : (link : LinkView) (plan : Plan) (limit : ℕ) (front : List Entry) → limit ≡ 1 → front ≡ []
     → AllCameAt link plan limit (events_in front) 0
 unfolding AllCameAt AllCameOf CameOf commands_of
-starter_alone link plan limit front one none opening from =
+nothing_came link plan limit front one none opening from =
     subst (λ (n : ℕ). AllCameOf opening plan n (events_in front) 0) (sym one)
     (subst (λ (es : List Entry). AllCameOf opening plan 1 (events_in es) 0) (sym none) (0, 0, refl, refl, inl (refl, refl)))
 
-pub starter_folds_none : (link : LinkView) (plan : Plan) (limit : ℕ) (front : List Entry) → front ≡ [] → NoneElseFoldsAt link plan limit front
+no_folds : (link : LinkView) (plan : Plan) (limit : ℕ) (front : List Entry) → front ≡ [] → NoneElseFoldsAt link plan limit front
 unfolding NoneElseFoldsAt NoneElseFolds
-starter_folds_none link plan limit front none opening from caller below other =
+no_folds link plan limit front none opening from caller below other =
     subst (λ (h : List Entry). All IsMade (entries_of caller h)) (sym none) (All-nil IsMade)
+
+pub starter_alone : (link : LinkView) (plan : Plan) (caller rest : CallerView) (folding : Folding) → Begins link plan caller → caller.first ≡ 0
+    → caller.limit ≡ caller.first + 1 → rest ≡ caller
+    → IsWorkBelow link plan caller.limit (record { caller = rest; too_soon = 0; folding = folding })
+starter_alone link plan caller rest folding begins first one same =
+    let new : rest.front ≡ [] = ap (λ (p : CallerView). p.front) same ∙ begins.new in record {
+      lock = ap (λ (p : CallerView). p.lock) same ∙ begins.own;
+      first = ap (λ (p : CallerView). p.first) same ∙ first;
+      limit = ap (λ (p : CallerView). p.limit) same;
+      came = nothing_came link plan caller.limit rest.front (omega (arith, one, first)) new;
+      few = omega arith;
+      none_else = no_folds link plan caller.limit rest.front new;
+      folds = λ all. absurd (omega (arith, one, first, all));
+    }

@@ -3,6 +3,7 @@ mod PlanCommands
 mod Working
 mod FoldsMade
 mod Bursting
+mod Turns
 mod Gathering
 mod Counting
 mod Closing

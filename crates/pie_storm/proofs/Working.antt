@@ -291,25 +291,6 @@ pub each_start : (link : LinkView) (number : ℕ) (commands : List Command) (fro
 unfolding EachGoes
 each_start link number commands front none opening from = goes_start opening number commands front none
 
-pub each_next : (link : LinkView) (plan : Plan) (number k next_k passed soon : ℕ) (mine : CallerView) (front : List Event) → mine.first ≡ number
-    → (EachGoes link mine.first (commands_of plan mine.first) k (events_in mine.front) passed
-    → GoesOrEnds link mine.first (commands_of plan mine.first) next_k front passed (Some soon))
-    → EachGoes link number (commands_of plan number) k (events_in mine.front) passed
-    → EachGoes link number (commands_of plan number) next_k front (passed + soon)
-unfolding GoesOrEnds
-each_next link plan number k next_k passed soon mine front is next goes =
-    subst (λ (n : ℕ). EachGoes link n (commands_of plan n) next_k front (passed + soon)) is
-    (next (subst (λ (n : ℕ). EachGoes link n (commands_of plan n) k (events_in mine.front) passed) (sym is) goes))
-
-pub each_ended : (link : LinkView) (plan : Plan) (number k next_k passed : ℕ) (mine : CallerView) (front : List Event) → mine.first ≡ number
-    → (EachGoes link mine.first (commands_of plan mine.first) k (events_in mine.front) passed
-    → GoesOrEnds link mine.first (commands_of plan mine.first) next_k front passed None)
-    → EachGoes link number (commands_of plan number) k (events_in mine.front) passed → CameAt link plan number front passed
-unfolding GoesOrEnds CameAt CameOf
-each_ended link plan number k next_k passed mine front is next goes opening from =
-    inr (subst (λ (n : ℕ). IsCutShort opening n (commands_of plan n) front) is
-    (next (subst (λ (n : ℕ). EachGoes link n (commands_of plan n) k (events_in mine.front) passed) (sym is) goes) opening from))
-
 pub came_to_end : (link : LinkView) (plan : Plan) (number k passed : ℕ) (front : List Event)
     → EachGoes link number (commands_of plan number) k front passed → k ≡ length (commands_of plan number)
     → CameAt link plan number front passed

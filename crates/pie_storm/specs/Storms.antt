@@ -1,7 +1,7 @@
 -- What the callers of a storm did, and how it ends. A history is the list of all events of the link; where folds are spoken of,
 -- it is the list of all its entries.
-use Rattle.std.specs.Prelude.{◌≡◌, ◌==◌, ◌+◌, ◌<◌, ◌≤◌, ◌^◌, ◌⊎◌, ℕ, zero, suc, Bool, All, List, [], ◌∷◌, ◌++◌, Option, Some, None, Result, Ok, Err}
-use Rattle.std.specs.Prelude.{min, drop, map, length}
+use Rattle.std.specs.Prelude.{◌≡◌, ◌==◌, ◌+◌, ◌*◌, ◌<◌, ◌≤◌, ◌^◌, ◌⊎◌, ℕ, zero, suc, Bool, false, All, List, [], ◌∷◌, ◌++◌, Option, Some, None, Result, Ok, Err}
+use Rattle.std.specs.Prelude.{IfSome, IsOk, min, drop, map, length}
 use mathlib.Core.List.{IsPrefix}
 use Rattle.pie_lock.specs.Own.{own}
 use Rattle.pie_event.specs.declared.command.Command.{Command}
@@ -20,12 +20,13 @@ use Rattle.pie_book.specs.Registers.{registers_after}
 use Rattle.pie_book.specs.Statistics.{stats_after}
 use Rattle.pie_storm.specs.declared.ending.StormEnd.{StormEnd}
 use Rattle.pie_storm.specs.declared.plan.Plan.{Plan}
+use Rattle.pie_storm.specs.declared.worker.Work.{Work}
 use Rattle.pie_event.specs.declared.command.Command.TheVariants.{Depart, Update}
-use Rattle.pie_storm.specs.Plans.{change, commands_of, opening_of, senders, sent}
+use Rattle.pie_storm.specs.Plans.{IsSound, change, commands_of, opening_of, planned, senders, sent}
 use Rattle.pie_kept.specs.declared.entry.Entry.{Entry}
 use Rattle.pie_kept.specs.declared.entry.Entry.TheVariants.{Made, Folded}
 use Rattle.pie_kept.specs.Entries.{entries_of, events_in, handed_to, tail_in}
-use Rattle.pie_link.specs.Views.{LinkView, CallerView}
+use Rattle.pie_link.specs.Views.{LinkView, CallerView, StaysOne}
 
 -- the number of an event
 abbrev pub caller_of : Event → ℕ
@@ -99,6 +100,10 @@ added_by (Err Size) = None
 added_by (Err (TooSoon due)) = Some 1
 added_by (Err Exhausted) = None
 added_by (Err HistoryFull) = None
+
+-- what the answers to a burst add to them; none where one is a refusal
+abbrev pub AddedByAll : List (Result (Told Answer) Refusal) → Option ℕ → Type 0
+AddedByAll answers soon = (All IsOk answers × (soon ≡ Some 0)) ⊎ ((All IsOk answers → ⊥) × (soon ≡ None))
 
 -- the caller's next turn went on so to k commands, or the caller was cut short in it
 unfoldable pub GoesOrEnds : LinkView → ℕ → List Command → ℕ → List Event → ℕ → Option ℕ → Type 0
@@ -184,17 +189,49 @@ OnlyMadeAt link caller front = (opening : Opening) → link.origin ≡ Some open
 unfoldable pub NoneElseFoldsAt : LinkView → Plan → ℕ → List Entry → Type 0
 NoneElseFoldsAt link plan n front = (opening : Opening) → link.origin ≡ Some opening → NoneElseFolds plan n front
 
--- a worker made all commands of the caller with this number, of which so many were too soon
-unfoldable pub MadeAll : LinkView → Plan → ℕ → CallerView → ℕ → Type 0
-MadeAll link plan number caller too_soon =
-    (caller.lock ≡ link) × (caller.first ≡ number) × (caller.limit ≡ number + 1) × CameAt link plan number (events_in caller.front) too_soon
-    × (too_soon ≤ 2 ^ 20)
+-- a caller that was shown nothing begins its calls at a link, for a plan that a storm takes
+pub record Begins (link : LinkView) (plan : Plan) (caller : CallerView) : Type 0 where
+  pub own : caller.lock ≡ link
+  pub new : caller.front ≡ []
+  pub sound : IsSound plan
+  pub few : planned plan ≤ 2 ^ 20
 
--- and, where it makes them and is well, all folds; any other worker made none
-unfoldable pub MadeFolds : LinkView → Plan → ℕ → Type 0 → List Event → ℕ → List Entry → Type 0
-MadeFolds link plan number well events too_many front =
-    ((number ≡ folder plan → ⊥) → OnlyMadeAt link number front)
-    × (number ≡ folder plan → AreFoldedAt link (folder plan) well plan.folds.items events front too_many)
+-- in one turn at a link a caller made its commands after the first k, up to this number of them, or was cut short; so many were too soon
+pub record TakesTurn (link : LinkView) (commands : List Command) (k next : ℕ) (before after : CallerView) (too_soon : Option ℕ) : Type 0 where
+  pub stays : StaysOne before after
+  pub few : IfSome too_soon (λ n. n ≤ 1)
+  pub goes : (passed : ℕ) → EachGoes link before.first commands k (events_in before.front) passed
+      → GoesOrEnds link before.first commands next (events_in after.front) passed too_soon
+  pub only_made : OnlyMadeAt link before.first before.front → OnlyMadeAt link before.first after.front
+
+-- all commands of the caller with this number were made, of which so many were too soon
+pub record MadeAll (link : LinkView) (plan : Plan) (number : ℕ) (caller : CallerView) (too_soon : ℕ) : Type 0 where
+  pub lock : caller.lock ≡ link
+  pub first : caller.first ≡ number
+  pub limit : caller.limit ≡ number + 1
+  pub came : CameAt link plan number (events_in caller.front) too_soon
+  pub few : too_soon ≤ 2 ^ 20
+
+-- all folds of the plan were made, where memory was not wanting
+abbrev pub MadeFolds : LinkView → Plan → Work → Type 0
+MadeFolds link plan work = AreFoldedAt link (folder plan) (work.folding.is_short_of_memory ≡ false) plan.folds.items work.folding.events.items
+    work.caller.front work.folding.too_many
+
+-- the worker of the caller with this number did this: it made all commands, and, where it makes the folds, all folds; another worker made none
+pub record IsWorkOf (link : LinkView) (plan : Plan) (number : ℕ) (work : Work) : Type 0 where
+  pub made : MadeAll link plan number work.caller work.too_soon
+  pub only_made : (number ≡ folder plan → ⊥) → OnlyMadeAt link number work.caller.front
+  pub folds : number ≡ folder plan → MadeFolds link plan work
+
+-- all workers of the callers below this number did this
+pub record IsWorkBelow (link : LinkView) (plan : Plan) (n : ℕ) (work : Work) : Type 0 where
+  pub lock : work.caller.lock ≡ link
+  pub first : work.caller.first ≡ 0
+  pub limit : work.caller.limit ≡ n
+  pub came : AllCameAt link plan n (events_in work.caller.front) work.too_soon
+  pub few : work.too_soon ≤ n * 2 ^ 20
+  pub none_else : NoneElseFoldsAt link plan n work.caller.front
+  pub folds : n ≡ senders plan + 5 → MadeFolds link plan work
 
 -- the commands of these events
 abbrev pub commands_in : List Event → List Command

@@ -3,12 +3,18 @@
 use crate::gate::Gate;
 use crate::plan::Plan;
 use std::sync::atomic::{AtomicBool, AtomicU64, Ordering};
-use std::thread::yield_now;
+use std::thread::{sleep, yield_now};
+use std::time::{Clock, Duration};
 
 /// How far a caller may run ahead of another, in nanoseconds of the plan.
 const AHEAD: u64 = 4_000_000;
 /// How often a caller looks at the others before it goes on without them.
-const LOOKS: u64 = 100_000;
+const LOOKS: u64 = 3000;
+/// How often it looks before it sleeps between two looks. Others that run are soon there; one that waits for a processor, behind work of
+/// higher priority say, gets it only then.
+const EAGER_LOOKS: u64 = 1000;
+/// How long it sleeps then, in nanoseconds.
+const NAP: u64 = 100_000;
 /// A caller that isn't there yet.
 const AWAY: u64 = 0;
 /// A caller that has made all its calls, or that the storm has not.
@@ -18,7 +24,9 @@ const GONE: u64 = u64::MAX;
 /// other is away or further behind than `AHEAD`. Once one has waited in vain for long, nobody waits any more: so a caller whose thread was
 /// not started, or is never scheduled, stops nobody.
 #[derive(Drop)]
-pub(crate) struct Pace<'a> {
+pub(crate) struct Pace<'a, C> {
+    /// What sleeps.
+    clock: &'a C,
     /// The plan of the storm.
     plan: &'a Plan,
     /// The moment of the next call of each caller: of the senders, and of those that depart, update, change and fold.
@@ -32,11 +40,12 @@ fn shown_first(caller: usize, callers: usize) -> AtomicU64 {
     AtomicU64::new(if caller <= callers { AWAY } else { GONE })
 }
 
-impl<'a> Pace<'a> {
+impl<'a, C: Clock> Pace<'a, C> {
     /// The pace of a storm of this plan.
-    pub(crate) fn new(plan: &'a Plan) -> Pace<'a> {
+    pub(crate) fn new(clock: &'a C, plan: &'a Plan) -> Pace<'a, C> {
         let callers = plan.arrivals.len().saturating_add(4);
         Pace {
+            clock,
             plan,
             next: [
                 shown_first(1, callers),
@@ -118,16 +127,20 @@ impl<'a> Pace<'a> {
     }
 }
 
-impl Gate for Pace<'_> {
+impl<C: Clock> Gate for Pace<'_, C> {
     fn before(&self, caller: u16, call: u64) {
         let moment = self.moment(caller, call);
         self.show(caller, moment);
         let least = moment.saturating_sub(AHEAD).max(AWAY + 1);
-        for _ in 0..LOOKS {
+        for look in 0..LOOKS {
             if self.are_level(least) {
                 return;
             }
-            yield_now();
+            if look < EAGER_LOOKS {
+                yield_now();
+            } else {
+                sleep(self.clock, Duration::from_nanos(NAP));
+            }
         }
         self.is_over.store(true, Ordering::SeqCst);
     }

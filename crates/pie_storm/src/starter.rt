@@ -1,5 +1,5 @@
 //! The storm: a link under many threads at once, recorded.
-ghost use Rattle.std.specs.Prelude.{vec_capacity, ◌≡◌, ◌+◌, ◌*◌, ◌^◌, ◌≤◌, ◌≢◌, ◌↔◌, ◌⊎◌, ◌++◌, List, [], false, Some, None, Err, IfSome, IfOk, IfErr, OnOk};
+ghost use Rattle.std.specs.Prelude.{vec_capacity, ◌≡◌, ◌+◌, ◌*◌, ◌^◌, ◌≤◌, ◌≢◌, ◌↔◌, ◌⊎◌, ◌++◌, ℕ, List, false, Some, None, Err, IfSome, IfOk, IfErr, OnOk};
 ghost use denote.Param.Send.{IsSync};
 ghost use Rattle.pie_event.specs.declared.command.Event.{Event};
 ghost use Rattle.pie_book.specs.Book.{Tells};
@@ -7,12 +7,11 @@ ghost use Rattle.pie_book.specs.Decision.{IsLegal};
 ghost use Rattle.pie_book.specs.Registers.{registers_after};
 ghost use Rattle.pie_book.specs.Statistics.{stats_after};
 ghost use Rattle.pie_storm.specs.declared.plan.Plan.{Plan};
-ghost use Rattle.pie_kept.specs.Entries.{events_in, number_of};
+ghost use Rattle.pie_kept.specs.Entries.{number_of};
 ghost use Rattle.pie_link.specs.declared.refusal.LinkRefusal.{LinkRefusal};
 ghost use Rattle.pie_link.specs.Opening.{IsRefusedFor, link_refusal};
 ghost use Rattle.pie_storm.specs.Plans.{IsSound, opening_of, planned, senders, turn_of};
-ghost use Rattle.pie_storm.specs.Storms.{AllCameAt, AreFoldedAt, CameAt, IsEndOf, IsStorm, MadeAll, MadeFolds, NoneElseFoldsAt, OnlyMadeAt, folder};
-ghost use Rattle.pie_link.specs.Views.{StaysOne};
+ghost use Rattle.pie_storm.specs.Storms.{Begins, IsEndOf, IsStorm, IsWorkBelow, IsWorkOf};
 ghost use Rattle.pie_lock.specs.Promises.{IsBothOf, first_pass};
 
 use crate::ending::{StormEnd, StormFault};
@@ -54,9 +53,7 @@ struct MakesAll<'a> {
 }
 
 impl<'a> Promise<Work> for MakesAll<'a> {
-    ghost kept_by = { λ p work. MadeAll p.link.now p.plan.now p.caller work.caller work.too_soon
-        × MadeFolds p.link.now p.plan.now p.caller (work.folding.is_short_of_memory ≡ false) work.folding.events.items work.folding.too_many
-        work.caller.front };
+    ghost kept_by = { λ p work. IsWorkOf p.link.now p.plan.now p.caller work };
 }
 
 // A vector with room for what the burst of a caller is answered: a caller whose turn is one command needs none.
@@ -67,7 +64,8 @@ fn room_for_replies(alloc: Global, plan: &Plan, caller: u16) -> Result<Replies, 
     Vec::with_capacity(alloc, if turn == 1 { 0 } else { turn })
 }
 
-// Starts the worker of a caller in a thread of its own. Apart from `work_in`, which would let one caller more go on each way out.
+// Starts the worker of a caller in a thread of its own. Apart from `work_in`, which would let one caller more go on each way out. Both call
+// `drop` on what a way out lets go, so that it is proved once how that goes.
 fn start<'s, E: 's, R: Threads + Wait + Sync, G: Gate + Sync>(
     scope: &Scope<'s, E>,
     rt: &'s R,
@@ -77,16 +75,14 @@ fn start<'s, E: 's, R: Threads + Wait + Sync, G: Gate + Sync>(
     gate: &'s G,
     caller: Caller,
 ) -> Result<PromisedHandle<Work, MakesAll<'s>>, Unstarted>
-    requires own { caller.lock ≡ link.now }
+    requires begins { Begins link.now plan.now caller }
     requires one { caller.limit ≡ caller.first + 1 }
-    requires new { caller.front ≡ [] }
-    requires sound { IsSound plan.now }
-    requires few { planned plan.now ≤ 2 ^ 20 }
     ensures { IfOk result (λ worker. (worker.promise.link.now ≡ link.now) × (worker.promise.plan.now ≡ plan.now)
         × (worker.promise.caller ≡ caller.first)) }
 {
     let number = caller.first();
     let Ok(replies) = room_for_replies(alloc, plan, number) else {
+        drop(caller);
         return Err(Unstarted::Memory);
     };
     let promise = MakesAll {
@@ -97,21 +93,21 @@ fn start<'s, E: 's, R: Threads + Wait + Sync, G: Gate + Sync>(
     match scope.spawn_with(
         promise,
         move || -> Work
-            requires { (caller.lock ≡ link.now) × (caller.limit ≡ caller.first + 1) × (caller.front ≡ []) × IsSound plan.now
-                × (planned plan.now ≤ 2 ^ 20) × (turn_of plan.now caller.first ≢ 1 → turn_of plan.now caller.first ≤ vec_capacity replies) }
-            ensures made { MadeAll link.entry.now plan.entry.now caller.first result.caller result.too_soon }
-            ensures folds { MadeFolds link.entry.now plan.entry.now caller.first (result.folding.is_short_of_memory ≡ false)
-                result.folding.events.items result.folding.too_many result.caller.front }
+            requires { Begins link.now plan.now caller × (caller.limit ≡ caller.first + 1)
+                × (turn_of plan.now caller.first ≢ 1 → turn_of plan.now caller.first ≤ vec_capacity replies) }
+            ensures { IsWorkOf link.entry.now plan.entry.now caller.first result }
         { make_calls(rt, alloc, link, plan, gate, caller, replies) },
     ) {
         Ok(worker) => Ok(worker),
-        Err(_) => Err(Unstarted::Thread),
+        Err(refused) => {
+            drop(refused);
+            Err(Unstarted::Thread)
+        }
     }
 }
 
 // Lets the callers with these numbers work at once, each but the first in a thread of its own, and gathers them in order. The
 // first is the starter, which makes no calls. Where one is not started, those that were have ended.
-#[tactic(auto, unfolding(crate::specs::Storms::MadeAll, crate::specs::Storms::MadeFolds))]
 fn work_in<'s, E: 's, R: Threads + Wait + Sync, G: Gate + Sync>(
     scope: &Scope<'s, E>,
     rt: &'s R,
@@ -121,18 +117,9 @@ fn work_in<'s, E: 's, R: Threads + Wait + Sync, G: Gate + Sync>(
     gate: &'s G,
     caller: Caller,
 ) -> Result<Work, Unstarted>
-    requires own { caller.lock ≡ link.now }
+    requires begins { Begins link.now plan.now caller }
     requires first { caller.first ≡ 0 }
-    requires new { caller.front ≡ [] }
-    requires sound { IsSound plan.now }
-    requires few { planned plan.now ≤ 2 ^ 20 }
-    ensures stays { IfOk result (λ work. StaysOne caller work.caller) }
-    ensures made { IfOk result (λ work. AllCameAt link.now plan.now caller.limit (events_in work.caller.front) work.too_soon) }
-    ensures alone { IfOk result (λ work. NoneElseFoldsAt link.now plan.now caller.limit work.caller.front) }
-    ensures few { IfOk result (λ work. work.too_soon ≤ caller.limit * 2 ^ 20) }
-    ensures folds { caller.limit ≡ senders plan.now + 5 → IfOk result (λ work.
-        AreFoldedAt link.now (folder plan.now) (work.folding.is_short_of_memory ≡ false) plan.now.folds.items
-        work.folding.events.items work.caller.front work.folding.too_many) }
+    ensures { IfOk result (IsWorkBelow link.now plan.now caller.limit) }
 {
     let mut rest = caller;
     let last = match link.share(&mut rest) {
@@ -145,10 +132,22 @@ fn work_in<'s, E: 's, R: Threads + Wait + Sync, G: Gate + Sync>(
             });
         }
     };
-    let worker = start(scope, rt, alloc, link, plan, gate, last)?;
+    let worker = match start(scope, rt, alloc, link, plan, gate, last) {
+        Ok(worker) => worker,
+        Err(why) => {
+            drop(rest);
+            return Err(why);
+        }
+    };
     let others = work_in(scope, rt, alloc, link, plan, gate, rest);
     let theirs = worker.join(rt);
-    Ok(both(link, others?, theirs))
+    match others {
+        Ok(others) => Ok(both(link, others, theirs)),
+        Err(why) => {
+            drop(theirs);
+            Err(why)
+        }
+    }
 }
 
 // The same in a scope, which ends when all workers have.
@@ -160,30 +159,16 @@ fn work_at_once<R: Threads + Wait + Sync, G: Gate + Sync>(
     gate: &G,
     caller: Caller,
 ) -> Result<Work, Unstarted>
-    requires own { caller.lock ≡ link.now }
+    requires begins { Begins link.now plan.now caller }
     requires first { caller.first ≡ 0 }
-    requires new { caller.front ≡ [] }
-    requires sound { IsSound plan.now }
-    requires few { planned plan.now ≤ 2 ^ 20 }
-    ensures stays { IfOk result (λ work. StaysOne caller work.caller) }
-    ensures made { IfOk result (λ work. AllCameAt link.now plan.now caller.limit (events_in work.caller.front) work.too_soon) }
-    ensures alone { IfOk result (λ work. NoneElseFoldsAt link.now plan.now caller.limit work.caller.front) }
-    ensures folds { caller.limit ≡ senders plan.now + 5 → IfOk result (λ work.
-        AreFoldedAt link.now (folder plan.now) (work.folding.is_short_of_memory ≡ false) plan.now.folds.items
-        work.folding.events.items work.caller.front work.folding.too_many) }
+    ensures { IfOk result (IsWorkBelow link.now plan.now caller.limit) }
 {
     thread::scope(
         thread::scope_env(),
         rt,
         |scope| -> Result<Work, Unstarted>
-            requires { IsSync R.row × IsSync G.row × (caller.lock ≡ link.now) × (caller.first ≡ 0) × (caller.front ≡ []) × IsSound plan.now
-                × (planned plan.now ≤ 2 ^ 20) }
-            ensures stays { IfOk result (λ work. StaysOne caller work.caller) }
-            ensures made { IfOk result (λ work. AllCameAt link.entry.now plan.entry.now caller.limit (events_in work.caller.front) work.too_soon) }
-            ensures alone { IfOk result (λ work. NoneElseFoldsAt link.entry.now plan.entry.now caller.limit work.caller.front) }
-            ensures folds { caller.limit ≡ senders plan.entry.now + 5 → IfOk result (λ work.
-                AreFoldedAt link.entry.now (folder plan.entry.now) (work.folding.is_short_of_memory ≡ false) plan.entry.now.folds.items
-                work.folding.events.items work.caller.front work.folding.too_many) }
+            requires { IsSync R.row × IsSync G.row × Begins link.now plan.now caller × (caller.first ≡ 0) }
+            ensures { IfOk result (IsWorkBelow link.entry.now plan.entry.now caller.limit) }
         { work_in(scope, rt, alloc, link, plan, gate, caller) },
     )
 }
@@ -204,23 +189,9 @@ fn gathered(link: &Link, caller: Caller, last: Caller) -> Caller
 // Gathers a worker's caller to those before it, with what both did.
 fn both(link: &Link, work: Work, last: Work) -> Work
     requires own { (work.caller.lock ≡ link.now) × (last.caller.lock ≡ link.now) }
-    requires first { work.caller.first ≡ 0 }
-    requires beside { (last.caller.first ≡ work.caller.limit) × (last.caller.limit ≡ work.caller.limit + 1) }
+    requires beside { last.caller.first ≡ work.caller.limit }
     requires few { (work.too_soon ≤ work.caller.limit * 2 ^ 20) × (last.too_soon ≤ 2 ^ 20) }
-    ensures lock { result.caller.lock ≡ link.now }
-    ensures numbers { (result.caller.first ≡ 0) × (result.caller.limit ≡ last.caller.limit) }
-    ensures made { (plan : Plan) → AllCameAt link.now plan work.caller.limit (events_in work.caller.front) work.too_soon
-        → CameAt link.now plan last.caller.first (events_in last.caller.front) last.too_soon
-        → AllCameAt link.now plan result.caller.limit (events_in result.caller.front) result.too_soon }
-    ensures few { result.too_soon ≤ result.caller.limit * 2 ^ 20 }
-    ensures alone { (plan : Plan) → NoneElseFoldsAt link.now plan work.caller.limit work.caller.front
-        → ((last.caller.first ≡ folder plan → ⊥) → OnlyMadeAt link.now last.caller.first last.caller.front)
-        → NoneElseFoldsAt link.now plan result.caller.limit result.caller.front }
-    ensures folds { (plan : Plan) → last.caller.first ≡ folder plan
-        → AreFoldedAt link.now (folder plan) (last.folding.is_short_of_memory ≡ false) plan.folds.items last.folding.events.items last.caller.front
-        last.folding.too_many
-        → AreFoldedAt link.now (folder plan) (result.folding.is_short_of_memory ≡ false) plan.folds.items result.folding.events.items
-        result.caller.front result.folding.too_many }
+    ensures { (plan : Plan) (n : ℕ) → IsWorkBelow link.now plan n work → IsWorkOf link.now plan n last → IsWorkBelow link.now plan (n + 1) result }
 {
     entries_look_back();
     Work {
@@ -297,12 +268,15 @@ fn run<R: Threads + Wait + Sync, G: Gate + Sync>(
     let Work {
         caller,
         too_soon,
-        folding,
+        mut folding,
     } = work;
-    let Ok(book) = link.close(caller) else {
+    let Ok(mut book) = link.close(caller) else {
         unreachable!()
     };
-    end_of(alloc, book, too_soon, folding)
+    let end = end_of(alloc, &mut book, too_soon, &mut folding);
+    drop(book);
+    drop(folding);
+    end
 }
 
 // The link of a plan, and a caller with all its numbers.
@@ -324,24 +298,26 @@ fn open_link(alloc: Global, plan: &Plan, callers: u16) -> Result<(Link, Caller),
     )
 }
 
-// What the storm ended with: the folded events, and then the tail of the closed book.
+// What the storm ended with: the folded events, and then the tail of the closed book. It has both by reference, since each way out would let
+// them go.
 fn end_of(
     alloc: Global,
-    book: Book,
+    book: &mut Book,
     too_soon: u64,
-    folding: Folding,
+    folding: &mut Folding,
 ) -> Result<StormEnd, StormFault>
     ensures fault { IfErr result (λ why. why ≡ StormFault.Memory) }
-    ensures events { IfOk result (λ end. end.events.items ≡ folding.events.items ++ book.tail) }
-    ensures registers { (events : List Event) → Tells book events → IfOk result (λ end. end.registers ≡ registers_after book.opening events) }
-    ensures stats { (events : List Event) → Tells book events → IfOk result (λ end. end.stats ≡ stats_after book.opening events) }
-    ensures counts { IfOk result (λ end. (folding.is_short_of_memory ≡ false) × (end.too_soon ≡ too_soon) × (end.too_many ≡ folding.too_many)) }
+    ensures events { IfOk result (λ end. end.events.items ≡ folding.old.events.items ++ book.old.tail) }
+    ensures registers { (events : List Event) → Tells book.old events
+        → IfOk result (λ end. end.registers ≡ registers_after book.old.opening events) }
+    ensures stats { (events : List Event) → Tells book.old events → IfOk result (λ end. end.stats ≡ stats_after book.old.opening events) }
+    ensures counts { IfOk result (λ end. (folding.old.is_short_of_memory ≡ false) × (end.too_soon ≡ too_soon)
+        × (end.too_many ≡ folding.old.too_many)) }
 {
-    let (mut book, mut folding) = (book, folding);
     let registers = book.registers();
     let stats = book.stats();
     let too_many = folding.too_many;
-    match all_events(alloc, &mut book, &mut folding) {
+    match all_events(alloc, book, folding) {
         Some(events) => Ok(StormEnd {
             events,
             too_soon,
@@ -353,8 +329,7 @@ fn end_of(
     }
 }
 
-// The folded events, and then the tail of the closed book, where none is missing and there is memory for all. It has book and folding by
-// reference, since each way out would let them go.
+// The folded events, and then the tail of the closed book, where none is missing and there is memory for all.
 fn all_events(alloc: Global, book: &mut Book, folding: &mut Folding) -> Option<Vec<Event>>
     ensures events { IfSome result (λ events. events.items ≡ folding.old.events.items ++ book.old.tail) }
     ensures well { IfSome result (λ _. folding.old.is_short_of_memory ≡ false) }

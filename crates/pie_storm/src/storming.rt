@@ -23,6 +23,7 @@ use std::io::Write;
 use std::marker::Sync;
 use std::sync::Wait;
 use std::thread::Threads;
+use std::time::Clock;
 
 /// A storm that was made (this project's own).
 #[derive(Drop)]
@@ -38,7 +39,7 @@ pub struct MadeStorm {
 /// # Errors
 ///
 /// `Memory` where there was none for the plan, and what `storm` answers.
-pub fn make_storm<H: Threads + Wait + Sync>(
+pub fn make_storm<H: Threads + Wait + Clock + Sync>(
     rt: &H,
     alloc: Global,
     numbers: StormNumbers,
@@ -59,7 +60,7 @@ pub fn make_storm<H: Threads + Wait + Sync>(
 }
 
 /// Runs a plan at the storm's pace.
-fn run_plan<H: Threads + Wait + Sync>(
+fn run_plan<H: Threads + Wait + Clock + Sync>(
     rt: &H,
     alloc: Global,
     plan: &Plan,
@@ -67,7 +68,7 @@ fn run_plan<H: Threads + Wait + Sync>(
     ensures legal { IfOk result (λ end. IsLegal (opening_of plan.now) end.events.items) }
     ensures made { IfOk result (λ end. IsStorm plan.now end.events.items end.too_soon end.too_many) }
 {
-    let pace = Pace::new(plan);
+    let pace = Pace::new(rt, plan);
     storm(rt, alloc, plan, &pace)
 }
 

@@ -1,11 +1,11 @@
 //! The workers of a storm: each makes the calls of one caller, one after another.
-ghost use Rattle.std.specs.Prelude.{◌≡◌, ◌≢◌, ◌+◌, ◌^◌, ◌<◌, ◌≤◌, ◌-◌, ◌++◌, ◌↔◌, ℕ, All, [], false, Some, None, Err, IfSome, IfOk, IsOk, IsTrue};
+ghost use Rattle.std.specs.Prelude.{◌≡◌, ◌≢◌, ◌+◌, ◌^◌, ◌<◌, ◌≤◌, ◌-◌, ◌++◌, ◌↔◌, All, [], false, Err, IfSome, IfOk, IsOk, IsTrue};
 ghost use Rattle.std.specs.Prelude.{OnErr, length, vec_capacity};
 ghost use Rattle.pie_kept.specs.Entries.{events_in};
 ghost use Rattle.pie_link.specs.Commands.{Answers};
-ghost use Rattle.pie_storm.specs.Plans.{IsSound, commands_of, planned, senders, turn_of};
-ghost use Rattle.pie_storm.specs.Storms.{AreFoldedAt, CameAt, EachGoes, FoldsGoAt, GoesOrEnds, HasNoneAt, MadeAll, MadeFolds, OnlyMadeAt, added_by};
-ghost use Rattle.pie_storm.specs.Storms.{folder, refused_by};
+ghost use Rattle.pie_storm.specs.Plans.{IsSound, commands_of, senders, turn_of};
+ghost use Rattle.pie_storm.specs.Storms.{AreFoldedAt, Begins, FoldsGoAt, HasNoneAt, IsWorkOf, MadeAll, OnlyMadeAt, TakesTurn, added_by, folder};
+ghost use Rattle.pie_storm.specs.Storms.{AddedByAll, refused_by};
 ghost use Rattle.pie_link.specs.Views.{StaysOne};
 
 use crate::gate::Gate;
@@ -107,13 +107,6 @@ fn ask<R: Wait>(
 /// What the arrivals of a burst are answered.
 pub(crate) type Replies = Vec<Result<Told<Answer>, Refusal>>;
 
-// Whether no arrival of a burst was refused.
-fn are_taken(replies: &[Result<Told<Answer>, Refusal>]) -> bool
-    ensures { IsTrue result ↔ All IsOk replies.now }
-{
-    replies.iter().all(|reply| reply.is_ok())
-}
-
 // What an answer adds to the updates that were too soon; none where the book was full.
 #[tactic(auto, unfolding(crate::specs::Storms::added_by))]
 fn added_by(answer: &Result<Told<Answer>, Refusal>) -> Option<u64>
@@ -124,6 +117,17 @@ fn added_by(answer: &Result<Told<Answer>, Refusal>) -> Option<u64>
         Ok(_) => Some(0),
         Err(Refusal::TooSoon { .. }) => Some(1),
         Err(_) => None,
+    }
+}
+
+// What the answers to a burst add to them: 0, since no arrival is too soon. There is no number where one was refused: the book was full.
+fn added_by_all(answers: &[Result<Told<Answer>, Refusal>]) -> Option<u64>
+    ensures { AddedByAll answers.now result }
+{
+    if answers.iter().all(|answer| answer.is_ok()) {
+        Some(0)
+    } else {
+        None
     }
 }
 
@@ -138,17 +142,12 @@ fn ask_next<R: Wait, G: Gate>(
     call: usize,
     k: usize,
 ) -> Option<u64>
-    requires call { call < 2 ^ 20 }
     requires own { caller.old.lock ≡ link.now }
     requires one { caller.old.limit ≡ caller.old.first + 1 }
     requires sound { IsSound plan.now }
+    requires call { call < 2 ^ 20 }
     requires some { k < length (commands_of plan.now caller.old.first) }
-    requires few { planned plan.now ≤ 2 ^ 20 }
-    ensures stays { StaysOne caller.old caller.new }
-    ensures few { IfSome result (λ soon. soon ≤ 1) }
-    ensures goes { (passed : ℕ) → EachGoes link.now caller.old.first (commands_of plan.now caller.old.first) k (events_in caller.old.front) passed
-        → GoesOrEnds link.now caller.old.first (commands_of plan.now caller.old.first) (k + 1) (events_in caller.new.front) passed result }
-    ensures only_made { OnlyMadeAt link.now caller.old.first caller.old.front → OnlyMadeAt link.now caller.old.first caller.new.front }
+    ensures { TakesTurn link.now (commands_of plan.now caller.old.first) k (k + 1) caller.old caller.new result }
 {
     entries_look_back();
     let number = caller.first();
@@ -182,12 +181,8 @@ fn send_next<R: Wait, G: Gate>(
     requires some { 1 ≤ count }
     requires there { k + count ≤ length (commands_of plan.now caller.old.first) }
     requires room { count ≤ vec_capacity replies.old }
-    ensures stays { StaysOne caller.old caller.new }
+    ensures turn { TakesTurn link.now (commands_of plan.now caller.old.first) k (k + count) caller.old caller.new result }
     ensures capacity { vec_capacity replies.new ≡ vec_capacity replies.old }
-    ensures few { IfSome result (λ soon. soon ≤ 1) }
-    ensures goes { (passed : ℕ) → EachGoes link.now caller.old.first (commands_of plan.now caller.old.first) k (events_in caller.old.front) passed
-        → GoesOrEnds link.now caller.old.first (commands_of plan.now caller.old.first) (k + count) (events_in caller.new.front) passed result }
-    ensures only_made { OnlyMadeAt link.now caller.old.first caller.old.front → OnlyMadeAt link.now caller.old.first caller.new.front }
 {
     entries_look_back();
     let number = caller.first();
@@ -198,11 +193,7 @@ fn send_next<R: Wait, G: Gate>(
         unreachable!()
     };
     gate.after(number, call as u64 + 1);
-    if are_taken(replies.as_slice()) {
-        Some(0)
-    } else {
-        None
-    }
+    added_by_all(replies.as_slice())
 }
 
 // Makes the `count` commands of a caller that come after `k` others, in one turn at the link after `call` others, and tells how many were
@@ -221,17 +212,12 @@ fn take_turn<R: Wait, G: Gate>(
     requires own { caller.old.lock ≡ link.now }
     requires one { caller.old.limit ≡ caller.old.first + 1 }
     requires sound { IsSound plan.now }
-    requires few { planned plan.now ≤ 2 ^ 20 }
     requires call { call < 2 ^ 20 }
     requires turn { count ≤ turn_of plan.now caller.old.first }
     requires there { k + count ≤ length (commands_of plan.now caller.old.first) }
     requires room { turn_of plan.now caller.old.first ≢ 1 → turn_of plan.now caller.old.first ≤ vec_capacity replies.old }
-    ensures stays { StaysOne caller.old caller.new }
+    ensures turn { TakesTurn link.now (commands_of plan.now caller.old.first) k (k + count) caller.old caller.new result }
     ensures capacity { vec_capacity replies.new ≡ vec_capacity replies.old }
-    ensures few { IfSome result (λ soon. soon ≤ 1) }
-    ensures goes { (passed : ℕ) → EachGoes link.now caller.old.first (commands_of plan.now caller.old.first) k (events_in caller.old.front) passed
-        → GoesOrEnds link.now caller.old.first (commands_of plan.now caller.old.first) (k + count) (events_in caller.new.front) passed result }
-    ensures only_made { OnlyMadeAt link.now caller.old.first caller.old.front → OnlyMadeAt link.now caller.old.first caller.new.front }
 {
     if count == 0 {
         Some(0)
@@ -242,65 +228,37 @@ fn take_turn<R: Wait, G: Gate>(
     }
 }
 
-// Makes all commands of a caller.
+// Makes all commands of a caller, and tells how many were too soon.
 fn ask_all<R: Wait, G: Gate>(
     rt: &R,
-    alloc: Global,
     link: &Link,
     plan: &Plan,
     gate: &G,
-    caller: Caller,
-    replies: Replies,
-) -> Work
-    requires room { turn_of plan.now caller.first ≢ 1 → turn_of plan.now caller.first ≤ vec_capacity replies }
-    requires own { caller.lock ≡ link.now }
-    requires one { caller.limit ≡ caller.first + 1 }
-    requires new { caller.front ≡ [] }
-    requires sound { IsSound plan.now }
-    requires few { planned plan.now ≤ 2 ^ 20 }
-    ensures stays { StaysOne caller result.caller }
-    ensures made { CameAt link.now plan.now caller.first (events_in result.caller.front) result.too_soon }
-    ensures few { result.too_soon ≤ 2 ^ 20 }
-    ensures only_made { OnlyMadeAt link.now caller.first result.caller.front }
+    caller: &mut Caller,
+    replies: &mut Replies,
+) -> u64
+    requires begins { Begins link.now plan.now caller.old }
+    requires one { caller.old.limit ≡ caller.old.first + 1 }
+    requires room { turn_of plan.now caller.old.first ≢ 1 → turn_of plan.now caller.old.first ≤ vec_capacity replies.old }
+    ensures made { MadeAll link.now plan.now caller.old.first caller.new result }
+    ensures only_made { OnlyMadeAt link.now caller.old.first caller.new.front }
 {
     let number = caller.first();
     let commands = plan.commands(number);
     let turn = plan.turn(number);
-    let mut mine = caller;
-    let mut replies = replies;
     let mut too_soon = 0u64;
     let mut k = 0;
     for call in 0..commands {
         let count = turn.min(commands - k);
-        match take_turn(
-            rt,
-            link,
-            plan,
-            gate,
-            &mut mine,
-            &mut replies,
-            call,
-            k,
-            count,
-        ) {
+        match take_turn(rt, link, plan, gate, caller, replies, call, k, count) {
             Some(soon) => {
                 too_soon += soon;
                 k += count;
             }
-            None => {
-                return Work {
-                    caller: mine,
-                    too_soon,
-                    folding: Folding::none(alloc),
-                };
-            }
+            None => return too_soon,
         }
     }
-    Work {
-        caller: mine,
-        too_soon,
-        folding: Folding::none(alloc),
-    }
+    too_soon
 }
 
 // Makes the fold that comes after `k` others, and takes in what it hands out.
@@ -341,34 +299,23 @@ fn fold_all<R: Wait, G: Gate>(
     link: &Link,
     plan: &Plan,
     gate: &G,
-    caller: Caller,
-) -> Work
-    requires folder { caller.first ≡ folder plan.now }
-    requires own { caller.lock ≡ link.now }
-    requires one { caller.limit ≡ caller.first + 1 }
-    requires new { caller.front ≡ [] }
-    requires sound { IsSound plan.now }
-    requires few { planned plan.now ≤ 2 ^ 20 }
-    ensures stays { StaysOne caller result.caller }
-    ensures made { CameAt link.now plan.now caller.first (events_in result.caller.front) result.too_soon }
-    ensures few { result.too_soon ≤ 2 ^ 20 }
-    ensures folds { AreFoldedAt link.now (folder plan.now) (result.folding.is_short_of_memory ≡ false) plan.now.folds.items
-        result.folding.events.items result.caller.front result.folding.too_many }
+    caller: &mut Caller,
+) -> Folding
+    requires begins { Begins link.now plan.now caller.old }
+    requires one { caller.old.limit ≡ caller.old.first + 1 }
+    requires folder { caller.old.first ≡ folder plan.now }
+    ensures made { MadeAll link.now plan.now caller.old.first caller.new 0 }
+    ensures folds { AreFoldedAt link.now (folder plan.now) (result.is_short_of_memory ≡ false) plan.now.folds.items result.events.items
+        caller.new.front result.too_many }
 {
-    let mut mine = caller;
     let mut folding = Folding::none(alloc);
     for k in 0..plan.folds.len() {
-        fold_next(rt, link, plan, gate, &mut mine, &mut folding, k);
+        fold_next(rt, link, plan, gate, caller, &mut folding, k);
     }
-    Work {
-        caller: mine,
-        too_soon: 0,
-        folding,
-    }
+    folding
 }
 
 /// Makes all calls of a caller with one number.
-#[tactic(auto, unfolding(crate::specs::Storms::MadeAll, crate::specs::Storms::MadeFolds))]
 pub(crate) fn make_calls<R: Wait, G: Gate>(
     rt: &R,
     alloc: Global,
@@ -378,19 +325,25 @@ pub(crate) fn make_calls<R: Wait, G: Gate>(
     caller: Caller,
     replies: Replies,
 ) -> Work
-    requires room { turn_of plan.now caller.first ≢ 1 → turn_of plan.now caller.first ≤ vec_capacity replies }
-    requires own { caller.lock ≡ link.now }
+    requires begins { Begins link.now plan.now caller }
     requires one { caller.limit ≡ caller.first + 1 }
-    requires new { caller.front ≡ [] }
-    requires sound { IsSound plan.now }
-    requires few { planned plan.now ≤ 2 ^ 20 }
-    ensures made { MadeAll link.now plan.now caller.first result.caller result.too_soon }
-    ensures folds { MadeFolds link.now plan.now caller.first (result.folding.is_short_of_memory ≡ false) result.folding.events.items
-        result.folding.too_many result.caller.front }
+    requires room { turn_of plan.now caller.first ≢ 1 → turn_of plan.now caller.first ≤ vec_capacity replies }
+    ensures { IsWorkOf link.now plan.now caller.first result }
 {
+    let (mut caller, mut replies) = (caller, replies);
     if usize::from(caller.first()) == plan.arrivals.len() + 4 {
-        fold_all(rt, alloc, link, plan, gate, caller)
+        let folding = fold_all(rt, alloc, link, plan, gate, &mut caller);
+        Work {
+            caller,
+            too_soon: 0,
+            folding,
+        }
     } else {
-        ask_all(rt, alloc, link, plan, gate, caller, replies)
+        let too_soon = ask_all(rt, link, plan, gate, &mut caller, &mut replies);
+        Work {
+            caller,
+            too_soon,
+            folding: Folding::none(alloc),
+        }
     }
 }

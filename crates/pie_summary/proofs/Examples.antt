@@ -22,23 +22,19 @@ use Rattle.pie_explanation.specs.declared.explanation.Explained.{Explained}
 use Rattle.pie_explanation.specs.Words.{millis, per_cent, share}
 use Rattle.pie_summary.specs.declared.series.Series.{Series}
 use Rattle.pie_summary.specs.Period.{begins, last_events, last_period, period_of}
-use Rattle.pie_summary.specs.Record.{carried_fields, cause_fields, first_fields, last_fields, later_fields, left_fields, middle_fields, moment_fields, record_of}
-use Rattle.pie_summary.specs.Record.{turned_fields, update_fields, verdict_fields}
+use Rattle.pie_summary.specs.Record.{count_fields, first_fields, record_of}
 use Rattle.pie_summary.specs.Counts.{kept}
 use Rattle.pie_summary.specs.Ranges.{end_within, first_up_to, range_end, range_of, ranges_of}
 use Rattle.pie_summary.specs.Series.{series_of}
 use Rattle.pie_summary.specs.Summary.{header, summary_of}
 use Rattle.pie_summary.specs.Sums.{above_by, answer_place, cause_place, moment_at, sums_of, turned_at, waits_of}
-use Rattle.pie_summary.specs.Words.{arrival_words, arrived_words, cause_row, cause_words, delay_words, dropped_words, first_causes}
-use Rattle.pie_summary.specs.Words.{head_words, later_words, left_words, mean, middle_causes, prob_words, queued_words, row_words, sum_causes, title}
-use Rattle.pie_summary.specs.Words.{carried_words, target_words, turned_words, update_words, verdict_words, word_causes, words}
+use Rattle.pie_summary.specs.Words.{arrival_words, arrived_words, cause_row, cause_words, dropped_words, head_words, later_words, left_words, mean}
+use Rattle.pie_summary.specs.Words.{queued_words, row_words, target_words, title, turned_words, update_words, verdict_words, words}
 
 -- all that a theorem on a worked list computes with
 unfoldable worked : Type 0
-unfolding greatest last_or places sums_of header digits millis per_cent share moment_fields verdict_fields first_fields middle_fields last_fields
-    left_fields update_fields turned_fields cause_fields later_fields record_of row_words queued_words dropped_words word_of_cause cause_row
-    first_causes middle_causes sum_causes word_causes cause_words head_words arrived_words left_words delay_words prob_words update_words
-    carried_fields carried_words target_words range_of range_end ranges_of waits_of turned_words verdict_words title arrival_words later_words words
+unfolding greatest last_or places sums_of header digits millis per_cent share first_fields count_fields record_of row_words queued_words dropped_words
+    word_of_cause cause_row cause_words head_words arrived_words left_words update_words target_words range_of range_end ranges_of waits_of turned_words verdict_words title arrival_words later_words words
 worked = ⊤
 
 -- ---- periods

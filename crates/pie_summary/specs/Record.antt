@@ -1,5 +1,5 @@
 -- A summary as a CSV record.
-use Rattle.std.specs.Prelude.{ℕ, List, [], ◌∷◌, ◌++◌, map, slice_index, codes}
+use Rattle.std.specs.Prelude.{ℕ, List, [], ◌∷◌, ◌++◌, map, slice_index, take, codes}
 use Rattle.std.specs.Fmt.{decimal}
 use Rattle.pie_aqm.specs.CauseName.{cause_names, word_of_cause}
 use Rattle.pie_explanation.specs.Words.{joined}
@@ -23,66 +23,27 @@ abbrev pub number_fields : List ℕ → List ℕ
 number_fields [] = []
 number_fields (number ∷ numbers) = decimal number ++ (codes "," ++ number_fields numbers)
 
--- when events were
-unfoldable pub moment_fields : Series → List ℕ
-moment_fields moments = joined (decimal moments.count ∷ codes "," ∷ decimal moments.first ∷ codes "," ∷ decimal moments.last ∷ codes "," ∷ [])
+-- when events were, and what arrived
+unfoldable pub first_fields : Series → Series → List ℕ
+first_fields moments arrived =
+    joined (number_fields (moments.count ∷ moments.first ∷ moments.last ∷ arrived.count ∷ []) ∷ decimal arrived.total ∷ codes "," ∷ [])
 
--- the arrivals by what became of them
-unfoldable pub verdict_fields : Series → List ℕ → List ℕ
-verdict_fields arrived answers =
-    joined (decimal arrived.count ∷ codes "," ∷ decimal arrived.total ∷ codes "," ∷ decimal (slice_index answers 0) ∷ codes ","
-    ∷ decimal (slice_index answers 1) ∷ codes "," ∷ decimal (slice_index answers 2) ∷ codes "," ∷ decimal (slice_index answers 3) ∷ codes ","
-    ∷ decimal (slice_index answers 4) ∷ codes "," ∷ [])
+-- the arrivals by what became of them, and by what decided them
+unfoldable pub count_fields : List ℕ → List ℕ → List ℕ
+count_fields answers causes = number_fields (take 5 answers) ++ number_fields (take 15 causes)
 
--- .. by what decided them
-unfoldable pub first_fields : List ℕ → List ℕ
-first_fields causes =
-    joined (decimal (slice_index causes 0) ∷ codes "," ∷ decimal (slice_index causes 1) ∷ codes "," ∷ decimal (slice_index causes 2) ∷ codes ","
-    ∷ decimal (slice_index causes 3) ∷ codes "," ∷ [])
+-- how long packets waited, what the updates made, and when the controller turned; with the wait of 99 of 100, the bytes carried, and the
+-- target and the burst allowance at the end
+abbrev pub later_numbers : Sums → ℕ → List ℕ
+later_numbers sums most =
+    sums.waits.count ∷ sums.waits.greatest ∷ mean sums.waits
+    ∷ slice_index sums.answers 7 ∷ sums.delays.greatest ∷ sums.delays.last ∷ sums.probs.greatest ∷ sums.probs.last
+    ∷ sums.turned_on.count ∷ sums.turned_on.first ∷ sums.turned_on.last
+    ∷ sums.turned_off.count ∷ sums.turned_off.first ∷ sums.turned_off.last
+    ∷ most ∷ sums.carried ∷ sums.target ∷ sums.burst ∷ []
 
-unfoldable pub middle_fields : List ℕ → List ℕ
-middle_fields causes =
-    joined (decimal (slice_index causes 4) ∷ codes "," ∷ decimal (slice_index causes 5) ∷ codes "," ∷ decimal (slice_index causes 6) ∷ codes ","
-    ∷ decimal (slice_index causes 7) ∷ codes "," ∷ [])
-
-unfoldable pub last_fields : List ℕ → List ℕ
-last_fields causes =
-    joined (decimal (slice_index causes 8) ∷ codes "," ∷ decimal (slice_index causes 9) ∷ codes "," ∷ decimal (slice_index causes 10) ∷ codes ","
-    ∷ decimal (slice_index causes 11) ∷ codes "," ∷ decimal (slice_index causes 12) ∷ codes "," ∷ decimal (slice_index causes 13) ∷ codes ","
-    ∷ decimal (slice_index causes 14) ∷ codes "," ∷ [])
-
--- how long packets waited
-unfoldable pub left_fields : Series → List ℕ
-left_fields waits = joined (decimal waits.count ∷ codes "," ∷ decimal waits.greatest ∷ codes "," ∷ decimal (mean waits) ∷ codes "," ∷ [])
-
--- what the updates made
-unfoldable pub update_fields : ℕ → Series → Series → List ℕ
-update_fields updates delays probs =
-    joined (decimal updates ∷ codes "," ∷ decimal delays.greatest ∷ codes "," ∷ decimal delays.last ∷ codes "," ∷ decimal probs.greatest ∷ codes ","
-    ∷ decimal probs.last ∷ codes "," ∷ [])
-
--- when the controller turned
-unfoldable pub turned_fields : Series → Series → List ℕ
-turned_fields on off =
-    joined (decimal on.count ∷ codes "," ∷ decimal on.first ∷ codes "," ∷ decimal on.last ∷ codes "," ∷ decimal off.count ∷ codes ","
-    ∷ decimal off.first ∷ codes "," ∷ decimal off.last ∷ codes "," ∷ [])
-
--- the waits of 99 of 100, bytes carried, the target and what was left of the burst allowance at the end, and the time above the target
-unfoldable pub carried_fields : ℕ → Sums → List ℕ
-carried_fields most sums =
-    joined (decimal most ∷ codes "," ∷ decimal sums.carried ∷ codes "," ∷ decimal sums.target ∷ codes "," ∷ decimal sums.burst ∷ codes ","
-    ∷ decimal sums.above ∷ codes "\n" ∷ [])
-
--- a record of these numbers
-unfoldable pub cause_fields : List ℕ → List ℕ
-cause_fields causes = joined (first_fields causes ∷ middle_fields causes ∷ last_fields causes ∷ [])
-
-unfoldable pub later_fields : Sums → ℕ → List ℕ
-later_fields sums most =
-    joined (left_fields sums.waits ∷ update_fields (slice_index sums.answers 7) sums.delays sums.probs ∷ turned_fields sums.turned_on sums.turned_off
-    ∷ carried_fields most sums ∷ [])
-
--- with the wait of 99 of 100
+-- a record of these numbers, at the end the time above the target
 unfoldable pub record_of : Sums → ℕ → List ℕ
 record_of sums most =
-    joined (moment_fields sums.moments ∷ verdict_fields sums.arrived sums.answers ∷ cause_fields sums.causes ∷ later_fields sums most ∷ [])
+    joined (first_fields sums.moments sums.arrived ∷ count_fields sums.answers sums.causes ∷ number_fields (later_numbers sums most)
+    ∷ decimal sums.above ∷ codes "\n" ∷ [])

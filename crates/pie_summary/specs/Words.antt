@@ -1,13 +1,9 @@
 -- A summary in words: what became of the arrivals and why, how long packets waited, what the updates made, and when the controller turned.
 use Rattle.std.specs.Prelude.{ℕ, ◌-◌, ◌/◌, ◌^◌, ◌==◌, min, max, List, [], ◌∷◌, ◌++◌, slice_index, codes, if◌then◌else◌}
 use Rattle.std.specs.Fmt.{decimal}
-use Rattle.pie_aqm.specs.CauseName.{place_of_cause, word_of_cause}
+use Rattle.pie_aqm.specs.CauseName.{cause_names, place_of_cause, word_of_cause}
 use Rattle.pie_explanation.specs.Words.{joined, millis, per_cent, share}
 use Rattle.pie_aqm.specs.declared.cause_name.CauseName.{CauseName}
-use Rattle.pie_aqm.specs.declared.cause_name.CauseName.TheVariants.{NoRoomInBytes, NoRoomInPackets, Inactive, BurstAllowed, LowDelay, ShortQueue}
-use Rattle.pie_aqm.specs.declared.cause_name.CauseName.TheVariants.{NoProbability, LittleAccumulated, PickedBySum, PickedBySumNotCapable}
-use Rattle.pie_aqm.specs.declared.cause_name.CauseName.TheVariants.{PickedBySumNotBelow, PickedByWord, PickedByWordNotCapable}
-use Rattle.pie_aqm.specs.declared.cause_name.CauseName.TheVariants.{PickedByWordNotBelow, WordNotBelow}
 use Rattle.pie_summary.specs.declared.series.Series.{Series}
 use Rattle.pie_summary.specs.declared.sums.Sums.{Sums}
 use Rattle.pie_summary.specs.Ranges.{end_within, first_up_to}
@@ -28,6 +24,12 @@ dropped_words answers all =
     joined (row_words (codes "dropped early") (slice_index answers 2) all ∷ row_words (codes "dropped, no room in bytes") (slice_index answers 3) all
     ∷ row_words (codes "dropped, no room in packets") (slice_index answers 4) all ∷ [])
 
+unfoldable pub arrived_words : Series → List ℕ
+arrived_words arrived = joined (codes "  " ∷ decimal arrived.count ∷ codes " arrivals, " ∷ decimal arrived.total ∷ codes " bytes\n" ∷ [])
+
+unfoldable pub verdict_words : Series → List ℕ → List ℕ
+verdict_words arrived answers = joined (arrived_words arrived ∷ queued_words answers arrived.count ∷ dropped_words answers arrived.count ∷ [])
+
 -- how many arrivals a cause decided; nothing where it decided none
 unfoldable pub cause_row : CauseName → List ℕ → ℕ → List ℕ
 cause_row name causes all =
@@ -39,35 +41,9 @@ abbrev pub cause_rows : List CauseName → List ℕ → ℕ → List ℕ
 cause_rows [] causes all = []
 cause_rows (name ∷ names) causes all = cause_row name causes all ++ cause_rows names causes all
 
-unfoldable pub first_causes : List ℕ → ℕ → List ℕ
-first_causes causes all =
-    joined (cause_row NoRoomInBytes causes all
-    ∷ cause_row NoRoomInPackets causes all
-    ∷ cause_row Inactive causes all
-    ∷ cause_row BurstAllowed causes all ∷ [])
-
-unfoldable pub middle_causes : List ℕ → ℕ → List ℕ
-middle_causes causes all =
-    joined (cause_row LowDelay causes all
-    ∷ cause_row ShortQueue causes all
-    ∷ cause_row NoProbability causes all
-    ∷ cause_row LittleAccumulated causes all ∷ [])
-
-unfoldable pub sum_causes : List ℕ → ℕ → List ℕ
-sum_causes causes all =
-    joined (cause_row PickedBySum causes all
-    ∷ cause_row PickedBySumNotCapable causes all
-    ∷ cause_row PickedBySumNotBelow causes all ∷ [])
-
-unfoldable pub word_causes : List ℕ → ℕ → List ℕ
-word_causes causes all =
-    joined (cause_row PickedByWord causes all
-    ∷ cause_row PickedByWordNotCapable causes all
-    ∷ cause_row PickedByWordNotBelow causes all
-    ∷ cause_row WordNotBelow causes all ∷ [])
-
+-- .. by all causes, in the order of the decision
 unfoldable pub cause_words : List ℕ → ℕ → List ℕ
-cause_words causes all = joined (first_causes causes all ∷ middle_causes causes all ∷ sum_causes causes all ∷ word_causes causes all ∷ [])
+cause_words causes all = cause_rows cause_names causes all
 
 -- ---- the rest
 
@@ -79,36 +55,24 @@ unfoldable pub head_words : Series → List ℕ
 head_words moments = joined (decimal moments.count ∷ codes " events, from " ∷ millis moments.first ∷ codes " to " ∷ millis moments.last ∷ codes "\n"
     ∷ [])
 
-unfoldable pub arrived_words : Series → List ℕ
-arrived_words arrived = joined (codes "  " ∷ decimal arrived.count ∷ codes " arrivals, " ∷ decimal arrived.total ∷ codes " bytes\n" ∷ [])
-
-unfoldable pub left_words : Series → List ℕ
-left_words waits =
-    joined (codes "  " ∷ decimal waits.count ∷ codes " packets left; they had waited at most " ∷ millis waits.greatest
-    ∷ codes ",\n    and in the mean " ∷ millis (mean waits) ∷ codes "\n" ∷ [])
-
 -- the wait that at most a hundredth of the packets that left exceeded, by the ranges of the waits: that of the packet at the last place but
 -- a hundredth, or up to a tenth more
 abbrev pub wait_99 : List ℕ → Series → ℕ
 wait_99 ranges waits = end_within (first_up_to ranges (waits.count - waits.count / 100)) waits.greatest
 
-unfoldable pub carried_words : ℕ → ℕ → List ℕ
-carried_words most carried =
-    joined (codes "    99 of 100 had waited at most " ∷ millis most ∷ codes "\n    they carried " ∷ decimal carried ∷ codes " bytes\n" ∷ [])
+-- how long the packets that left had waited, with the wait of 99 of 100, and the bytes that they carried
+unfoldable pub left_words : Series → ℕ → ℕ → List ℕ
+left_words waits most carried =
+    joined (codes "  " ∷ decimal waits.count ∷ codes " packets left; they had waited at most " ∷ millis waits.greatest
+    ∷ codes ",\n    and in the mean " ∷ millis (mean waits) ∷ codes "\n    99 of 100 had waited at most " ∷ millis most
+    ∷ codes "\n    they carried " ∷ decimal carried ∷ codes " bytes\n" ∷ [])
 
--- the delays that so many updates took
-unfoldable pub delay_words : ℕ → ℕ → ℕ → List ℕ
-delay_words updates greatest last =
-    joined (codes "  " ∷ decimal updates ∷ codes " updates; the greatest delay was " ∷ millis greatest ∷ codes ",\n    and the last " ∷ millis last
-    ∷ codes "\n" ∷ [])
-
--- the probabilities after the events
-unfoldable pub prob_words : ℕ → ℕ → List ℕ
-prob_words greatest last = joined (codes "  the greatest probability was " ∷ per_cent greatest ∷ codes ", and the last " ∷ per_cent last ∷ codes "\n"
-    ∷ [])
-
+-- the delays that so many updates took, and the probabilities after the events
 unfoldable pub update_words : ℕ → Series → Series → List ℕ
-update_words updates delays probs = joined (delay_words updates delays.greatest delays.last ∷ prob_words probs.greatest probs.last ∷ [])
+update_words updates delays probs =
+    joined (codes "  " ∷ decimal updates ∷ codes " updates; the greatest delay was " ∷ millis delays.greatest
+    ∷ codes ",\n    and the last " ∷ millis delays.last ∷ codes "\n  the greatest probability was " ∷ per_cent probs.greatest
+    ∷ codes ", and the last " ∷ per_cent probs.last ∷ codes "\n" ∷ [])
 
 -- what the delays were beside the target, and what was left of the burst allowance
 unfoldable pub target_words : ℕ → ℕ → ℕ → List ℕ
@@ -124,9 +88,6 @@ turned_words way turned =
     ∷ codes ",\n    and last at " ∷ millis turned.last
     ∷ codes "\n" ∷ [])
 
-unfoldable pub verdict_words : Series → List ℕ → List ℕ
-verdict_words arrived answers = joined (arrived_words arrived ∷ queued_words answers arrived.count ∷ dropped_words answers arrived.count ∷ [])
-
 unfoldable pub title : List ℕ
 title = codes "  by what decided them\n"
 
@@ -136,7 +97,7 @@ arrival_words sums =
 
 unfoldable pub later_words : Sums → ℕ → List ℕ
 later_words sums most =
-    joined (left_words sums.waits ∷ carried_words most sums.carried ∷ update_words (slice_index sums.answers 7) sums.delays sums.probs
+    joined (left_words sums.waits most sums.carried ∷ update_words (slice_index sums.answers 7) sums.delays sums.probs
     ∷ target_words sums.above sums.target sums.burst ∷ turned_words (codes "on") sums.turned_on ∷ turned_words (codes "off") sums.turned_off ∷ [])
 
 -- a summary of these numbers, with the wait of 99 of 100

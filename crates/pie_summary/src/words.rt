@@ -1,8 +1,7 @@
 //! A summary in words.
 ghost use Rattle.std.specs.Prelude.{◌≡◌, ◌++◌, OnOk, string_bytes};
-ghost use Rattle.pie_summary.specs.Words.{arrival_words, arrived_words, carried_words, cause_row, cause_rows, cause_words, delay_words, dropped_words, head_words};
-ghost use Rattle.pie_summary.specs.Words.{later_words, left_words, mean, prob_words, queued_words, row_words};
-ghost use Rattle.pie_summary.specs.Words.{target_words, turned_words, update_words, verdict_words, wait_99, words};
+ghost use Rattle.pie_summary.specs.Words.{arrival_words, arrived_words, cause_row, cause_rows, cause_words, dropped_words, head_words, later_words, left_words};
+ghost use Rattle.pie_summary.specs.Words.{mean, queued_words, row_words, target_words, turned_words, update_words, verdict_words, wait_99, words};
 
 use crate::ranges::Ranges;
 use crate::series::Series;
@@ -37,25 +36,6 @@ fn push_cause(
     push_row(page, name.word(), count, all)
 }
 
-/// How many arrivals were queued.
-#[tactic(auto, unfolding(crate::specs::Words::queued_words))]
-fn push_queued(page: &mut String, answers: &[u64; 9], all: u64) -> Result<(), AllocError>
-    ensures { OnOk result (string_bytes page.new ≡ string_bytes page.old ++ queued_words answers.now all) }
-{
-    push_row(page, "queued", answers[0], all)?;
-    push_row(page, "queued and marked", answers[1], all)
-}
-
-/// How many were dropped.
-#[tactic(auto, unfolding(crate::specs::Words::dropped_words))]
-fn push_dropped(page: &mut String, answers: &[u64; 9], all: u64) -> Result<(), AllocError>
-    ensures { OnOk result (string_bytes page.new ≡ string_bytes page.old ++ dropped_words answers.now all) }
-{
-    push_row(page, "dropped early", answers[2], all)?;
-    push_row(page, "dropped, no room in bytes", answers[3], all)?;
-    push_row(page, "dropped, no room in packets", answers[4], all)
-}
-
 /// How many arrivals each of these causes decided, where it decided some.
 fn push_rows(
     page: &mut String,
@@ -75,6 +55,7 @@ fn push_rows(
 }
 
 /// How many arrivals each cause decided, in the order of the decision.
+#[tactic(auto, unfolding(crate::specs::Words::cause_words))]
 fn push_causes(page: &mut String, causes: &[u64; 16], all: u64) -> Result<(), AllocError>
     ensures { OnOk result (string_bytes page.new ≡ string_bytes page.old ++ cause_words causes.now all) }
 {
@@ -115,27 +96,6 @@ fn push_head(page: &mut String, moments: &Series) -> Result<(), AllocError>
     write!(page, "{count} events, from {first} to {last}\n")
 }
 
-/// How many packets arrived, and how many bytes.
-#[tactic(auto, unfolding(crate::specs::Words::arrived_words))]
-fn push_arrived(page: &mut String, arrived: &Series) -> Result<(), AllocError>
-    ensures { OnOk result (string_bytes page.new ≡ string_bytes page.old ++ arrived_words arrived.now) }
-{
-    let (count, bytes) = (arrived.count, arrived.total);
-    write!(page, "  {count} arrivals, {bytes} bytes\n")
-}
-
-/// How many packets left, and how long they had waited.
-#[tactic(auto, unfolding(crate::specs::Words::left_words))]
-fn push_left(page: &mut String, waits: &Series) -> Result<(), AllocError>
-    ensures { OnOk result (string_bytes page.new ≡ string_bytes page.old ++ left_words waits.now) }
-{
-    let (count, most, mean) = (waits.count, Millis(waits.greatest), Millis(mean(waits)));
-    write!(
-        page,
-        "  {count} packets left; they had waited at most {most},\n    and in the mean {mean}\n"
-    )
-}
-
 /// The wait that at most a hundredth of the packets that left exceeded, or up to a tenth more; no more than the greatest.
 pub(crate) fn wait_99(ranges: &Ranges, waits: &Series) -> u64
     ensures { result ≡ wait_99 ranges.now waits.now }
@@ -143,45 +103,21 @@ pub(crate) fn wait_99(ranges: &Ranges, waits: &Series) -> u64
     ranges.end_of(waits.count - waits.count / 100, waits.greatest)
 }
 
-/// How long 99 of 100 packets had waited at most, and how many bytes left.
-#[tactic(auto, unfolding(crate::specs::Words::carried_words))]
-fn push_carried(page: &mut String, most: Millis, carried: u64) -> Result<(), AllocError>
-    ensures { OnOk result (string_bytes page.new ≡ string_bytes page.old ++ carried_words most.0 carried) }
+/// How many packets left, how long they and 99 of 100 of them had waited at most, and how many bytes they carried.
+#[tactic(auto, unfolding(crate::specs::Words::left_words))]
+fn push_left(page: &mut String, waits: &Series, most: u64, carried: u64) -> Result<(), AllocError>
+    ensures { OnOk result (string_bytes page.new ≡ string_bytes page.old ++ left_words waits.now most carried) }
 {
+    let (count, greatest, mean) = (waits.count, Millis(waits.greatest), Millis(mean(waits)));
+    let most = Millis(most);
     write!(
         page,
-        "    99 of 100 had waited at most {most}\n    they carried {carried} bytes\n"
+        "  {count} packets left; they had waited at most {greatest},\n    and in the mean {mean}\n    \
+        99 of 100 had waited at most {most}\n    they carried {carried} bytes\n"
     )
 }
 
-/// How many updates there were, and the delays that they took.
-#[tactic(auto, unfolding(crate::specs::Words::delay_words))]
-fn push_delays(
-    page: &mut String,
-    updates: u64,
-    greatest: Millis,
-    last: Millis,
-) -> Result<(), AllocError>
-    ensures { OnOk result (string_bytes page.new ≡ string_bytes page.old ++ delay_words updates greatest.0 last.0) }
-{
-    write!(
-        page,
-        "  {updates} updates; the greatest delay was {greatest},\n    and the last {last}\n"
-    )
-}
-
-/// The probabilities after the events.
-#[tactic(auto, unfolding(crate::specs::Words::prob_words))]
-fn push_probs(page: &mut String, greatest: PerCent, last: PerCent) -> Result<(), AllocError>
-    ensures { OnOk result (string_bytes page.new ≡ string_bytes page.old ++ prob_words greatest.0 last.0) }
-{
-    write!(
-        page,
-        "  the greatest probability was {greatest}, and the last {last}\n"
-    )
-}
-
-/// What the updates made.
+/// How many updates there were, the delays that they took, and the probabilities after the events.
 #[tactic(auto, unfolding(crate::specs::Words::update_words))]
 fn push_updates(
     page: &mut String,
@@ -191,8 +127,13 @@ fn push_updates(
 ) -> Result<(), AllocError>
     ensures { OnOk result (string_bytes page.new ≡ string_bytes page.old ++ update_words updates delays.now probs.now) }
 {
-    push_delays(page, updates, Millis(delays.greatest), Millis(delays.last))?;
-    push_probs(page, PerCent(probs.greatest), PerCent(probs.last))
+    let (greatest, last) = (Millis(delays.greatest), Millis(delays.last));
+    let (most, now) = (PerCent(probs.greatest), PerCent(probs.last));
+    write!(
+        page,
+        "  {updates} updates; the greatest delay was {greatest},\n    and the last {last}\n  \
+        the greatest probability was {most}, and the last {now}\n"
+    )
 }
 
 /// How long the delays were above the target, and the target and the burst allowance at the end.
@@ -226,6 +167,34 @@ fn push_turned(page: &mut String, way: &str, turned: &Series) -> Result<(), Allo
     )
 }
 
+/// How many arrivals were queued.
+#[tactic(auto, unfolding(crate::specs::Words::queued_words))]
+fn push_queued(page: &mut String, answers: &[u64; 9], all: u64) -> Result<(), AllocError>
+    ensures { OnOk result (string_bytes page.new ≡ string_bytes page.old ++ queued_words answers.now all) }
+{
+    push_row(page, "queued", answers[0], all)?;
+    push_row(page, "queued and marked", answers[1], all)
+}
+
+/// How many were dropped.
+#[tactic(auto, unfolding(crate::specs::Words::dropped_words))]
+fn push_dropped(page: &mut String, answers: &[u64; 9], all: u64) -> Result<(), AllocError>
+    ensures { OnOk result (string_bytes page.new ≡ string_bytes page.old ++ dropped_words answers.now all) }
+{
+    push_row(page, "dropped early", answers[2], all)?;
+    push_row(page, "dropped, no room in bytes", answers[3], all)?;
+    push_row(page, "dropped, no room in packets", answers[4], all)
+}
+
+/// How many packets arrived, and how many bytes.
+#[tactic(auto, unfolding(crate::specs::Words::arrived_words))]
+fn push_arrived(page: &mut String, arrived: &Series) -> Result<(), AllocError>
+    ensures { OnOk result (string_bytes page.new ≡ string_bytes page.old ++ arrived_words arrived.now) }
+{
+    let (count, bytes) = (arrived.count, arrived.total);
+    write!(page, "  {count} arrivals, {bytes} bytes\n")
+}
+
 /// How many packets arrived, and what became of them.
 #[tactic(auto, unfolding(crate::specs::Words::verdict_words))]
 fn push_verdicts(page: &mut String, arrived: &Series, answers: &[u64; 9]) -> Result<(), AllocError>
@@ -250,8 +219,7 @@ fn push_arrivals(page: &mut String, sums: &Sums) -> Result<(), AllocError>
 fn push_later(page: &mut String, sums: &Sums, most: u64) -> Result<(), AllocError>
     ensures { OnOk result (string_bytes page.new ≡ string_bytes page.old ++ later_words sums.now most) }
 {
-    push_left(page, &sums.waits)?;
-    push_carried(page, Millis(most), sums.carried)?;
+    push_left(page, &sums.waits, most, sums.carried)?;
     push_updates(page, sums.answers[7], &sums.delays, &sums.probs)?;
     push_target(
         page,

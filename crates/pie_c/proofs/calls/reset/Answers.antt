@@ -1,24 +1,31 @@
-use Rattle.std.proofs.Common.{◌≡◌, ◌∙◌, arith, sym, true}
+use Rattle.std.proofs.Common.{◌≡◌, ◌∙◌, nat_lt, true, false, arith, refl, sym}
+use Rattle.std.proofs.lemmas.Bool.Decides.{nat_tests}
 use Rattle.pie_aqm.specs.Calls.{Restart}
-use Rattle.pie_c.specs.State.{is_sound}
-use Rattle.pie_c.proofs.Packets.{reset-state, reset-taken, shows-call, stays-sound}
+use Rattle.pie_c.specs.Calls.{reset_refusal}
+use Rattle.pie_c.specs.State.{is_sound, last_moment}
+use Rattle.pie_c.proofs.Packets.{makes, reset-state, reset-taken, unmade}
 use Rattle.pie_c.proofs.calls.reset.Goals as goal
-use Rattle.pie_c.proofs.calls.reset.Goals.{After-keep_registers}
 
-module _ (c : After-keep_registers) where
-  sound-before : is_sound c.args.state.now ≡ true
-  sound-before = sym c.is_sound.ensures ∙ c.if-not-is_sound.false
-
-pub returns-clause-after : goal.returns-clause-after
-returns-clause-after c =
+pub returns-then-not-is_sound-clause-made : goal.returns-then-not-is_sound-clause-made
+unfolding reset_refusal
+returns-then-not-is_sound-clause-made c =
     let a = c.args in
-    rw (reset-taken a.state.now a.moment (sound-before c) (omega arith))
-    (c.keep_registers.ensures ∙ reset-state a.state.now _ _ a.moment (sound-before c) c.raw-held.ensures c.reset.ensures)
+    let bad : is_sound a.state.now ≡ false = sym c.is_sound.ensures ∙ c.if-not-is_sound.true in
+    unmade a.state.now (Restart a.moment) _ (rw bad refl)
 
-pub returns-clause-sound : goal.returns-clause-sound
-returns-clause-sound c sound = let a = c.args in stays-sound a.state.now _ (Restart a.moment) _ sound (returns-clause-after c) (λ free. omega arith)
-
-pub returns-clause-shows : goal.returns-clause-shows
-returns-clause-shows c opened events free =
+pub returns-then-moment-gt-MAX_NANOS-clause-made : goal.returns-then-moment-gt-MAX_NANOS-clause-made
+unfolding reset_refusal
+returns-then-moment-gt-MAX_NANOS-clause-made c =
     let a = c.args in
-    shows-call a.state.now _ (Restart a.moment) _ (sound-before c) (returns-clause-after c) opened events free
+    let sound : is_sound a.state.now ≡ true = sym c.is_sound.ensures ∙ c.if-not-is_sound.false in
+    let late : nat_lt last_moment a.moment ≡ true = grind (arith, nat_tests) in
+    unmade a.state.now (Restart a.moment) _ (rw (sound, late) refl)
+
+pub returns-clause-made : goal.returns-clause-made
+returns-clause-made c =
+    let a = c.args in
+    let sound : is_sound a.state.now ≡ true = sym c.is_sound.ensures ∙ c.if-not-is_sound.false in
+    makes a.state.now _ (Restart a.moment) _ sound
+    (rw (reset-taken a.state.now a.moment sound (omega arith))
+    (c.keep_registers.ensures ∙ reset-state a.state.now _ _ a.moment sound c.raw-held.ensures c.reset.ensures))
+    (λ free. omega arith)

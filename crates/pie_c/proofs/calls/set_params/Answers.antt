@@ -1,34 +1,43 @@
-use Rattle.std.proofs.Common.{◌≡◌, ◌∙◌, arith, sym, true}
+use Rattle.std.proofs.Common.{◌≡◌, ◌∙◌, nat_lt, true, false, arith, refl, sym}
+use Rattle.std.proofs.lemmas.Bool.Decides.{nat_tests}
 use Rattle.pie_aqm.specs.Calls.{Change}
 use Rattle.pie_c.specs.Calls.{params_refusal}
 use Rattle.pie_c.specs.Params.{raw_of}
-use Rattle.pie_c.specs.State.{are_in_range, is_sound}
-use Rattle.pie_c.proofs.Packets.{changed-state, params-taken, shows-call, stays-sound}
+use Rattle.pie_c.specs.State.{are_in_range, is_sound, last_moment}
+use Rattle.pie_c.proofs.Packets.{changed-state, makes, params-taken, unmade}
 use Rattle.pie_c.proofs.Sound.{params-from}
 use Rattle.pie_c.proofs.calls.set_params.Goals as goal
-use Rattle.pie_c.proofs.calls.set_params.Goals.{After-keep_departed}
 
-module _ (c : After-keep_departed) where
-  sound-before : is_sound c.args.state.now ≡ true
-  sound-before = sym c.is_sound.ensures ∙ c.if-not-is_sound.false
-
-  good : are_in_range c.args.params.now ≡ true
-  good = sym c.are_in_range.ensures ∙ c.if-not-are_in_range.false
-
-pub returns-clause-after : goal.returns-clause-after
-returns-clause-after c =
+pub returns-then-not-is_sound-clause-made : goal.returns-then-not-is_sound-clause-made
+unfolding params_refusal
+returns-then-not-is_sound-clause-made c =
     let a = c.args in
-    let free : params_refusal a.state.now a.params.now a.moment ≡ 0 = params-taken _ _ a.moment (sound-before c) (good c) (omega arith) in
-    rw free (c.keep_departed.ensures
-    ∙ changed-state a.state.now a.params.now _ _ _ a.moment (sound-before c) c.raw-held.ensures c.set_params.ensures)
+    let bad : is_sound a.state.now ≡ false = sym c.is_sound.ensures ∙ c.if-not-is_sound.true in
+    unmade a.state.now (Change (raw_of a.params.now) a.moment) _ (rw bad refl)
 
-pub returns-clause-sound : goal.returns-clause-sound
-returns-clause-sound c sound =
+pub returns-then-not-are_in_range-clause-made : goal.returns-then-not-are_in_range-clause-made
+unfolding params_refusal
+returns-then-not-are_in_range-clause-made c =
     let a = c.args in
-    stays-sound a.state.now _ (Change (raw_of a.params.now) a.moment) _ sound (returns-clause-after c)
-    (λ free. (omega arith, params-from a.params.now (good c)))
+    let sound : is_sound a.state.now ≡ true = sym c.is_sound.ensures ∙ c.if-not-is_sound.false in
+    let bad : are_in_range a.params.now ≡ false = sym c.are_in_range.ensures ∙ c.if-not-are_in_range.true in
+    unmade a.state.now (Change (raw_of a.params.now) a.moment) _ (rw (sound, bad) refl)
 
-pub returns-clause-shows : goal.returns-clause-shows
-returns-clause-shows c opened events free =
+pub returns-then-moment-gt-MAX_NANOS-clause-made : goal.returns-then-moment-gt-MAX_NANOS-clause-made
+unfolding params_refusal
+returns-then-moment-gt-MAX_NANOS-clause-made c =
     let a = c.args in
-    shows-call a.state.now _ (Change (raw_of a.params.now) a.moment) _ (sound-before c) (returns-clause-after c) opened events free
+    let sound : is_sound a.state.now ≡ true = sym c.is_sound.ensures ∙ c.if-not-is_sound.false in
+    let good : are_in_range a.params.now ≡ true = sym c.are_in_range.ensures ∙ c.if-not-are_in_range.false in
+    let late : nat_lt last_moment a.moment ≡ true = grind (arith, nat_tests) in
+    unmade a.state.now (Change (raw_of a.params.now) a.moment) _ (rw (sound, good, late) refl)
+
+pub returns-clause-made : goal.returns-clause-made
+returns-clause-made c =
+    let a = c.args in
+    let sound : is_sound a.state.now ≡ true = sym c.is_sound.ensures ∙ c.if-not-is_sound.false in
+    let good : are_in_range a.params.now ≡ true = sym c.are_in_range.ensures ∙ c.if-not-are_in_range.false in
+    makes a.state.now _ (Change (raw_of a.params.now) a.moment) _ sound
+    (rw (params-taken a.state.now a.params.now a.moment sound good (omega arith))
+    (c.keep_departed.ensures ∙ changed-state a.state.now a.params.now _ _ _ a.moment sound c.raw-held.ensures c.set_params.ensures))
+    (λ free. (omega arith, params-from a.params.now good))

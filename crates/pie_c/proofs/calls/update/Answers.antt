@@ -1,13 +1,39 @@
-use Rattle.std.proofs.Common.{◌≡◌, ◌∙◌, ap, arith, rules, sym, true}
+use Rattle.std.proofs.Common.{◌≡◌, ℕ, ◌^◌, ◌∙◌, nat_lt, true, false, ap, arith, refl, rules, sym}
+use Rattle.std.proofs.lemmas.Bool.Decides.{nat_tests}
 use Rattle.pie_aqm.proofs.Sounds.{Sound_call, stays_sound}
 use Rattle.pie_aqm.specs.Calls.{Update}
-use Rattle.pie_aqm.specs.Held.{Held}
-use Rattle.pie_aqm.specs.Steps.{updated}
+use Rattle.pie_aqm.specs.Held.{Held, held_by}
+use Rattle.pie_aqm.specs.Steps.{delay_answered, updated}
 use Rattle.pie_c.specs.Calls.{update_refusal, updated_with}
-use Rattle.pie_c.specs.State.{held_in, is_sound}
-use Rattle.pie_c.proofs.Packets.{shows-call, stays-sound}
+use Rattle.pie_c.specs.State.{held_in, is_sound, last_moment, state_of}
+use Rattle.pie_c.proofs.Packets.{makes, unmade}
 use Rattle.pie_c.proofs.Sound.{held-sound}
 use Rattle.pie_c.proofs.calls.update.Goals as goal
+use Rattle.pie_c.proofs.calls.update.Goals.{After-made, After-made-2}
+
+pub returns-then-not-is_sound-clause-made : goal.returns-then-not-is_sound-clause-made
+unfolding update_refusal
+returns-then-not-is_sound-clause-made c =
+    let a = c.args in
+    let bad : is_sound a.state.now ≡ false = sym c.is_sound.ensures ∙ c.if-not-is_sound.true in
+    unmade a.state.now (Update a.queued a.moment) _ (rw bad refl)
+
+pub returns-then-moment-gt-MAX_NANOS-clause-made : goal.returns-then-moment-gt-MAX_NANOS-clause-made
+unfolding update_refusal
+returns-then-moment-gt-MAX_NANOS-clause-made c =
+    let a = c.args in
+    let sound : is_sound a.state.now ≡ true = sym c.is_sound.ensures ∙ c.if-not-is_sound.false in
+    let late : nat_lt last_moment a.moment ≡ true = grind (arith, nat_tests) in
+    unmade a.state.now (Update a.queued a.moment) _ (rw (sound, late) refl)
+
+pub returns-then-queued-gt-MAX_QUEUED-clause-made : goal.returns-then-queued-gt-MAX_QUEUED-clause-made
+unfolding update_refusal
+returns-then-queued-gt-MAX_QUEUED-clause-made c =
+    let a = c.args in
+    let sound : is_sound a.state.now ≡ true = sym c.is_sound.ensures ∙ c.if-not-is_sound.false in
+    let early : nat_lt last_moment a.moment ≡ false = grind (arith, nat_tests) in
+    let many : nat_lt (2 ^ 30) a.queued ≡ true = grind (arith, nat_tests) in
+    unmade a.state.now (Update a.queued a.moment) _ (rw (sound, early, many) refl)
 
 pub due-requires : goal.due-requires
 due-requires c = rw c.raw-held.ensures (held-sound c.args.state.now (sym c.is_sound.ensures ∙ c.if-not-is_sound.false))
@@ -15,11 +41,19 @@ due-requires c = rw c.raw-held.ensures (held-sound c.args.state.now (sym c.is_so
 pub made-requires : goal.made-requires
 made-requires c = rw c.raw-held.ensures (held-sound c.args.state.now (sym c.is_sound.ensures ∙ c.if-not-is_sound.false))
 
-pub returns-then-max-due-clause-answer : goal.returns-then-max-due-clause-answer
+too_soon : (c : After-made) → update_refusal c.args.state.now c.args.queued c.args.moment ≡ 103
 unfolding held_in update_refusal
+too_soon c = search rules
+
+pub returns-then-max-due-clause-answer : goal.returns-then-max-due-clause-answer
+unfolding held_in
 returns-then-max-due-clause-answer c =
-    let soon : update_refusal c.args.state.now c.args.queued c.args.moment ≡ 103 = search rules in
-    rw (soon, c.made.ensures) (ap (λ (h : Held). updated_with 103 h.control.old_delay h) c.raw-held.ensures)
+    rw (too_soon c, c.made.ensures) (ap (λ (h : Held). updated_with 103 h.control.old_delay h) c.raw-held.ensures)
+
+pub returns-then-max-due-clause-made : goal.returns-then-max-due-clause-made
+returns-then-max-due-clause-made c =
+    let a = c.args in
+    unmade a.state.now (Update a.queued a.moment) _ (rw (too_soon c) refl)
 
 pub update-delay-requires-clause-sound : goal.update-delay-requires-clause-sound
 update-delay-requires-clause-sound c = rw c.raw-held.ensures (held-sound c.args.state.now (sym c.is_sound.ensures ∙ c.if-not-is_sound.false))
@@ -31,19 +65,24 @@ made-requires-2 c =
     (Sound_call (held_in a.state.now) (held-sound a.state.now (sym c.is_sound.ensures ∙ c.if-not-is_sound.false)) (Update a.queued a.moment)
     (omega arith))
 
-pub returns-clause-after : goal.returns-clause-after
-unfolding update_refusal
-returns-clause-after c = search rules
+taken : (c : After-made-2) → update_refusal c.args.state.now c.args.queued c.args.moment ≡ 0
+unfolding held_in update_refusal
+taken c = search rules
 
-pub returns-clause-sound : goal.returns-clause-sound
-returns-clause-sound c sound =
+after : (c : After-made-2) → held_by c.update-delay.new.self ≡ updated (held_in c.args.state.now) c.args.queued c.args.moment
+after c = c.update-delay.ensures.after ∙ ap (λ (h : Held). updated h c.args.queued c.args.moment) c.raw-held.ensures
+
+pub returns-clause-answer : goal.returns-clause-answer
+returns-clause-answer c =
     let a = c.args in
-    stays-sound a.state.now _ (Update a.queued a.moment) (update_refusal a.state.now a.queued a.moment) sound (returns-clause-after c)
-    (λ free. omega arith)
+    let delay = c.update-delay.ensures.delay ∙ ap (λ (h : Held). delay_answered h a.queued) c.raw-held.ensures in
+    rw (taken c, c.made-2.ensures)
+    (ap (λ (h : Held). updated_with 0 c.update-delay.result h) (after c)
+    ∙ ap (λ (n : ℕ). updated_with 0 n (updated (held_in a.state.now) a.queued a.moment)) delay)
 
-pub returns-clause-shows : goal.returns-clause-shows
-returns-clause-shows c opened events free =
+pub returns-clause-made : goal.returns-clause-made
+returns-clause-made c =
     let a = c.args in
     let sound : is_sound a.state.now ≡ true = sym c.is_sound.ensures ∙ c.if-not-is_sound.false in
-    shows-call a.state.now _ (Update a.queued a.moment)
-    (update_refusal a.state.now a.queued a.moment) sound (returns-clause-after c) opened events free
+    makes a.state.now _ (Update a.queued a.moment) (update_refusal a.state.now a.queued a.moment) sound
+    (rw (taken c) (c.keep_updated.ensures ∙ ap state_of (after c))) (λ free. omega arith)

@@ -18,4 +18,4 @@ returns-in-None g c =
     subst (λ (names : List Text). EndsEither (is_joined (rows_of (found_of c.args.options.now))) (g.R.Read.remaining c.args.input)
     (g.H.NamedFiles.holds c.args.rt.now) names c.audit_input.result (g.W.Write.contents c.args.output.now)
     (g.W.Write.contents c.audit_input.new.output)) (ap (λ (o : Option (List Text)). unwrap_or o [])
-    (c.in-None.ensures ∙ raw_values-rows (found_of c.args.options.now) (codes "file"))) c.audit_input.ensures.audits
+    (c.in-None.ensures ∙ raw_values-rows (found_of c.args.options.now) (codes "file"))) c.audit_input.ensures

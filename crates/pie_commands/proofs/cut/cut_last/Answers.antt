@@ -17,5 +17,5 @@ returns-in-Some-Err g c other =
 pub returns-in-Some-Ok : goal.returns-in-Some-Ok
 returns-in-Some-Ok g c other =
     last-told c.args.many c.in-Some-Ok.number (g.R.Read.remaining c.args.input) (g.H.NamedFiles.holds c.args.rt.now) c.args.name.now
-    c.cut_part_of.result (g.W.Write.contents c.args.output.now) (g.W.Write.contents c.cut_part_of.new.output) other (rw c.in-Some-Ok.field-0-is at c.in-Some-Ok.ensures)
-    (rw c.last-span.ensures at c.cut_part_of.ensures)
+    c.cut_pieces.result (g.W.Write.contents c.args.output.now) (g.W.Write.contents c.cut_pieces.new.output) other (rw c.in-Some-Ok.field-0-is at c.in-Some-Ok.ensures)
+    (rw c.last.ensures at c.cut_pieces.ensures)

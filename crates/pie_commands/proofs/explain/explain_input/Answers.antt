@@ -1,25 +1,26 @@
-use Rattle.std.proofs.Common.{◌≡◌, ℕ, List, Option, Some, refl, subst}
+use Rattle.std.proofs.Common.{ℕ, List, Option, refl, subst}
 use Rattle.std.specs.Prelude.{IfSome}
 use Rattle.clap.specs.Words.{found_of, rows_of}
 use Rattle.pie_explanation.specs.declared.choice.Choice.{Choice}
 use Rattle.pie_explanation.specs.declared.explanation.Explained.{Explained}
-use Rattle.pie_commands.specs.Choice.{tale_by, tale_of}
-use Rattle.pie_files.specs.Watched.{remaining_of}
-use Rattle.pie_commands.specs.ExplainEnds.{EndsExplain, explain_ends}
-use Rattle.pie_commands.proofs.ExplainFacts.{EndsExplain-told}
+use Rattle.pie_commands.specs.Choice.{choice_of, told_by}
+use Rattle.pie_commands.specs.Ends.{status_of}
+use Rattle.pie_commands.specs.ExplainEnds.{explain_ends}
+use Rattle.pie_commands.proofs.ExplainFacts.{EndsExplain-failed}
 use Rattle.pie_commands.proofs.explain.explain_input.Goals as goal
 
-pub returns-clause-explains : goal.returns-clause-explains
-returns-clause-explains g c =
-    let known = remaining_of g.R.Read.remaining c.new-watched.result in
+pub returns-in-Some : goal.returns-in-Some
+returns-in-Some g c =
+    let known = g.R.Read.remaining c.args.input in
+    let status = status_of c.explain_chosen.result in
     let before = g.W.Write.contents c.args.output.now in
-    let now = g.W.Write.contents c.tell-given.new.output in
-    let tale : List Explained → List ℕ = tale_by c.is_summary-summary.result c.is_digest-digest.result c.every_of-every.result c.form_of.result in
-    let same : tale ≡ tale_of (rows_of (found_of c.args.options.now)) = rw
-    (c.is_summary-summary.ensures, c.is_digest-digest.ensures, c.every_of-every.ensures, c.form_of.ensures) refl in
-    subst (λ (read : Option (List ℕ)). IfSome read (λ text. EndsExplain (rows_of (found_of c.args.options.now)) text c.ended.result before now))
-    c.new-watched.ensures
-    (subst (λ (choice : Option Choice). IfSome known (λ text. explain_ends choice (tale_of (rows_of (found_of c.args.options.now))) text
-    c.ended.result before now)) c.in-Some.ensures
-    (subst (λ (told : List Explained → List ℕ). IfSome known (λ text. explain_ends (Some c.in-Some.choice) told text c.ended.result before now)) same
-    (EndsExplain-told c.in-Some.choice tale known c.ended.result before now c.tell-given.result c.ended.ensures c.tell-given.ensures)))
+    let now = g.W.Write.contents c.explain_chosen.new.output in
+    subst (λ (tale : List Explained → List ℕ). IfSome known (λ text. explain_ends (choice_of (rows_of (found_of c.args.options.now))) tale text status
+    before now)) c.tale_of-tale.ensures
+    (subst (λ (choice : Option Choice). IfSome known (λ text. explain_ends choice (told_by c.tale_of-tale.result) text status before now))
+    c.in-Some.ensures c.explain_chosen.ensures)
+
+pub returns-in-None : goal.returns-in-None
+returns-in-None g c =
+    EndsExplain-failed (rows_of (found_of c.args.options.now)) (g.R.Read.remaining c.args.input) 1 (g.W.Write.contents c.args.output.now)
+    (g.W.Write.contents c.args.output.now) refl refl

@@ -7,26 +7,38 @@ use Rattle.pie_storm.proofs.FoldsMade.{folds_end, folds_start, none_start}
 use Rattle.pie_storm.proofs.worker.fold_all.Goals as goal
 
 pub loop-k-init : goal.loop-k-init
-loop-k-init g c = record {
-  stays = (refl, refl, refl);
-  few = omega (arith, c.none-folding.ensures.well.0);
-  none = none_start c.args.link.now c.args.caller.first c.args.caller.front c.requires.new;
-  folds = folds_start c.args.link.now c.args.caller.first (c.none-folding.result.is_short_of_memory ≡ false) c.args.plan.now.folds.items
-      c.none-folding.result.events.items c.args.caller.front
-      c.none-folding.result.too_many c.requires.new c.none-folding.ensures.events c.none-folding.ensures.well.0;
-}
+loop-k-init g c =
+    let caller = c.args.caller.now in
+    let none = c.none-folding in record {
+      stays = (refl, refl, refl);
+      few = omega (arith, none.ensures.well.0);
+      none = none_start c.args.link.now caller.first caller.front c.requires.begins.new;
+      folds = folds_start c.args.link.now caller.first (none.result.is_short_of_memory ≡ false) c.args.plan.now.folds.items
+          none.result.events.items caller.front none.result.too_many c.requires.begins.new none.ensures.events none.ensures.well.0;
+    }
+
+pub fold_next-requires-clause-own : goal.fold_next-requires-clause-own
+fold_next-requires-clause-own g c = c.loop-k.invariant.stays.0 ∙ c.requires.begins.own
 
 pub returns-clause-made : goal.returns-clause-made
 returns-clause-made g c =
-    let none = subst (λ (n : ℕ). HasNoneAt c.args.link.now n (events_in c.loop-k.mine.front)) c.loop-k.invariant.stays.1 c.loop-k.invariant.none in
-    came_of_none c.args.link.now c.args.plan.now c.args.caller.first (events_in c.loop-k.mine.front)
-    (folder_has_none c.args.plan.now c.args.caller.first c.requires.folder) none
+    let stays = c.loop-k.invariant.stays in
+    let first = c.args.caller.now.first in
+    let events = events_in c.loop-k.caller.front in record {
+      lock = stays.0 ∙ c.requires.begins.own;
+      first = stays.1;
+      limit = stays.2 ∙ c.requires.one;
+      came = came_of_none c.args.link.now c.args.plan.now first events (folder_has_none c.args.plan.now first c.requires.folder)
+          (subst (λ (n : ℕ). HasNoneAt c.args.link.now n events) stays.1 c.loop-k.invariant.none);
+      few = omega arith;
+    }
 
 pub returns-clause-folds : goal.returns-clause-folds
 returns-clause-folds g c =
-    let go = subst (λ (n : ℕ). FoldsGoAt c.args.link.now n (c.loop-k.folding.is_short_of_memory ≡ false) c.args.plan.now.folds.items c.loop-k.k
-    c.loop-k.folding.events.items c.loop-k.mine.front
-    c.loop-k.folding.too_many) (c.loop-k.invariant.stays.1 ∙ c.requires.folder) c.loop-k.invariant.folds in
-    folds_end c.args.link.now _ (c.loop-k.folding.is_short_of_memory ≡ false) c.args.plan.now.folds.items c.loop-k.k c.loop-k.folding.events.items
-    c.loop-k.mine.front c.loop-k.folding.too_many
+    let folding = c.loop-k.folding in
+    let well = folding.is_short_of_memory ≡ false in
+    let front = c.loop-k.caller.front in
+    let go = subst (λ (n : ℕ). FoldsGoAt c.args.link.now n well c.args.plan.now.folds.items c.loop-k.k folding.events.items front folding.too_many)
+    (c.loop-k.invariant.stays.1 ∙ c.requires.folder) c.loop-k.invariant.folds in
+    folds_end c.args.link.now _ well c.args.plan.now.folds.items c.loop-k.k folding.events.items front folding.too_many
     (omega (arith, c.loop-k-test.false, c.loop-k.auto.k-end, c.len-k-end.ensures)) go

@@ -6,10 +6,10 @@ pub update-is_calm-requires-clause-params : goal.update-is_calm-requires-clause-
 update-is_calm-requires-clause-params c = rw c.pass.ensures (in-range _ c.requires.sound.params)
 
 pub returns-then-not-self-clause-delay : goal.returns-then-not-self-clause-delay
-returns-then-not-self-clause-delay c = search rules
+returns-then-not-self-clause-delay c = grind rules
 
 pub returns-then-not-self-clause-after : goal.returns-then-not-self-clause-after
-returns-then-not-self-clause-after c = search rules
+returns-then-not-self-clause-after c = grind rules
 
 pub returns-clause-after : goal.returns-clause-after
-returns-clause-after c = search rules
+returns-clause-after c = grind rules

@@ -1,12 +1,13 @@
-//! `pie audit --joined`: of the files of one history, in its order.
-ghost use Rattle.std.specs.Prelude.{◌≡◌, ◌⊎◌, ◌||◌, IfOk, None, OnOk, map};
+//! `pie audit FILE..`: of files, each in turn; with `--joined` of those of one history, in its order.
+ghost use Rattle.std.specs.Prelude.{◌≡◌, ◌<◌, ◌⊎◌, ◌||◌, [], IfOk, None, OnErr, OnOk, Some, get_or, length, map, true};
 ghost use Rattle.std.specs.Io.KnownBytes.{Appends};
-ghost use Rattle.pie_commands.specs.JointEnds.{EndsJoined, JoinsKnown, JoinsRead, finding_in, is_broken, joint_line, line_of_joint, lines_of};
+ghost use Rattle.pie_commands.specs.AuditEnds.{is_unfound, named_line, worst};
+ghost use Rattle.pie_commands.specs.FileAudits.{TellsRead, TellsText};
+ghost use Rattle.pie_commands.specs.JointEnds.{EndsOfFiles, finding_in, is_broken, joint_line, line_of_joint, lines_of};
 ghost use Rattle.pie_files.specs.Files.{ReadsNamed};
 
-use crate::audit::{any_unfound, name_at, worst, write_named};
 use crate::end::{End, faulted};
-use pie_audit::Finding;
+use pie_audit::{Finding, audit_either};
 use pie_cut::{Joined, Joint, TextEnd, audit_joined};
 use pie_files::{NamedFiles, Watched, named_fault, reader_named};
 use pie_trace::TraceFault;
@@ -15,20 +16,43 @@ use std::io;
 use std::io::{Read, Write};
 use std::time::Clock;
 
-/// What is found of the history that a file holds, and how it joins one that ended so; or none, with a line on `errors`.
-fn joined_of<H: Clock, R: Read + Drop, E: Write>(
+/// What an audit finds of a text; and, where it is one of several of one history, how it joins one that ended so.
+fn found_in<R: Read + Drop>(
+    alloc: Global,
+    are_joined: bool,
+    reader: R,
+    end: &mut Option<TextEnd>,
+) -> Result<Joined, TraceFault>
+    ensures told { IfOk result (λ joined. TellsText are_joined (R.remaining reader) end.old (Some joined) end.new) }
+    ensures none { OnErr result (are_joined ≡ true → end.new ≡ None) }
+{
+    if are_joined {
+        return audit_joined(alloc, reader, end);
+    }
+    match audit_either(alloc, reader) {
+        Ok(finding) => Ok(Joined {
+            finding,
+            joint: None,
+        }),
+        Err(why) => Err(why),
+    }
+}
+
+/// The same of the text of a file of this name; or none, with a line on `errors`, where it has a fault.
+fn told_of<H: Clock, R: Read + Drop, E: Write>(
     rt: &H,
     alloc: Global,
     is_shown: bool,
-    reader: R,
+    are_joined: bool,
     name: &str,
+    reader: R,
     end: &mut Option<TextEnd>,
     errors: &mut E,
 ) -> Option<Joined>
-    ensures { JoinsKnown (R.remaining reader) end.old result end.new }
+    ensures { TellsText are_joined (R.remaining reader) end.old result end.new }
 {
     let watched = Watched::new(reader, &mut *errors, rt, is_shown);
-    match audit_joined(alloc, watched, end) {
+    match found_in(alloc, are_joined, watched, end) {
         Ok(joined) => Some(joined),
         Err(why) => {
             named_fault(errors, name, why);
@@ -37,26 +61,38 @@ fn joined_of<H: Clock, R: Read + Drop, E: Write>(
     }
 }
 
-/// The same of the file of this name.
-fn joined_named<H: NamedFiles + Clock, R: Read + Drop, E: Write>(
+/// The same of the file of this name; or none, where it can't be opened either.
+fn told_named<H: NamedFiles + Clock, R: Read + Drop, E: Write>(
     rt: &H,
     alloc: Global,
     is_shown: bool,
+    are_joined: bool,
     name: &str,
     input: &mut Option<R>,
     end: &mut Option<TextEnd>,
     errors: &mut E,
 ) -> Option<Joined>
-    ensures joins { JoinsRead (ReadsNamed R.remaining input.old (H.holds rt.now) name.now) end.old result end.new }
+    ensures told { TellsRead are_joined (ReadsNamed R.remaining input.old (H.holds rt.now) name.now) end.old result end.new }
     ensures input { (input.new ≡ input.old) ⊎ (input.new ≡ None) }
 {
     match reader_named(rt, name, input, errors) {
-        Some(reader) => joined_of(rt, alloc, is_shown, reader, name, end, errors),
+        Some(reader) => told_of(rt, alloc, is_shown, are_joined, name, reader, end, errors),
         None => {
             *end = None;
             None
         }
     }
+}
+
+/// Writes the line of a finding, behind the name of its file, and flushes the writer.
+fn write_named<W: Write>(name: &str, found: Finding, output: &mut W) -> io::Result<()>
+    ensures { OnOk result (Appends (W.contents output.old) (W.contents output.new) (named_line name.now found)) }
+{
+    match found {
+        Finding::Clean { events } => writeln!(output, "{name}: clean,{events}")?,
+        Finding::Differs { event } => writeln!(output, "{name}: differs,{event}")?,
+    }
+    output.flush()
 }
 
 /// Writes the line of a joint, behind the name of the second of the two files.
@@ -92,21 +128,22 @@ fn write_joined<W: Write>(name: &str, joined: Joined, output: &mut W) -> io::Res
 }
 
 /// Audits the file of this name, after one that ended so, and writes what is told of it.
-fn join_named<H: NamedFiles + Clock, R: Read + Drop, W: Write, E: Write>(
+fn audit_named<H: NamedFiles + Clock, R: Read + Drop, W: Write, E: Write>(
     rt: &H,
     alloc: Global,
     is_shown: bool,
+    are_joined: bool,
     name: &str,
     input: &mut Option<R>,
     end: &mut Option<TextEnd>,
     output: &mut W,
     errors: &mut E,
 ) -> io::Result<Option<Joined>>
-    ensures joins { IfOk result (λ told. JoinsRead (ReadsNamed R.remaining input.old (H.holds rt.now) name.now) end.old told end.new) }
+    ensures told { IfOk result (λ told. TellsRead are_joined (ReadsNamed R.remaining input.old (H.holds rt.now) name.now) end.old told end.new) }
     ensures written { IfOk result (λ told. Appends (W.contents output.old) (W.contents output.new) (lines_of name.now told)) }
     ensures input { (input.new ≡ input.old) ⊎ (input.new ≡ None) }
 {
-    match joined_named(rt, alloc, is_shown, name, input, end, errors) {
+    match told_named(rt, alloc, is_shown, are_joined, name, input, end, errors) {
         Some(joined) => {
             write_joined(name, joined, output)?;
             Ok(Some(joined))
@@ -148,19 +185,46 @@ fn any_broken(before: bool, told: Option<Joined>) -> bool
     before || is_broken(told)
 }
 
-/// `pie audit --joined FILE..`: audits each file in turn, and writes what was found of it and how it joins the one before, if that one was
-/// clean; a file that has a fault, or can't be read, is told on `errors`. Ends with the worst of all, where a joint that isn't met is a
+/// Whether nothing was found of one of the files before, or of this one.
+fn any_unfound(before: bool, told: Option<Finding>) -> bool
+    ensures { result ≡ (before || is_unfound told) }
+{
+    before || told.is_none()
+}
+
+/// The worst end, where these say whether a file could not be audited, and whether an event of one differs.
+fn worst(unfound: bool, different: bool) -> End
+    ensures { result ≡ worst unfound different }
+{
+    match (unfound, different) {
+        (true, _) => End::Failed,
+        (false, true) => End::Differs,
+        (false, false) => End::Done,
+    }
+}
+
+/// The name at this place.
+fn name_at<'a>(names: &[&'a str], place: usize) -> &'a str
+    requires { place < length names.now }
+    ensures { result.now ≡ get_or (map (λ name. name.now) names.now) place [] }
+{
+    names[place]
+}
+
+/// `pie audit FILE..`: audits each file in turn, and writes what was found of it; and with `--joined` how it joins the one before, if that one was
+/// clean. A file that has a fault, or can't be read, is told on `errors`. Ends with the worst of all, where a joint that isn't met is a
 /// difference; or the end says that a line could not be written.
-pub(crate) fn join_files<H: NamedFiles + Clock, R: Read + Drop, W: Write, E: Write>(
+pub(crate) fn audit_files<H: NamedFiles + Clock, R: Read + Drop, W: Write, E: Write>(
     rt: &H,
     alloc: Global,
     is_shown: bool,
+    are_joined: bool,
     names: &[&str],
     input: R,
     output: &mut W,
     errors: &mut E,
 ) -> End
-    ensures { EndsJoined (R.remaining input) (H.holds rt.now) (map (λ name. name.now) names.now) result (W.contents output.old)
+    ensures { EndsOfFiles are_joined (R.remaining input) (H.holds rt.now) (map (λ name. name.now) names.now) result (W.contents output.old)
         (W.contents output.new) }
 {
     let mut given = Some(input);
@@ -169,8 +233,8 @@ pub(crate) fn join_files<H: NamedFiles + Clock, R: Read + Drop, W: Write, E: Wri
     let mut broken = false;
     for place in 0..names.len() {
         let name = name_at(names, place);
-        let told = match join_named(
-            rt, alloc, is_shown, name, &mut given, &mut end, output, errors,
+        let told = match audit_named(
+            rt, alloc, is_shown, are_joined, name, &mut given, &mut end, output, errors,
         ) {
             Ok(told) => told,
             Err(_) => {

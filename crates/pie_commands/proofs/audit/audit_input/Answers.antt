@@ -1,0 +1,14 @@
+use Rattle.std.proofs.Common.{ℕ, List, Option, subst}
+use Rattle.std.specs.Prelude.{IfSome}
+use Rattle.pie_files.specs.Watched.{remaining_of}
+use Rattle.pie_commands.specs.Ends.{EndsAudit}
+use Rattle.pie_commands.proofs.EndFacts.{EndsAudit-told}
+use Rattle.pie_commands.proofs.audit.audit_input.Goals as goal
+
+pub returns : goal.returns
+returns g c =
+    let before = g.W.Write.contents c.args.output.now in
+    let now = g.W.Write.contents c.ended.new.output in
+    subst (λ (read : Option (List ℕ)). IfSome read (λ text. EndsAudit text c.ended.result before now)) c.new-watched.ensures
+    (EndsAudit-told (remaining_of g.R.Read.remaining c.new-watched.result) c.audit_either-found.result c.ended.result before now c.ended.ensures
+    c.audit_either-found.ensures.finds)

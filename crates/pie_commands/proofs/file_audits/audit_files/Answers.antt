@@ -1,0 +1,35 @@
+use Rattle.std.proofs.Common.{◌<◌, ℕ, length, map, take, refl, inl, rules, subst, sym}
+use Rattle.std.proofs.lemmas.List.{length-map}
+use Rattle.pie_files.proofs.FileFacts.{stays-on}
+use Rattle.pie_commands.proofs.FileAuditFacts.{by-more, by-none, by-taken, tells-given}
+use Rattle.pie_commands.proofs.file_audits.audit_files.Goals as goal
+
+pub loop-place-init : goal.loop-place-init
+loop-place-init g c = record {
+  stays = inl refl;
+  audits = by-none c.args.are_joined (g.R.Read.remaining c.args.input) (g.H.NamedFiles.holds c.args.rt.now) (g.W.Write.contents c.args.output.now);
+}
+
+pub loop-place-preserved : goal.loop-place-preserved
+loop-place-preserved g c =
+    let joined = c.args.are_joined in
+    let input = g.R.Read.remaining c.args.input in
+    let files = g.H.NamedFiles.holds c.args.rt.now in
+    let names = map (λ name. name.now) c.args.names.now in
+    let before = g.W.Write.contents c.args.output.now in
+    let name = c.name_at-name.result.now in
+    let end = c.audit_named.new.end in
+    let now = g.W.Write.contents c.audit_named.new.output in
+    let within : c.loop-place.place < length c.args.names.now = search rules in
+    let named : c.loop-place.place < length names = subst (λ (count : ℕ). c.loop-place.place < count)
+    (sym (length-map c.args.names.now (λ name. name.now))) within in
+    let more = by-more joined input files (take c.loop-place.place names) c.loop-place.unfound c.loop-place.broken c.loop-place.end end before
+    (g.W.Write.contents c.loop-place.output) now name c.in-Ok.told c.loop-place.invariant.audits
+    (tells-given joined g.R.Read.remaining c.args.input c.loop-place.given files name c.loop-place.end c.in-Ok.told end
+    c.loop-place.invariant.stays c.in-Ok.ensures.told)
+    c.in-Ok.ensures.written in
+    record {
+      stays = stays-on c.args.input c.loop-place.given c.audit_named.new.input c.loop-place.invariant.stays c.audit_named.ensures.input;
+      audits = rw (c.any_unfound-unfound.ensures, c.finding_in.ensures, c.any_broken-broken.ensures)
+          (by-taken joined input files names c.loop-place.place name _ _ end before now named c.name_at-name.ensures more);
+    }

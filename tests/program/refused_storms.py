@@ -3,7 +3,7 @@
 (tests/shared/refuse.c). The threads of a storm wait for one that is missing, a third of a second or more, before they go on.
 
 usage: tests/program/refused_storms.py [PROGRAM]      PROGRAM: crates/pie/out/pie where none is given
-needs: program"""
+needs: program, an early start"""
 import os
 import sys
 import tempfile

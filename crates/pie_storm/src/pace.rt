@@ -2,19 +2,22 @@
 
 use crate::gate::Gate;
 use crate::plan::Plan;
+use std::io;
 use std::sync::atomic::{AtomicBool, AtomicU64, Ordering};
 use std::thread::{sleep, yield_now};
-use std::time::{Clock, Duration};
+use std::time::{Clock, Duration, Instant};
 
 /// How far a caller may run ahead of another, in nanoseconds of the plan.
 const AHEAD: u64 = 4_000_000;
-/// How often a caller looks at the others before it goes on without them.
-const LOOKS: u64 = 3000;
-/// How often it looks before it sleeps between two looks. Others that run are soon there; one that waits for a processor, behind work of
-/// higher priority say, gets it only then.
-const EAGER_LOOKS: u64 = 1000;
-/// How long it sleeps then, in nanoseconds.
+/// How often a caller looks at the others before it goes on without them, at the most.
+const LOOKS: u64 = 1_000_000;
+/// How long it looks again and again, in milliseconds. Others that run are there by then; one that waits for a processor, behind work of higher
+/// priority say, may get it while this one sleeps between its looks.
+const EAGER: u64 = 20;
+/// How long it then sleeps between two looks, in nanoseconds.
 const NAP: u64 = 100_000;
+/// How often it does so before it goes on without them.
+const NAPS: u64 = 2000;
 /// A caller that isn't there yet.
 const AWAY: u64 = 0;
 /// A caller that has made all its calls, or that the storm has not.
@@ -127,19 +130,35 @@ impl<'a, C: Clock> Pace<'a, C> {
     }
 }
 
+/// Whether the time for looking again and again is over, or the clock fails.
+fn has_waited_long<C: Clock>(clock: &C, begun: &io::Result<Instant>) -> bool {
+    match begun {
+        Ok(begun) => match begun.elapsed(clock) {
+            Ok(waited) => waited >= Duration::from_millis(EAGER),
+            Err(_) => true,
+        },
+        Err(_) => true,
+    }
+}
+
 impl<C: Clock> Gate for Pace<'_, C> {
     fn before(&self, caller: u16, call: u64) {
         let moment = self.moment(caller, call);
         self.show(caller, moment);
         let least = moment.saturating_sub(AHEAD).max(AWAY + 1);
-        for look in 0..LOOKS {
+        let begun = Instant::now(self.clock);
+        let mut naps = 0;
+        for _ in 0..LOOKS {
             if self.are_level(least) {
                 return;
             }
-            if look < EAGER_LOOKS {
+            if !has_waited_long(self.clock, &begun) {
                 yield_now();
-            } else {
+            } else if naps < NAPS {
+                naps += 1;
                 sleep(self.clock, Duration::from_nanos(NAP));
+            } else {
+                break;
             }
         }
         self.is_over.store(true, Ordering::SeqCst);

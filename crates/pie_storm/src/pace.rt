@@ -38,34 +38,35 @@ pub(crate) struct Pace<'a, C> {
     is_over: AtomicBool,
 }
 
-/// What a caller shows before the storm, where there are so many.
-fn shown_first(caller: usize, callers: usize) -> AtomicU64 {
-    AtomicU64::new(if caller <= callers { AWAY } else { GONE })
-}
-
 impl<'a, C: Clock> Pace<'a, C> {
     /// The pace of a storm of this plan.
     pub(crate) fn new(clock: &'a C, plan: &'a Plan) -> Pace<'a, C> {
-        let callers = plan.arrivals.len().saturating_add(4);
-        Pace {
+        let pace = Pace {
             clock,
             plan,
             next: [
-                shown_first(1, callers),
-                shown_first(2, callers),
-                shown_first(3, callers),
-                shown_first(4, callers),
-                shown_first(5, callers),
-                shown_first(6, callers),
-                shown_first(7, callers),
-                shown_first(8, callers),
-                shown_first(9, callers),
-                shown_first(10, callers),
-                shown_first(11, callers),
-                shown_first(12, callers),
+                AtomicU64::new(AWAY),
+                AtomicU64::new(AWAY),
+                AtomicU64::new(AWAY),
+                AtomicU64::new(AWAY),
+                AtomicU64::new(AWAY),
+                AtomicU64::new(AWAY),
+                AtomicU64::new(AWAY),
+                AtomicU64::new(AWAY),
+                AtomicU64::new(AWAY),
+                AtomicU64::new(AWAY),
+                AtomicU64::new(AWAY),
+                AtomicU64::new(AWAY),
             ],
             is_over: AtomicBool::new(false),
+        };
+        for caller in 1..13 {
+            // (nobody waits for a caller that has no call)
+            if pace.moment(caller, 1) == GONE {
+                pace.show(caller, GONE);
+            }
         }
+        pace
     }
 
     /// The moment of a call of a caller in the plan, both counted from 1; `GONE` after its last. A sender's call is a burst.
@@ -93,7 +94,8 @@ impl<'a, C: Clock> Pace<'a, C> {
             0 => self.plan.departs.get(place).copied(),
             1 => self.plan.updates.get(place).copied(),
             2 => self.plan.changes.get(place).map(|change| change.moment),
-            _ => self.moment_of_fold(place),
+            3 => self.moment_of_fold(place),
+            _ => None,
         }
     }
 

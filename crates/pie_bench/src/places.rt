@@ -38,27 +38,20 @@ fn limits(packets: u32) -> Limits {
     }
 }
 
-fn choices(mode: Mode) -> Choices {
-    Choices {
+fn opening(limits: Limits, mode: Mode) -> Opening {
+    let usual = Opening::usual(limits, Params::default_profile(), 0);
+    let choices = Choices {
         mode,
-        profile: Profile::One,
-        elements: Elements::usual(),
-    }
+        ..usual.choices
+    };
+    Opening { choices, ..usual }
 }
 
 /// A link with a queue of so many packets, and the caller that has all its numbers.
 pub fn open_link(alloc: Global, packets: u32, callers: u16) -> Option<(Link, Caller)>
     ensures { IfSome result (λ pair. pair.1.lock ≡ pair.0) }
 {
-    let params = Params::default_profile();
-    match Link::open_with(
-        alloc,
-        limits(packets),
-        params,
-        0,
-        callers,
-        choices(Mode::Rolling),
-    ) {
+    match Link::open_with(alloc, opening(limits(packets), Mode::Rolling), callers) {
         Ok(pair) => Some(pair),
         Err(_) => None,
     }
@@ -71,7 +64,7 @@ pub fn open_book(alloc: Global, packets: u32) -> Option<Book> {
 
 /// A book with these limits.
 pub fn open(alloc: Global, limits: Limits, mode: Mode) -> Option<Book> {
-    match Book::open_with(alloc, limits, Params::default_profile(), 0, choices(mode)) {
+    match Book::open_with(alloc, opening(limits, mode)) {
         Ok(book) => Some(book),
         Err(_) => None,
     }

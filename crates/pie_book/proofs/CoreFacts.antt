@@ -7,7 +7,7 @@ use Rattle.std.proofs.lemmas.List.{append-nil, append_assoc, map-append}
 use Rattle.std.proofs.lemmas.List.Elements.{All-append, All-cons, All-head, All-nil, All-tail}
 use Rattle.std.proofs.lemmas.List.Sums.{sum_by-append}
 use Rattle.pie_book.specs.Types.{Packet, Waiting, One, Arrival, Verdict, Held, Command, Arrive, Depart, Update, Reset, SetParams, Answer, Enqueued}
-use Rattle.pie_book.specs.Types.{Event, Opening, Stats, Registers}
+use Rattle.pie_book.specs.Types.{Event, Mode, Opening, Stats, Registers}
 use Rattle.pie_queue.specs.Queue.{bytes_of}
 use Rattle.pie_event.specs.declared.verdict.Verdict.TheVariants as verdict
 use Rattle.pie_aqm.specs.Calls.{after_call, shown_by}
@@ -22,6 +22,7 @@ use Rattle.pie_aqm.proofs.Looks.{one_is_active}
 use Rattle.pie_aqm.proofs.Places.{place_of, places-push}
 use Rattle.pie_book.specs.Beside.{opened_by}
 use Rattle.pie_book.specs.Call.{arrival_of, departure_call}
+use Rattle.pie_event.specs.Opening.{opening_of}
 use Rattle.pie_event.specs.Verdict.{answer_of}
 use Rattle.pie_book.specs.Cause.{cause_after}
 use Rattle.pie_book.specs.Core.{CoreView, Shows, closed, counted, refusal_of, registers_of, with_queue}
@@ -178,6 +179,21 @@ Shows-opened opening core packets events held count waiting stats = record {
   waiting = waiting;
   controller = rw held (Shows_opened opening.choices.profile opening.choices.elements opening.params opening.moment);
   stats = stats;
+}
+
+-- .. shows it in each mode, since no rule asks for that
+pub Shows-in-mode : (opening : Opening) (mode : Mode) (core : CoreView) → Shows opening core []
+    → Shows (opening_of opening.limits opening.params opening.moment mode opening.choices.profile opening.choices.elements) core []
+unfolding places admitted departed_count effective_moment greatest waiting_after shown stats_after largest_queue largest_delay waited
+Shows-in-mode opening mode core s = record {
+  legal = All-nil (IsLegalAt (opening_of opening.limits opening.params opening.moment mode opening.choices.profile opening.choices.elements));
+  packets = s.packets;
+  events = s.events;
+  count = s.count;
+  moment = s.moment;
+  waiting = s.waiting;
+  controller = s.controller;
+  stats = s.stats;
 }
 
 -- ---- one event more

@@ -1,6 +1,8 @@
 //! What a book is opened with.
 
 ghost use Rattle.std.specs.Prelude.{◌≡◌};
+ghost use Rattle.pie_event.specs.declared.profile.Profile.TheVariants.{One};
+ghost use Rattle.pie_params.specs.Elements.{usual};
 
 pub use crate::profile::Profile;
 pub use pie_params::Elements;
@@ -76,4 +78,24 @@ pub struct Opening {
     pub params: Params,
     /// What a full tail does, when the controller works, and its optional elements.
     pub choices: Choices,
+}
+
+impl Opening {
+    ghost use Rattle.pie_event.specs.declared.opening.Mode.TheVariants.{Bounded};
+
+    /// With the usual choices: a bounded tail, profile one, and the usual elements.
+    pub fn usual(limits: Limits, params: Params, moment: u64) -> Opening
+        ensures { result ≡ record { moment = moment; limits = limits; params = params; choices = record { mode = Bounded; profile = One; elements = usual } } }
+    {
+        Opening {
+            moment,
+            limits,
+            params,
+            choices: Choices {
+                mode: Mode::Bounded,
+                profile: Profile::One,
+                elements: Elements::usual(),
+            },
+        }
+    }
 }

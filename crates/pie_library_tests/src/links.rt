@@ -31,17 +31,20 @@ fn refused(why: LinkRefusal) -> Seen {
     Seen::refused(is_memory, 0)
 }
 
-fn choices() -> Choices {
-    Choices {
-        mode: Mode::Rolling,
-        profile: Profile::Two,
-        elements: Elements::usual(),
+fn opening() -> Opening {
+    Opening {
+        choices: Choices {
+            mode: Mode::Rolling,
+            profile: Profile::Two,
+            elements: Elements::usual(),
+        },
+        ..Opening::usual(limits(8), Params::default_profile(), 0)
     }
 }
 
 pub(crate) fn open(rt: &impl Print, alloc: Global, name: &str) -> Seen {
     begin(rt, name);
-    match Link::open_with(alloc, limits(8), Params::default_profile(), 0, 3, choices()) {
+    match Link::open_with(alloc, opening(), 3) {
         Ok((link, mut caller)) => arrival(&link, &mut caller),
         Err(why) => refused(why),
     }

@@ -82,17 +82,11 @@ fn replay<I: Read + Drop, R: Wait>(
     lines: &mut HistoryLines<I>,
     opening: &Opening,
 ) -> Result<Option<(u64, u64)>, LinkRefusal> {
-    let Opening {
-        moment,
-        limits,
-        params,
-        choices,
-    } = *opening;
-    let rolling = Choices {
+    let choices = Choices {
         mode: Mode::Rolling,
-        ..choices
+        ..opening.choices
     };
-    match Link::open_with(alloc, limits, params, moment, 1, rolling) {
+    match Link::open_with(alloc, Opening { choices, ..*opening }, 1) {
         Ok((link, mut caller)) => Ok(compare(rt, lines, &link, &mut caller)),
         Err(why) => Err(why),
     }

@@ -8,9 +8,7 @@ ghost use Rattle.pie_kept.specs.declared.entry.Entry.{Entry};
 use crate::caller::Caller;
 use crate::refusal::LinkRefusal;
 use atomic_table::TableRule;
-use pie_book::{
-    Book, Choices, Elements, Limits, Mode, OpenRefusal, Opening, Profile, registers_look_back,
-};
+use pie_book::{Book, Limits, OpenRefusal, Opening, registers_look_back};
 use pie_kept::{Entry, KeptBook};
 use pie_lock::{LockOpening, LockRule, OneNumber, Pass, Place, RuledLock, StillHeld};
 use pie_params::Params;
@@ -42,8 +40,7 @@ impl Link {
     ghost use Rattle.pie_link.specs.Headline.{KeepsOneHistory};
     ghost use Rattle.pie_link.specs.Opening.{link_refusal, IsRefusedFor};
 
-    /// Opens a link over a bounded book of profile one with the usual elements: `open_with` at `Mode::Bounded`, `Profile::One` and
-    /// `Elements::usual()`.
+    /// Opens a link over a bounded book of profile one with the usual elements: `open_with` at `Opening::usual`.
     ///
     /// # Errors
     ///
@@ -64,15 +61,10 @@ impl Link {
         ensures headline { IfOk result (λ opened. KeepsOneHistory
             ⟦<LockRule as TableRule<Option<KeptBook>, Place<Entry, Opening>, LockOpening<KeptBook>>>⟧.holds opened.0) }
     {
-        let choices = Choices {
-            mode: Mode::Bounded,
-            profile: Profile::One,
-            elements: Elements::usual(),
-        };
-        Link::open_with(alloc, limits, params, moment, callers, choices)
+        Link::open_with(alloc, Opening::usual(limits, params, moment), callers)
     }
 
-    /// Opens a link over a book with an empty queue at a moment in nanoseconds, and a caller with the numbers
+    /// Opens a link over a book that is opened so, with an empty queue, and a caller with the numbers
     /// `0..callers`, which has been shown nothing. No later call but a fold takes memory.
     ///
     /// # Errors
@@ -81,22 +73,18 @@ impl Link {
     /// `NoCallers` where `callers` is 0; `Book` with `Memory`, or `Memory`.
     pub fn open_with(
         alloc: Global,
-        limits: Limits,
-        params: Params,
-        moment: u64,
+        opening: Opening,
         callers: u16,
-        choices: Choices,
     ) -> Result<(Link, Caller), LinkRefusal>
-        ensures refused { IfErr result (IsRefusedFor (link_refusal limits moment callers)) }
-        ensures allowed { OnOk result (link_refusal limits moment callers ≡ None) }
-        ensures opening { IfOk result (λ opened. opened.0.origin
-            ≡ Some (record { moment = moment; limits = limits; params = params; choices = choices })) }
+        ensures refused { IfErr result (IsRefusedFor (link_refusal opening.limits opening.moment callers)) }
+        ensures allowed { OnOk result (link_refusal opening.limits opening.moment callers ≡ None) }
+        ensures opening { IfOk result (λ opened. opened.0.origin ≡ Some opening) }
         ensures callers { IfOk result (λ opened. opened.0.numbers ≡ callers) }
         ensures caller { IfOk result (λ opened. opened.1 ≡ first_pass opened.0 callers) }
         ensures headline { IfOk result (λ opened. KeepsOneHistory
             ⟦<LockRule as TableRule<Option<KeptBook>, Place<Entry, Opening>, LockOpening<KeptBook>>>⟧.holds opened.0) }
     {
-        let book = match Book::open_with(alloc, limits, params, moment, choices) {
+        let book = match Book::open_with(alloc, opening) {
             Ok(book) => book,
             Err(OpenRefusal::Memory) if callers == 0 => return Err(LinkRefusal::NoCallers),
             Err(why) => return Err(LinkRefusal::Book(why)),

@@ -5,7 +5,6 @@ use Rattle.std.specs.declared.alloc.Global.{Global}
 use Rattle.pie_event.specs.declared.command.Command.{Command}
 use Rattle.pie_event.specs.declared.command.Command.TheVariants.{Depart, Update, SetParams}
 use Rattle.pie_event.specs.declared.opening.Mode.TheVariants.{Bounded}
-use Rattle.pie_event.specs.declared.opening.Choices.{Choices}
 use Rattle.pie_event.specs.declared.opening.Opening.{Opening}
 use Rattle.pie_event.specs.Opening.{last_moment}
 use Rattle.pie_event.specs.Deed.{handed_in}
@@ -15,13 +14,14 @@ use Rattle.pie_kept.specs.Bursts.{arrive}
 use Rattle.pie_storm.specs.declared.plan.Change.{Change}
 use Rattle.pie_storm.specs.declared.plan.Plan.{Plan}
 
--- the choices of the link's opening: its book is bounded
-abbrev pub choices_of : Plan → Choices
-choices_of plan = record { mode = Bounded; profile = plan.profile; elements = plan.elements }
-
--- the opening of the link
+-- the opening of the link: its book is bounded
 abbrev pub opening_of : Plan → Opening
-opening_of plan = record { moment = plan.moment; limits = plan.limits; params = plan.params; choices = choices_of plan }
+opening_of plan = record {
+  moment = plan.moment;
+  limits = plan.limits;
+  params = plan.params;
+  choices = record { mode = Bounded; profile = plan.profile; elements = plan.elements };
+}
 
 -- how many senders there are
 abbrev pub senders : Plan → ℕ

@@ -1,11 +1,11 @@
 //! What a storm is asked to do.
 ghost use Rattle.std.specs.Prelude.{◌≡◌, ◌≤◌, ◌^◌, ◌-◌, ◌↔◌, IsTrue, All, Option, drop, length, map, min, slice_get, take, ◌+◌};
 ghost use Rattle.pie_kept.specs.Bursts.{arrive};
-ghost use Rattle.pie_storm.specs.Plans.{IsMoment, IsSoundArrival, IsSound, change, choices_of, commands_of, count_of, planned, turn_of};
+ghost use Rattle.pie_storm.specs.Plans.{IsMoment, IsSoundArrival, IsSound, change, commands_of, count_of, opening_of, planned, turn_of};
 ghost use Rattle.pie_storm.specs.Plans.{senders};
 ghost use Rattle.pie_event.specs.declared.command.Command.TheVariants.{Depart, Update};
 
-use pie_book::{Choices, Command, Elements, Limits, Mode, Profile};
+use pie_book::{Choices, Command, Elements, Limits, Mode, Opening, Profile};
 use pie_fixed::MAX_NANOS;
 use pie_link::Arrival;
 use pie_params::Params;
@@ -127,14 +127,19 @@ impl Plan {
             && self.has_room()
     }
 
-    /// What the book is opened with besides: it is bounded.
-    pub(crate) fn choices(&self) -> Choices
-        ensures { result ≡ choices_of self.now }
+    /// What the book is opened with: it is bounded.
+    pub(crate) fn opening(&self) -> Opening
+        ensures { result ≡ opening_of self.now }
     {
-        Choices {
-            mode: Mode::Bounded,
-            profile: self.profile,
-            elements: self.elements,
+        Opening {
+            moment: self.moment,
+            limits: self.limits,
+            params: self.params,
+            choices: Choices {
+                mode: Mode::Bounded,
+                profile: self.profile,
+                elements: self.elements,
+            },
         }
     }
 

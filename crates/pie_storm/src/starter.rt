@@ -287,15 +287,7 @@ fn open_link(alloc: Global, plan: &Plan, callers: u16) -> Result<(Link, Caller),
     ensures callers { IfOk result (λ opened. opened.0.numbers ≡ callers) }
     ensures caller { IfOk result (λ opened. opened.1 ≡ first_pass opened.0 callers) }
 {
-    let choices = plan.choices();
-    Link::open_with(
-        alloc,
-        plan.limits,
-        plan.params,
-        plan.moment,
-        callers,
-        choices,
-    )
+    Link::open_with(alloc, plan.opening(), callers)
 }
 
 // What the storm ended with: the folded events, and then the tail of the closed book. It has both by reference, since each way out would let

@@ -72,18 +72,6 @@ fn run_plan<H: Threads + Wait + Clock + Sync>(
     storm(rt, alloc, plan, &pace)
 }
 
-/// What the book of a storm is opened with.
-fn opening_of(plan: &Plan) -> Opening
-    ensures { result ≡ opening_of plan.now }
-{
-    Opening {
-        moment: plan.moment,
-        limits: plan.limits,
-        params: plan.params,
-        choices: plan.choices(),
-    }
-}
-
 /// Audits these events, which a storm of this plan left, and writes their history.
 ///
 /// # Errors
@@ -99,7 +87,7 @@ pub fn write_storm<W: Write>(
     requires limits { plan.now.limits.events ≡ plan.now.limits.tail }
     ensures { OnOk result (WritesHistory plan.now events.now (W.contents output.old) (W.contents output.new)) }
 {
-    let opening = opening_of(plan);
+    let opening = plan.opening();
     let auditor = match auditor_of(alloc, &opening, events) {
         Ok(auditor) => auditor,
         Err(_) => return Err(TraceFault::Memory),

@@ -338,13 +338,7 @@ fn at_link<R: Threads + Wait + Sync>(
 }
 
 fn dumped<R: Threads + Wait + Sync>(rt: &R, alloc: Global) -> Option<(u64, u64)> {
-    let Opening {
-        moment,
-        limits,
-        params,
-        choices,
-    } = opening();
-    match Link::open_with(alloc, limits, params, moment, 9, choices) {
+    match Link::open_with(alloc, opening(), 9) {
         Ok((link, mut caller)) => at_link(rt, alloc, &link, &mut caller),
         Err(_) => None,
     }

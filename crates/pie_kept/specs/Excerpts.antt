@@ -12,6 +12,9 @@ pub record IsFilled (opening : Opening) (history : List Entry) (empty filled : E
   pub opened : filled.opening ≡ opening
   pub ends : Ends filled (events_in history)
   pub tail : filled.tail ≡ tail_in opening history
+  -- it has as much room as before, so that it can be filled again
+  pub packets_room : filled.packets_room ≡ empty.packets_room
+  pub events_room : filled.events_room ≡ empty.events_room
 
 -- it had too little room, and is as it was
 pub record IsTooSmall (opening : Opening) (empty after : ExcerptView) : Type 0 where

@@ -15,7 +15,7 @@ mod text;
 pub mod units;
 pub mod which;
 
-pub use choice::Choice;
+pub use choice::{Choice, time_of};
 pub use explanation::{Explained, Explanation, moment_of};
 pub use form::Form;
 pub use pie_event::Setter;

@@ -3,7 +3,7 @@ ghost use Rattle.std.specs.Prelude.{◌≡◌, ◌++◌, ◌∷◌, [], ℕ, Lis
 ghost use Rattle.pie_explanation.specs.declared.explanation.Explained.{Explained};
 ghost use Rattle.pie_explanation.specs.Output.{header, said_of};
 ghost use Rattle.pie_explanation.specs.Report.{Grows};
-ghost use Rattle.pie_explanation.specs.Words.{words, words_by};
+ghost use Rattle.pie_explanation.specs.Words.{words_by};
 
 use crate::explanation::Explained;
 use crate::form::Form;
@@ -61,19 +61,12 @@ fn push_header(page: &mut Page, form: Form) -> Result<(), AllocError>
     }
 }
 
-/// Writes an explanation in words onto the page, as `Form::Text` has it.
+/// Writes an explanation in words onto the page, its moments as times of day where this record tells them.
 ///
 /// # Errors
 ///
 /// `AllocError` where there is no memory.
-pub fn push_words(page: &mut Page, told: &Explained) -> Result<(), AllocError>
-    ensures { OnOk result (page.new ≡ page.old ++ words told.now) }
-{
-    push_words_by(page, None, told)
-}
-
-/// Writes an explanation in words onto the page, its moments as times of day where this record tells them.
-fn push_words_by(page: &mut Page, clock: Option<Clock>, told: &Explained) -> Result<(), AllocError>
+pub fn push_words(page: &mut Page, clock: Option<Clock>, told: &Explained) -> Result<(), AllocError>
     ensures { OnOk result (page.new ≡ page.old ++ words_by clock told.now) }
 {
     let mut text = page.words();
@@ -92,9 +85,9 @@ fn push_said(
     ensures { OnOk result (page.new ≡ page.old ++ said_of form told.now) }
 {
     match form {
-        Form::Text => push_words(page, told),
+        Form::Text => push_words(page, None, told),
         Form::Csv => records.push(page, told),
-        Form::TextByWall => push_words_by(page, told.told.clock, told),
+        Form::TextByWall => push_words(page, told.told.clock, told),
         Form::CsvByWall => records.push_by_wall(page, told),
     }
 }

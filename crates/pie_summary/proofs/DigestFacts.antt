@@ -18,14 +18,14 @@ use Rattle.pie_summary.specs.Sums.{sums_of, waits_of}
 pub digests-push : (digest : Digest) (shown : List Explained) (one : Explained) (period : Period) (next : ℕ)
     → keeps digest period shown → next ≡ period_at digest.summary.every one
     → digests digest (shown ++ one ∷ []) ≡ digests digest shown
-    ++ (ended digest.summary.form (begins period.number next) period.sums period.waits ++ noted one)
+    ++ (ended digest.summary.form (begins period.number next) period.sums period.waits ++ noted digest.summary.form one)
 digests-push digest shown one period next kept is =
     let summary = digest.summary in
     let same : ended summary.form (begins period.number next) period.sums period.waits ≡ ended_at summary (place_of shown one) =
     λ i. ended summary.form (begins (kept.0 i) (is i)) (kept.1 i) (kept.2 i) in
     ap (λ ps. header summary.form ++ flat_map (digested_at digest) ps) (places-push shown one)
     ∙ sym (flat_map_more (digested_at digest) (header summary.form) (places shown) (place_of shown one))
-    ∙ ap (λ text. digests digest shown ++ (text ++ noted one)) (sym same)
+    ∙ ap (λ text. digests digest shown ++ (text ++ noted summary.form one)) (sym same)
 
 pub digest-ends : {E : Type 0} (result : Result (Unit {0}) E) (digest : Digest) (shown : List Explained) (sums : Sums) (waits page now : List ℕ)
     → sums ≡ sums_of (last_events digest.summary.every shown) → waits ≡ waits_of (last_events digest.summary.every shown)

@@ -1,5 +1,5 @@
 -- The definitions on worked lists: each theorem computes.
-use Rattle.std.specs.Prelude.{ℕ, ◌≡◌, ◌-◌, ◌^◌, Bool, true, false, List, [], ◌∷◌, ◌++◌, take, map, Option, Some, None, codes, refl, ⊤}
+use Rattle.std.specs.Prelude.{ℕ, ◌≡◌, ◌-◌, ◌*◌, ◌^◌, Bool, true, false, List, [], ◌∷◌, ◌++◌, take, map, Option, Some, None, codes, refl, ⊤}
 use Rattle.std.specs.Fmt.{digits}
 use Rattle.pie_params.specs.Profile.{default_profile}
 use Rattle.pie_queue.specs.declared.ecn.Ecn.TheVariants.{NotEct, Ect0}
@@ -10,6 +10,7 @@ use Rattle.pie_aqm.specs.declared.cause.Cause.TheVariants.{NoProbability, Little
 use Rattle.pie_aqm.specs.declared.cause.Fate.TheVariants as fate
 use Rattle.pie_aqm.specs.CauseName.{word_of_cause}
 use Rattle.pie_aqm.specs.Places.{greatest, last_or, places}
+use Rattle.pie_record.specs.declared.clock.Clock.{Clock}
 use Rattle.pie_event.specs.declared.command.Answer.{Answer}
 use Rattle.pie_event.specs.declared.command.Answer.TheVariants.{Enqueued, Marked, DroppedEarly, DroppedBytes, DroppedPackets, Empty, Left, Updated}
 use Rattle.pie_event.specs.declared.command.Answer.TheVariants.{Done}
@@ -17,25 +18,36 @@ use Rattle.pie_event.specs.declared.command.Command.{Command}
 use Rattle.pie_event.specs.declared.command.Command.TheVariants.{Arrive, Depart, Update, Reset}
 use Rattle.pie_event.specs.declared.registers.Registers.{Registers}
 use Rattle.pie_event.specs.declared.setter.Setter.TheVariants as setter
-use Rattle.pie_explanation.specs.declared.form.Form.TheVariants.{Text, Csv}
+use Rattle.pie_explanation.specs.declared.form.Form.TheVariants.{Text, Csv, TextByWall, CsvByWall}
 use Rattle.pie_explanation.specs.declared.explanation.Explained.{Explained}
 use Rattle.pie_explanation.specs.Words.{millis, per_cent, share}
+use Rattle.pie_units.specs.Date.{date_in, date_of, year_among, year_day}
+use Rattle.pie_units.specs.Utc.{utc_text}
 use Rattle.pie_summary.specs.declared.series.Series.{Series}
 use Rattle.pie_summary.specs.Period.{begins, last_events, last_period, period_of}
-use Rattle.pie_summary.specs.Record.{count_fields, first_fields, record_of}
+use Rattle.pie_summary.specs.Record.{count_fields, first_fields, last_fields, record_of}
 use Rattle.pie_summary.specs.Counts.{kept}
 use Rattle.pie_summary.specs.Ranges.{end_within, first_up_to, range_end, range_of, ranges_of}
 use Rattle.pie_summary.specs.Series.{series_of}
 use Rattle.pie_summary.specs.Summary.{header, summary_of}
-use Rattle.pie_summary.specs.Sums.{above_by, answer_place, cause_place, moment_at, sums_of, turned_at, waits_of}
-use Rattle.pie_summary.specs.Words.{arrival_words, arrived_words, cause_row, cause_words, dropped_words, head_words, later_words, left_words, mean}
+use Rattle.pie_summary.specs.Sums.{above_by, answer_place, cause_place, excess_by, late_at, moment_at, sums_of, turned_at, waits_of}
+use Rattle.pie_summary.specs.Words.{above_words, arrival_words, arrived_words, cause_row, cause_words, disagree, disagree_words, dropped_words}
+use Rattle.pie_summary.specs.Words.{head_words, late_words, later_words, left_words, mean, time_words, turning_words}
 use Rattle.pie_summary.specs.Words.{queued_words, row_words, target_words, title, turned_words, update_words, verdict_words, words}
 
 -- all that a theorem on a worked list computes with
 unfoldable worked : Type 0
 unfolding greatest last_or places sums_of header digits millis per_cent share first_fields count_fields record_of row_words queued_words dropped_words
-    word_of_cause cause_row cause_words head_words arrived_words left_words update_words target_words range_of range_end ranges_of waits_of turned_words verdict_words title arrival_words later_words words
+    word_of_cause cause_row cause_words head_words arrived_words left_words update_words target_words range_of range_end ranges_of waits_of turned_words
+    verdict_words title arrival_words later_words words last_fields
+    late_words disagree_words above_words turning_words time_words utc_text date_of date_in year_among year_day
 worked = ⊤
+
+-- ---- two times
+
+-- they agree where the one is at least half the other, rounded down
+agreeing : map (disagree 8) (2 ∷ 3 ∷ 4 ∷ 8 ∷ 16 ∷ 17 ∷ 18 ∷ []) ≡ true ∷ true ∷ false ∷ false ∷ false ∷ false ∷ true ∷ []
+agreeing = refl
 
 -- ---- periods
 
@@ -102,6 +114,10 @@ above-the-target = (refl, refl, refl)
 
 abbrev packet : ℕ → ℕ → Packet
 packet tag size = record { tag = tag; size = size; ecn = NotEct }
+
+-- by how much a packet had waited longer than the target
+excesses : map (λ waited. excess_by (Left (packet 1 60)) waited 15) (14 ∷ 15 ∷ 16 ∷ []) ≡ None ∷ None ∷ Some 1 ∷ []
+excesses = refl
 
 abbrev capable : ℕ → ℕ → Packet
 capable tag size = record { tag = tag; size = size; ecn = Ect0 }
@@ -204,12 +220,18 @@ fourteen-sums : sums_of fourteen ≡ record {
   moments = series 14 40 499 499 3885;
   arrived = series 6 1000 64 65535 68664;
   waits = series 3 111 15 140 266;
+  departures = series 3 151 420 420 831;
+  excesses = series 0 0 0 0 0;
   delays = series 2 30 4 30 34;
   probs = series 14 0 0 200_000_000_000 800_000_000_000;
   turned_on = series 2 40 405 405 445;
   turned_off = series 1 250 250 250 250;
+  times = series 0 0 0 0 0;
+  on_times = series 0 0 0 0 0;
+  off_times = series 0 0 0 0 0;
   carried = 2565;
   above = 0;
+  late = 0;
   target = 15_000_000;
   burst = 0;
 }
@@ -223,12 +245,18 @@ no-sums : sums_of [] ≡ record {
   moments = series 0 0 0 0 0;
   arrived = series 0 0 0 0 0;
   waits = series 0 0 0 0 0;
+  departures = series 0 0 0 0 0;
+  excesses = series 0 0 0 0 0;
   delays = series 0 0 0 0 0;
   probs = series 0 0 0 0 0;
   turned_on = series 0 0 0 0 0;
   turned_off = series 0 0 0 0 0;
+  times = series 0 0 0 0 0;
+  on_times = series 0 0 0 0 0;
+  off_times = series 0 0 0 0 0;
   carried = 0;
   above = 0;
+  late = 0;
   target = 0;
   burst = 0;
 }
@@ -252,33 +280,39 @@ last-of-a-return = refl
 
 -- ---- what is written
 
-abbrev names : List ℕ
-names =
+abbrev field_line : List ℕ
+field_line =
     codes "events,first_moment,last_moment,arrivals,arrived_bytes,enqueue,mark,early,bytes,packets,no_room_in_bytes,no_room_in_packets,inactive,"
     ++ codes "burst_allowed,low_delay,short_queue,no_probability,little_accumulated,picked_by_sum,picked_by_sum_not_capable,picked_by_sum_not_below,"
     ++ codes "picked_by_word,picked_by_word_not_capable,picked_by_word_not_below,word_not_below,left,greatest_wait,mean_wait,updates,greatest_delay,"
     ++ codes "last_delay,greatest_probability,last_probability,turned_on,first_turned_on,last_turned_on,turned_off,first_turned_off,last_turned_off,"
-    ++ codes "wait_99,carried_bytes,last_target,last_burst_allowance,time_above_target\n"
+    ++ codes "wait_99,carried_bytes,last_target,last_burst_allowance,time_above_target"
+    ++ codes ",waited_above_target,time_waited_above_target"
+
+abbrev names : List ℕ
+names = field_line ++ codes "\n"
 
 -- one record of all
 all-record : summary_of (record { form = Csv; every = None }) fourteen
-    ≡ names ++ codes "14,40,499,6,68664,2,1,1,1,1,1,1,2,0,0,0,0,0,0,0,0,1,1,0,0,3,140,88,3,30,4,200000000000,0,2,40,405,1,250,250,140,2565,15000000,0,0\n"
+    ≡ names ++ codes "14,40,499,6,68664,2,1,1,1,1,1,1,2,0,0,0,0,0,0,0,0,1,1,0,0,3,140,88,3,30,4,200000000000,0,2,40,405,1,250,250,"
+    ++ codes "140,2565,15000000,0,0,0,0\n"
 unfolding worked
 all-record = refl
 
 -- one of each period that has events
 period-records : summary_of (record { form = Csv; every = Some 100 }) fourteen
-    ≡ names ++ codes "2,40,99,1,1000,1,0,0,0,0,0,0,1,0,0,0,0,0,0,0,0,0,0,0,0,0,0,0,1,30,30,200000000000,200000000000,1,40,40,0,0,0,0,0,15000000,0,0\n"
+    ≡ names ++ codes "2,40,99,1,1000,1,0,0,0,0,0,0,1,0,0,0,0,0,0,0,0,0,0,0,0,0,0,0,1,30,30,200000000000,200000000000,1,40,40,0,0,0,"
+    ++ codes "0,0,15000000,0,0,0,0\n"
     ++ codes "3,100,151,2,2001,0,1,1,0,0,0,0,0,0,0,0,0,0,0,0,0,1,1,0,0,1,111,111,0,0,0,200000000000,200000000000,0,0,0,0,0,0,"
-    ++ codes "111,1000,15000000,0,0\n"
-    ++ codes "3,250,299,0,0,0,0,0,0,0,0,0,0,0,0,0,0,0,0,0,0,0,0,0,0,1,140,140,2,4,4,0,0,0,0,0,1,250,250,140,1501,15000000,0,0\n"
-    ++ codes "6,405,499,3,65663,1,0,0,1,1,1,1,1,0,0,0,0,0,0,0,0,0,0,0,0,1,15,15,0,0,0,0,0,1,405,405,0,0,0,15,64,15000000,0,0\n"
+    ++ codes "111,1000,15000000,0,0,0,0\n"
+    ++ codes "3,250,299,0,0,0,0,0,0,0,0,0,0,0,0,0,0,0,0,0,0,0,0,0,0,1,140,140,2,4,4,0,0,0,0,0,1,250,250,140,1501,15000000,0,0,0,0\n"
+    ++ codes "6,405,499,3,65663,1,0,0,1,1,1,1,1,0,0,0,0,0,0,0,0,0,0,0,0,1,15,15,0,0,0,0,0,1,405,405,0,0,0,15,64,15000000,0,0,0,0\n"
 unfolding worked
 period-records = refl
 
 -- where there is no event, one of none
 no-record : summary_of (record { form = Csv; every = Some 100 }) []
-    ≡ names ++ codes "0,0,0,0,0,0,0,0,0,0,0,0,0,0,0,0,0,0,0,0,0,0,0,0,0,0,0,0,0,0,0,0,0,0,0,0,0,0,0,0,0,0,0,0\n"
+    ≡ names ++ codes "0,0,0,0,0,0,0,0,0,0,0,0,0,0,0,0,0,0,0,0,0,0,0,0,0,0,0,0,0,0,0,0,0,0,0,0,0,0,0,0,0,0,0,0,0,0\n"
 unfolding worked
 no-record = refl
 
@@ -294,8 +328,75 @@ all-words : summary_of (record { form = Text; every = None }) fourteen
     ++ codes "    and the last 0.000004 ms (4 ns)\n"
     ++ codes "  the greatest probability was 20.0000 % (200000000000), and the last 0.0000 % (0)\n"
     ++ codes "  delays were above the target for 0.000000 ms (0 ns);\n    at the end it was 15.000000 ms (15000000 ns),\n"
-    ++ codes "    and the burst allowance 0.000000 ms (0 ns)\n"
+    ++ codes "    and the burst allowance 0.000000 ms (0 ns)\n  0 packets, 0.0000 % of those that left, had waited longer than the target,\n"
+    ++ codes "    at the head of the queue for 0.000000 ms (0 ns)\n"
     ++ codes "  turned on 2 times, first at 0.000040 ms (40 ns),\n    and last at 0.000405 ms (405 ns)\n"
     ++ codes "  turned off 1 times, first at 0.000250 ms (250 ns),\n    and last at 0.000250 ms (250 ns)\n"
 unfolding worked
 all-words = refl
+
+-- ---- packets that had waited longer than the target, at times of day
+
+-- a packet that leaves when it had waited so many milliseconds, at such a millisecond, by a clock that told the time of day at the first, if any did
+abbrev leaves : Option Clock → ℕ → ℕ → Explained
+leaves clock moment waited = record {
+  told = record {
+    number = 0;
+    event = record { caller = 1; command = Depart (moment * 10 ^ 6); answer = Left (packet 1 60) };
+    moment = moment * 10 ^ 6;
+    before = held true 0;
+    delay = 0;
+    cause = None;
+    waited = waited * 10 ^ 6;
+    set_by = setter.Opening;
+    updates = 0;
+    clock = clock;
+  };
+  after = held true 0;
+  delay = 0;
+}
+
+-- it was 20:00 at moment 0
+abbrev at_eight : Option Clock
+at_eight = Some (record { moment = 0; unix = 1_795_723_200_000_000_000 })
+
+-- The first event is a departure, so no time of it is known to lie behind another; one waited less than 15 ms and one as long; one waited 18 ms, of
+-- which 3 ms were behind the target; and one 17 ms, of whose 2 ms one only passed since the packet before it left.
+abbrev five : List Explained
+five = leaves None 20 16 ∷ leaves at_eight 30 14 ∷ leaves at_eight 50 18 ∷ leaves at_eight 51 17 ∷ leaves at_eight 70 15 ∷ []
+
+late-times : map late_at (places five) ≡ 0 ∷ 0 ∷ 3_000_000 ∷ 1_000_000 ∷ 0 ∷ []
+unfolding worked
+late-times = refl
+
+late-sums : ((sums_of five).late ≡ 4_000_000) × ((sums_of five).excesses ≡ series 3 1_000_000 2_000_000 3_000_000 6_000_000)
+    × ((sums_of five).times.first ≡ 1_795_723_200_030_000_000) × ((sums_of five).times.count ≡ 4)
+unfolding worked
+late-sums = (refl, refl, refl, refl)
+
+-- a record has the first time of day that is told, and none where none is
+by-wall : (summary_of (record { form = CsvByWall; every = Some 30_000_000 }) (take 2 five)
+    ≡ field_line ++ codes ",wall\n"
+    ++ codes "1,20000000,20000000,0,0,0,0,0,0,0,0,0,0,0,0,0,0,0,0,0,0,0,0,0,0,1,16000000,16000000,0,0,0,0,0,0,0,0,0,0,0,"
+    ++ codes "16000000,60,15000000,0,0,1,0,\n"
+    ++ codes "1,30000000,30000000,0,0,0,0,0,0,0,0,0,0,0,0,0,0,0,0,0,0,0,0,0,0,1,14000000,14000000,0,0,0,0,0,0,0,0,0,0,0,14000000,60,15000000,0,0,0,0,"
+    ++ codes "2026-11-26T20:00:00.030000000Z\n")
+unfolding worked
+by-wall = refl
+
+-- in words, where the delay at no update was above the target
+late-in-words : summary_of (record { form = TextByWall; every = None }) five
+    ≡ codes "5 events, from 20.000000 ms (20000000 ns) to 70.000000 ms (70000000 ns)\n"
+    ++ codes "  by the time of day from 2026-11-26T20:00:00.030000000Z to 2026-11-26T20:00:00.070000000Z\n  0 arrivals, 0 bytes\n"
+    ++ codes "    queued: 0, 0.0000 %\n    queued and marked: 0, 0.0000 %\n    dropped early: 0, 0.0000 %\n"
+    ++ codes "    dropped, no room in bytes: 0, 0.0000 %\n    dropped, no room in packets: 0, 0.0000 %\n  by what decided them\n"
+    ++ codes "  5 packets left; they had waited at most 18.000000 ms (18000000 ns),\n    and in the mean 16.000000 ms (16000000 ns)\n"
+    ++ codes "    99 of 100 had waited at most 18.000000 ms (18000000 ns)\n    they carried 300 bytes\n"
+    ++ codes "  0 updates; the greatest delay was 0.000000 ms (0 ns),\n    and the last 0.000000 ms (0 ns)\n"
+    ++ codes "  the greatest probability was 0.0000 % (0), and the last 0.0000 % (0)\n"
+    ++ codes "  delays were above the target for 0.000000 ms (0 ns);\n    at the end it was 15.000000 ms (15000000 ns),\n"
+    ++ codes "    and the burst allowance 0.000000 ms (0 ns)\n  3 packets, 60.0000 % of those that left, had waited longer than the target,\n"
+    ++ codes "    at the head of the queue for 4.000000 ms (4000000 ns)\n"
+    ++ codes "    the two times disagree: the controller's delay was not what packets waited\n"
+unfolding worked
+late-in-words = refl

@@ -4,15 +4,15 @@ use Rattle.std.specs.Prelude.{max, min, slice_index, if◌then◌else◌}
 use Rattle.std.specs.List.{sum}
 use Rattle.std.proofs.lemmas.List.{length_push}
 use Rattle.std.proofs.lemmas.List.Sums.{sum_by_push}
-use Rattle.pie_aqm.specs.Places.{greatest}
+use Rattle.pie_aqm.specs.Places.{greatest, last_or}
 use Rattle.pie_aqm.proofs.Places.{greatest-push, last_or-push}
 use Rattle.pie_summary.specs.declared.series.Series.{Series}
 use Rattle.pie_summary.specs.Counts.{kept}
-use Rattle.pie_summary.specs.Series.{first_with, series_of}
+use Rattle.pie_summary.specs.Series.{held_or, series_of}
 use Rattle.pie_summary.proofs.CountFacts.{kept-more}
 
 -- the first number of a list with one more
-first-push : (numbers : List ℕ) (number : ℕ) → first_with (kept (length numbers)) (slice_index numbers 0) number
+first-push : (numbers : List ℕ) (number : ℕ) → held_or (kept (length numbers)) (slice_index numbers 0) number
     ≡ slice_index (numbers ++ number ∷ []) 0
 first-push [] number = refl
 first-push (first ∷ numbers) number = later (length numbers)
@@ -20,19 +20,28 @@ first-push (first ∷ numbers) number = later (length numbers)
     later : (n : ℕ) → (if kept (suc n) == 0 then number else first) ≡ first
     later n = grind arith
 
+-- the last number of a list, or this one where it has none, by how many it has
+pub last-held : (number : ℕ) (numbers : List ℕ) → held_or (kept (length numbers)) (last_or 0 numbers) number ≡ last_or number numbers
+unfolding last_or
+last-held number [] = refl
+last-held number (first ∷ numbers) = later (length numbers)
+  where
+    later : (n : ℕ) → (if kept (suc n) == 0 then number else last_or first numbers) ≡ last_or first numbers
+    later n = grind arith
+
 -- the parts of a series
 abbrev the_series : ℕ → ℕ → ℕ → ℕ → ℕ → Series
 the_series count first last greatest total = record { count = count; first = first; last = last; greatest = greatest; total = total }
 
 pub series-push : (numbers : List ℕ) (number : ℕ) (old : Series) (count first greatest_then total : ℕ) → old ≡ series_of numbers
-    → count ≡ min (old.count + 1) 18446744073709551615 → first ≡ first_with old.count old.first number → greatest_then ≡ max old.greatest number
+    → count ≡ min (old.count + 1) 18446744073709551615 → first ≡ held_or old.count old.first number → greatest_then ≡ max old.greatest number
     → total ≡ min (old.total + number) 340282366920938463463374607431768211455
     → the_series count first number greatest_then total ≡ series_of (numbers ++ number ∷ [])
 series-push numbers number old count first greatest_then total old-is count-is first-is greatest-is total-is =
     let counted : count ≡ kept (length (numbers ++ number ∷ [])) =
     count-is ∙ ap (λ (s : Series). min (s.count + 1) 18446744073709551615) old-is ∙ kept-more (length numbers) 1 18446744073709551615
     ∙ ap kept (sym (length_push numbers number)) in
-    let begun : first ≡ slice_index (numbers ++ number ∷ []) 0 = first-is ∙ ap (λ (s : Series). first_with s.count s.first number) old-is
+    let begun : first ≡ slice_index (numbers ++ number ∷ []) 0 = first-is ∙ ap (λ (s : Series). held_or s.count s.first number) old-is
     ∙ first-push numbers number in
     let most : greatest_then ≡ greatest (numbers ++ number ∷ []) = greatest-is ∙ ap (λ (s : Series). max s.greatest number) old-is
     ∙ sym (greatest-push numbers number) in

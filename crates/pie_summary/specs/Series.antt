@@ -15,6 +15,6 @@ series_of numbers = record {
   total = min (sum numbers) (2 ^ 128 - 1);
 }
 
--- the first number, where so many were before this one
-abbrev pub first_with : ℕ → ℕ → ℕ → ℕ
-first_with count first number = if count == 0 then number else first
+-- what is held of so many numbers, and this one where there are none
+abbrev pub held_or : ℕ → ℕ → ℕ → ℕ
+held_or count held number = if count == 0 then number else held

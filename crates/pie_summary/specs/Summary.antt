@@ -1,5 +1,5 @@
 -- What is written for summaries of the explained events.
-use Rattle.std.specs.Prelude.{ℕ, ◌≡◌, Bool, true, false, List, [], ◌++◌}
+use Rattle.std.specs.Prelude.{ℕ, ◌≡◌, Bool, true, false, List, [], ◌∷◌, ◌++◌, codes}
 use Rattle.std.specs.List.{flat_map}
 use Rattle.pie_aqm.specs.Places.{Place, places}
 use Rattle.pie_explanation.specs.declared.form.Form.{Form}
@@ -19,14 +19,14 @@ unfoldable pub header : Form → List ℕ
 header Text = []
 header Csv = line_of field_names
 header TextByWall = []
-header CsvByWall = line_of field_names
+header CsvByWall = line_of (field_names ++ codes "wall" ∷ [])
 
 -- these numbers in words, or as a CSV record
 abbrev pub said : Form → Sums → List ℕ → List ℕ
-said Text sums ranges = words sums (wait_99 ranges sums.waits)
-said Csv sums ranges = record_of sums (wait_99 ranges sums.waits)
-said TextByWall sums ranges = words sums (wait_99 ranges sums.waits)
-said CsvByWall sums ranges = record_of sums (wait_99 ranges sums.waits)
+said Text sums ranges = words false sums (wait_99 ranges sums.waits)
+said Csv sums ranges = record_of false sums (wait_99 ranges sums.waits)
+said TextByWall sums ranges = words true sums (wait_99 ranges sums.waits)
+said CsvByWall sums ranges = record_of true sums (wait_99 ranges sums.waits)
 
 -- .. of these events
 abbrev pub said_of : Form → List Explained → List ℕ

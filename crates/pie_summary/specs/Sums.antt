@@ -1,8 +1,8 @@
 -- The numbers of a summary, each over the whole list of the events that were explained.
-use Rattle.std.specs.Prelude.{ℕ, ◌-◌, nat_lt, if◌then◌else◌, Bool, true, false, List, map, Option, Some, None}
+use Rattle.std.specs.Prelude.{ℕ, ◌-◌, nat_lt, min, if◌then◌else◌, Bool, true, false, List, map, slice_index, Option, Some, None}
 use Rattle.std.specs.List.{filter_map, sum}
 use Rattle.pie_aqm.specs.declared.cause.Cause.{Cause}
-use Rattle.pie_aqm.specs.Places.{last_or}
+use Rattle.pie_aqm.specs.Places.{Place, last_or, places, up_to}
 use Rattle.pie_aqm.specs.CauseName.{name_of, place_of_cause}
 use Rattle.pie_event.specs.declared.command.Command.{Command}
 use Rattle.pie_event.specs.declared.command.Command.TheVariants.{Arrive}
@@ -10,6 +10,7 @@ use Rattle.pie_event.specs.declared.command.Answer.{Answer}
 use Rattle.pie_event.specs.declared.command.Answer.TheVariants.{Enqueued, Marked, DroppedEarly, DroppedBytes, DroppedPackets, Empty, Left, Updated}
 use Rattle.pie_event.specs.declared.command.Answer.TheVariants.{Done}
 use Rattle.pie_explanation.specs.declared.explanation.Explained.{Explained}
+use Rattle.pie_explanation.specs.Choice.{time_of}
 use Rattle.pie_summary.specs.declared.sums.Sums.{Sums}
 use Rattle.pie_summary.specs.Counts.{counts_of, kept}
 use Rattle.pie_summary.specs.Ranges.{ranges_of}
@@ -47,13 +48,26 @@ size_by _ = None
 abbrev pub size_in : Explained → Option ℕ
 size_in all = size_by all.told.event.command
 
--- how long the packet had waited that left
-abbrev pub wait_by : Answer → ℕ → Option ℕ
-wait_by (Left packet) waited = Some waited
-wait_by _ waited = None
+-- this number, where a packet left
+abbrev pub where_left : Answer → ℕ → Option ℕ
+where_left (Left packet) number = Some number
+where_left _ number = None
 
+-- how long the packet had waited that left
 abbrev pub wait_in : Explained → Option ℕ
-wait_in all = wait_by all.told.event.answer all.told.waited
+wait_in all = where_left all.told.event.answer all.told.waited
+
+-- the moment of an event at which a packet left
+abbrev pub left_at : Explained → Option ℕ
+left_at all = where_left all.told.event.answer all.told.moment
+
+-- how much longer than the target the packet had waited that left, where it had waited longer
+abbrev pub excess_by : Answer → ℕ → ℕ → Option ℕ
+excess_by (Left packet) waited target = if nat_lt target waited then Some (waited - target) else None
+excess_by _ waited target = None
+
+abbrev pub excess_in : Explained → Option ℕ
+excess_in all = excess_by all.told.event.answer all.told.waited all.told.before.params.target
 
 -- the delay that an update took, where the controller was active before it
 abbrev pub delay_by : Bool → Answer → Option ℕ
@@ -105,6 +119,37 @@ turned_on all = turned_at true all.told.before.active all.after.active all.told.
 abbrev pub turned_off : Explained → Option ℕ
 turned_off all = turned_at false all.told.before.active all.after.active all.told.moment
 
+-- the time of day of an event, where a record before it tells it
+abbrev pub time_at : Explained → Option ℕ
+time_at all = time_of all.told.clock all.told.moment
+
+-- .. where this moment is one
+abbrev pub time_where : Option ℕ → Option ℕ → Option ℕ
+time_where None time = None
+time_where (Some moment) time = time
+
+abbrev pub on_time : Explained → Option ℕ
+on_time all = time_where (turned_on all) (time_at all)
+
+abbrev pub off_time : Explained → Option ℕ
+off_time all = time_where (turned_off all) (time_at all)
+
+-- ---- of an event after others
+
+-- since when a packet that leaves was the first in the queue, as far as these events tell: the last one before it left then, or, where none did,
+-- the first event was then
+abbrev pub first_since : Place Explained → ℕ
+first_since place = last_or (slice_index (map moment_at (up_to place)) 0) (filter_map left_at place.before)
+
+-- as much of this excess as lies within so long
+abbrev pub excess_within : Option ℕ → ℕ → ℕ
+excess_within None since = 0
+excess_within (Some excess) since = min excess since
+
+-- how long the packet that left was the first in the queue and had waited longer than the target
+abbrev pub late_at : Place Explained → ℕ
+late_at place = excess_within (excess_in place.event) (moment_at place.event - first_since place)
+
 -- ---- of a list of events
 
 abbrev pub answer_of : Explained → ℕ
@@ -121,12 +166,18 @@ sums_of all = record {
   moments = series_of (map moment_at all);
   arrived = series_of (filter_map size_in all);
   waits = series_of (filter_map wait_in all);
+  departures = series_of (filter_map left_at all);
+  excesses = series_of (filter_map excess_in all);
   delays = series_of (filter_map delay_in all);
   probs = series_of (map prob_at all);
   turned_on = series_of (filter_map turned_on all);
   turned_off = series_of (filter_map turned_off all);
+  times = series_of (filter_map time_at all);
+  on_times = series_of (filter_map on_time all);
+  off_times = series_of (filter_map off_time all);
   carried = kept (sum (map carried_in all));
   above = kept (sum (map above_in all));
+  late = kept (sum (map late_at (places all)));
   target = last_or 0 (map target_at all);
   burst = last_or 0 (map burst_at all);
 }

@@ -5,7 +5,7 @@ ghost use Rattle.pie_summary.specs.Period.{begins, last_events, last_period, per
 ghost use Rattle.pie_summary.specs.Sums.{sums_of, waits_of};
 
 use crate::ranges::Ranges;
-use crate::sums::{Sums, wait_by};
+use crate::sums::{Sums, where_left};
 use pie_explanation::Explained;
 use std::alloc::{AllocError, Global};
 
@@ -85,6 +85,6 @@ impl Period {
         self.number = Some(number);
         self.sums = self.sums.with(told);
         self.waits
-            .take_some(wait_by(told.told.event.answer, told.told.waited));
+            .take_some(where_left(told.told.event.answer, told.told.waited));
     }
 }

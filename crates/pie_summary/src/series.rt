@@ -1,7 +1,7 @@
 //! What a summary keeps of a list of numbers.
 ghost use Rattle.std.specs.Prelude.{◌≡◌, ◌++◌, ◌∷◌, [], ℕ, List, Option, Some, None};
 ghost use Rattle.std.specs.List.{cons_option};
-ghost use Rattle.pie_summary.specs.Series.{first_with};
+ghost use Rattle.pie_summary.specs.Series.{held_or};
 
 /// How many numbers there were, the first, the last, the greatest, and their sum; all 0 where there was none.
 #[derive(Clone, Copy, Debug)]
@@ -18,11 +18,11 @@ pub struct Series {
     pub total: u128,
 }
 
-/// The first number, where so many were before this one.
-fn first_with(count: u64, first: u64, number: u64) -> u64
-    ensures { result ≡ first_with count first number }
+/// What is held of so many numbers, and this one where there are none.
+pub(crate) fn held_or(count: u64, held: u64, number: u64) -> u64
+    ensures { result ≡ held_or count held number }
 {
-    if count == 0 { number } else { first }
+    if count == 0 { number } else { held }
 }
 
 impl Series {
@@ -47,7 +47,7 @@ impl Series {
     {
         Series {
             count: self.count.saturating_add(1),
-            first: first_with(self.count, self.first, number),
+            first: held_or(self.count, self.first, number),
             last: number,
             greatest: self.greatest.max(number),
             total: self.total.saturating_add(u128::from(number)),

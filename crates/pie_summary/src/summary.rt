@@ -5,7 +5,7 @@ ghost use Rattle.pie_summary.specs.Summary.{ended, header, said};
 
 use crate::period::{Period, period_of};
 use crate::ranges::Ranges;
-use crate::record::{HEADER, push_record};
+use crate::record::{NAMES, push_record};
 use crate::sums::Sums;
 use crate::words::{push_words, wait_99};
 use pie_explanation::{Explained, Form, Report};
@@ -17,7 +17,8 @@ use std::alloc::AllocError;
 /// last event is known.
 #[derive(Clone, Copy, Debug, PartialEq, Eq)]
 pub struct Summary {
-    /// In words, or as CSV: a header row, and one record a summary.
+    /// In words, or as CSV: a header row, and one record a summary. By times of day a line tells those of the first and the last event that has
+    /// one, and a last field of a record that of the first.
     pub form: Form,
     /// How many nanoseconds a period lasts, 1 at least, the first from moment 0 on; none where all events are summed up together.
     pub every: Option<u64>,
@@ -30,7 +31,14 @@ pub(crate) fn push_header(page: &mut Page, form: Form) -> Result<(), AllocError>
 {
     match form {
         Form::Text | Form::TextByWall => Ok(()),
-        Form::Csv | Form::CsvByWall => page.push(HEADER.as_bytes()),
+        Form::Csv => {
+            page.push(NAMES.as_bytes())?;
+            page.push(b"\n")
+        }
+        Form::CsvByWall => {
+            page.push(NAMES.as_bytes())?;
+            page.push(b",wall\n")
+        }
     }
 }
 
@@ -40,8 +48,10 @@ fn push_sums(text: &mut String, form: Form, sums: &Sums, waits: &Ranges) -> Resu
 {
     let most = wait_99(waits, &sums.waits);
     match form {
-        Form::Text | Form::TextByWall => push_words(text, sums, most),
-        Form::Csv | Form::CsvByWall => push_record(text, sums, most),
+        Form::Text => push_words(text, false, sums, most),
+        Form::TextByWall => push_words(text, true, sums, most),
+        Form::Csv => push_record(text, false, sums, most),
+        Form::CsvByWall => push_record(text, true, sums, most),
     }
 }
 

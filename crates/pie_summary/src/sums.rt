@@ -1,11 +1,12 @@
 //! The numbers of a summary.
 ghost use Rattle.std.specs.Prelude.{◌≡◌, ◌+◌, ◌-◌, ◌^◌, ◌<◌, ◌++◌, ◌∷◌, [], List, length, min, slice_index, slice_set};
 ghost use Rattle.pie_explanation.specs.declared.explanation.Explained.{Explained};
-ghost use Rattle.pie_summary.specs.Sums.{above_by, answer_place, carried_by, cause_place, delay_by, size_by, turned_at, wait_by};
+ghost use Rattle.pie_summary.specs.Sums.{above_by, answer_place, carried_by, cause_place, delay_by, excess_by, excess_within, size_by, time_where};
+ghost use Rattle.pie_summary.specs.Sums.{turned_at, where_left};
 
-use crate::series::Series;
+use crate::series::{Series, held_or};
 use pie_book::{Answer, Cause, Command};
-use pie_explanation::Explained;
+use pie_explanation::{Explained, time_of};
 
 /// The numbers of a summary, each over all events that it was shown.
 #[derive(Clone, Copy, Debug)]
@@ -21,6 +22,10 @@ pub struct Sums {
     pub arrived: Series,
     /// How long the packets that left had waited, in nanoseconds.
     pub waits: Series,
+    /// The moments at which they left.
+    pub departures: Series,
+    /// How much longer than the target that then held those had waited that had waited longer, in nanoseconds.
+    pub excesses: Series,
     /// The delays that the updates took, while the controller was active, in nanoseconds.
     pub delays: Series,
     /// The probabilities after the events, in units of 10^-12.
@@ -29,11 +34,20 @@ pub struct Sums {
     pub turned_on: Series,
     /// The moments of those that turned it off.
     pub turned_off: Series,
+    /// The times of day of the events, where a record before them tells it, in nanoseconds after 1970-01-01T00:00:00Z.
+    pub times: Series,
+    /// Those of the events that turned the controller on.
+    pub on_times: Series,
+    /// Those of the events that turned it off.
+    pub off_times: Series,
     /// The bytes of the packets that left, and 2^64 - 1 where there were more.
     pub carried: u64,
     /// How long it was, in nanoseconds, from the update before to each that took a delay above the target, while the controller was
     /// active; 2^64 - 1 where it was longer.
     pub above: u64,
+    /// How long the first packet in the queue had waited longer than the target, in nanoseconds, of the packets that left: of each as much
+    /// of its excess as passed since the packet before it left, or since the first event; 2^64 - 1 where it was longer.
+    pub late: u64,
     /// The target after the last event, in nanoseconds; 0 where there was none.
     pub target: u64,
     /// What was left of the burst allowance after the last event, in nanoseconds; 0 where there was none.
@@ -89,13 +103,43 @@ fn size_by(command: Command) -> Option<u64>
     }
 }
 
-/// How long the packet had waited that left.
-pub(crate) fn wait_by(answer: Answer, waited: u64) -> Option<u64>
-    ensures { result ≡ wait_by answer waited }
+/// This number, where a packet left.
+pub(crate) fn where_left(answer: Answer, number: u64) -> Option<u64>
+    ensures { result ≡ where_left answer number }
 {
     match answer {
-        Answer::Left(_) => Some(waited),
+        Answer::Left(_) => Some(number),
         _ => None,
+    }
+}
+
+/// How much longer than the target the packet had waited that left, where it had waited longer.
+fn excess_by(answer: Answer, waited: u64, target: u64) -> Option<u64>
+    ensures { result ≡ excess_by answer waited target }
+{
+    match answer {
+        Answer::Left(_) if target < waited => Some(waited - target),
+        _ => None,
+    }
+}
+
+/// As much of an excess as lies within so long.
+fn excess_within(excess: Option<u64>, since: u64) -> u64
+    ensures { result ≡ excess_within excess since }
+{
+    match excess {
+        Some(excess) => excess.min(since),
+        None => 0,
+    }
+}
+
+/// A time of day, where this moment is one.
+fn time_where(moment: Option<u64>, time: Option<u64>) -> Option<u64>
+    ensures { result ≡ time_where moment time }
+{
+    match moment {
+        Some(_) => time,
+        None => None,
     }
 }
 
@@ -160,12 +204,18 @@ impl Sums {
             moments: none,
             arrived: none,
             waits: none,
+            departures: none,
+            excesses: none,
             delays: none,
             probs: none,
             turned_on: none,
             turned_off: none,
+            times: none,
+            on_times: none,
+            off_times: none,
             carried: 0,
             above: 0,
+            late: 0,
             target: 0,
             burst: 0,
         }
@@ -181,20 +231,36 @@ impl Sums {
             told.before.params.target().units(),
             moment.saturating_sub(told.before.last),
         );
+        let moments = self.moments.with(moment);
+        let excess = excess_by(answer, told.waited, target);
+        let first_since = held_or(self.departures.count, self.departures.last, moments.first);
+        let (on, off) = (
+            turned_at(true, was, is, moment),
+            turned_at(false, was, is, moment),
+        );
+        let time = time_of(told.clock, moment);
         Sums {
             answers: counted(self.answers, answer_place(answer)),
             causes: counted(self.causes, cause_place(told.cause)),
-            moments: self.moments.with(moment),
+            moments,
             arrived: self.arrived.with_some(size_by(told.event.command)),
-            waits: self.waits.with_some(wait_by(answer, told.waited)),
+            waits: self.waits.with_some(where_left(answer, told.waited)),
+            departures: self.departures.with_some(where_left(answer, moment)),
+            excesses: self.excesses.with_some(excess),
             delays: self.delays.with_some(delay_by(was, answer)),
             probs: self.probs.with(all.after.prob),
-            turned_on: self.turned_on.with_some(turned_at(true, was, is, moment)),
-            turned_off: self.turned_off.with_some(turned_at(false, was, is, moment)),
+            turned_on: self.turned_on.with_some(on),
+            turned_off: self.turned_off.with_some(off),
+            times: self.times.with_some(time),
+            on_times: self.on_times.with_some(time_where(on, time)),
+            off_times: self.off_times.with_some(time_where(off, time)),
             carried: self.carried.saturating_add(carried_by(answer)),
             above: self
                 .above
                 .saturating_add(above_by(was, answer, target, since)),
+            late: self
+                .late
+                .saturating_add(excess_within(excess, moment.saturating_sub(first_since))),
             target: all.after.params.target().units(),
             burst: all.after.burst,
         }

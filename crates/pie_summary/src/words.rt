@@ -1,13 +1,15 @@
 //! A summary in words.
 ghost use Rattle.std.specs.Prelude.{◌≡◌, ◌++◌, OnOk, string_bytes};
-ghost use Rattle.pie_summary.specs.Words.{arrival_words, arrived_words, cause_row, cause_rows, cause_words, dropped_words, head_words, later_words, left_words};
-ghost use Rattle.pie_summary.specs.Words.{mean, queued_words, row_words, target_words, turned_words, update_words, verdict_words, wait_99, words};
+ghost use Rattle.pie_summary.specs.Words.{above_words, arrival_words, arrived_words, cause_row, cause_rows, cause_words, disagree_words};
+ghost use Rattle.pie_summary.specs.Words.{dropped_words, head_words, late_words, later_words, left_words, mean, queued_words, row_words};
+ghost use Rattle.pie_summary.specs.Words.{target_words, time_words, turned_words, turning_words, update_words, verdict_words, wait_99, words};
 
 use crate::ranges::Ranges;
 use crate::series::Series;
 use crate::sums::Sums;
 use pie_aqm::CauseName;
 use pie_explanation::{Millis, PerCent, Share};
+use pie_units::Utc;
 use std::alloc::AllocError;
 
 /// So many of all arrivals.
@@ -94,6 +96,23 @@ fn push_head(page: &mut String, moments: &Series) -> Result<(), AllocError>
 {
     let (count, first, last) = (moments.count, Millis(moments.first), Millis(moments.last));
     write!(page, "{count} events, from {first} to {last}\n")
+}
+
+/// Between which times of day, behind these spaces, where they are asked for.
+#[tactic(auto, unfolding(crate::specs::Words::time_words))]
+fn push_times(
+    page: &mut String,
+    by_wall: bool,
+    spaces: &str,
+    times: &Series,
+) -> Result<(), AllocError>
+    ensures { OnOk result (string_bytes page.new ≡ string_bytes page.old ++ time_words by_wall spaces.now times.now) }
+{
+    if !by_wall || times.count == 0 {
+        return Ok(());
+    }
+    let (first, last) = (Utc(times.first), Utc(times.last));
+    write!(page, "{spaces}by the time of day from {first} to {last}\n")
 }
 
 /// The wait that at most a hundredth of the packets that left exceeded, or up to a tenth more; no more than the greatest.
@@ -214,29 +233,86 @@ fn push_arrivals(page: &mut String, sums: &Sums) -> Result<(), AllocError>
     push_causes(page, &sums.causes, sums.arrived.count)
 }
 
-/// How long packets waited, what the updates made, and when the controller turned.
-#[tactic(auto, unfolding(crate::specs::Words::later_words))]
-fn push_later(page: &mut String, sums: &Sums, most: u64) -> Result<(), AllocError>
-    ensures { OnOk result (string_bytes page.new ≡ string_bytes page.old ++ later_words sums.now most) }
+/// How many of the packets that left had waited longer than the target, and how long at the head of the queue.
+#[tactic(auto, unfolding(crate::specs::Words::late_words))]
+fn push_late(page: &mut String, longer: u64, left: u64, late: u64) -> Result<(), AllocError>
+    ensures { OnOk result (string_bytes page.new ≡ string_bytes page.old ++ late_words longer left late) }
 {
-    push_left(page, &sums.waits, most, sums.carried)?;
-    push_updates(page, sums.answers[7], &sums.delays, &sums.probs)?;
+    let share = Share {
+        count: longer,
+        all: left,
+    };
+    let late = Millis(late);
+    write!(
+        page,
+        "  {longer} packets, {share} of those that left, had waited longer than the target,\n    at the head of the queue for {late}\n"
+    )
+}
+
+/// Says where the delays and the waits were above the target for very different times.
+#[tactic(auto, unfolding(crate::specs::Words::disagree_words))]
+fn push_disagree(page: &mut String, above: u64, late: u64) -> Result<(), AllocError>
+    ensures { OnOk result (string_bytes page.new ≡ string_bytes page.old ++ disagree_words above late) }
+{
+    if above < late / 2 || late < above / 2 {
+        write!(
+            page,
+            "    the two times disagree: the controller's delay was not what packets waited\n"
+        )
+    } else {
+        Ok(())
+    }
+}
+
+/// What the target was, and how long the delays and the waits were above it.
+#[tactic(auto, unfolding(crate::specs::Words::above_words))]
+fn push_above(page: &mut String, sums: &Sums) -> Result<(), AllocError>
+    ensures { OnOk result (string_bytes page.new ≡ string_bytes page.old ++ above_words sums.now) }
+{
     push_target(
         page,
         Millis(sums.above),
         Millis(sums.target),
         Millis(sums.burst),
     )?;
-    push_turned(page, "on", &sums.turned_on)?;
-    push_turned(page, "off", &sums.turned_off)
+    push_late(page, sums.excesses.count, sums.waits.count, sums.late)?;
+    push_disagree(page, sums.above, sums.late)
 }
 
-/// Writes a summary in words, with the wait of 99 of 100.
+/// When the controller turned, also by times of day where these are asked for.
+#[tactic(auto, unfolding(crate::specs::Words::turning_words))]
+fn push_turning(page: &mut String, by_wall: bool, sums: &Sums) -> Result<(), AllocError>
+    ensures { OnOk result (string_bytes page.new ≡ string_bytes page.old ++ turning_words by_wall sums.now) }
+{
+    push_turned(page, "on", &sums.turned_on)?;
+    push_times(page, by_wall, "    ", &sums.on_times)?;
+    push_turned(page, "off", &sums.turned_off)?;
+    push_times(page, by_wall, "    ", &sums.off_times)
+}
+
+/// How long packets waited, what the updates made, and when the controller turned.
+#[tactic(auto, unfolding(crate::specs::Words::later_words))]
+fn push_later(page: &mut String, by_wall: bool, sums: &Sums, most: u64) -> Result<(), AllocError>
+    ensures { OnOk result (string_bytes page.new ≡ string_bytes page.old ++ later_words by_wall sums.now most) }
+{
+    push_left(page, &sums.waits, most, sums.carried)?;
+    push_updates(page, sums.answers[7], &sums.delays, &sums.probs)?;
+    push_above(page, sums)?;
+    push_turning(page, by_wall, sums)
+}
+
+/// Writes a summary in words, with the wait of 99 of 100, by times of day or not.
 #[tactic(auto, unfolding(crate::specs::Words::words))]
-pub(crate) fn push_words(page: &mut String, sums: &Sums, most: u64) -> Result<(), AllocError>
-    ensures { OnOk result (string_bytes page.new ≡ string_bytes page.old ++ words sums.now most) }
+pub(crate) fn push_words(
+    page: &mut String,
+    by_wall: bool,
+    sums: &Sums,
+    most: u64,
+) -> Result<(), AllocError>
+    ensures { OnOk result (string_bytes page.new ≡ string_bytes page.old ++ words by_wall sums.now most) }
 {
     push_head(page, &sums.moments)?;
+    push_times(page, by_wall, "  ", &sums.times)?;
     push_arrivals(page, sums)?;
-    push_later(page, sums, most)
+    push_later(page, by_wall, sums, most)
 }

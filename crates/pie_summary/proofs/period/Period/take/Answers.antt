@@ -22,5 +22,5 @@ returns-clause-waits c = λ shown number waits.
     let kept : c.begin.new.self.waits ≡ waits_of (since c.args.every (Some period) shown) =
     c.begin.ensures.waits shown c.args.every number waits
     ∙ ap (λ (p : ℕ). waits_of (since c.args.every (Some p) shown)) c.period_of-number.ensures in
-    waits-push (since c.args.every (Some period) shown) c.args.told.now c.wait_by.result c.begin.new.self.waits c.take_some.new.self
-    c.take_some.ensures c.wait_by.ensures kept ∙ ap waits_of (sym (last_events-push c.args.every shown c.args.told.now))
+    waits-push (since c.args.every (Some period) shown) c.args.told.now c.where_left.result c.begin.new.self.waits c.take_some.new.self
+    c.take_some.ensures c.where_left.ensures kept ∙ ap waits_of (sym (last_events-push c.args.every shown c.args.told.now))

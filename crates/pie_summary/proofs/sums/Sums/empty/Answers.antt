@@ -1,24 +1,29 @@
-use Rattle.std.proofs.Common.{[], refl}
-use Rattle.pie_aqm.specs.Places.{last_or}
-use Rattle.pie_summary.proofs.SumsFacts.{sums-are}
+use Rattle.std.proofs.Common.{[]}
+use Rattle.pie_aqm.specs.Places.{last_or, places}
+use Rattle.pie_summary.specs.Counts.{counts_of}
+use Rattle.pie_summary.specs.Sums.{answer_of, cause_of, sums_of}
 use Rattle.pie_summary.proofs.sums.Sums.empty.Goals as goal
 
 pub returns : goal.returns
-unfolding last_or
-returns c =
-    sums-are [] _ _ _ _ _ _ _ _ _ 0 0 0 0
-    (record {
-      answers-are = refl;
-      causes-are = refl;
-      moments-are = c.empty-none.ensures;
-      arrived-are = c.empty-none.ensures;
-      waits-are = c.empty-none.ensures;
-      delays-are = c.empty-none.ensures;
-      probs-are = c.empty-none.ensures;
-      on-are = c.empty-none.ensures;
-      off-are = c.empty-none.ensures;
-      carried-is = refl;
-      above-is = refl;
-      target-is = refl;
-      burst-is = refl;
-    })
+unfolding last_or places sums_of
+returns c = let none = c.empty-none.ensures in λ i. record {
+  answers = counts_of answer_of 9 [];
+  causes = counts_of cause_of 16 [];
+  moments = none i;
+  arrived = none i;
+  waits = none i;
+  departures = none i;
+  excesses = none i;
+  delays = none i;
+  probs = none i;
+  turned_on = none i;
+  turned_off = none i;
+  times = none i;
+  on_times = none i;
+  off_times = none i;
+  carried = 0;
+  above = 0;
+  late = 0;
+  target = 0;
+  burst = 0;
+}

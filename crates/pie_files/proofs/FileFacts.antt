@@ -1,19 +1,39 @@
 -- What is read for a file that the words name.
-use Rattle.std.proofs.Common.{◌≡◌, ℕ, List, Bool, true, false, Option, Some, None, codes, refl, inl, inr}
-use Rattle.std.specs.Prelude.{◌⊎◌, IfSome, if◌then◌else◌}
+use Rattle.std.proofs.Common.{◌≡◌, ℕ, List, Bool, true, false, Option, Some, None, codes, refl, inl, inr, subst, sym}
+use Rattle.std.specs.Prelude.{◌⊎◌, IfSome, IsSome, if◌then◌else◌}
 use Rattle.std.specs.Str.{bytes_eq}
 use Rattle.either.specs.declared.Either.{Either}
 use Rattle.either.specs.Either.{either}
-use Rattle.pie_files.specs.Files.{Name, ReadsNamed, reads_by, text_given}
+use Rattle.pie_files.specs.Files.{CanOpen, CanRead, Name, ReadsNamed, left_for, opens_by, reads_by, text_given}
 
 -- the reader that was handed in is there, or was taken
 abbrev pub Stays : {R : Type 0} → R → Option R → Type 0
 Stays first input = (input ≡ Some first) ⊎ (input ≡ None)
 
-pub stays-on : {R : Type 0} (first : R) (old new : Option R) → Stays first old → (new ≡ old) ⊎ (new ≡ None) → Stays first new
-stays-on first old new (inl is) (inl same) = inl (cc)
-stays-on first old new (inr is) (inl same) = inr (cc)
-stays-on first old new stays (inr none) = inr none
+pub stays-on : {R : Type 0} (first : R) (name : Name) (old new : Option R) → Stays first old → new ≡ left_for name old → Stays first new
+stays-on {R} first name old new stays is = subst (λ (input : Option R). Stays first input) (sym is) (go (bytes_eq name (codes "-")))
+  where
+    go : (dash : Bool) → Stays first (if dash then None else old)
+    go true = inr refl
+    go false = stays
+
+-- ---- what can be opened
+
+pub opens-dash : {R : Type 0} (input : Option R) (held : Option (List ℕ)) (name : Name) → bytes_eq name (codes "-") ≡ true
+    → CanOpen input held name → IsSome input
+opens-dash input held name dash opens = rw dash at opens
+
+pub opens-file : {R : Type 0} (input : Option R) (held : Option (List ℕ)) (name : Name) → bytes_eq name (codes "-") ≡ false
+    → CanOpen input held name → IsSome held
+opens-file input held name other opens = rw other at opens
+
+pub can-open : {R : Type 0} (input : R) (files : Name → Option (List ℕ)) (name : Name) → CanRead files (Some name)
+    → CanOpen (Some input) (files name) name
+can-open {R} input files name reads = go (bytes_eq name (codes "-")) reads
+  where
+    go : (dash : Bool) → IfSome (if dash then None else Some name) (λ n. IsSome (files n)) → opens_by dash (Some input) (files name)
+    go true reads = refl
+    go false reads = reads
 
 pub reads-given : {R : Type 0} (remaining : R → Option (List ℕ)) (first : R) (input : Option R) (files : Name → Option (List ℕ)) (name : Name)
     (known : Option (List ℕ))

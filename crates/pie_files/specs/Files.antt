@@ -1,10 +1,31 @@
 -- What is read of the files that the words name.
-use Rattle.std.specs.Prelude.{ℕ, ◌≡◌, List, Bool, true, false, Option, Some, None, codes, if◌then◌else◌}
+use Rattle.std.specs.Prelude.{ℕ, ◌≡◌, List, Bool, true, false, Option, Some, None, IfSome, IsSome, codes, if◌then◌else◌}
 use Rattle.std.specs.Str.{bytes_eq}
 
 -- the bytes of a name
 abbrev pub Name : Type 0
 Name = List ℕ
+
+-- the file that is read, where one is: `-` is the name of none, but of the reader that is handed in
+abbrev pub file_of : Option Name → Option Name
+file_of None = None
+file_of (Some name) = if bytes_eq name (codes "-") then None else Some name
+
+-- what is left to be read of the reader that is handed in: reading the file of this name takes it where that is `-`
+abbrev pub left_for : {R : Type 0} → Name → Option R → Option R
+left_for name input = if bytes_eq name (codes "-") then None else input
+
+-- the file of this name can be opened: for `-` the reader that is handed in is there, and else it is known what the file holds
+abbrev pub opens_by : {R : Type 0} → Bool → Option R → Option (List ℕ) → Type 0
+opens_by true input held = IsSome input
+opens_by false input held = IsSome held
+
+abbrev pub CanOpen : {R : Type 0} → Option R → Option (List ℕ) → Name → Type 0
+CanOpen input held name = opens_by (bytes_eq name (codes "-")) input held
+
+-- .. where the reader is there
+abbrev pub CanRead : (Name → Option (List ℕ)) → Option Name → Type 0
+CanRead files file = IfSome (file_of file) (λ name. IsSome (files name))
 
 -- what is known of the text that is read: with no file, and for the file `-`, that of the reader that is handed in, and else that of the file
 abbrev pub text_given : Option (List ℕ) → (Name → Option (List ℕ)) → Option Name → Option (List ℕ)

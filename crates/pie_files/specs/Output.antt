@@ -1,5 +1,5 @@
 -- What becomes of files where an output is made, and moved onto its name or left.
-use Rattle.std.specs.Prelude.{ℕ, ◌≡◌, ◌⊎◌, List, [], Bool, true, false, Option, Some, IfSome}
+use Rattle.std.specs.Prelude.{ℕ, ◌≡◌, ◌⊎◌, List, [], Bool, true, false, Option, Some, None, IfSome}
 use Rattle.pie_files.specs.Files.{Name}
 
 -- what is known of the text that the file of each name holds
@@ -14,6 +14,10 @@ Keeps old new = (other : Name) (text : List ℕ) → old other ≡ Some text →
 abbrev pub KeepsBut : Bool → Name → Held → Held → Type 0
 KeepsBut forced name old new = (other : Name) (text : List ℕ) → old other ≡ Some text
     → (new other ≡ Some text) ⊎ ((other ≡ name) × (forced ≡ true))
+
+-- what was made may have a name: that of no file, or of one that may be replaced
+abbrev pub MayHave : Bool → Option (List ℕ) → Type 0
+MayHave forced held = (forced ≡ true) ⊎ (held ≡ None)
 
 -- .. and is not what is read
 abbrev pub Replaces : Option Name → Bool → Name → Held → Held → Type 0

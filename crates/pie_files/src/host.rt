@@ -1,5 +1,5 @@
 //! The files of the system.
-ghost use Rattle.std.specs.Prelude.{None};
+ghost use Rattle.std.specs.Prelude.{None, false};
 
 use crate::files::NamedFiles;
 use either::{Either, Left, Right};
@@ -136,12 +136,16 @@ impl NamedFiles for HostRuntime {
 
     ghost holds = { λ _ _. None };
 
+    ghost fresh = { None };
+
+    ghost works = { false };
+
     fn open_named(&self, name: &str) -> io::Result<File> {
         File::open(self, name)
     }
 
-    fn is_one(&self, name: &str, other: &str) -> bool {
-        let other = if other == "-" { "/dev/stdin" } else { other };
+    fn is_one(&self, name: &str, other: Option<&str>) -> bool {
+        let other = other.unwrap_or("/dev/stdin");
         match (fs::metadata(self, name), fs::metadata(self, other)) {
             (Ok(one), Ok(other)) => {
                 one.is_file() && one.dev() == other.dev() && one.ino() == other.ino()

@@ -1,18 +1,19 @@
 //! An output that is made, and then put in its place or left.
 ghost use Rattle.std.specs.Prelude.{◌≡◌, false, true, IfSome, IsSome, None, Some, option_map};
-ghost use Rattle.pie_files.specs.Output.{IsEmpty, Keeps, Settles};
+ghost use Rattle.pie_files.specs.Files.{file_of};
+ghost use Rattle.pie_files.specs.Output.{IsEmpty, Keeps, MayHave, Settles};
 
 use crate::faults::named_fault;
 use crate::files::NamedFiles;
 use std::io::Write;
 
-/// Whether this name leads to what is read: the file of the other, or with none standard input.
-fn is_read<H: NamedFiles>(rt: &H, name: &str, read: Option<&str>) -> bool
-    ensures { IsSome (H.holds rt.now name.now) → option_map (λ other. other.now) read.entry ≡ Some name.now → result ≡ true }
+/// The file that is read: none for `-`, which is standard input.
+fn file_of<'a>(read: Option<&'a str>) -> Option<&'a str>
+    ensures { option_map (λ name. name.now) result ≡ file_of (option_map (λ name. name.now) read.entry) }
 {
     match read {
-        Some(other) => rt.is_one(name, other),
-        None => rt.is_one(name, "-"),
+        Some(name) => { if name == "-" { None } else { Some(name) } }
+        None => None,
     }
 }
 
@@ -25,11 +26,13 @@ pub fn make_for<H: NamedFiles, E: Write>(
     is_forced: bool,
     errors: &mut E,
 ) -> Option<H::Made>
-    ensures empty { IfSome result (λ made. IsEmpty (H.Made.contents made)) }
+    ensures fresh { IfSome result (λ made. H.Made.contents made ≡ H.fresh) }
+    ensures empty { IfSome result (λ _. IsEmpty H.fresh) }
     ensures keeps { Keeps (H.holds rt.old) (H.holds rt.new) }
-    ensures other { IfSome result (λ _. IsSome (H.holds rt.old name.now) → option_map (λ other. other.now) read.entry ≡ Some name.now → ⊥) }
+    ensures other { IfSome result (λ _. IsSome (H.holds rt.old name.now)
+        → file_of (option_map (λ other. other.now) read.entry) ≡ Some name.now → ⊥) }
 {
-    if is_read(&*rt, name, read) {
+    if rt.is_one(name, file_of(read)) {
         named_fault(
             errors,
             name,
@@ -54,7 +57,8 @@ fn put<H: NamedFiles, E: Write>(
     is_forced: bool,
     errors: &mut E,
 ) -> bool
-    ensures { Settles result None is_forced name.now (H.Made.contents made.old) (H.holds rt.old) (H.holds rt.new) }
+    ensures settles { Settles result None is_forced name.now (H.Made.contents made.old) (H.holds rt.old) (H.holds rt.new) }
+    ensures works { H.works ≡ true → MayHave is_forced (H.holds rt.old name.now) → result ≡ true }
 {
     match rt.place(made, name, is_forced) {
         Ok(()) => true,
@@ -89,7 +93,8 @@ pub fn settle<H: NamedFiles, E: Write>(
     errors: &mut E,
 ) -> bool
     ensures settles { Settles result None is_forced name.now (H.Made.contents made) (H.holds rt.old) (H.holds rt.new) }
-    ensures whole { is_whole ≡ false → result ≡ false }
+    ensures part { is_whole ≡ false → result ≡ false }
+    ensures whole { is_whole ≡ true → H.works ≡ true → MayHave is_forced (H.holds rt.old name.now) → result ≡ true }
 {
     let mut made = made;
     if is_whole && put(rt, &mut made, name, is_forced, errors) {

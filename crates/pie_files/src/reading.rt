@@ -1,7 +1,7 @@
 //! The files that are read.
-ghost use Rattle.std.specs.Prelude.{◌≡◌, ◌⊎◌, None, IfSome, option_map};
+ghost use Rattle.std.specs.Prelude.{◌≡◌, true, IfSome, IsSome, Some, option_map};
 ghost use Rattle.either.specs.Either.{either};
-ghost use Rattle.pie_files.specs.Files.{ReadsNamed, text_given};
+ghost use Rattle.pie_files.specs.Files.{CanOpen, CanRead, ReadsNamed, left_for, text_given};
 
 use crate::faults::{fault, named_fault};
 use crate::files::NamedFiles;
@@ -18,7 +18,8 @@ pub fn reader_named<H: NamedFiles, R: Read + Drop, E: Write>(
 ) -> Option<Either<R, H::File>>
     ensures reads { IfSome result (λ reader. ReadsNamed R.remaining input.old (H.holds rt.now) name.now
         (either R.remaining H.File.remaining reader)) }
-    ensures input { (input.new ≡ input.old) ⊎ (input.new ≡ None) }
+    ensures opens { H.works ≡ true → CanOpen input.old (H.holds rt.now name.now) name.now → IsSome result }
+    ensures input { input.new ≡ left_for name.now input.old }
 {
     if name == "-" {
         return match input.take() {
@@ -45,8 +46,9 @@ pub fn reader_of<H: NamedFiles, R: Read + Drop, E: Write>(
     input: R,
     errors: &mut E,
 ) -> Option<Either<R, H::File>>
-    ensures { IfSome result (λ reader. either R.remaining H.File.remaining reader
+    ensures reads { IfSome result (λ reader. either R.remaining H.File.remaining reader
         ≡ text_given (R.remaining input) (H.holds rt.now) (option_map (λ name. name.now) file.entry)) }
+    ensures opens { H.works ≡ true → CanRead (H.holds rt.now) (option_map (λ name. name.now) file.entry) → IsSome result }
 {
     match file {
         Some(name) => {

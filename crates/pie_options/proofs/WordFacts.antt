@@ -120,7 +120,8 @@ asked_by word = if bytes_eq word (codes "run") then Some Run
     else if bytes_eq word (codes "cut") then Some Cut
     else if bytes_eq word (codes "migrate") then Some Migrate
     else if bytes_eq word (codes "storm") then Some Storm
-    else Some Params
+    else if bytes_eq word (codes "params") then Some Params
+    else None
 
 asked-word : (subcommand : Subcommand) → asked_by (word_of subcommand) ≡ Some subcommand
 asked-word Run = refl
@@ -135,3 +136,16 @@ pub same-word : (one other : Subcommand) → Some (word_of one) ≡ Some (word_o
 same-word one other same =
     let told : Some one ≡ Some other = sym (asked-word one) ∙ ap (option_and_then asked_by) same ∙ asked-word other in
     cc
+
+-- .. so a word asks for no other
+pub known-word : (word : Text) (one : Subcommand) → word ≡ word_of one → (other : Subcommand) → word ≡ word_of other → Some one ≡ Some other
+known-word word one is other same = ap Some (same-word one other (ap Some (sym is ∙ same)))
+
+-- a word that is none of these asks for none
+pub unknown-word : (word : Text) → bytes_eq word (codes "run") ≡ false → bytes_eq word (codes "audit") ≡ false
+    → bytes_eq word (codes "explain") ≡ false → bytes_eq word (codes "cut") ≡ false → bytes_eq word (codes "migrate") ≡ false
+    → bytes_eq word (codes "storm") ≡ false → bytes_eq word (codes "params") ≡ false → (subcommand : Subcommand) → word ≡ word_of subcommand
+    → None ≡ Some subcommand
+unknown-word word run audit explain cut migrate storm params subcommand is =
+    let none : asked_by word ≡ None = rw (run, audit, explain, cut, migrate, storm, params) refl in
+    sym none ∙ ap asked_by is ∙ asked-word subcommand

@@ -1,5 +1,6 @@
 //! The subcommands of `pie`.
-ghost use Rattle.std.specs.Prelude.{◌≡◌, IfSome};
+ghost use Rattle.std.specs.Prelude.{◌≡◌, IfSome, Some};
+ghost use Rattle.pie_options.specs.declared.subcommand.Subcommand.{Subcommand};
 ghost use Rattle.pie_options.specs.Subcommands.{word_of};
 
 /// What `pie` is asked to do.
@@ -24,7 +25,8 @@ pub enum Subcommand {
 impl Subcommand {
     /// The subcommand that a word asks for.
     pub fn named(word: &str) -> Option<Subcommand>
-        ensures { IfSome result (λ subcommand. word.now ≡ word_of subcommand) }
+        ensures named { IfSome result (λ subcommand. word.now ≡ word_of subcommand) }
+        ensures each { (subcommand : Subcommand) → word.now ≡ word_of subcommand → result ≡ Some subcommand }
     {
         match word {
             "run" => Some(Subcommand::Run),

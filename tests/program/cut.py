@@ -28,7 +28,7 @@ NOTES = ("refused,", "folded,", "shown,", "tallied,")
 COMMANDS = ("arrive,", "depart,", "update,", "reset,", "params,")
 LATEST = 2**60 - 1
 DIFFERS = "event {} is not what the rules give there, so what comes after it is not cut"
-tried = {"excerpts": 0, "summed up": 0, "cut again": 0, "segments": 0, "with times of day": 0}
+tried = {"excerpts": 0, "summed up": 0, "cut again": 0, "segments": 0, "with times of day": 0, "out of range": 0}
 
 
 def cut(text, *words):
@@ -234,6 +234,56 @@ def check_differing(history, chance):
         check(cut(changed, "--event", str(event + 1)) == (2, "", DIFFERS.format(event)), f"{what}: cut after it")
 
 
+def out_of_range(history, number, chance):
+    """A history with a change to parameters out of their ranges behind so many events: its text, the record, and its effective moment."""
+    before = history.moments[number - 1] if number else history.book.start
+    handed_in = chance.choice((0, before, before + 1, before + chance.randrange(2, 10**9), 2**60, 2**64 - 1))
+    params = [15_000_000, 15_000_000, 150_000_000, 125, 1250, 1024, 262_144, 10**11, 16_384]
+    place, wrong = chance.choice([(0, 1), (1, 0), (2, 10**12 + 1), (3, 10**6 + 1), (5, 0), (6, 2**30 + 1), (7, 2**64 - 1), (8, 1000)])
+    params[place] = wrong
+    record = ",".join(map(str, ["params", chance.randrange(2**16), handed_in, *params, "done"])) + "\n"
+    lines = history.text.splitlines(keepends=True)
+    places = [*(place for place, line in enumerate(lines) if line.startswith(COMMANDS)), len(lines)]
+    return "".join([*lines[: places[number]], record, *lines[places[number] :]]), record, max(before, handed_in)
+
+
+def check_unmakeable(history, chance):
+    """Parameters out of their ranges are an event that differs: it has a number and a moment, and is the last of an excerpt, as it was read."""
+    number = chance.randrange(0 if history.book else 1, history.count + 1)
+    text, record, moment = out_of_range(history, number, chance)
+    what, differs = f"{history.name}: {record[:-1]} behind event {number}", DIFFERS.format(number + 1)
+    tried["out of range"] += 1
+    reached = next((place for place, other in enumerate(history.moments[:number], 1) if other >= moment), number + 1)
+    for words, first in ((["--from", str(moment)], reached), (["--to", str(moment)], 1), (["--event", str(number + 1)], number + 1)):
+        status, part, errors = cut(text, *words)
+        check((status, errors) == (2, differs), f"{what}: {words}: status {status}, {errors}")
+        check(part.endswith("\n" + record), f"{what}: {words}: it isn't the last")
+        check(not history.book or part == history.part(first, number) + record, f"{what}: {words}: another excerpt than the reference's")
+        check(audited([part]) == (2, [(f"differs,{number + 1}", "")]), f"{what}: {words}: {audited([part])}")
+    if 0 < number < reached:
+        status, part, errors = cut(text, "--to", str(moment - 1))
+        check((status, errors) == (0, ""), f"{what}: cut before it: status {status}, {errors}")
+        check(not history.book or part == history.part(1, number), f"{what}: cut before it: another excerpt than the reference's")
+    check_unmakeable_segments(history, text, record, number, chance.randrange(1, number + 2), what)
+
+
+def check_unmakeable_segments(history, text, record, number, every, what):
+    """Its segments follow each other, and the last one differs there."""
+    status, output, errors = cut(text, "--every", str(every))
+    check((status, errors) == (2, DIFFERS.format(number + 1)), f"{what}: --every {every}: status {status}, {errors}")
+    parts = segments_of(output)
+    ends = [*range(every, number + 1, every), number + 1]
+    check(len(parts) == len(ends), f"{what}: --every {every}: {len(parts)} segments")
+    check(parts[-1].endswith("\n" + record), f"{what}: --every {every}: it isn't the last")
+    if history.book:
+        firsts = [1, *(end + 1 for end in ends[:-1])]
+        wanted = [history.part(start, min(end, number)) for start, end in zip(firsts, ends)]
+        check("".join(wanted) + record == output, f"{what}: --every {every}: other segments than the reference's")
+    found = [f"clean,{end}" for end in ends[:-1]] + [f"differs,{number + 1}"]
+    wanted = [(f"{one} follows" if place else one, "") for place, one in enumerate(found)]
+    check(audited(parts, "--joined") == (2, wanted), f"{what}: --every {every}: {audited(parts, '--joined')}")
+
+
 def check_nothing(history):
     """Choices of which there is no event, and a fault, wherever it is."""
     nothing = (1, "", "no event of the text is wanted")
@@ -270,6 +320,7 @@ def main():
             hold_last(history, chance)
             hold_segments(history, chance)
             check_differing(history, chance)
+            check_unmakeable(history, chance)
             check_nothing(history)
     check_file(History("overload", (ROOT / "examples/overload.history").read_text()))
     print(", ".join(f"{number} {what}" for what, number in tried.items()))

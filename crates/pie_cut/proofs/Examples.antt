@@ -108,8 +108,11 @@ history last =
     ++ codes "depart,2,40," ++ last ++ codes "\n"
 
 -- how cutting it is answered
+abbrev cut_of : Span → List ℕ → Result ℕ CutFault
+cut_of span text = whole_answer (answer_since span) (records_of text) (history_opening (records_of text))
+
 abbrev cut : Span → List ℕ → Result ℕ CutFault
-cut span last = whole_answer (answer_since span) (records_of (history last)) (history_opening (records_of (history last)))
+cut span last = cut_of span (history last)
 
 -- two events from the second on; the departure is cut by its effective moment; none after the third; a difference counts up to the end alone; a
 -- fault anywhere comes first
@@ -183,6 +186,33 @@ times : (text_of_cut (numbers 1 1) timed ≡ codes "arrive,1,30,7,1500,ect0,0,en
     × (clock_of_cut (numbers 1 1) (history (codes "empty")) ≡ Some None)
 unfolding worked
 times = (refl, refl, refl, refl, refl, refl, refl, refl, refl)
+
+-- ---- parameters out of their range
+
+-- three arrivals, and a change to parameters of which the target, 1 ns, is out of its range
+abbrev change : List ℕ
+change = codes "params,1,3500,1,15000000,150000000,125,1250,1024,262144,100000000000,16384,done\n"
+
+abbrev changed : List ℕ
+changed =
+    codes "open3,1,rate,derandomized,capped,unscaled,bounded,0,8,40,60\n"
+    ++ codes "arrive,1,1000,1,1000,ect0,5,enqueue\n"
+    ++ codes "arrive,1,2000,2,1000,ect0,5,enqueue\n"
+    ++ codes "arrive,1,3000,3,1000,ect0,5,enqueue\n"
+    ++ change
+
+-- it is an event that differs: at its own moment, with a number, and the last of an excerpt and of a segment, as it was read
+changes-answered : (cut_of (moments 0 3499) changed ≡ Ok 3) × (cut_of (moments 0 3500) changed ≡ Err (Differs 4))
+    × (cut_of (moments 3500 9000) changed ≡ Err (Differs 4)) × (cut_of (moments 3501 9000) changed ≡ Err (Differs 4))
+    × (cut_of (numbers 1 3) changed ≡ Ok 3) × (cut_of (numbers 4 4) changed ≡ Err (Differs 4))
+unfolding worked
+changes-answered = (refl, refl, refl, refl, refl, refl)
+
+changes-cut : (text_of_cut (moments 3500 9000) changed ≡ change) × (text_of_cut (moments 3501 9000) changed ≡ [])
+    × (text_of_cut (segment 0 2 1) changed ≡ codes "arrive,1,3000,3,1000,ect0,5,enqueue\n" ++ change)
+    × (text_of_cut (segment 0 3 1) changed ≡ change)
+unfolding worked
+changes-cut = (refl, refl, refl, refl)
 
 -- ---- joints
 

@@ -26,7 +26,7 @@ abbrev pub told_after : Opening → Choice → List Line → Setter → Line →
 told_after opening choice lines set_by (Made event) =
     told_if (picks choice (event_count lines + 1) (moment_of opening (events_of lines) event) (latest_clock lines) event)
     (explanation opening (events_of lines) (event_count lines + 1) event set_by (latest_clock lines))
-told_after opening choice lines set_by Unmakeable = None
+told_after opening choice lines set_by (Unmakeable change) = None
 told_after opening choice lines set_by Note = None
 told_after opening choice lines set_by (line.Clock clock) = None
 

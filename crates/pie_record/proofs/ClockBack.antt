@@ -44,7 +44,7 @@ commands-ask row kind clock e = by (length row == command_length kind) (command_
     by : (b : Bool) (r : Result Asked Flaw)
         → (if b then and_then r (λ asks. Ok (request_for asks)) else Err flaw.Fields) ≡ Ok (request.Clock clock) → ⊥
     by true (Ok (asked.Command caller command)) e = cc
-    by true (Ok asked.BadParams) e = cc
+    by true (Ok (asked.BadParams change)) e = cc
     by true (Err what) e = cc
     by false r e = cc
 

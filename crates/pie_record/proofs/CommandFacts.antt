@@ -153,7 +153,7 @@ asked-for : (asks : Asked) (caller : ℕ) (command : Command) → Same (Ok (requ
     → asks ≡ asked.Command caller command
 asked-for (asked.Command from other) caller command e =
     let a : from ≡ caller = cc in let b : other ≡ command = cc in λ i. asked.Command (a i) (b i)
-asked-for asked.BadParams caller command e = cc
+asked-for (asked.BadParams change) caller command e = cc
 
 command-asked : (row : Row) (kind : CommandKind) (caller : ℕ) (command : Command) → command_kind row ≡ Some kind
     → command_request row kind ≡ Ok (request.Ask caller command) → AsksCommand row (asked.Command caller command)

@@ -102,7 +102,8 @@ kinds-lines : lines_of (
     ++ codes "folded,4\n"
     ++ codes "shown,1,2,3,4,5,6,7,8,9,10,1\n"
     ++ codes "tallied,1,2,3,4,5,6,7,8,9,10,11,12,13,14,340282366920938463463374607431768211455\n")
-    ≡ Made (event 3 (Update 4) (Updated 5 6 7)) ∷ Made (event 1 (Reset 2) Done) ∷ Made (event 1 (SetParams 2 default_profile) Done) ∷ Unmakeable
+    ≡ Made (event 3 (Update 4) (Updated 5 6 7)) ∷ Made (event 1 (Reset 2) Done) ∷ Made (event 1 (SetParams 2 default_profile) Done)
+    ∷ Unmakeable (record { caller = 1; moment = 2; params = record default_profile { target = 1 } })
     ∷ Made (arrival Marked) ∷ Made (arrival DroppedEarly) ∷ Made (arrival DroppedBytes) ∷ Made (arrival DroppedPackets) ∷ Note ∷ Note ∷ Note ∷ Note
     ∷ []
 unfolding records_from next_record strip_bom field_at digits fields_text is_blank number ecn_of params_at first_kind version_of profile_of
@@ -171,7 +172,8 @@ clock-lines : (map (λ first. fault_in (first ++ codes "clock,5,7\n")) (
     ≡ Some (fault.Kind 2) ∷ Some (fault.Kind 2) ∷ None ∷ [])
     × (lines_of (codes "open3,1,stamp,derandomized,capped,unscaled,bounded,0,4,16,100\nclock,5,7\nrefused,1,1\nclock,6,7\nclock,6\n")
     ≡ Clock (record { moment = 5; unix = 7 }) ∷ Note ∷ Clock (record { moment = 6; unix = 7 }) ∷ [])
-    × (latest_clock (Clock (record { moment = 5; unix = 7 }) ∷ Note ∷ Clock (record { moment = 6; unix = 8 }) ∷ Unmakeable ∷ [])
+    × (latest_clock (Clock (record { moment = 5; unix = 7 }) ∷ Note ∷ Clock (record { moment = 6; unix = 8 })
+    ∷ Unmakeable (record { caller = 1; moment = 2; params = default_profile }) ∷ [])
     ≡ Some (record { moment = 6; unix = 8 }))
 unfolding records_from next_record strip_bom field_at digits fields_text is_blank number ecn_of params_at first_kind version_of profile_of
     which_of limits_at draft_at version_one_fields version_two_fields opening_of rows_text answer_fields verdict_of command_at packet_at

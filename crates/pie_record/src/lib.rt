@@ -29,6 +29,7 @@ pub mod version;
 pub mod words;
 
 pub use clock::Clock;
+pub use command::BadChange;
 pub use fault::{ExcerptFault, Flaw, OpenFault, TraceFault};
 pub use history_reader::HistoryLines;
 pub use history_record::Line;

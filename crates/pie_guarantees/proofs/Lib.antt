@@ -1,0 +1,2 @@
+pub mod LawfulFacts
+pub mod EarlyFacts

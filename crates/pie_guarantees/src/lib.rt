@@ -1,0 +1,13 @@
+//! What follows from the rules: guarantees that hold of every history that an audit finds clean, whatever made it.
+//!
+//! Each law is a function that does nothing: its contract is the law. The definitions that the contracts cite stand in `specs/`.
+#![tactic(auto)]
+
+pub mod marks;
+pub mod peace;
+
+pub use marks::{capable_packets_are_spared, only_capable_packets_are_marked};
+pub use peace::{
+    bursts_are_let_in, inactive_controllers_let_all_in, low_delay_is_left_alone,
+    short_queues_are_left_alone,
+};

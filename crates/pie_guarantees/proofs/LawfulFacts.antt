@@ -1,9 +1,10 @@
 -- At each place of a lawful history a core stands that shows the events before it, and each event makes of what it holds what its call does.
 use Rattle.std.proofs.Common.{◌≡◌, ◌≤◌, ◌<◌, ◌+◌, ◌==◌, ℕ, List, [], ◌∷◌, ◌++◌, Bool, true, false, refl, sym, subst, ap, ◌∙◌, arith, max}
+use Rattle.std.specs.Prelude.{⊤}
 use Rattle.std.proofs.Common.{if◌then◌else◌, All, None, Some, nat_lt, nat_le, length, ◌^◌}
 use Rattle.std.proofs.lemmas.Bool.{eqb-false}
 use Rattle.std.proofs.lemmas.List.{append-nil, append_assoc}
-use Rattle.std.proofs.lemmas.List.Elements.{All-head, All-tail}
+use Rattle.std.proofs.lemmas.List.Elements.{All-cons, All-head, All-nil, All-tail}
 use Rattle.pie_params.specs.Range.{first_bad}
 use Rattle.pie_queue.specs.Queue.{bytes_of}
 use Rattle.pie_event.specs.Deed.{arrival_deed, deed, deed_of, departure_deed, handed_in}
@@ -158,6 +159,7 @@ pub record IsStep (opening : Opening) (before : List Event) (event : Event) : Ty
       ≡ waiting_next (waiting_after opening before) (effective_moment opening (before ++ event ∷ [])) (deed_of event)
   pub moment : effective_moment opening (before ++ event ∷ []) ≡ max (effective_moment opening before) (handed_in event.command)
   pub same_moment : (held_after opening before).moment ≡ effective_moment opening before
+  pub next_moment : (held_after opening (before ++ event ∷ [])).moment ≡ effective_moment opening (before ++ event ∷ [])
 
 step-of : (opening : Opening) (before : List Event) (event : Event) → Stands opening before → IsLegalAt opening (place_of before event)
     → SetsInRange event.command → IsStep opening before event
@@ -180,45 +182,47 @@ step-of opening before event old here fit =
           ∙ ap (λ (m : ℕ). waiting_next (waiting_after opening before) m (deed_of event)) (sym (effective_moment-push opening before event));
       moment = effective_moment-push opening before event;
       same_moment = sym (ap (λ (h : Held). h.moment) is) ∙ old.shows.moment;
+      next_moment = sym (ap (λ (h : Held). h.moment) (held-is opening next.core (before ++ event ∷ []) next.shows)) ∙ next.shows.moment;
     }
 
 -- ---- a whole history
-
--- what is so before some events, and stays so at each of them, is so after them
-module _ (P : List Event → Type 0) (opening : Opening)
-    (stays : (before : List Event) (event : Event) → IsStep opening before event → P before → P (before ++ event ∷ [])) where
-  along-from : (before rest : List Event) → Stands opening before → P before → All (IsLegalAt opening) (places (before ++ rest))
-      → All (λ event. SetsInRange event.command) rest → P (before ++ rest)
-  along-from before [] old so legal fit = rw (append-nil before) so
-  along-from before (event ∷ rest) old so legal fit =
-      let here = at_place (IsLegalAt opening) before event rest legal in
-      let set = All-head (λ (e : Event). SetsInRange e.command) event rest fit in
-      let step = step-of opening before event old here set in
-      let joined : before ++ event ∷ [] ++ rest ≡ before ++ (event ∷ rest) = append_assoc before (event ∷ []) rest in
-      rw (← joined) (along-from (before ++ event ∷ []) rest (stands-next opening before event old here set) (stays before event step so)
-      (rw (← joined) at legal) (All-tail (λ (e : Event). SetsInRange e.command) event rest fit))
 
 set-after : (before rest : List Event) → All (λ (e : Event). SetsInRange e.command) (before ++ rest)
     → All (λ (e : Event). SetsInRange e.command) rest
 set-after [] rest all = all
 set-after (event ∷ before) rest all = set-after before rest (All-tail (λ (e : Event). SetsInRange e.command) event (before ++ rest) all)
 
-stands-from : (opening : Opening) (before middle rest : List Event) → Stands opening before
-    → All (IsLegalAt opening) (places (before ++ middle ++ rest)) → All (λ (e : Event). SetsInRange e.command) (middle ++ rest)
-    → Stands opening (before ++ middle)
-stands-from opening before [] rest old legal fit = rw (append-nil before) old
-stands-from opening before (event ∷ middle) rest old legal fit =
-    let joined : before ++ event ∷ [] ++ (middle ++ rest) ≡ before ++ (event ∷ (middle ++ rest)) = append_assoc before (event ∷ []) (middle ++ rest) in
-    let here = at_place (IsLegalAt opening) before event (middle ++ rest) (rw append_assoc at legal) in
-    let set = All-head (λ (e : Event). SetsInRange e.command) event (middle ++ rest) fit in
-    let one : (before ++ event ∷ []) ++ middle ≡ before ++ (event ∷ middle) = append_assoc before (event ∷ []) middle in
-    let more = stands-from opening (before ++ event ∷ []) middle rest (stands-next opening before event old here set)
-    (rw one legal) (All-tail (λ (e : Event). SetsInRange e.command) event (middle ++ rest) fit) in
-    rw (← one) more
+-- what is so before some events, and stays so at each of them that passes a test, is so after them
+module _ (P : List Event → Type 0) (Q : Event → Type 0) (opening : Opening)
+    (stays : (before : List Event) (event : Event) → IsStep opening before event → Q event → P before → P (before ++ event ∷ [])) where
+  -- .. where these events come later
+  record Goes (before between : List Event) : Type 0 where
+    stands : Stands opening (before ++ between)
+    so : P (before ++ between)
+
+  along-from : (before between later : List Event) → Stands opening before → P before
+      → All (IsLegalAt opening) (places (before ++ between ++ later)) → All (λ event. SetsInRange event.command) (between ++ later)
+      → All Q between → Goes before between
+  along-from before [] later old so legal fit pass = record { stands = rw (append-nil before) old; so = rw (append-nil before) so }
+  along-from before (event ∷ between) later old so legal fit pass =
+      let one : (before ++ event ∷ []) ++ between ≡ before ++ (event ∷ between) = append_assoc before (event ∷ []) between in
+      let here = at_place (IsLegalAt opening) before event (between ++ later) (rw (append_assoc before (event ∷ between) later) at legal) in
+      let set = All-head (λ (e : Event). SetsInRange e.command) event (between ++ later) fit in
+      let step = step-of opening before event old here set in
+      let next = along-from (before ++ event ∷ []) between later (stands-next opening before event old here set)
+      (stays before event step (All-head Q event between pass) so) (rw (← one) at legal)
+      (All-tail (λ (e : Event). SetsInRange e.command) event (between ++ later) fit) (All-tail Q event between pass) in
+      record { stands = rw (← one) next.stands; so = rw (← one) next.so }
+
+all-true : (events : List Event) → All (λ event. ⊤) events
+all-true [] = All-nil (λ event. ⊤)
+all-true (event ∷ events) = All-cons (λ event. ⊤) event events tt (all-true events)
 
 -- the events before a place of a lawful history are shown by a core
-pub stands_at : (opening : Opening) (before rest : List Event) → IsLawful opening (before ++ rest) → Stands opening before
-stands_at opening before rest lawful = stands-from opening [] before rest (stands-first opening lawful.opens lawful.params) lawful.legal lawful.set
+pub stands_at : (opening : Opening) (before later : List Event) → IsLawful opening (before ++ later) → Stands opening before
+stands_at opening before later lawful =
+    (along-from (λ events. ⊤) (λ event. ⊤) opening (λ before event step passed so. tt) [] before later
+    (stands-first opening lawful.opens lawful.params) tt lawful.legal lawful.set (all-true before)).stands
 
 -- each event of a lawful history is a step
 pub step_at : (opening : Opening) (before : List Event) (event : Event) (later : List Event) → IsLawful opening (before ++ event ∷ later)
@@ -228,9 +232,49 @@ step_at opening before event later lawful =
     (at_place (IsLegalAt opening) before event later lawful.legal)
     (All-head (λ (e : Event). SetsInRange e.command) event later (set-after before (event ∷ later) lawful.set))
 
--- what holds before some events of a lawful history, and stays so at each of them, holds after them
-pub along : (P : List Event → Type 0) (opening : Opening)
+-- what holds before some events of a lawful history, and stays so at each of them that passes a test, holds after them, where all do
+pub along : (P : List Event → Type 0) (Q : Event → Type 0) (opening : Opening)
+    → ((before : List Event) (event : Event) → IsStep opening before event → Q event → P before → P (before ++ event ∷ []))
+    → (before between later : List Event) → IsLawful opening (before ++ between ++ later) → All Q between → P before → P (before ++ between)
+along P Q opening stays before between later lawful pass so =
+    (along-from P Q opening stays before between later
+    (stands_at opening before (between ++ later) (rw (append_assoc before between later) at lawful)) so lawful.legal
+    (set-after before (between ++ later) (rw (append_assoc before between later) at lawful.set)) pass).so
+
+-- .. whatever they are
+pub always : (P : List Event → Type 0) (opening : Opening)
     → ((before : List Event) (event : Event) → IsStep opening before event → P before → P (before ++ event ∷ []))
-    → (before rest : List Event) → IsLawful opening (before ++ rest) → P before → P (before ++ rest)
-along P opening stays before rest lawful so =
-    along-from P opening stays before rest (stands_at opening before rest lawful) so lawful.legal (set-after before rest lawful.set)
+    → (before between later : List Event) → IsLawful opening (before ++ between ++ later) → P before → P (before ++ between)
+always P opening stays before between later lawful so =
+    along P (λ event. ⊤) opening (λ before event step passed so. stays before event step so) before between later lawful (all-true between) so
+
+-- what holds at the opening, and stays so at each event, holds after a lawful history
+pub throughout : (P : List Event → Type 0) (opening : Opening) → P []
+    → ((before : List Event) (event : Event) → IsStep opening before event → P before → P (before ++ event ∷ []))
+    → (history : List Event) → IsLawful opening history → P history
+throughout P opening first stays history lawful =
+    always P opening stays [] history [] (rw (append-nil history) lawful) first
+
+-- what is held there is sound, and its moment the effective one
+pub sound_at : (opening : Opening) (before later : List Event) → IsLawful opening (before ++ later)
+    → IsSound (held_after opening before) × ((held_after opening before).moment ≡ effective_moment opening before)
+sound_at opening before later lawful =
+    let it = stands_at opening before later lawful in
+    let is : it.core.held ≡ held_after opening before = held-is opening it.core before it.shows in
+    (subst (λ (h : Held). IsSound h) is it.sound, sym (ap (λ (h : Held). h.moment) is) ∙ it.shows.moment)
+
+set-before : (before later : List Event) → All (λ (e : Event). SetsInRange e.command) (before ++ later)
+    → All (λ (e : Event). SetsInRange e.command) before
+set-before [] later all = All-nil (λ (e : Event). SetsInRange e.command)
+set-before (event ∷ before) later all =
+    All-cons (λ (e : Event). SetsInRange e.command) event before (All-head (λ (e : Event). SetsInRange e.command) event (before ++ later) all)
+    (set-before before later (All-tail (λ (e : Event). SetsInRange e.command) event (before ++ later) all))
+
+-- the beginning of a lawful history is lawful
+pub beginning : (opening : Opening) (before later : List Event) → IsLawful opening (before ++ later) → IsLawful opening before
+beginning opening before later lawful = record {
+  opens = lawful.opens;
+  params = lawful.params;
+  set = set-before before later lawful.set;
+  legal = (stands_at opening before later lawful).shows.legal;
+}

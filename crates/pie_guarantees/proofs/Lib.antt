@@ -1,2 +1,4 @@
 pub mod LawfulFacts
 pub mod EarlyFacts
+pub mod BurstFacts
+pub mod CountFacts

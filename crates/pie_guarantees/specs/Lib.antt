@@ -1,2 +1,4 @@
 pub mod Lawful
 pub mod Verdicts
+pub mod Bursts
+pub mod Counts

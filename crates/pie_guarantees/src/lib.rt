@@ -3,9 +3,15 @@
 //! Each law is a function that does nothing: its contract is the law. The definitions that the contracts cite stand in `specs/`.
 #![tactic(auto)]
 
+pub mod bursts;
+pub mod counts;
 pub mod marks;
 pub mod peace;
 
+pub use bursts::{allowances_begin_whole, bursts_are_let_in_so_long};
+pub use counts::{
+    every_packet_is_accounted_for, queues_stay_within_their_limits, waits_are_bounded,
+};
 pub use marks::{capable_packets_are_spared, only_capable_packets_are_marked};
 pub use peace::{
     bursts_are_let_in, inactive_controllers_let_all_in, low_delay_is_left_alone,

@@ -2,3 +2,5 @@ pub mod LawfulFacts
 pub mod EarlyFacts
 pub mod BurstFacts
 pub mod CountFacts
+pub mod NextFacts
+pub mod ProbabilityFacts

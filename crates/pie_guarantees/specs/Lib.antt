@@ -2,3 +2,4 @@ pub mod Lawful
 pub mod Verdicts
 pub mod Bursts
 pub mod Counts
+pub mod Probability

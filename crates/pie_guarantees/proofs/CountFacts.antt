@@ -1,0 +1,353 @@
+-- What becomes of every packet.
+use Rattle.std.proofs.Common.{◌≡◌, ◌≤◌, ◌<◌, ◌+◌, ◌*◌, ◌-◌, ◌&&◌, ◌==◌, ◌^◌, ℕ, List, [], ◌∷◌, ◌++◌, map, Bool, true, false, refl, sym, ap, ◌∙◌, cond}
+use Rattle.std.proofs.Common.{◌⊎◌, inl, inr, if◌then◌else◌, nat_lt, length, arith, subst, max, All, Some, None, Option, drop, length-append}
+use Rattle.std.specs.Prelude.{sum_by, count_by}
+use Rattle.std.specs.List.{filter_map}
+use Rattle.std.specs.Option.{option_to_list}
+use Rattle.std.proofs.lemmas.List.{append-nil, append_assoc, length-map, map-append}
+use Rattle.std.proofs.lemmas.List.Elements.{filter_map-append}
+use Rattle.std.proofs.lemmas.List.Sums.{sum_by_push, sum_by-append, sum_by-cons}
+use Rattle.pie_queue.specs.Queue.{bytes_of}
+use Rattle.pie_event.specs.Deed.{Deed, deed, deed_of, departed, departure, fits, handed_in, marked, queued, with_ce}
+use Rattle.pie_event.specs.Verdict.{answer_of}
+use Rattle.pie_event.specs.declared.verdict.Verdict.TheVariants as verdict
+use Rattle.pie_early.specs.declared.early.Choice.{Choice}
+use Rattle.pie_early.specs.declared.early.Choice.TheVariants as choice
+use Rattle.pie_aqm.specs.Calls.{Call, after_call}
+use Rattle.pie_aqm.specs.Held.{Held}
+use Rattle.pie_aqm.specs.Steps as Steps
+use Rattle.pie_aqm.proofs.InRange.{ltb}
+use Rattle.pie_aqm.proofs.Places.{filter_map-push}
+use Rattle.pie_book.specs.Types.{RawParams, Packet, Waiting, Arrival, Verdict, Command, Arrive, Depart, Update, Reset, SetParams, Answer, Enqueued}
+use Rattle.pie_book.specs.Types.{Marked, DroppedEarly, DroppedBytes, DroppedPackets, Empty, Left, Updated, Done, Event, Opening}
+use Rattle.pie_book.specs.Call.{arrival_of, call_of, departure_call}
+use Rattle.pie_book.specs.Decision.{answer_by}
+use Rattle.pie_book.specs.Estimates.{held_after, params_after}
+use Rattle.pie_book.specs.History.{bytes_after, effective_moment, waiting_after}
+use Rattle.pie_book.specs.Statistics.{count_of, is_dropped_bytes, is_dropped_early, is_dropped_packets, is_marked, is_queued}
+use Rattle.pie_book.proofs.CoreFacts.{answer-fits, held-is}
+use Rattle.pie_book.proofs.HistoryFacts.{waiting_next}
+use Rattle.pie_book.proofs.LegalFacts.{first-shows, first_core}
+use Rattle.pie_guarantees.specs.Counts.{Carries, SetsLimit, bytes_departed, hands_in, packet_queued, packets_departed, packets_handed_in}
+use Rattle.pie_guarantees.specs.Counts.{packets_queued, packets_waiting, time_of}
+use Rattle.pie_guarantees.specs.Lawful.{IsLawful}
+use Rattle.pie_guarantees.proofs.LawfulFacts.{IsStep, along, beginning, stands_at, step_at, throughout}
+
+-- ---- counts
+
+Adds : List Event → Type 0
+Adds history = packets_handed_in history ≡ count_of is_queued history + count_of is_marked history + count_of is_dropped_early history
+    + count_of is_dropped_bytes history + count_of is_dropped_packets history
+
+count-push : (test : Deed → Bool) (before : List Event) (event : Event)
+    → count_of test (before ++ event ∷ []) ≡ count_of test before + cond (test (deed_of event)) 1 0
+count-push test before event = sum_by_push (λ (e : Event). cond (test (deed_of e)) 1 0) before event
+
+handed-push : (before : List Event) (event : Event)
+    → packets_handed_in (before ++ event ∷ []) ≡ packets_handed_in before + cond (hands_in event.command) 1 0
+handed-push before event = sum_by_push (λ (e : Event). cond (hands_in e.command) 1 0) before event
+
+-- one event counts once
+once-more : (command : Command) (answer : Answer) → fits command answer ≡ true
+    → cond (hands_in command) 1 0 ≡ cond (is_queued (deed command answer)) 1 0 + cond (is_marked (deed command answer)) 1 0
+    + cond (is_dropped_early (deed command answer)) 1 0 + cond (is_dropped_bytes (deed command answer)) 1 0
+    + cond (is_dropped_packets (deed command answer)) 1 0
+once-more (Arrive moment packet word) Enqueued e = refl
+once-more (Arrive moment packet word) Marked e = refl
+once-more (Arrive moment packet word) DroppedEarly e = refl
+once-more (Arrive moment packet word) DroppedBytes e = refl
+once-more (Arrive moment packet word) DroppedPackets e = refl
+once-more (Arrive moment packet word) _ e = cc
+once-more (Depart moment) Empty e = refl
+once-more (Depart moment) (Left packet) e = refl
+once-more (Depart moment) _ e = cc
+once-more (Update moment) answer e = refl
+once-more (Reset moment) answer e = refl
+once-more (SetParams moment params) answer e = refl
+
+adds-next : (opening : Opening) (before : List Event) (event : Event) → IsStep opening before event → Adds before → Adds (before ++ event ∷ [])
+unfolding Adds
+adds-next opening before event step old =
+    let kind : fits event.command event.answer ≡ true =
+    ap (λ (a : Answer). fits event.command a) step.here.answered
+    ∙ answer-fits (held_after opening before) (waiting_after opening before) opening.limits.packets event.command in
+    let one = once-more event.command event.answer kind in
+    rw (
+      handed-push before event,
+      count-push is_queued before event,
+      count-push is_marked before event,
+      count-push is_dropped_early before event,
+      count-push is_dropped_bytes before event,
+      count-push is_dropped_packets before event,
+    ) (omega (arith, one, old))
+
+adds-first : Adds []
+unfolding Adds
+adds-first = refl
+
+pub each_once : (opening : Opening) (history : List Event) → IsLawful opening history
+    → packets_handed_in history ≡ count_of is_queued history + count_of is_marked history + count_of is_dropped_early history
+    + count_of is_dropped_bytes history + count_of is_dropped_packets history
+unfolding Adds
+each_once opening history lawful = throughout Adds opening adds-first (adds-next opening) history lawful
+
+-- ---- order
+
+packets-of : List Waiting → List Packet
+packets-of waiting = map (λ (entry : Waiting). entry.packet) waiting
+
+queued-push : (before : List Event) (event : Event)
+    → packets_queued (before ++ event ∷ []) ≡ packets_queued before ++ option_to_list (packet_queued (deed_of event))
+unfolding packets_queued
+queued-push before event = filter_map-push (λ (e : Event). packet_queued (deed_of e)) before event
+
+departed-push : (before : List Event) (event : Event)
+    → packets_departed (before ++ event ∷ []) ≡ packets_departed before ++ option_to_list (departure (deed_of event))
+unfolding packets_departed
+departed-push before event = filter_map-push (λ (e : Event). departure (deed_of e)) before event
+
+-- what the event did, by what was held before it
+deed-is : (opening : Opening) (before : List Event) (event : Event) → IsStep opening before event
+    → deed_of event ≡ deed event.command (answer_by (held_after opening before) (waiting_after opening before) opening.limits.packets event.command)
+deed-is opening before event step = ap (λ (a : Answer). deed event.command a) step.here.answered
+
+none-new : (gone all : List Packet) (waiting : List Waiting) → gone ++ packets-of waiting ≡ all
+    → (gone ++ []) ++ packets-of (waiting ++ []) ≡ all ++ []
+none-new gone all waiting e = rw (append-nil gone, append-nil all, append-nil waiting) e
+
+one-new : (gone all : List Packet) (waiting : List Waiting) (new : Waiting) → gone ++ packets-of waiting ≡ all
+    → (gone ++ []) ++ packets-of (waiting ++ new ∷ []) ≡ all ++ new.packet ∷ []
+unfolding packets-of
+one-new gone all waiting new e =
+    rw (append-nil gone, map-append (λ (entry : Waiting). entry.packet) waiting (new ∷ []), ← append_assoc gone (packets-of waiting) (new.packet ∷ []))
+    (ap (λ (ps : List Packet). ps ++ new.packet ∷ []) e)
+
+in-order : (h : Held) (waiting : List Waiting) (packets : ℕ) (command : Command) (now : ℕ) (gone all : List Packet) → gone ++ packets-of waiting ≡ all
+    → (gone ++ option_to_list (departure (deed command (answer_by h waiting packets command))))
+    ++ packets-of (waiting_next waiting now (deed command (answer_by h waiting packets command)))
+    ≡ all ++ option_to_list (packet_queued (deed command (answer_by h waiting packets command)))
+unfolding packets-of
+in-order h waiting packets (Arrive moment packet word) now gone all e = by (Steps.verdict h (arrival_of waiting packets packet word))
+  where
+    by : (v : Verdict) → (gone ++ option_to_list (departure (deed (Arrive moment packet word) (answer_of v))))
+        ++ packets-of (waiting_next waiting now (deed (Arrive moment packet word) (answer_of v)))
+        ≡ all ++ option_to_list (packet_queued (deed (Arrive moment packet word) (answer_of v)))
+    by verdict.Enqueued = one-new gone all waiting (record { packet = packet; since = now }) e
+    by verdict.Marked = one-new gone all waiting (record { packet = with_ce packet; since = now }) e
+    by verdict.DroppedEarly = none-new gone all waiting e
+    by verdict.DroppedBytes = none-new gone all waiting e
+    by verdict.DroppedPackets = none-new gone all waiting e
+in-order h [] packets (Depart moment) now gone all e = none-new gone all [] e
+in-order h (oldest ∷ others) packets (Depart moment) now gone all e = rw (append-nil all, append_assoc gone (oldest.packet ∷ []) (packets-of others)) e
+in-order h waiting packets (Update moment) now gone all e = none-new gone all waiting e
+in-order h waiting packets (Reset moment) now gone all e = none-new gone all waiting e
+in-order h waiting packets (SetParams moment params) now gone all e = none-new gone all waiting e
+
+Ordered : Opening → List Event → Type 0
+Ordered opening history = packets_departed history ++ packets_waiting opening history ≡ packets_queued history
+
+ordered-next : (opening : Opening) (before : List Event) (event : Event) → IsStep opening before event → Ordered opening before
+    → Ordered opening (before ++ event ∷ [])
+unfolding Ordered packets-of
+ordered-next opening before event step old =
+    rw (departed-push before event, queued-push before event, step.waiting, deed-is opening before event step)
+    (in-order (held_after opening before) (waiting_after opening before) opening.limits.packets event.command
+    (effective_moment opening (before ++ event ∷ [])) (packets_departed before) (packets_queued before) old)
+
+ordered-first : (opening : Opening) → waiting_after opening [] ≡ [] → Ordered opening []
+unfolding Ordered packets_departed packets_queued
+ordered-first opening none = rw none refl
+
+pub in_order : (opening : Opening) (history : List Event) → IsLawful opening history
+    → packets_departed history ++ packets_waiting opening history ≡ packets_queued history
+unfolding Ordered
+in_order opening history lawful = throughout (Ordered opening) opening (ordered-first opening (sym (first-shows opening).waiting)) (ordered-next opening) history lawful
+
+-- ---- limits
+
+pub in_the_ring : (opening : Opening) (history : List Event) → IsLawful opening history → length (waiting_after opening history) ≤ opening.limits.packets
+in_the_ring opening history lawful =
+    let it = stands_at opening history [] (rw (append-nil history) lawful) in
+    subst (λ (w : List Waiting). length w ≤ opening.limits.packets) it.shows.waiting it.room
+
+bytes-none : (waiting : List Waiting) → bytes_of (waiting ++ []) ≡ bytes_of waiting
+bytes-none waiting = rw (append-nil waiting) refl
+
+bytes-one : (waiting : List Waiting) (new : Waiting) → bytes_of (waiting ++ new ∷ []) ≡ bytes_of waiting + new.packet.size
+bytes-one waiting new = sum_by_push (λ (entry : Waiting). entry.packet.size) waiting new
+
+-- the bytes that wait after a command: fewer or as many, or a packet more that the limit has room for
+record Bounded (limit before after : ℕ) (queued : Option Packet) : Type 0 where
+  or : (after ≤ before) ⊎ (after ≤ limit)
+  queue : (packet : Packet) → queued ≡ Some packet → after ≤ limit
+
+bounded : (h : Held) (waiting : List Waiting) (packets : ℕ) (command : Command) (now : ℕ)
+    → Bounded h.params.limit_bytes (bytes_of waiting)
+    (bytes_of (waiting_next waiting now (deed command (answer_by h waiting packets command))))
+    (packet_queued (deed command (answer_by h waiting packets command)))
+unfolding Steps.verdict
+bounded h waiting packets (Arrive moment packet word) now =
+    by (nat_lt h.params.limit_bytes (bytes_of waiting + packet.size)) (length waiting == packets) refl
+    (Steps.choice h (arrival_of waiting packets packet word))
+  where
+    v : Bool → Bool → Choice → Verdict
+    v over full choice = if over then verdict.DroppedBytes else if full then verdict.DroppedPackets else Steps.chosen choice
+
+    same : Bounded h.params.limit_bytes (bytes_of waiting) (bytes_of (waiting ++ [])) None
+    same = record { or = inl (omega (arith, bytes-none waiting)); queue = λ packet is. cc }
+
+    more : (new : Waiting) → new.packet.size ≡ packet.size → bytes_of waiting + packet.size ≤ h.params.limit_bytes
+        → Bounded h.params.limit_bytes (bytes_of waiting) (bytes_of (waiting ++ new ∷ [])) (Some new.packet)
+    more new size room =
+        let one = bytes-one waiting new in
+        record { or = inr (omega (arith, one, size, room)); queue = λ packet is. omega (arith, one, size, room) }
+
+    by : (over full : Bool) → nat_lt h.params.limit_bytes (bytes_of waiting + packet.size) ≡ over → (choice : Choice)
+        → Bounded h.params.limit_bytes (bytes_of waiting) (bytes_of (waiting_next waiting now (deed (Arrive moment packet word) (answer_of
+        (if over then verdict.DroppedBytes else if full then verdict.DroppedPackets else Steps.chosen choice)))))
+        (packet_queued (deed (Arrive moment packet word) (answer_of
+        (if over then verdict.DroppedBytes else if full then verdict.DroppedPackets else Steps.chosen choice))))
+    by true full o choice = same
+    by false true o choice = same
+    by false false o choice.Enqueue = more (record { packet = packet; since = now }) refl (ltb h.params.limit_bytes (bytes_of waiting + packet.size) o)
+    by false false o choice.Mark = more (record { packet = with_ce packet; since = now }) refl
+        (ltb h.params.limit_bytes (bytes_of waiting + packet.size) o)
+    by false false o choice.Drop = same
+bounded h [] packets (Depart moment) now = record { or = inl (omega arith); queue = λ packet is. cc }
+bounded h (oldest ∷ others) packets (Depart moment) now =
+    record { or = inl (let first = sum_by-cons (λ (entry : Waiting). entry.packet.size) oldest others in omega (arith, first)); queue = λ packet is. cc }
+bounded h waiting packets (Update moment) now = record { or = inl (omega (arith, bytes-none waiting)); queue = λ packet is. cc }
+bounded h waiting packets (Reset moment) now = record { or = inl (omega (arith, bytes-none waiting)); queue = λ packet is. cc }
+bounded h waiting packets (SetParams moment params) now = record { or = inl (omega (arith, bytes-none waiting)); queue = λ packet is. cc }
+
+bounded-at : (opening : Opening) (before : List Event) (event : Event) → IsStep opening before event
+    → Bounded (held_after opening before).params.limit_bytes (bytes_after opening before) (bytes_after opening (before ++ event ∷ []))
+    (packet_queued (deed_of event))
+bounded-at opening before event step =
+    rw (step.waiting, deed-is opening before event step)
+    (bounded (held_after opening before) (waiting_after opening before) opening.limits.packets event.command
+    (effective_moment opening (before ++ event ∷ [])))
+
+pub room_for_bytes : (opening : Opening) (before : List Event) (event : Event) (later : List Event) (packet : Packet)
+    → IsLawful opening (before ++ event ∷ later) → packet_queued (deed_of event) ≡ Some packet
+    → bytes_after opening (before ++ event ∷ []) ≤ (params_after opening before).limit_bytes
+room_for_bytes opening before event later packet lawful is =
+    (bounded-at opening before event (step_at opening before event later lawful)).queue packet is
+
+-- the limit in force after a call
+limit-next : (most : ℕ) (h : Held) (waiting : List Waiting) (packets : ℕ) (command : Command) → h.params.limit_bytes ≤ most
+    → SetsLimit most command → (after_call h (call_of waiting packets command)).params.limit_bytes ≤ most
+limit-next most h waiting packets (Arrive moment packet word) low set =
+    by (Steps.turns_on h (Steps.bytes_with (Steps.verdict h (arrival_of waiting packets packet word)) (bytes_of waiting) packet.size))
+  where
+    by : (on : Bool) → (if on then record (Steps.anew (Steps.judged h (arrival_of waiting packets packet word) moment)) { active = true }
+        else Steps.judged h (arrival_of waiting packets packet word) moment).params.limit_bytes ≤ most
+    by true = low
+    by false = low
+limit-next most h [] packets (Depart moment) low set = low
+limit-next most h (oldest ∷ others) packets (Depart moment) low set = low
+limit-next most h waiting packets (Update moment) low set = low
+limit-next most h waiting packets (Reset moment) low set = low
+limit-next most h waiting packets (SetParams moment params) low set = set
+
+record Below (most : ℕ) (opening : Opening) (history : List Event) : Type 0 where
+  limit : (params_after opening history).limit_bytes ≤ most
+  bytes : bytes_after opening history ≤ most
+
+below-next : (most : ℕ) (opening : Opening) (before : List Event) (event : Event) → IsStep opening before event → SetsLimit most event.command
+    → Below most opening before → Below most opening (before ++ event ∷ [])
+below-next most opening before event step set old = record {
+  limit = subst (λ (h : Held). h.params.limit_bytes ≤ most) (sym step.held)
+      (limit-next most (held_after opening before) (waiting_after opening before) opening.limits.packets event.command old.limit set);
+  bytes = by (bounded-at opening before event step).or;
+}
+  where
+    by : (bytes_after opening (before ++ event ∷ []) ≤ bytes_after opening before)
+        ⊎ (bytes_after opening (before ++ event ∷ []) ≤ (held_after opening before).params.limit_bytes)
+        → bytes_after opening (before ++ event ∷ []) ≤ most
+    by (inl fewer) = let was = old.bytes in omega (arith, fewer, was)
+    by (inr room) = let low = old.limit in omega (arith, room, low)
+
+pub bytes_below : (most : ℕ) (opening : Opening) (history : List Event) → IsLawful opening history → opening.params.limit_bytes ≤ most
+    → All (λ event. SetsLimit most event.command) history → bytes_after opening history ≤ most
+bytes_below most opening history lawful low set =
+    let none : waiting_after opening [] ≡ [] = sym (first-shows opening).waiting in
+    let h : (first_core opening).held ≡ held_after opening [] = held-is opening (first_core opening) [] (first-shows opening) in
+    (along (Below most opening) (λ (event : Event). SetsLimit most event.command) opening (below-next most opening) [] history []
+    (rw (append-nil history) lawful) set (record {
+      limit = subst (λ (g : Held). g.params.limit_bytes ≤ most) h low;
+      bytes = rw none (omega arith);
+    })).bytes
+
+-- ---- waits
+
+cons-same : (x y : Packet) (xs ys : List Packet) → x ∷ xs ≡ y ∷ ys → (x ≡ y) × (xs ≡ ys)
+cons-same x y xs ys e = (cc, cc)
+
+-- two lists of one length at the beginnings of the same list
+same-beginning : (some other : List Packet) (rest more : List Packet) → some ++ rest ≡ other ++ more → length some ≡ length other → some ≡ other
+same-beginning [] [] rest more e l = refl
+same-beginning [] (y ∷ other) rest more e l = absurd (omega arith)
+same-beginning (x ∷ some) [] rest more e l = absurd (omega arith)
+same-beginning (x ∷ some) (y ∷ other) rest more e l =
+    let parts = cons-same x y (some ++ rest) (other ++ more) e in
+    let tail = same-beginning some other rest more parts.1 (omega (arith, l)) in
+    rw (parts.0, tail) refl
+
+cancel : (some rest other : List Packet) → some ++ rest ≡ some ++ other → rest ≡ other
+cancel [] rest other e = e
+cancel (x ∷ some) rest other e = cancel some rest other (cons-same x x (some ++ rest) (some ++ other) e).1
+
+departed-append : (before between : List Event) → packets_departed (before ++ between) ≡ packets_departed before ++ packets_departed between
+unfolding packets_departed
+departed-append before between = filter_map-append (λ (e : Event). departure (deed_of e)) before between
+
+queued-append : (before between : List Event) → packets_queued (before ++ between) ≡ packets_queued before ++ packets_queued between
+unfolding packets_queued
+queued-append before between = filter_map-append (λ (e : Event). packet_queued (deed_of e)) before between
+
+pub first_out : (opening : Opening) (before : List Event) (between : List Event) (later : List Event)
+    → IsLawful opening (before ++ between ++ later) → length (packets_departed between) ≡ length (waiting_after opening before)
+    → packets_departed between ≡ packets_waiting opening before
+first_out opening before between later lawful many =
+    let first = in_order opening before (beginning opening before (between ++ later) (rw (append_assoc before between later) at lawful)) in
+    let both = in_order opening (before ++ between) (beginning opening (before ++ between) later lawful) in
+    let gone = packets_departed before in
+    let left = packets_departed between in
+    let waits = packets_waiting opening before in
+    let rest = packets_waiting opening (before ++ between) in
+    let new = packets_queued between in
+    let one : (gone ++ left) ++ rest ≡ packets_queued before ++ new =
+    ap (λ (ps : List Packet). ps ++ rest) (sym (departed-append before between)) ∙ both ∙ queued-append before between in
+    let two : gone ++ (left ++ rest) ≡ gone ++ (waits ++ new) =
+    sym (append_assoc gone left rest) ∙ one ∙ ap (λ (ps : List Packet). ps ++ new) (sym first) ∙ append_assoc gone waits new in
+    let three : left ++ rest ≡ waits ++ new = cancel gone (left ++ rest) (waits ++ new) two in
+    let length : length left ≡ length waits = many ∙ sym (length-map (waiting_after opening before) (λ (entry : Waiting). entry.packet)) in
+    same-beginning left waits rest new three length
+
+sizes-of : (waiting : List Waiting) → sum_by (λ (packet : Packet). packet.size) (packets-of waiting) ≡ bytes_of waiting
+unfolding packets-of
+sizes-of [] = refl
+sizes-of (oldest ∷ others) =
+    sum_by-cons (λ (packet : Packet). packet.size) oldest.packet (packets-of others)
+    ∙ ap (λ (n : ℕ). oldest.packet.size + n) (sizes-of others)
+    ∙ sym (sum_by-cons (λ (entry : Waiting). entry.packet.size) oldest others)
+
+scaled : (x bytes limit : ℕ) → x ≤ 8 * 10 ^ 9 * bytes → bytes ≤ limit → x ≤ 8 * 10 ^ 9 * limit
+scaled x bytes limit few room = omega arith
+
+pub waits_bounded : (rate : ℕ) (opening : Opening) (before : List Event) (event : Event) (between : List Event) (later : List Event)
+    (packet : Packet) → IsLawful opening (before ++ event ∷ [] ++ between ++ later) → packet_queued (deed_of event) ≡ Some packet
+    → length (packets_departed between) ≡ length (waiting_after opening (before ++ event ∷ []))
+    → Carries rate opening (before ++ event ∷ []) between
+    → rate * time_of opening (before ++ event ∷ []) between ≤ 8 * 10 ^ 9 * (params_after opening before).limit_bytes
+unfolding packets-of
+waits_bounded rate opening before event between later packet lawful in_queue many carries =
+    let b = before ++ event ∷ [] in
+    let split : before ++ event ∷ [] ++ between ++ later ≡ before ++ (event ∷ (between ++ later)) =
+    append_assoc b between later ∙ append_assoc before (event ∷ []) (between ++ later) in
+    let room = room_for_bytes opening before event (between ++ later) packet (subst (λ (h : List Event). IsLawful opening h) split lawful) in_queue in
+    let out : packets_departed between ≡ packets_waiting opening b = first_out opening b between later lawful many in
+    let bytes : bytes_departed between ≡ bytes_after opening b =
+    ap (λ (ps : List Packet). sum_by (λ (packet : Packet). packet.size) ps) out ∙ sizes-of (waiting_after opening b) in
+    scaled (rate * time_of opening b between) (bytes_departed between) (params_after opening before).limit_bytes carries (subst (λ (n : ℕ). n ≤ (params_after opening before).limit_bytes) (sym bytes) room)

@@ -1,0 +1,280 @@
+-- At each place of a lawful history a core stands that shows the events before it, and each event makes of what it holds what its call does.
+use Rattle.std.proofs.Common.{◌≡◌, ◌≤◌, ◌<◌, ◌+◌, ◌==◌, ℕ, List, [], ◌∷◌, ◌++◌, Bool, true, false, refl, sym, subst, ap, ◌∙◌, arith, max}
+use Rattle.std.specs.Prelude.{⊤}
+use Rattle.std.proofs.Common.{if◌then◌else◌, All, None, Some, nat_lt, nat_le, length, ◌^◌}
+use Rattle.std.proofs.lemmas.Bool.{eqb-false}
+use Rattle.std.proofs.lemmas.List.{append-nil, append_assoc}
+use Rattle.std.proofs.lemmas.List.Elements.{All-cons, All-head, All-nil, All-tail}
+use Rattle.pie_params.specs.Range.{first_bad}
+use Rattle.pie_queue.specs.Queue.{bytes_of}
+use Rattle.pie_event.specs.Deed.{arrival_deed, deed, deed_of, departure_deed, handed_in}
+use Rattle.pie_event.specs.Opening as Opens
+use Rattle.pie_event.specs.Verdict.{answer_of}
+use Rattle.pie_event.specs.declared.verdict.Verdict.TheVariants as verdict
+use Rattle.pie_event.specs.declared.refusal.OpenRefusal.TheVariants as open_refusal
+use Rattle.pie_early.specs.declared.early.Choice.{Choice}
+use Rattle.pie_early.specs.declared.early.Choice.TheVariants.{Enqueue, Mark}
+use Rattle.pie_event.specs.declared.refusal.Refusal.TheVariants as refusal
+use Rattle.pie_aqm.specs.Calls.{IsTaken, after_call}
+use Rattle.pie_aqm.specs.Held.{Held, IsSound}
+use Rattle.pie_aqm.specs.Places.{places}
+use Rattle.pie_aqm.specs.Steps as Steps
+use Rattle.pie_aqm.specs.Steps.{chosen, now_at}
+use Rattle.pie_aqm.proofs.InRange.{leb, ltb, threshold-holds}
+use Rattle.pie_aqm.proofs.Places.{place_of}
+use Rattle.pie_aqm.proofs.Sounds.{Sound_call, Sound_opened}
+use Rattle.pie_book.specs.Types.{Packet, Waiting, Command, Arrive, Depart, Update, Reset, SetParams, Answer, Event, Opening, Refusal}
+use Rattle.pie_book.specs.Call.{arrival_of, call_of, departure_call}
+use Rattle.pie_book.specs.Core.{CoreView, Shows, closed}
+use Rattle.pie_book.specs.Decision.{IsLegalAt, answer_to_departure, has_bad_size, is_too_soon, refusal_by_rule, refusal_with}
+use Rattle.pie_book.specs.Estimates.{due_after, held_after}
+use Rattle.pie_book.specs.History.{effective_moment, waiting_after}
+use Rattle.pie_book.specs.Run.{event_of}
+use Rattle.pie_book.specs.Step.{answer_in, call_in}
+use Rattle.pie_book.proofs.CoreFacts.{after_event, at_place, departed-of-legal, event-shows, held-is, next-decided, refusal-is}
+use Rattle.pie_book.proofs.HistoryFacts.{effective_moment-push, waiting_after-push, waiting_next}
+use Rattle.pie_book.proofs.LegalFacts.{first-shows, first_core}
+use Rattle.pie_book.proofs.RangeFacts.{HasRoom, waiting_next-room}
+use Rattle.pie_guarantees.specs.Lawful.{IsLawful, SetsInRange}
+
+-- ---- which commands are taken
+
+-- a command that is taken: its moment can be handed in, and an update isn't too soon
+pub record IsFree (opening : Opening) (before : List Event) (command : Command) : Type 0 where
+  pub moment : handed_in command < 2 ^ 60
+  pub size : has_bad_size command ≡ false
+  pub in_time : is_too_soon (effective_moment opening before) (due_after opening before) command ≡ false
+
+free-by : (late bad soon full : Bool) (w x y z : Refusal) → (if late then Some w else if bad then Some x else if soon then Some y else if full then
+    Some z else None) ≡ None
+    → (late ≡ false) × (bad ≡ false) × (soon ≡ false)
+free-by false false false false w x y z e = (refl, refl, refl)
+free-by _ _ _ _ w x y z e = cc
+
+free-with : (before due count events : ℕ) (command : Command) → refusal_with before due count events command ≡ None
+    → (nat_lt Opens.last_moment (handed_in command) ≡ false) × (has_bad_size command ≡ false) × (is_too_soon before due command ≡ false)
+free-with before due count events command e =
+    free-by (nat_lt Opens.last_moment (handed_in command)) (has_bad_size command) (is_too_soon before due command)
+    (count == events) refusal.Moment refusal.Size (refusal.TooSoon due) refusal.Exhausted e
+
+pub is_free : (opening : Opening) (before : List Event) (command : Command) → refusal_by_rule opening before command ≡ None
+    → IsFree opening before command
+is_free opening before command e =
+    let facts = free-with (effective_moment opening before) (due_after opening before) (length before) opening.limits.events command e in
+    let late = ltb Opens.last_moment (handed_in command) facts.0 in
+    record { moment = omega arith; size = facts.1; in_time = facts.2 }
+
+-- ---- what a core holds at a place
+
+-- a core shows these events, and what it holds is sound
+pub record Stands (opening : Opening) (history : List Event) : Type 0 where
+  pub core : CoreView
+  pub shows : Shows opening core history
+  pub sound : IsSound core.held
+  pub room : length core.waiting ≤ opening.limits.packets
+
+start-moment : (opening : Opening) → Opens.opening_refusal opening.limits opening.moment ≡ None → opening.moment < 2 ^ 60
+start-moment opening = by (Opens.are_in_range opening.limits) (nat_le opening.moment Opens.last_moment) refl
+  where
+    by : (good within : Bool) → nat_le opening.moment Opens.last_moment ≡ within
+        → (if good then (if within then None else Some open_refusal.Moment) else Some open_refusal.BadLimits) ≡ None → opening.moment < 2 ^ 60
+    by true true w e = let start = leb opening.moment Opens.last_moment w in omega arith
+    by true false w e = cc
+    by false within w e = cc
+
+stands-first : (opening : Opening) → Opens.opening_refusal opening.limits opening.moment ≡ None → first_bad opening.params ≡ None → Stands opening []
+stands-first opening good params = record {
+  core = first_core opening;
+  shows = first-shows opening;
+  sound = Sound_opened opening.choices.profile opening.choices.elements opening.params opening.moment params (start-moment opening good);
+  room = omega arith;
+}
+
+-- ---- one more event
+
+call-taken : (core : CoreView) (command : Command) → handed_in command < 2 ^ 60 → SetsInRange command → IsTaken (call_in core command)
+call-taken core (Arrive moment packet word) handed fit = handed
+call-taken core (Depart moment) handed fit = by core.waiting
+  where
+    by : (waiting : List Waiting) → IsTaken (departure_call waiting moment)
+    by [] = handed
+    by (oldest ∷ others) = handed
+call-taken core (Update moment) handed fit = handed
+call-taken core (Reset moment) handed fit = handed
+call-taken core (SetParams moment params) handed fit = (handed, fit)
+
+-- a packet is queued only where the ring has room
+verdict-room : (over full : Bool) (choice : Choice) (packet : Packet) (waiting : List Waiting) (packets : ℕ) → (length waiting == packets) ≡ full
+    → length waiting ≤ packets
+    → HasRoom (arrival_deed packet (answer_of (if over then verdict.DroppedBytes else if full then verdict.DroppedPackets else chosen choice)))
+    waiting packets
+verdict-room false false Enqueue packet waiting packets is within = omega (arith, eqb-false (length waiting) packets is)
+verdict-room false false Mark packet waiting packets is within = omega (arith, eqb-false (length waiting) packets is)
+verdict-room _ _ _ packet waiting packets is within = tt
+
+departure-room : (all waiting : List Waiting) (packets : ℕ) → HasRoom (departure_deed (answer_to_departure all)) waiting packets
+departure-room [] waiting packets = tt
+departure-room (oldest ∷ others) waiting packets = tt
+
+has-room : (core : CoreView) (command : Command) → length core.waiting ≤ core.packets
+    → HasRoom (deed command (answer_in core command)) core.waiting core.packets
+unfolding Steps.verdict
+has-room core (Arrive moment packet word) within =
+    verdict-room (nat_lt core.held.params.limit_bytes (bytes_of core.waiting + packet.size)) (length core.waiting == core.packets)
+    (Steps.choice core.held (arrival_of core.waiting core.packets packet word)) packet core.waiting core.packets refl within
+has-room core (Depart moment) within = departure-room core.waiting core.waiting core.packets
+has-room core _ within = tt
+
+stands-next : (opening : Opening) (before : List Event) (event : Event) → Stands opening before → IsLegalAt opening (place_of before event)
+    → SetsInRange event.command → Stands opening (before ++ event ∷ [])
+stands-next opening before event old here fit =
+    let core = old.core in
+    let free = refusal-is opening core before old.shows event.command ∙ here.taken in
+    let handed = (is_free opening before event.command here.taken).moment in
+    let within : length core.waiting ≤ core.packets = omega (arith, old.room, old.shows.packets) in
+    let same : event_of event.caller event.command (answer_in core event.command) ≡ event =
+    ap (λ (answer : Answer). event_of event.caller event.command answer)
+    (next-decided opening core before old.shows event.command ∙ sym here.answered) in
+    record {
+      core = closed (after_event core event.command);
+      shows = subst (λ (e : Event). Shows opening (closed (after_event core event.command)) (before ++ e ∷ [])) same
+          (event-shows opening core before old.shows event.caller event.command
+          (λ packet moment is left. (threshold-holds core.held.params old.sound.params).1) free);
+      sound = Sound_call core.held old.sound (call_in core event.command) (call-taken core event.command handed fit);
+      room = let next = waiting_next-room core.waiting (now_at core.held (handed_in event.command)) (deed event.command
+          (answer_in core event.command)) core.packets within (has-room core event.command within) in
+          omega (arith, next, old.shows.packets);
+    }
+
+-- an event of a lawful history: what the events before it leave, and what it makes of that
+pub record IsStep (opening : Opening) (before : List Event) (event : Event) : Type 0 where
+  pub stands : Stands opening before
+  pub here : IsLegalAt opening (place_of before event)
+  pub free : IsFree opening before event.command
+  pub set : SetsInRange event.command
+  pub sound : IsSound (held_after opening before)
+  pub held : held_after opening (before ++ event ∷ [])
+      ≡ after_call (held_after opening before) (call_of (waiting_after opening before) opening.limits.packets event.command)
+  pub waiting : waiting_after opening (before ++ event ∷ [])
+      ≡ waiting_next (waiting_after opening before) (effective_moment opening (before ++ event ∷ [])) (deed_of event)
+  pub moment : effective_moment opening (before ++ event ∷ []) ≡ max (effective_moment opening before) (handed_in event.command)
+  pub same_moment : (held_after opening before).moment ≡ effective_moment opening before
+  pub next_moment : (held_after opening (before ++ event ∷ [])).moment ≡ effective_moment opening (before ++ event ∷ [])
+
+step-of : (opening : Opening) (before : List Event) (event : Event) → Stands opening before → IsLegalAt opening (place_of before event)
+    → SetsInRange event.command → IsStep opening before event
+unfolding stands-next
+step-of opening before event old here fit =
+    let next = stands-next opening before event old here fit in
+    let core = old.core in
+    let is : core.held ≡ held_after opening before = held-is opening core before old.shows in
+    record {
+      stands = old;
+      here = here;
+      free = is_free opening before event.command here.taken;
+      set = fit;
+      sound = subst (λ (h : Held). IsSound h) is old.sound;
+      held = sym (held-is opening next.core (before ++ event ∷ []) next.shows)
+          ∙ ap (λ (h : Held). after_call h (call_of core.waiting core.packets event.command)) is
+          ∙ ap (λ (w : List Waiting). after_call (held_after opening before) (call_of w core.packets event.command)) old.shows.waiting
+          ∙ ap (λ (n : ℕ). after_call (held_after opening before) (call_of (waiting_after opening before) n event.command)) old.shows.packets;
+      waiting = waiting_after-push opening before event (departed-of-legal opening before old.shows.legal)
+          ∙ ap (λ (m : ℕ). waiting_next (waiting_after opening before) m (deed_of event)) (sym (effective_moment-push opening before event));
+      moment = effective_moment-push opening before event;
+      same_moment = sym (ap (λ (h : Held). h.moment) is) ∙ old.shows.moment;
+      next_moment = sym (ap (λ (h : Held). h.moment) (held-is opening next.core (before ++ event ∷ []) next.shows)) ∙ next.shows.moment;
+    }
+
+-- ---- a whole history
+
+set-after : (before rest : List Event) → All (λ (e : Event). SetsInRange e.command) (before ++ rest)
+    → All (λ (e : Event). SetsInRange e.command) rest
+set-after [] rest all = all
+set-after (event ∷ before) rest all = set-after before rest (All-tail (λ (e : Event). SetsInRange e.command) event (before ++ rest) all)
+
+-- what is so before some events, and stays so at each of them that passes a test, is so after them
+module _ (P : List Event → Type 0) (Q : Event → Type 0) (opening : Opening)
+    (stays : (before : List Event) (event : Event) → IsStep opening before event → Q event → P before → P (before ++ event ∷ [])) where
+  -- .. where these events come later
+  record Goes (before between : List Event) : Type 0 where
+    stands : Stands opening (before ++ between)
+    so : P (before ++ between)
+
+  along-from : (before between later : List Event) → Stands opening before → P before
+      → All (IsLegalAt opening) (places (before ++ between ++ later)) → All (λ event. SetsInRange event.command) (between ++ later)
+      → All Q between → Goes before between
+  along-from before [] later old so legal fit pass = record { stands = rw (append-nil before) old; so = rw (append-nil before) so }
+  along-from before (event ∷ between) later old so legal fit pass =
+      let one : (before ++ event ∷ []) ++ between ≡ before ++ (event ∷ between) = append_assoc before (event ∷ []) between in
+      let here = at_place (IsLegalAt opening) before event (between ++ later) (rw (append_assoc before (event ∷ between) later) at legal) in
+      let set = All-head (λ (e : Event). SetsInRange e.command) event (between ++ later) fit in
+      let step = step-of opening before event old here set in
+      let next = along-from (before ++ event ∷ []) between later (stands-next opening before event old here set)
+      (stays before event step (All-head Q event between pass) so) (rw (← one) at legal)
+      (All-tail (λ (e : Event). SetsInRange e.command) event (between ++ later) fit) (All-tail Q event between pass) in
+      record { stands = rw (← one) next.stands; so = rw (← one) next.so }
+
+all-true : (events : List Event) → All (λ event. ⊤) events
+all-true [] = All-nil (λ event. ⊤)
+all-true (event ∷ events) = All-cons (λ event. ⊤) event events tt (all-true events)
+
+-- the events before a place of a lawful history are shown by a core
+pub stands_at : (opening : Opening) (before later : List Event) → IsLawful opening (before ++ later) → Stands opening before
+stands_at opening before later lawful =
+    (along-from (λ events. ⊤) (λ event. ⊤) opening (λ before event step passed so. tt) [] before later
+    (stands-first opening lawful.opens lawful.params) tt lawful.legal lawful.set (all-true before)).stands
+
+-- each event of a lawful history is a step
+pub step_at : (opening : Opening) (before : List Event) (event : Event) (later : List Event) → IsLawful opening (before ++ event ∷ later)
+    → IsStep opening before event
+step_at opening before event later lawful =
+    step-of opening before event (stands_at opening before (event ∷ later) lawful)
+    (at_place (IsLegalAt opening) before event later lawful.legal)
+    (All-head (λ (e : Event). SetsInRange e.command) event later (set-after before (event ∷ later) lawful.set))
+
+-- what holds before some events of a lawful history, and stays so at each of them that passes a test, holds after them, where all do
+pub along : (P : List Event → Type 0) (Q : Event → Type 0) (opening : Opening)
+    → ((before : List Event) (event : Event) → IsStep opening before event → Q event → P before → P (before ++ event ∷ []))
+    → (before between later : List Event) → IsLawful opening (before ++ between ++ later) → All Q between → P before → P (before ++ between)
+along P Q opening stays before between later lawful pass so =
+    (along-from P Q opening stays before between later
+    (stands_at opening before (between ++ later) (rw (append_assoc before between later) at lawful)) so lawful.legal
+    (set-after before (between ++ later) (rw (append_assoc before between later) at lawful.set)) pass).so
+
+-- .. whatever they are
+pub always : (P : List Event → Type 0) (opening : Opening)
+    → ((before : List Event) (event : Event) → IsStep opening before event → P before → P (before ++ event ∷ []))
+    → (before between later : List Event) → IsLawful opening (before ++ between ++ later) → P before → P (before ++ between)
+always P opening stays before between later lawful so =
+    along P (λ event. ⊤) opening (λ before event step passed so. stays before event step so) before between later lawful (all-true between) so
+
+-- what holds at the opening, and stays so at each event, holds after a lawful history
+pub throughout : (P : List Event → Type 0) (opening : Opening) → P []
+    → ((before : List Event) (event : Event) → IsStep opening before event → P before → P (before ++ event ∷ []))
+    → (history : List Event) → IsLawful opening history → P history
+throughout P opening first stays history lawful =
+    always P opening stays [] history [] (rw (append-nil history) lawful) first
+
+-- what is held there is sound, and its moment the effective one
+pub sound_at : (opening : Opening) (before later : List Event) → IsLawful opening (before ++ later)
+    → IsSound (held_after opening before) × ((held_after opening before).moment ≡ effective_moment opening before)
+sound_at opening before later lawful =
+    let it = stands_at opening before later lawful in
+    let is : it.core.held ≡ held_after opening before = held-is opening it.core before it.shows in
+    (subst (λ (h : Held). IsSound h) is it.sound, sym (ap (λ (h : Held). h.moment) is) ∙ it.shows.moment)
+
+set-before : (before later : List Event) → All (λ (e : Event). SetsInRange e.command) (before ++ later)
+    → All (λ (e : Event). SetsInRange e.command) before
+set-before [] later all = All-nil (λ (e : Event). SetsInRange e.command)
+set-before (event ∷ before) later all =
+    All-cons (λ (e : Event). SetsInRange e.command) event before (All-head (λ (e : Event). SetsInRange e.command) event (before ++ later) all)
+    (set-before before later (All-tail (λ (e : Event). SetsInRange e.command) event (before ++ later) all))
+
+-- the beginning of a lawful history is lawful
+pub beginning : (opening : Opening) (before later : List Event) → IsLawful opening (before ++ later) → IsLawful opening before
+beginning opening before later lawful = record {
+  opens = lawful.opens;
+  params = lawful.params;
+  set = set-before before later lawful.set;
+  legal = (stands_at opening before later lawful).shows.legal;
+}

@@ -1,0 +1,242 @@
+-- How the next probability follows the delay.
+use Rattle.std.proofs.Common.{◌≡◌, ◌≤◌, ◌<◌, ◌+◌, ◌*◌, ◌-◌, ◌/◌, ◌&&◌, ◌==◌, ◌^◌, ℕ, suc, Bool, true, false, refl, sym, ap, ◌∙◌, subst, arith}
+use Rattle.std.proofs.Common.{◌⊎◌, inl, inr, if◌then◌else◌, nat_lt, min}
+use Rattle.std.specs.Prelude.{ℤ, pos, negsuc, ◌+ℤ◌, ◌-ℤ◌, ◌*ℤ◌, ◌≤ℤ◌, int_div, nat_le}
+use Rattle.std.specs.Int.{int_min}
+use Rattle.std.proofs.lemmas.Bool.Decides.{nat_tests}
+use Rattle.std.proofs.lemmas.Int.{clamps, ints}
+use Rattle.std.proofs.lemmas.Nat.{le-div, mul-le}
+use Rattle.std.proofs.Math.Nat.{div-mul-le_self}
+use Rattle.pie_fixed.specs.Fixed.{bounded_of}
+use Rattle.pie_params.specs.declared.raw.RawParams.{RawParams}
+use Rattle.pie_params.specs.declared.elements.Step.{Step}
+use Rattle.pie_params.specs.Elements.{is_capped}
+use Rattle.pie_control.specs.Next.{decayed, next, raw_step, tuned_step, tuning_divisor}
+use Rattle.pie_control.proofs.Quotients.{bounded_of-below, decay-below, int_div-below}
+
+div-mono : (a b d : ℕ) → 0 < d → a ≤ b → a / d ≤ b / d
+div-mono a b d some le = le-div (a / d) b d some (omega (arith, div-mul-le_self a d, le))
+
+mul-mono : (g : ℕ) (x y : ℤ) → x ≤ℤ y → (pos g *ℤ x) ≤ℤ (pos g *ℤ y)
+mul-mono g (pos a) (pos b) le = omega (arith, ints, mul-le g a g b (omega arith) (omega (arith, ints, le)))
+mul-mono g (negsuc a) (pos b) le = omega (arith, ints)
+mul-mono g (pos a) (negsuc b) le = omega (arith, ints, le)
+mul-mono g (negsuc a) (negsuc b) le = omega (arith, ints, mul-le g (suc b) g (suc a) (omega arith) (omega (arith, ints, le)))
+
+div-mono-int : (x y : ℤ) (d : ℕ) → 0 < d → x ≤ℤ y → int_div x (pos d) ≤ℤ int_div y (pos d)
+div-mono-int (pos a) (pos b) d some le = omega (arith, ints, div-mono a b d some (omega (arith, ints, le)))
+div-mono-int (negsuc a) (pos b) d some le = omega (arith, ints)
+div-mono-int (pos a) (negsuc b) d some le = omega (arith, ints, le)
+div-mono-int (negsuc a) (negsuc b) d some le = omega (arith, ints, div-mono (suc b) (suc a) d some (omega (arith, ints, le)))
+
+min-mono : (x y z : ℤ) → x ≤ℤ y → int_min x z ≤ℤ int_min y z
+min-mono x y z le = omega (arith, ints, clamps)
+
+bounded-mono : (x y : ℤ) → x ≤ℤ y → bounded_of x ≤ bounded_of y
+bounded-mono (pos a) (pos b) le = omega (arith, ints)
+bounded-mono (negsuc a) (pos b) le = omega (arith, ints)
+bounded-mono (pos a) (negsuc b) le = omega (arith, ints, le)
+bounded-mono (negsuc a) (negsuc b) le = omega (arith, ints)
+
+raw-mono : (params : RawParams) (old delay more : ℕ) → delay ≤ more → raw_step params delay old ≤ℤ raw_step params more old
+unfolding raw_step
+raw-mono params old delay more le =
+    let a = mul-mono params.alpha (pos delay -ℤ pos params.target) (pos more -ℤ pos params.target) (omega (arith, ints)) in
+    let b = mul-mono params.beta (pos delay -ℤ pos old) (pos more -ℤ pos old) (omega (arith, ints)) in
+    omega (arith, ints, a, b)
+
+divisor-some : (prob : ℕ) → 0 < tuning_divisor prob
+unfolding tuning_divisor
+divisor-some prob =
+    by (nat_lt prob (10 ^ 6)) (nat_lt prob (10 ^ 7)) (nat_lt prob (10 ^ 8)) (nat_lt prob (10 ^ 9)) (nat_lt prob (10 ^ 10)) (nat_lt prob (10 ^ 11))
+  where
+    by : (a b c d e f : Bool) → 0 < (if a then 2048 else (if b then 512 else (if c then 128 else (if d then 32 else (if e then 8 else (if f then 2
+        else 1))))))
+    by true b c d e f = omega arith
+    by false true c d e f = omega arith
+    by false false true d e f = omega arith
+    by false false false true e f = omega arith
+    by false false false false true f = omega arith
+    by false false false false false true = omega arith
+    by false false false false false false = omega arith
+
+tuned-mono : (step : Step) (prob : ℕ) (x y : ℤ) → x ≤ℤ y → tuned_step step prob x ≤ℤ tuned_step step prob y
+unfolding tuned_step
+tuned-mono step prob x y le = by (is_capped step && nat_le (10 ^ 11) prob)
+  where
+    by : (capped : Bool) → (if capped then int_min (int_div x (pos (tuning_divisor prob))) (pos 20_000_000_000) else int_div x (pos
+        (tuning_divisor prob)))
+        ≤ℤ (if capped then int_min (int_div y (pos (tuning_divisor prob))) (pos 20_000_000_000) else int_div y (pos (tuning_divisor prob)))
+    by true = min-mono (int_div x (pos (tuning_divisor prob))) (int_div y (pos (tuning_divisor prob))) (pos 20_000_000_000)
+        (div-mono-int x y (tuning_divisor prob) (divisor-some prob) le)
+    by false = div-mono-int x y (tuning_divisor prob) (divisor-some prob) le
+
+-- a decay never gives more than what decays, once both are bounded
+decay-less : (x : ℤ) → bounded_of (int_div (x *ℤ pos 98) (pos 100)) ≤ bounded_of x
+decay-less (pos a) = omega (arith, ints)
+decay-less (negsuc a) = bounded_of-below (int_div (negsuc a *ℤ pos 98) (pos 100)) 0 (decay-below (negsuc a) 0 (omega (arith, ints)))
+
+decay-mono : (x y : ℤ) → x ≤ℤ y → int_div (x *ℤ pos 98) (pos 100) ≤ℤ int_div (y *ℤ pos 98) (pos 100)
+decay-mono x y le = div-mono-int (x *ℤ pos 98) (y *ℤ pos 98) 100 (omega arith) (omega (arith, ints, le))
+
+-- ---- the next probability
+
+sum_of : Step → RawParams → ℕ → ℕ → ℕ → ℤ
+sum_of step params prob delay old = pos prob +ℤ tuned_step step prob (raw_step params delay old)
+
+sum-mono : (step : Step) (params : RawParams) (prob old delay more : ℕ) → delay ≤ more
+    → sum_of step params prob delay old ≤ℤ sum_of step params prob more old
+unfolding sum_of
+sum-mono step params prob old delay more le =
+    let t = tuned-mono step prob (raw_step params delay old) (raw_step params more old) (raw-mono params old delay more le) in
+    omega (arith, ints, t)
+
+-- a higher delay never gives a lower next probability, all else the same
+pub next_mono : (step : Step) (params : RawParams) (prob old delay more : ℕ) → delay ≤ more
+    → next step params prob delay old ≤ next step params prob more old
+unfolding next decayed sum_of
+next_mono step params prob old delay more le =
+    by (delay == 0) (more == 0) (old == 0) (let zero : more == 0 ≡ true → delay == 0 ≡ true = λ is. both is in zero)
+  where
+    both : more == 0 ≡ true → delay == 0 ≡ true
+    both is = grind (arith, nat_tests)
+
+    x : ℤ
+    x = sum_of step params prob delay old
+
+    y : ℤ
+    y = sum_of step params prob more old
+
+    xy : sum_of step params prob delay old ≤ℤ sum_of step params prob more old
+    xy = sum-mono step params prob old delay more le
+
+    by : (d m o : Bool) → (m ≡ true → d ≡ true)
+        → bounded_of (if d && o then int_div (sum_of step params prob delay old *ℤ pos 98) (pos 100) else sum_of step params prob delay old)
+        ≤ bounded_of (if m && o then int_div (sum_of step params prob more old *ℤ pos 98) (pos 100) else sum_of step params prob more old)
+    by true true true both = bounded-mono (int_div (x *ℤ pos 98) (pos 100)) (int_div (y *ℤ pos 98) (pos 100)) (decay-mono x y xy)
+    by true false true both =
+        let less = decay-less x in
+        let more = bounded-mono x y xy in
+        omega (arith, less, more)
+    by true m false both = grind-free m
+      where
+        grind-free : (m : Bool) → bounded_of x ≤ bounded_of (if m && false then int_div (y *ℤ pos 98) (pos 100) else y)
+        grind-free true = bounded-mono x y xy
+        grind-free false = bounded-mono x y xy
+    by false true o both = let wrong : false ≡ true = both refl in cc
+    by false false o both = bounded-mono x y xy
+
+-- ---- up and down
+
+product-up : (g : ℕ) (z : ℤ) → pos 0 ≤ℤ z → pos 0 ≤ℤ (pos g *ℤ z)
+product-up g (pos a) le = omega (arith, ints)
+product-up g (negsuc a) le = absurd (omega (arith, ints, le))
+
+product-down : (g : ℕ) (z : ℤ) → z ≤ℤ pos 0 → (pos g *ℤ z) ≤ℤ pos 0
+product-down g z le = let m = mul-mono g z (pos 0) le in omega (arith, ints, m)
+
+quotient-up : (z : ℤ) (d : ℕ) → pos 0 ≤ℤ z → pos 0 ≤ℤ int_div z (pos d)
+quotient-up (pos a) d le = omega (arith, ints)
+quotient-up (negsuc a) d le = absurd (omega (arith, ints, le))
+
+tuned-up : (step : Step) (prob : ℕ) (x : ℤ) → pos 0 ≤ℤ x → pos 0 ≤ℤ tuned_step step prob x
+unfolding tuned_step
+tuned-up step prob x le = by (is_capped step && nat_le (10 ^ 11) prob)
+  where
+    q : pos 0 ≤ℤ int_div x (pos (tuning_divisor prob))
+    q = quotient-up x (tuning_divisor prob) le
+
+    by : (capped : Bool) → pos 0 ≤ℤ (if capped then int_min (int_div x (pos (tuning_divisor prob))) (pos 20_000_000_000)
+        else int_div x (pos (tuning_divisor prob)))
+    by true = let q = quotient-up x (tuning_divisor prob) le in omega (arith, ints, clamps, q)
+    by false = quotient-up x (tuning_divisor prob) le
+
+tuned-down : (step : Step) (prob : ℕ) (x : ℤ) → x ≤ℤ pos 0 → tuned_step step prob x ≤ℤ pos 0
+unfolding tuned_step
+tuned-down step prob x le = by (is_capped step && nat_le (10 ^ 11) prob)
+  where
+    by : (capped : Bool) → (if capped then int_min (int_div x (pos (tuning_divisor prob))) (pos 20_000_000_000)
+        else int_div x (pos (tuning_divisor prob))) ≤ℤ pos 0
+    by true = let q = int_div-below x (tuning_divisor prob) 0 le in omega (arith, ints, clamps, q)
+    by false = int_div-below x (tuning_divisor prob) 0 le
+
+raw-up : (params : RawParams) (delay old : ℕ) → params.target ≤ delay → old ≤ delay → pos 0 ≤ℤ raw_step params delay old
+unfolding raw_step
+raw-up params delay old above risen =
+    let a = product-up params.alpha (pos delay -ℤ pos params.target) (omega (arith, ints)) in
+    let b = product-up params.beta (pos delay -ℤ pos old) (omega (arith, ints)) in
+    omega (arith, ints, a, b)
+
+raw-down : (params : RawParams) (delay old : ℕ) → delay ≤ params.target → delay ≤ old → raw_step params delay old ≤ℤ pos 0
+unfolding raw_step
+raw-down params delay old below fallen =
+    let a = product-down params.alpha (pos delay -ℤ pos params.target) (omega (arith, ints)) in
+    let b = product-down params.beta (pos delay -ℤ pos old) (omega (arith, ints)) in
+    omega (arith, ints, a, b)
+
+-- what decays or not is at most what doesn't
+decayed-less : (delay old : ℕ) (x : ℤ) → bounded_of (decayed delay old x) ≤ bounded_of x
+unfolding decayed
+decayed-less delay old x = by ((delay == 0) && (old == 0))
+  where
+    by : (b : Bool) → bounded_of (if b then int_div (x *ℤ pos 98) (pos 100) else x) ≤ bounded_of x
+    by true = decay-less x
+    by false = omega arith
+
+pub next_up : (step : Step) (params : RawParams) (prob delay old : ℕ) → prob ≤ 10 ^ 12 → 0 < params.target → params.target ≤ delay → old ≤ delay
+    → prob ≤ next step params prob delay old
+unfolding next decayed
+next_up step params prob delay old within some above risen =
+    rw not-zero (by (pos prob +ℤ tuned_step step prob (raw_step params delay old))
+    (let t = tuned-up step prob (raw_step params delay old) (raw-up params delay old above risen) in omega (arith, ints, t)))
+  where
+    not-zero : (delay == 0) ≡ false
+    not-zero = grind (arith, nat_tests)
+
+    by : (x : ℤ) → pos prob ≤ℤ x → prob ≤ bounded_of x
+    by (pos a) le = let b : prob ≤ a = omega (arith, ints, le) in omega (arith, b, within)
+    by (negsuc a) le = absurd (omega (arith, ints, le))
+
+pub next_down : (step : Step) (params : RawParams) (prob delay old : ℕ) → delay ≤ params.target → delay ≤ old
+    → next step params prob delay old ≤ prob
+unfolding next
+next_down step params prob delay old below fallen =
+    let t = tuned-down step prob (raw_step params delay old) (raw-down params delay old below fallen) in
+    let x : ℤ = pos prob +ℤ tuned_step step prob (raw_step params delay old) in
+    let less = decayed-less delay old (pos prob +ℤ tuned_step step prob (raw_step params delay old)) in
+    let few = bounded_of-below (pos prob +ℤ tuned_step step prob (raw_step params delay old)) prob (omega (arith, ints, t)) in
+    omega (arith, less, few)
+
+tuned-capped : (step : Step) (prob : ℕ) (x : ℤ) → is_capped step ≡ true → 10 ^ 11 ≤ prob → tuned_step step prob x ≤ℤ pos 20_000_000_000
+unfolding tuned_step
+tuned-capped step prob x capped large =
+    rw (capped, many) (let m = min-below (int_div x (pos (tuning_divisor prob))) in m)
+  where
+    many : nat_le (10 ^ 11) prob ≡ true
+    many = grind (arith, nat_tests)
+
+    min-below : (z : ℤ) → int_min z (pos 20_000_000_000) ≤ℤ pos 20_000_000_000
+    min-below z = omega (arith, ints, clamps)
+
+pub next_capped : (step : Step) (params : RawParams) (prob delay old : ℕ) → is_capped step ≡ true → 10 ^ 11 ≤ prob
+    → next step params prob delay old ≤ prob + 20_000_000_000
+unfolding next
+next_capped step params prob delay old capped large =
+    let t = tuned-capped step prob (raw_step params delay old) capped large in
+    let less = decayed-less delay old (pos prob +ℤ tuned_step step prob (raw_step params delay old)) in
+    let few = bounded_of-below (pos prob +ℤ tuned_step step prob (raw_step params delay old)) (prob + 20_000_000_000) (omega (arith, ints, t)) in
+    omega (arith, less, few)
+
+decayed-share : (prob : ℕ) (x : ℤ) → x ≤ℤ pos prob → bounded_of (int_div (x *ℤ pos 98) (pos 100)) * 100 ≤ prob * 98
+decayed-share prob x le =
+    let d = decay-mono x (pos prob) le in
+    let b = bounded-mono (int_div (x *ℤ pos 98) (pos 100)) (int_div (pos prob *ℤ pos 98) (pos 100)) d in
+    let q = div-mul-le_self (prob * 98) 100 in
+    omega (arith, ints, b, q)
+
+-- with both delays 0 it falls to 98 hundredths at most
+pub next_decays : (step : Step) (params : RawParams) (prob : ℕ) → next step params prob 0 0 * 100 ≤ prob * 98
+unfolding next decayed
+next_decays step params prob =
+    let t = tuned-down step prob (raw_step params 0 0) (raw-down params 0 0 (omega arith) (omega arith)) in
+    decayed-share prob (pos prob +ℤ tuned_step step prob (raw_step params 0 0)) (omega (arith, ints, t))

@@ -1,0 +1,271 @@
+-- How the probability follows the delay, at each event of a lawful history.
+use Rattle.std.proofs.Common.{◌≡◌, ◌≤◌, ◌<◌, ◌+◌, ◌*◌, ◌-◌, ◌&&◌, ◌==◌, ◌^◌, ◌⊎◌, inl, inr, ℕ, zero, suc, List, [], ◌∷◌, ◌++◌, Bool, true, false, refl, sym}
+use Rattle.std.proofs.Common.{ap, ◌∙◌, cond, if◌then◌else◌, nat_lt, arith, subst, max, All}
+use Rattle.std.specs.Prelude.{not, ◌&&◌, nat_le}
+use Rattle.std.proofs.lemmas.Nat.{mul-le}
+use Rattle.std.proofs.Math.Nat.{pow-suc}
+use Rattle.std.proofs.lemmas.List.{append-nil, append_assoc}
+use Rattle.std.proofs.lemmas.List.Sums.{sum_by-cons}
+use Rattle.pie_params.specs.Elements.{is_capped}
+use Rattle.pie_params.specs.Profile.{default_profile}
+use Rattle.pie_params.specs.declared.elements.Elements.{Elements}
+use Rattle.pie_params.specs.declared.elements.Step.{Step}
+use Rattle.pie_params.specs.declared.elements.Step.TheVariants.{Capped}
+use Rattle.pie_queue.specs.Queue.{bytes_of}
+use Rattle.pie_control.specs.Next.{decayed, next, raw_step, tuned_step, tuning_divisor}
+use Rattle.pie_event.specs.Deed.{deed, deed_of, is_update}
+use Rattle.pie_aqm.specs.Calls.{after_call}
+use Rattle.pie_aqm.specs.Held.{Held, IsSound}
+use Rattle.pie_aqm.specs.History.{held_of}
+use Rattle.pie_aqm.specs.Steps as Steps
+use Rattle.pie_aqm.specs.Steps.{anew, bytes_with, judged, wakes}
+use Rattle.pie_aqm.proofs.InRange.{in-range}
+use Rattle.pie_book.specs.Types.{RawParams, Waiting, Arrival, Command, Arrive, Depart, Update, Reset, SetParams, Answer, Enqueued, Event, Opening}
+use Rattle.pie_book.specs.Call.{arrival_of, call_of, departure_call}
+use Rattle.pie_book.specs.Estimates.{active_after, delay_after, held_after, params_after, parts_after}
+use Rattle.pie_book.specs.History.{bytes_after, waiting_after}
+use Rattle.pie_book.specs.Statistics.{is_reset}
+use Rattle.pie_guarantees.specs.Bursts.{KeepsParams, updates_in}
+use Rattle.pie_guarantees.specs.Lawful.{IsLawful}
+use Rattle.pie_guarantees.specs.Probability.{AllSteady, IsActiveUpdate, IsSteady, after_updates, old_delay_after, probability_after}
+use Rattle.pie_guarantees.proofs.LawfulFacts.{IsStep, sound_at, step_at}
+use Rattle.pie_guarantees.proofs.NextFacts.{next_capped, next_decays, next_down, next_up}
+
+elements-is : (opening : Opening) (history : List Event) → (held_after opening history).elements ≡ opening.choices.elements
+unfolding held_after held_of
+elements-is opening history = refl
+
+pub within_one : (opening : Opening) (history : List Event) → IsLawful opening history → probability_after opening history ≤ 10 ^ 12
+within_one opening history lawful = (sound_at opening history [] (rw (append-nil history) lawful)).0.prob
+
+-- ---- an update of an active controller
+
+-- the command of an update
+record IsUpdate (command : Command) : Type 0 where
+  moment : ℕ
+  is : command ≡ Update moment
+
+update-of : (command : Command) (answer : Answer) → is_update (deed command answer) ≡ true → IsUpdate command
+update-of (Arrive moment packet word) Enqueued e = cc
+update-of (Arrive moment packet word) _ e = cc
+update-of (Depart moment) Enqueued e = cc
+update-of (Depart moment) _ e = cc
+update-of (Update moment) answer e = record { moment = moment; is = refl }
+update-of (Reset moment) answer e = cc
+update-of (SetParams moment params) answer e = cc
+
+updated-prob : (h : Held) (queued moment : ℕ) → h.active ≡ true
+    → (Steps.updated h queued moment).control.prob ≡ next h.elements.step h.params h.control.prob (Steps.delay_in h queued) h.control.old_delay
+updated-prob h queued moment on = rw on refl
+
+prob-next : (opening : Opening) (before : List Event) (event : Event) → IsStep opening before event → IsActiveUpdate opening before event
+    → probability_after opening (before ++ event ∷ [])
+    ≡ next opening.choices.elements.step (params_after opening before) (probability_after opening before) (delay_after opening before)
+    (old_delay_after opening before)
+prob-next opening before event step active =
+    let h = held_after opening before in
+    let u = update-of event.command event.answer active.update in
+    ap (λ (g : Held). g.control.prob) step.held
+    ∙ ap (λ (c : Command). (after_call h (call_of (waiting_after opening before) opening.limits.packets c)).control.prob) u.is
+    ∙ updated-prob h (bytes_of (waiting_after opening before)) u.moment active.active
+    ∙ ap (λ (e : Elements). next e.step h.params h.control.prob (delay_after opening before) h.control.old_delay) (elements-is opening before)
+
+module _ (opening : Opening) (before : List Event) (event : Event) (later : List Event) (lawful : IsLawful opening (before ++ event ∷ later)) where
+  step : IsStep opening before event
+  step = step_at opening before event later lawful
+
+  module _ (active : IsActiveUpdate opening before event) where
+    is : probability_after opening (before ++ event ∷ [])
+        ≡ next opening.choices.elements.step (params_after opening before) (probability_after opening before) (delay_after opening before)
+        (old_delay_after opening before)
+    is = prob-next opening before event (step_at opening before event later lawful) active
+
+    pub rises_above : (params_after opening before).target ≤ delay_after opening before
+        → old_delay_after opening before ≤ delay_after opening before
+        → probability_after opening before ≤ probability_after opening (before ++ event ∷ [])
+    rises_above above risen =
+        let sound = (step_at opening before event later lawful).sound in
+        let target = (in-range (params_after opening before) sound.params).target in
+        rw is (next_up opening.choices.elements.step (params_after opening before) (probability_after opening before) (delay_after opening before)
+        (old_delay_after opening before) sound.prob (let least = target.0 in omega arith) above risen)
+
+    pub falls_below : delay_after opening before ≤ (params_after opening before).target
+        → delay_after opening before ≤ old_delay_after opening before
+        → probability_after opening (before ++ event ∷ []) ≤ probability_after opening before
+    falls_below below fallen =
+        rw is (next_down opening.choices.elements.step (params_after opening before) (probability_after opening before) (delay_after opening before)
+        (old_delay_after opening before) below fallen)
+
+    pub capped_rise : is_capped opening.choices.elements.step ≡ true → 100_000_000_000 ≤ probability_after opening before
+        → probability_after opening (before ++ event ∷ []) ≤ probability_after opening before + 20_000_000_000
+    capped_rise capped large =
+        rw is (next_capped opening.choices.elements.step (params_after opening before) (probability_after opening before)
+        (delay_after opening before) (old_delay_after opening before) capped large)
+
+    pub decays_by_two : delay_after opening before ≡ 0 → old_delay_after opening before ≡ 0
+        → probability_after opening (before ++ event ∷ []) * 100 ≤ probability_after opening before * 98
+    decays_by_two none old =
+        rw (is, none, old) (next_decays opening.choices.elements.step (params_after opening before) (probability_after opening before))
+
+-- ---- any other event
+
+-- what a command does to the probability that is no update of an active controller: it stays, or starts anew
+stays-or-zero : (h : Held) (waiting : List Waiting) (packets : ℕ) (command : Command) (answer : Answer)
+    → (is_update (deed command answer) ≡ false) ⊎ (h.active ≡ false)
+    → (after_call h (call_of waiting packets command)).control.prob ≤ h.control.prob
+stays-or-zero h waiting packets (Arrive moment packet word) answer other =
+    by (Steps.turns_on h (bytes_with (Steps.verdict h (arrival_of waiting packets packet word)) (bytes_of waiting) packet.size))
+  where
+    by : (on : Bool) → (if on then record (anew (judged h (arrival_of waiting packets packet word) moment)) { active = true }
+        else judged h (arrival_of waiting packets packet word) moment).control.prob ≤ h.control.prob
+    by true = omega arith
+    by false = omega arith
+stays-or-zero h [] packets (Depart moment) answer other = omega arith
+stays-or-zero h (oldest ∷ others) packets (Depart moment) answer other = omega arith
+stays-or-zero h waiting packets (Update moment) answer (inl none) = cc
+stays-or-zero h waiting packets (Update moment) answer (inr off) = rw off (omega arith)
+stays-or-zero h waiting packets (Reset moment) answer other = omega arith
+stays-or-zero h waiting packets (SetParams moment params) answer other = omega arith
+
+pub no_other_rise : (opening : Opening) (before : List Event) (event : Event) (later : List Event)
+    → IsLawful opening (before ++ event ∷ later) → (is_update (deed_of event) ≡ false) ⊎ (active_after opening before ≡ false)
+    → probability_after opening (before ++ event ∷ []) ≤ probability_after opening before
+no_other_rise opening before event later lawful other =
+    let step = step_at opening before event later lawful in
+    subst (λ (g : Held). g.control.prob ≤ probability_after opening before) (sym step.held)
+    (stays-or-zero (held_after opening before) (waiting_after opening before) opening.limits.packets event.command event.answer other)
+
+-- ---- one delay all along
+
+-- what an event leaves while the delay is steady
+record Next (delay : ℕ) (step : Step) (h g : Held) (updates : Bool) : Type 0 where
+  params : g.params ≡ h.params
+  prob : g.control.prob ≡ (if updates then next step h.params h.control.prob delay delay else h.control.prob)
+
+active-arrival : (h : Held) (a : Arrival) (moment : ℕ) → h.active ≡ true → Steps.arrived h a moment ≡ judged h a moment
+active-arrival h a moment on = by (Steps.turns_on h (bytes_with (Steps.verdict h a) a.queued a.size)) (rw on refl)
+  where
+    by : (b : Bool) → b ≡ false → (if b then record (anew (judged h a moment)) { active = true } else judged h a moment) ≡ judged h a moment
+    by true e = cc
+    by false e = refl
+
+same-next : (delay : ℕ) (h : Held) (waiting : List Waiting) (packets : ℕ) (command : Command) (answer : Answer) → KeepsParams command
+    → is_reset (deed command answer) ≡ false → h.active ≡ true
+    → (is_update (deed command answer) ≡ true → Steps.delay_in h (bytes_of waiting) ≡ delay)
+    → (is_update (deed command answer) ≡ true → h.control.old_delay ≡ delay)
+    → Next delay h.elements.step h (after_call h (call_of waiting packets command)) (is_update (deed command answer))
+same-next delay h waiting packets (Arrive moment packet word) answer keeps unreset on now old =
+    by answer (active-arrival h (arrival_of waiting packets packet word) moment on)
+  where
+    same : (g : Held) → g ≡ judged h (arrival_of waiting packets packet word) moment → Next delay h.elements.step h g false
+    same g is = record { params = ap (λ (k : Held). k.params) is; prob = ap (λ (k : Held). k.control.prob) is }
+
+    by : (answer : Answer) → Steps.arrived h (arrival_of waiting packets packet word) moment ≡ judged h (arrival_of waiting packets packet word) moment
+        → Next delay h.elements.step h (Steps.arrived h (arrival_of waiting packets packet word) moment)
+        (is_update (deed (Arrive moment packet word) answer))
+    by Enqueued is = same (Steps.arrived h (arrival_of waiting packets packet word) moment) is
+    by _ is = same (Steps.arrived h (arrival_of waiting packets packet word) moment) is
+same-next delay h waiting packets (Depart moment) answer keeps unreset on now old = by waiting answer
+  where
+    by : (waiting : List Waiting) (answer : Answer)
+        → Next delay h.elements.step h (after_call h (departure_call waiting moment)) (is_update (deed (Depart moment) answer))
+    by [] Enqueued = record { params = refl; prob = refl }
+    by [] _ = record { params = refl; prob = refl }
+    by (oldest ∷ others) Enqueued = record { params = refl; prob = refl }
+    by (oldest ∷ others) _ = record { params = refl; prob = refl }
+same-next delay h waiting packets (Update moment) answer keeps unreset on now old = record {
+  params = refl;
+  prob = updated-prob h (bytes_of waiting) moment on ∙ rw (now refl, old refl) refl;
+}
+same-next delay h waiting packets (Reset moment) answer keeps unreset on now old = cc
+same-next delay h waiting packets (SetParams moment params) answer keeps unreset on now old = absurd keeps
+
+counted-cons : (event : Event) (later : List Event) → updates_in (event ∷ later) ≡ cond (is_update (deed_of event)) 1 0 + updates_in later
+counted-cons event later = sum_by-cons (λ (e : Event). cond (is_update (deed_of e)) 1 0) event later
+
+one-update : (updates : Bool) (n : ℕ) (step : Step) (params : RawParams) (delay prob : ℕ)
+    → after_updates n step params delay (if updates then next step params prob delay delay else prob)
+    ≡ after_updates (cond updates 1 0 + n) step params delay prob
+unfolding after_updates
+one-update true n choice params delay prob =
+    let one : suc n ≡ 1 + n = omega arith in
+    ap (λ (k : ℕ). after_updates k choice params delay prob) one
+one-update false n choice params delay prob =
+    let none : n ≡ 0 + n = omega arith in
+    ap (λ (k : ℕ). after_updates k choice params delay prob) none
+
+pub steadily : (delay : ℕ) (opening : Opening) (before : List Event) (between : List Event) (later : List Event)
+    → IsLawful opening (before ++ between ++ later) → AllSteady delay opening before between
+    → probability_after opening (before ++ between)
+    ≡ after_updates (updates_in between) opening.choices.elements.step (params_after opening before) delay (probability_after opening before)
+unfolding AllSteady after_updates
+steadily delay opening before [] later lawful steady = rw (append-nil before) refl
+steadily delay opening before (event ∷ between) later lawful steady =
+    let here = steady.0 in
+    let one : (before ++ event ∷ []) ++ between ≡ before ++ (event ∷ between) = append_assoc before (event ∷ []) between in
+    let step = step_at opening before event (between ++ later) (rw (append_assoc before (event ∷ between) later) at lawful) in
+    let rest = steadily delay opening (before ++ event ∷ []) between later (rw (← one) at lawful) steady.1 in
+    let h = held_after opening before in
+    let w = waiting_after opening before in
+    let moved : Next delay h.elements.step h (held_after opening (before ++ event ∷ [])) (is_update (deed_of event)) =
+    subst (λ (g : Held). Next delay h.elements.step h g (is_update (deed_of event))) (sym step.held)
+    (same-next delay h w opening.limits.packets event.command event.answer here.keeps here.unreset here.active here.delay_now here.delay_old) in
+    let s = opening.choices.elements.step in
+    let prob : probability_after opening (before ++ event ∷ [])
+    ≡ (if is_update (deed_of event) then next s h.params h.control.prob delay delay else h.control.prob) =
+    moved.prob ∙ ap (λ (e : Elements). if is_update (deed_of event) then next e.step h.params h.control.prob delay delay else h.control.prob)
+    (elements-is opening before) in
+    ap (probability_after opening) (sym one) ∙ rest
+    ∙ ap (λ (p : RawParams). after_updates (updates_in between) s p delay (probability_after opening (before ++ event ∷ []))) moved.params
+    ∙ ap (λ (n : ℕ). after_updates (updates_in between) s h.params delay n) prob
+    ∙ one-update (is_update (deed_of event)) (updates_in between) s h.params delay h.control.prob
+    ∙ ap (λ (n : ℕ). after_updates n s h.params delay h.control.prob) (sym (counted-cons event between))
+
+fades-more : (x y p a b : ℕ) → x * a ≤ y * b → y * 100 ≤ p * 98 → x * (a * 100) ≤ p * (b * 98)
+fades-more x y p a b rest one =
+    let first : x * a * 100 ≤ y * b * 100 = mul-le (x * a) 100 (y * b) 100 rest (omega arith) in
+    let second : y * 100 * b ≤ p * 98 * b = mul-le (y * 100) b (p * 98) b one (omega arith) in
+    grind arith
+
+faded-after : (n : ℕ) (step : Step) (params : RawParams) (prob : ℕ) → after_updates n step params 0 prob * 100 ^ n ≤ prob * 98 ^ n
+unfolding after_updates
+faded-after zero choice params prob = omega arith
+faded-after (suc n) choice params prob =
+    let rest = faded-after n choice params (next choice params prob 0 0) in
+    let one = next_decays choice params prob in
+    rw (pow-suc 100 n, pow-suc 98 n)
+    (fades-more (after_updates n choice params 0 (next choice params prob 0 0)) (next choice params prob 0 0) prob (100 ^ n) (98 ^ n) rest one)
+
+pub fades_away : (opening : Opening) (before : List Event) (between : List Event) (later : List Event)
+    → IsLawful opening (before ++ between ++ later) → AllSteady 0 opening before between
+    → probability_after opening (before ++ between) * 100 ^ updates_in between ≤ probability_after opening before * 98 ^ updates_in between
+fades_away opening before between later lawful steady =
+    let n = updates_in between in
+    let is = steadily 0 opening before between later lawful steady in
+    rw is (faded-after (updates_in between) opening.choices.elements.step (params_after opening before) (probability_after opening before))
+
+-- ---- with the defaults
+
+pub tenth_after : after_updates 162 Capped default_profile 30_000_000 0 ≡ 100_178_833_003
+unfolding after_updates next raw_step tuned_step tuning_divisor decayed
+tenth_after = refl
+
+pub tenth_not_before : after_updates 161 Capped default_profile 30_000_000 0 ≡ 99_241_333_003
+unfolding after_updates next raw_step tuned_step tuning_divisor decayed
+tenth_not_before = refl
+
+pub faded_after : after_updates 87 Capped default_profile 0 1_000_000_000_000 ≡ 96_421_179_148
+unfolding after_updates next raw_step tuned_step tuning_divisor decayed
+faded_after = refl
+
+pub not_yet_faded : after_updates 86 Capped default_profile 0 1_000_000_000_000 ≡ 100_263_958_315
+unfolding after_updates next raw_step tuned_step tuning_divisor decayed
+not_yet_faded = refl
+
+pub below_a_tenth : next Capped default_profile 99_999_999_999 1_000_000_000 0 ≡ 786_562_499_999
+unfolding next raw_step tuned_step tuning_divisor decayed
+below_a_tenth = refl
+
+pub from_a_tenth : next Capped default_profile 100_000_000_000 1_000_000_000 0 ≡ 120_000_000_000
+unfolding next raw_step tuned_step tuning_divisor decayed
+from_a_tenth = refl

@@ -1,0 +1,41 @@
+-- How long a burst is let in (RFC 8033, section 4.4).
+use Rattle.std.specs.Prelude.{◌≡◌, ◌≤◌, ℕ, List, All, ⊤}
+use Rattle.pie_event.specs.Deed.{is_update}
+use Rattle.pie_book.specs.Types.{RawParams, Command, Arrive, Depart, Update, Reset, SetParams, Event, Opening}
+use Rattle.pie_book.specs.Estimates.{params_after, parts_after}
+use Rattle.pie_book.specs.Statistics.{count_of}
+
+-- after these events the burst allowance is whole: no update has taken of it
+abbrev pub IsWhole : Opening → List Event → Type 0
+IsWhole opening before = (parts_after opening before).burst ≡ (params_after opening before).max_burst
+
+-- parameters that allow a burst of at least so many nanoseconds, with updates at least `least` and at most `most` nanoseconds apart
+pub record Allows (burst least most : ℕ) (params : RawParams) : Type 0 where
+  pub allowance : burst ≤ params.max_burst
+  pub apart : least ≤ params.t_update
+  pub together : params.t_update ≤ most
+
+-- new parameters are such
+abbrev pub SetsAllow : ℕ → ℕ → ℕ → Command → Type 0
+SetsAllow burst least most (Arrive moment packet word) = ⊤
+SetsAllow burst least most (Depart moment) = ⊤
+SetsAllow burst least most (Update moment) = ⊤
+SetsAllow burst least most (Reset moment) = ⊤
+SetsAllow burst least most (SetParams moment params) = Allows burst least most params
+
+-- the parameters in force after some events are such, and so are all that are set between
+pub record AllAllow (burst least most : ℕ) (opening : Opening) (before between : List Event) : Type 0 where
+  pub force : Allows burst least most (params_after opening before)
+  pub set : All (λ event. SetsAllow burst least most event.command) between
+
+-- how many updates there are among these events
+abbrev pub updates_in : List Event → ℕ
+updates_in events = count_of is_update events
+
+-- no event sets parameters
+abbrev pub KeepsParams : Command → Type 0
+KeepsParams (Arrive moment packet word) = ⊤
+KeepsParams (Depart moment) = ⊤
+KeepsParams (Update moment) = ⊤
+KeepsParams (Reset moment) = ⊤
+KeepsParams (SetParams moment params) = ⊥

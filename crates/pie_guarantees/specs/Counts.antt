@@ -1,0 +1,53 @@
+-- What becomes of every packet that arrives, and how much waits.
+use Rattle.std.specs.Prelude.{◌≡◌, ◌≤◌, ◌*◌, ◌-◌, ◌^◌, ◌++◌, ℕ, Bool, true, false, List, map, Option, Some, None, count_by, sum_by, ⊤}
+use Rattle.std.specs.List.{filter_map}
+use Rattle.pie_event.specs.Deed.{Deed, deed_of, departure, marked, queued, with_ce}
+use Rattle.pie_book.specs.Types.{Packet, Waiting, Command, Arrive, Depart, Update, Reset, SetParams, Event, Opening}
+use Rattle.pie_book.specs.History.{effective_moment, waiting_after}
+use Rattle.pie_book.specs.Statistics.{count_of, is_dropped_bytes, is_dropped_early, is_dropped_packets, is_marked, is_queued}
+
+-- the command hands in a packet
+abbrev pub hands_in : Command → Bool
+hands_in (Arrive moment packet word) = true
+hands_in _ = false
+
+-- how many packets were handed in
+abbrev pub packets_handed_in : List Event → ℕ
+packets_handed_in history = count_by (λ event. hands_in event.command) history
+
+-- the packet that an event put into the queue: as it arrived, and with CE where it was marked
+abbrev pub packet_queued : Deed → Option Packet
+packet_queued (queued packet) = Some packet
+packet_queued (marked packet) = Some (with_ce packet)
+packet_queued _ = None
+
+-- the packets that were queued or marked, those that departed, and those that wait, in order
+unfoldable pub packets_queued : List Event → List Packet
+packets_queued history = filter_map (λ event. packet_queued (deed_of event)) history
+
+unfoldable pub packets_departed : List Event → List Packet
+packets_departed history = filter_map (λ event. departure (deed_of event)) history
+
+abbrev pub packets_waiting : Opening → List Event → List Packet
+packets_waiting opening history = map (λ (entry : Waiting). entry.packet) (waiting_after opening history)
+
+-- the bytes of the packets that departed
+abbrev pub bytes_departed : List Event → ℕ
+bytes_departed history = sum_by (λ (packet : Packet). packet.size) (packets_departed history)
+
+-- new parameters have a limit of at most so many bytes
+abbrev pub SetsLimit : ℕ → Command → Type 0
+SetsLimit most (Arrive moment packet word) = ⊤
+SetsLimit most (Depart moment) = ⊤
+SetsLimit most (Update moment) = ⊤
+SetsLimit most (Reset moment) = ⊤
+SetsLimit most (SetParams moment params) = params.limit_bytes ≤ most
+
+-- from the end of the first events to the end of the later ones, the nanoseconds that passed
+abbrev pub time_of : Opening → List Event → List Event → ℕ
+time_of opening before between = effective_moment opening (before ++ between) - effective_moment opening before
+
+-- in that time the link carried at least so many bits a second: the packets that departed have their share of 8 bits a byte and 10^9
+-- nanoseconds a second
+abbrev pub Carries : ℕ → Opening → List Event → List Event → Type 0
+Carries rate opening before between = rate * time_of opening before between ≤ 8 * 10 ^ 9 * bytes_departed between

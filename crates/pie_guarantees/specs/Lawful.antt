@@ -1,0 +1,22 @@
+-- The histories of which all laws here hold: those that the rules give from an opening on, whatever made them.
+use Rattle.std.specs.Prelude.{◌≡◌, List, None, All, ⊤}
+use Rattle.pie_params.specs.Range.{first_bad}
+use Rattle.pie_event.specs.Opening.{opening_refusal}
+use Rattle.pie_book.specs.Types.{Command, Arrive, Depart, Update, Reset, SetParams, Event, Opening}
+use Rattle.pie_book.specs.Decision.{IsLegal}
+
+-- new parameters are in their ranges
+abbrev pub SetsInRange : Command → Type 0
+SetsInRange (Arrive moment packet word) = ⊤
+SetsInRange (Depart moment) = ⊤
+SetsInRange (Update moment) = ⊤
+SetsInRange (Reset moment) = ⊤
+SetsInRange (SetParams moment params) = first_bad params ≡ None
+
+-- limits, parameters and moment of the opening are accepted, new parameters are in their ranges, and each command is taken at its place and
+-- has the answer that the rules give there
+pub record IsLawful (opening : Opening) (history : List Event) : Type 0 where
+  pub opens : opening_refusal opening.limits opening.moment ≡ None
+  pub params : first_bad opening.params ≡ None
+  pub set : All (λ event. SetsInRange event.command) history
+  pub legal : IsLegal opening history

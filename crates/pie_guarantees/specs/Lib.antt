@@ -1,0 +1,5 @@
+pub mod Lawful
+pub mod Verdicts
+pub mod Bursts
+pub mod Counts
+pub mod Probability

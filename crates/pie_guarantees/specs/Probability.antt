@@ -1,0 +1,40 @@
+-- How the probability follows the delay (RFC 8033, sections 4.2, 5.1 and 5.5).
+use Rattle.std.specs.Prelude.{◌≡◌, ℕ, zero, suc, List, [], ◌∷◌, ◌++◌, true, false, ⊤}
+use Rattle.pie_params.specs.declared.elements.Step.{Step}
+use Rattle.pie_control.specs.Next.{next}
+use Rattle.pie_event.specs.Deed.{deed_of, is_update}
+use Rattle.pie_book.specs.Types.{RawParams, Event, Opening}
+use Rattle.pie_book.specs.Estimates.{active_after, delay_after, params_after, parts_after}
+use Rattle.pie_book.specs.Statistics.{is_reset}
+use Rattle.pie_guarantees.specs.Bursts.{KeepsParams}
+
+-- the event is an update, and the controller was active before it
+pub record IsActiveUpdate (opening : Opening) (before : List Event) (event : Event) : Type 0 where
+  pub update : is_update (deed_of event) ≡ true
+  pub active : active_after opening before ≡ true
+
+-- the probability after some events, and after one more
+abbrev pub probability_after : Opening → List Event → ℕ
+probability_after opening history = (parts_after opening history).prob
+
+-- the delay of the last update
+abbrev pub old_delay_after : Opening → List Event → ℕ
+old_delay_after opening history = (parts_after opening history).old_delay
+
+-- what a probability comes to by so many updates at one delay
+unfoldable pub after_updates : ℕ → Step → RawParams → ℕ → ℕ → ℕ
+after_updates zero step params delay prob = prob
+after_updates (suc n) step params delay prob = after_updates n step params delay (next step params prob delay delay)
+
+-- after these events the delay stays at this: no parameters, no reset, and each update of the active controller finds it, as the one before
+pub record IsSteady (delay : ℕ) (opening : Opening) (before : List Event) (event : Event) : Type 0 where
+  pub keeps : KeepsParams event.command
+  pub unreset : is_reset (deed_of event) ≡ false
+  pub active : active_after opening before ≡ true
+  pub delay_now : is_update (deed_of event) ≡ true → delay_after opening before ≡ delay
+  pub delay_old : is_update (deed_of event) ≡ true → old_delay_after opening before ≡ delay
+
+-- .. at each of these, with all events before it
+unfoldable pub AllSteady : ℕ → Opening → List Event → List Event → Type 0
+AllSteady delay opening before [] = ⊤
+AllSteady delay opening before (event ∷ later) = IsSteady delay opening before event × AllSteady delay opening (before ++ event ∷ []) later

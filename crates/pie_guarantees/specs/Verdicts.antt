@@ -1,0 +1,31 @@
+-- What early drop does to a packet, and by what that is known.
+use Rattle.std.specs.Prelude.{◌≡◌, ◌<◌, ℕ, Bool, true, false, List}
+use Rattle.pie_queue.specs.Ecn.{is_capable}
+use Rattle.pie_book.specs.Types.{Packet, Arrive, Answer, Event, Opening, DroppedEarly, Marked}
+use Rattle.pie_book.specs.Estimates.{params_after, parts_after}
+
+-- an early verdict: the packet was marked, or dropped early
+abbrev pub is_early : Answer → Bool
+is_early Marked = true
+is_early DroppedEarly = true
+is_early _ = false
+
+-- the event marked or dropped a packet early
+abbrev pub IsEarly : Event → Type 0
+IsEarly event = is_early event.answer ≡ true
+
+-- the event is an arrival of this packet
+abbrev pub IsArrivalOf : Event → Packet → Type 0
+IsArrivalOf event packet = (moment : ℕ) × (word : ℕ) × (event.command ≡ Arrive moment packet word)
+
+-- after these events the probability is below that from which packets of capable endpoints are dropped too
+abbrev pub OnlyMarks : Opening → List Event → Type 0
+OnlyMarks opening before = (parts_after opening before).prob < (params_after opening before).mark_ecnth
+
+-- the event drops no packet early whose endpoints understand a mark
+abbrev pub SparesCapable : Event → Type 0
+SparesCapable event = (packet : Packet) → IsArrivalOf event packet → is_capable packet.ecn ≡ true → event.answer ≡ DroppedEarly → ⊥
+
+-- the event marks no packet whose endpoints don't
+abbrev pub MarksOnlyCapable : Event → Type 0
+MarksOnlyCapable event = (packet : Packet) → IsArrivalOf event packet → is_capable packet.ecn ≡ false → event.answer ≡ Marked → ⊥

@@ -1,0 +1,47 @@
+//! How long a burst is let in (RFC 8033, section 4.4).
+ghost use Rattle.std.specs.Prelude.{◌≡◌, ◌≤◌, ◌+◌, ◌*◌, ◌++◌, ◌∷◌, [], All, List, ℕ, false, true};
+ghost use Rattle.pie_book.specs.Types.{Event, Opening, Reset};
+ghost use Rattle.pie_book.specs.Estimates.{active_after, params_after, parts_after};
+ghost use Rattle.pie_book.specs.History.{effective_moment};
+ghost use Rattle.pie_guarantees.specs.Bursts.{AllAllow, IsWhole, KeepsParams, updates_in};
+ghost use Rattle.pie_guarantees.specs.Lawful.{IsLawful};
+ghost use Rattle.pie_guarantees.specs.Verdicts.{IsEarly};
+
+/// The burst allowance is whole at the opening, after a reset, and where an arrival turns the controller on (RFC 8033, sections 4.4 and 5.3).
+///
+/// It does nothing: its contract is the law.
+pub fn allowances_begin_whole()
+    ensures opening { (opening : Opening) → IsLawful opening [] → IsWhole opening [] }
+    ensures reset { (opening : Opening) (before : List Event) (event : Event) (later : List Event) (moment : ℕ)
+        → IsLawful opening (before ++ event ∷ later) → event.command ≡ Reset moment → IsWhole opening (before ++ event ∷ []) }
+    ensures turned_on { (opening : Opening) (before : List Event) (event : Event) (later : List Event)
+        → IsLawful opening (before ++ event ∷ later) → active_after opening before ≡ false
+        → active_after opening (before ++ event ∷ []) ≡ true → IsWhole opening (before ++ event ∷ []) }
+{}
+
+/// From any moment at which the burst allowance is whole: before the first packet is marked or dropped early there are as many updates as it
+/// takes to use up the allowance, `max_burst` over `t_update`, rounded up (`updates`, RFC 8033, section 4.4); and since updates are
+/// `t_update` apart, it comes no sooner than `max_burst` less one `t_update` after that moment (`earliest`), and no sooner than `max_burst`
+/// after the last update before it, or the opening (`since_last_update`). With the defaults these are 10 updates, 135 and 150 milliseconds.
+///
+/// Parameters may change between: then the least allowance and the longest and shortest distances of all count (`apart` for the time).
+///
+/// It does nothing: its contract is the law.
+pub fn bursts_are_let_in_so_long()
+    ensures updates { (burst : ℕ) (least : ℕ) (most : ℕ) (opening : Opening) (before : List Event) (between : List Event) (event : Event)
+        (later : List Event) → IsLawful opening (before ++ between ++ event ∷ later) → IsWhole opening before
+        → AllAllow burst least most opening before between → IsEarly event → burst ≤ updates_in between * most }
+    ensures apart { (burst : ℕ) (least : ℕ) (most : ℕ) (opening : Opening) (before : List Event) (between : List Event)
+        (later : List Event) → IsLawful opening (before ++ between ++ later) → IsWhole opening before
+        → AllAllow burst least most opening before between
+        → effective_moment opening before + updates_in between * least ≤ effective_moment opening (before ++ between) + least }
+    ensures earliest { (opening : Opening) (before : List Event) (between : List Event) (event : Event) (later : List Event)
+        → IsLawful opening (before ++ between ++ event ∷ later) → IsWhole opening before → All (λ event. KeepsParams event.command) between
+        → IsEarly event
+        → effective_moment opening before + (params_after opening before).max_burst
+        ≤ effective_moment opening (before ++ between) + (params_after opening before).t_update }
+    ensures since_last_update { (opening : Opening) (before : List Event) (between : List Event) (event : Event) (later : List Event)
+        → IsLawful opening (before ++ between ++ event ∷ later) → IsWhole opening before → All (λ event. KeepsParams event.command) between
+        → IsEarly event
+        → (parts_after opening before).last + (params_after opening before).max_burst ≤ effective_moment opening (before ++ between) }
+{}

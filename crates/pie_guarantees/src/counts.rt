@@ -1,0 +1,53 @@
+//! No loss of count: what becomes of every packet, how much waits, and how long.
+ghost use Rattle.std.specs.Prelude.{◌≡◌, ◌≤◌, ◌+◌, ◌*◌, ◌^◌, ◌++◌, ◌∷◌, [], All, List, ℕ, Some, length};
+ghost use Rattle.pie_event.specs.Deed.{deed_of};
+ghost use Rattle.pie_book.specs.Types.{Event, Opening, Packet};
+ghost use Rattle.pie_book.specs.Estimates.{params_after};
+ghost use Rattle.pie_book.specs.History.{bytes_after, waiting_after};
+ghost use Rattle.pie_book.specs.Statistics.{count_of, is_dropped_bytes, is_dropped_early, is_dropped_packets, is_marked, is_queued};
+ghost use Rattle.pie_guarantees.specs.Counts.{Carries, SetsLimit, packet_queued, packets_departed, packets_handed_in, packets_queued, packets_waiting, time_of};
+ghost use Rattle.pie_guarantees.specs.Lawful.{IsLawful};
+
+/// Every packet that was handed in was queued, marked, dropped early, or dropped for want of room, exactly once (`once`); those that departed,
+/// and then those that wait, are exactly those that were queued or marked, in the order in which they arrived, unchanged but for CE where one was
+/// marked (`order`).
+///
+/// It does nothing: its contract is the law (this project's own).
+pub fn every_packet_is_accounted_for()
+    ensures once { (opening : Opening) (history : List Event) → IsLawful opening history
+        → packets_handed_in history ≡ count_of is_queued history + count_of is_marked history + count_of is_dropped_early history
+        + count_of is_dropped_bytes history + count_of is_dropped_packets history }
+    ensures order { (opening : Opening) (history : List Event) → IsLawful opening history
+        → packets_departed history ++ packets_waiting opening history ≡ packets_queued history }
+{}
+
+/// No more packets wait than the ring holds (`packets`). A packet that is queued or marked fits under `limit_bytes` with all that wait
+/// (`bytes_queued`, RFC 8033, Appendix A). So no more bytes ever wait than the greatest `limit_bytes` that was ever in force (`bytes`); new
+/// parameters may lower it below the bytes that wait already.
+///
+/// It does nothing: its contract is the law.
+pub fn queues_stay_within_their_limits()
+    ensures packets { (opening : Opening) (history : List Event) → IsLawful opening history
+        → length (waiting_after opening history) ≤ opening.limits.packets }
+    ensures bytes_queued { (opening : Opening) (before : List Event) (event : Event) (later : List Event) (packet : Packet)
+        → IsLawful opening (before ++ event ∷ later) → packet_queued (deed_of event) ≡ Some packet
+        → bytes_after opening (before ++ event ∷ []) ≤ (params_after opening before).limit_bytes }
+    ensures bytes { (most : ℕ) (opening : Opening) (history : List Event) → IsLawful opening history → opening.params.limit_bytes ≤ most
+        → All (λ event. SetsLimit most event.command) history → bytes_after opening history ≤ most }
+{}
+
+/// Where as many packets depart as wait at some moment, they are those, in their order (`first_in_first_out`). So a packet that is queued, and
+/// departs with the last of the events between, has waited for at most `limit_bytes` over the rate at which the link carried packets in that
+/// time, in which at least this one waited (`waits`): 262144 bytes at 10 Mbit/s are 210 milliseconds.
+///
+/// It does nothing: its contract is the law (this project's own).
+pub fn waits_are_bounded()
+    ensures first_in_first_out { (opening : Opening) (before : List Event) (between : List Event) (later : List Event)
+        → IsLawful opening (before ++ between ++ later) → length (packets_departed between) ≡ length (waiting_after opening before)
+        → packets_departed between ≡ packets_waiting opening before }
+    ensures waits { (rate : ℕ) (opening : Opening) (before : List Event) (event : Event) (between : List Event) (later : List Event)
+        (packet : Packet) → IsLawful opening (before ++ event ∷ [] ++ between ++ later) → packet_queued (deed_of event) ≡ Some packet
+        → length (packets_departed between) ≡ length (waiting_after opening (before ++ event ∷ []))
+        → Carries rate opening (before ++ event ∷ []) between
+        → rate * time_of opening (before ++ event ∷ []) between ≤ 8 * 10 ^ 9 * (params_after opening before).limit_bytes }
+{}

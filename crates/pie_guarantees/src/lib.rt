@@ -1,0 +1,16 @@
+//! What follows from the rules: guarantees that hold of every history that an audit finds clean, whatever made it.
+//!
+//! Each law is a function that does nothing: its contract is the law. The definitions that the contracts cite stand in `specs/`.
+#![tactic(auto)]
+
+pub mod bursts;
+pub mod counts;
+pub mod marks;
+pub mod peace;
+pub mod probability;
+
+pub use bursts::{allowances_begin_whole, bursts_are_let_in_so_long};
+pub use counts::{every_packet_is_accounted_for, queues_stay_within_their_limits, waits_are_bounded};
+pub use marks::{capable_packets_are_spared, only_capable_packets_are_marked};
+pub use peace::{bursts_are_let_in, inactive_controllers_let_all_in, low_delay_is_left_alone, short_queues_are_left_alone};
+pub use probability::{how_fast_the_probability_changes, the_probability_follows_the_delay, what_gives_a_higher_probability};

@@ -1,0 +1,72 @@
+//! How the probability follows the delay (RFC 8033, sections 4.2, 5.1 and 5.5).
+ghost use Rattle.std.specs.Prelude.{◌≡◌, ◌≤◌, ◌<◌, ◌+◌, ◌*◌, ◌^◌, ◌⊎◌, ◌++◌, ◌∷◌, [], List, ℕ, true, false};
+ghost use Rattle.pie_control.specs.Next.{next};
+ghost use Rattle.pie_event.specs.Deed.{deed_of, is_update};
+ghost use Rattle.pie_params.specs.Elements.{is_capped};
+ghost use Rattle.pie_params.specs.Profile.{default_profile};
+ghost use Rattle.pie_params.specs.declared.elements.Step.TheVariants.{Capped};
+ghost use Rattle.pie_params.specs.declared.elements.Step.{Step};
+ghost use Rattle.pie_book.specs.Types.{Event, Opening, RawParams};
+ghost use Rattle.pie_book.specs.Estimates.{active_after, delay_after, params_after};
+ghost use Rattle.pie_guarantees.specs.Bursts.{updates_in};
+ghost use Rattle.pie_guarantees.specs.Lawful.{IsLawful};
+ghost use Rattle.pie_guarantees.specs.Probability.{AllSteady, IsActiveUpdate, after_updates, old_delay_after, probability_after};
+
+/// The probability is always 0 to 1, in units of 10^-12 (`bounded`). An update of an active controller that finds the delay at or above the target and
+/// not fallen doesn't lower it (`rises`); one that finds it at or below the target and not risen doesn't raise it (`falls`). From 10 per cent on a
+/// rise is at most 2 points, where rises are capped (`capped`); and an update that finds no delay, as the one before did, leaves at
+/// most 98 hundredths (`decays`). No other event raises it (`nothing_else_raises`).
+///
+/// It does nothing: its contract is the law.
+pub fn the_probability_follows_the_delay()
+    ensures bounded { (opening : Opening) (history : List Event) → IsLawful opening history → probability_after opening history ≤ 10 ^ 12 }
+    ensures rises { (opening : Opening) (before : List Event) (event : Event) (later : List Event) → IsLawful opening (before ++ event ∷ later)
+        → IsActiveUpdate opening before event → (params_after opening before).target ≤ delay_after opening before
+        → old_delay_after opening before ≤ delay_after opening before
+        → probability_after opening before ≤ probability_after opening (before ++ event ∷ []) }
+    ensures falls { (opening : Opening) (before : List Event) (event : Event) (later : List Event) → IsLawful opening (before ++ event ∷ later)
+        → IsActiveUpdate opening before event → delay_after opening before ≤ (params_after opening before).target
+        → delay_after opening before ≤ old_delay_after opening before
+        → probability_after opening (before ++ event ∷ []) ≤ probability_after opening before }
+    ensures capped { (opening : Opening) (before : List Event) (event : Event) (later : List Event) → IsLawful opening (before ++ event ∷ later)
+        → IsActiveUpdate opening before event → is_capped opening.choices.elements.step ≡ true
+        → 100_000_000_000 ≤ probability_after opening before
+        → probability_after opening (before ++ event ∷ []) ≤ probability_after opening before + 20_000_000_000 }
+    ensures decays { (opening : Opening) (before : List Event) (event : Event) (later : List Event) → IsLawful opening (before ++ event ∷ later)
+        → IsActiveUpdate opening before event → delay_after opening before ≡ 0 → old_delay_after opening before ≡ 0
+        → probability_after opening (before ++ event ∷ []) * 100 ≤ probability_after opening before * 98 }
+    ensures nothing_else_raises { (opening : Opening) (before : List Event) (event : Event) (later : List Event)
+        → IsLawful opening (before ++ event ∷ later) → (is_update (deed_of event) ≡ false) ⊎ (active_after opening before ≡ false)
+        → probability_after opening (before ++ event ∷ []) ≤ probability_after opening before }
+{}
+
+/// A higher delay never gives a lower next probability, all else the same (`delay`). A higher probability before can give a lower one
+/// after, where rises are capped: at a delay of one second, after none, 10 per cent becomes 12, and a hair less than 10 becomes 78.7 (`below`,
+/// `from_a_tenth`).
+///
+/// It does nothing: its contract is the law.
+pub fn what_gives_a_higher_probability()
+    ensures delay { (step : Step) (params : RawParams) (prob : ℕ) (old : ℕ) (delay : ℕ) (more : ℕ) → delay ≤ more
+        → next step params prob delay old ≤ next step params prob more old }
+    ensures below { next Capped default_profile 99_999_999_999 1_000_000_000 0 ≡ 786_562_499_999 }
+    ensures from_a_tenth { next Capped default_profile 100_000_000_000 1_000_000_000 0 ≡ 120_000_000_000 }
+{}
+
+/// While each update finds the same delay the probability is that after so many updates of one delay (`steady`). With the defaults, from 0 at
+/// twice the target it is at least 10 per cent after 162 updates, 2.43 seconds (`tenth_at_last`, `not_before`). With no delay it falls by 2 per cent an
+/// update at least (`fades`), so from 1 to a tenth in at most 87 updates, 1.3 seconds (`faded`, `not_yet_faded`).
+///
+/// It does nothing: its contract is the law.
+pub fn how_fast_the_probability_changes()
+    ensures steady { (delay : ℕ) (opening : Opening) (before : List Event) (between : List Event) (later : List Event)
+        → IsLawful opening (before ++ between ++ later) → AllSteady delay opening before between
+        → probability_after opening (before ++ between)
+        ≡ after_updates (updates_in between) opening.choices.elements.step (params_after opening before) delay (probability_after opening before) }
+    ensures tenth_at_last { after_updates 162 Capped default_profile 30_000_000 0 ≡ 100_178_833_003 }
+    ensures not_before { after_updates 161 Capped default_profile 30_000_000 0 ≡ 99_241_333_003 }
+    ensures fades { (opening : Opening) (before : List Event) (between : List Event) (later : List Event)
+        → IsLawful opening (before ++ between ++ later) → AllSteady 0 opening before between
+        → probability_after opening (before ++ between) * 100 ^ updates_in between ≤ probability_after opening before * 98 ^ updates_in between }
+    ensures faded { after_updates 87 Capped default_profile 0 1_000_000_000_000 ≡ 96_421_179_148 }
+    ensures not_yet_faded { after_updates 86 Capped default_profile 0 1_000_000_000_000 ≡ 100_263_958_315 }
+{}

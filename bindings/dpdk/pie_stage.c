@@ -89,7 +89,7 @@ struct pie_stage {
     uint32_t room;
     bool ecn, hands_back;
 
-    struct pie_text text __rte_cache_aligned; /* of who writes the history, and its first line */
+    struct pie_ring_history text __rte_cache_aligned; /* of who writes the history, and its first line */
     bool is_timed;                            /* the text has told the time of day */
     unsigned char first[PIE_RECORD_ROOM];
     size_t first_size;

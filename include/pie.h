@@ -154,7 +154,9 @@ struct pie_state {
     uint64_t profile;         /* 1 or 2 */
     uint64_t active;          /* 1 while the controller is active, and else 0; in profile 1 always 1 (section 5.3) */
     uint64_t choices;         /* the flags of the optional elements, at most 15 */
-    uint64_t waited;          /* what the packet that departed last had waited, at most 2^40 ns; 0 without PIE_DELAY_STAMP */
+    uint64_t waited;          /* what the packet that departed last had waited, at most 2^40 ns, and 0 where it left the queue empty;
+                                 also 0 after an opening, a reset and a turning on. With PIE_DELAY_STAMP it is the delay of
+                                 the next update; without it plays no part, and stays 0 */
 };
 
 /* What an update answers. */
@@ -276,8 +278,9 @@ uint32_t pie_arrive(struct pie_state *state, uint64_t queued, uint32_t size, uin
 uint32_t pie_depart(struct pie_state *state, uint32_t size, uint64_t left, uint64_t moment);
 
 /* The same with when the packet arrived: state->moment as it was right after its pie_arrive, which the caller keeps beside the packet.
- * With PIE_DELAY_STAMP the next update takes what it waited as the delay, 0 where it leaves the queue empty (section 4.3); without
- * it this is pie_depart, and `arrived` plays no part. `arrived` is never later than state->moment.
+ * With PIE_DELAY_STAMP the next update takes what it waited as the delay, 0 where it leaves the queue empty (section 4.3), and 2^40 ns at
+ * the most; without it this is pie_depart, and `arrived` plays no part. An inactive controller takes in the moment alone. `arrived` is no later than
+ * state->moment was before this call.
  * Refused, in this order: PIE_BAD_MOMENT, PIE_BAD_SIZE, PIE_BAD_QUEUE, PIE_BAD_ARRIVED. */
 uint32_t pie_depart_waited(struct pie_state *state, uint32_t size, uint64_t left, uint64_t arrived, uint64_t moment);
 
@@ -290,12 +293,12 @@ uint32_t pie_empty(struct pie_state *state, uint64_t moment);
  * Refused, in this order: PIE_BAD_STATE, PIE_BAD_MOMENT, PIE_BAD_QUEUE, PIE_TOO_SOON. */
 struct pie_updated pie_update(struct pie_state *state, uint64_t queued, uint64_t moment);
 
-/* Sets probability, old delay, accumulated probability and the rate estimate to 0, and the burst allowance to max_burst.
+/* Sets probability, old delay, accumulated probability, the rate estimate and `waited` to 0, and the burst allowance to max_burst.
  * Keeps parameters, last update, profile and whether the controller is active.
  * Refused, in this order: PIE_BAD_STATE, PIE_BAD_MOMENT. */
 uint32_t pie_reset(struct pie_state *state, uint64_t moment);
 
-/* Puts new parameters in force and clears the rate estimate; the other registers stay, and so pie_due moves with t_update.
+/* Puts new parameters in force and clears the rate estimate; the other registers stay, `waited` too, and so pie_due moves with t_update.
  * `params` is a struct of its own, or &state->params.
  * Refused, in this order: PIE_BAD_STATE, PIE_BAD_PARAMS, PIE_BAD_MOMENT. */
 uint32_t pie_set_params(struct pie_state *state, const struct pie_params *params, uint64_t moment);

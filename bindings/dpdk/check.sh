@@ -57,5 +57,6 @@ done
 step address timeout 60 out/address/pie-fwd "${eal[@]}" --vdev=net_null0 --vdev=net_ring0 --lcores "(0-2)@$cpus" -- \
     --total-num-mbufs=8192 --rate 50mbit --for 1s --history /dev/null
 step pie-fwd timeout 120 ./fwd_test.py out/pie-fwd "$pie"
+grep '^NOT RUN' "$work/pie-fwd.log"
 echo "bindings/dpdk: $(grep -c '^stage_test: ' "$work/test.log") groups of tests, also with sanitizers; no mbuf is lost;" \
-    "$(paste -s -d ';' "$work/slow.log"); $(cat "$work/pie-fwd.log")"
+    "$(paste -s -d ';' "$work/slow.log"); $(grep -v '^NOT RUN' "$work/pie-fwd.log")"

@@ -26,7 +26,7 @@ static const char help[] =
     "                        delays from time stamps, packets picked by the random word alone, steps without a cap, small packets picked\n"
     "                        less often\n"
     "  --one-way             forward nothing from port 1 to port 0\n"
-    "  --open-metrics FILE   the same numbers as OpenMetrics text, replaced each second\n"
+    "  --metrics FILE        the same numbers for node_exporter (*.prom), replaced each second, gone at the end\n"
     "  --json FILE           the same numbers in the shape of tc -s -j, replaced each second\n"
     "  --flight FILE         the last decisions, for pie audit and pie explain, written at SIGUSR1 (pie-fwd.flight)\n"
     "  --flight-wait 100ms   also where a packet waited longer than this, once a second at the most\n"
@@ -126,8 +126,8 @@ static bool read_flag(const char *word, struct fwd_options *options) {
 }
 
 static bool read_name(const char *name, const char *text, struct fwd_options *options) {
-    if (strcmp(name, "--open-metrics") == 0)
-        options->open_metrics = text;
+    if (strcmp(name, "--metrics") == 0)
+        options->metrics = text;
     else if (strcmp(name, "--json") == 0)
         options->json = text;
     else if (strcmp(name, "--history") == 0)

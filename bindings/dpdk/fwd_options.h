@@ -11,7 +11,7 @@ struct fwd_options {
     uint64_t lasts;        /* nanoseconds, 0: until a signal */
     uint64_t mbufs;        /* in the pool */
     bool is_one_way;       /* nothing is forwarded from port 1 to port 0 */
-    const char *open_metrics; /* files, or NULL */
+    const char *metrics; /* files, or NULL */
     const char *json;
     const char *history;
     uint64_t rotate;       /* bytes of a segment of the history, 0: it is one text */

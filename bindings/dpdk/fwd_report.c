@@ -1,5 +1,6 @@
 #include "fwd_report.h"
 
+#include <errno.h>
 #include <inttypes.h>
 #include <limits.h>
 #include <stdio.h>
@@ -19,44 +20,61 @@ void fwd_print_line(const struct pie_stage_stats *before, const struct pie_stage
     printf("\n");
 }
 
-static void write_counter(FILE *file, const char *port, const char *name, const char *what, const char *unit, uint64_t value) {
-    fprintf(file, "# TYPE pie_%s counter\n", name);
-    if (*unit != '\0')
-        fprintf(file, "# UNIT pie_%s %s\n", name, unit);
-    fprintf(file, "# HELP pie_%s %s\npie_%s_total{port=\"%s\"} %" PRIu64 "\n", name, what, name, port, value);
+/* The head of a metric, in the text format of Prometheus, which node_exporter's textfile collector reads. */
+static void write_head(FILE *file, const char *name, const char *kind, const char *what) {
+    fprintf(file, "# HELP pie_%s %s\n# TYPE pie_%s %s\n", name, what, name, kind);
 }
 
-static void write_gauge(FILE *file, const char *port, const char *name, const char *what, const char *unit, double value) {
-    fprintf(file, "# TYPE pie_%s gauge\n", name);
-    if (*unit != '\0')
-        fprintf(file, "# UNIT pie_%s %s\n", name, unit);
-    fprintf(file, "# HELP pie_%s %s\npie_%s{port=\"%s\"} %.12g\n", name, what, name, port, value);
+static void write_counter(FILE *file, const char *port, const char *name, const char *what, uint64_t value) {
+    write_head(file, name, "counter", what);
+    fprintf(file, "pie_%s{port=\"%s\"} %" PRIu64 "\n", name, port, value);
 }
 
-static void write_open_metrics(FILE *file, const struct fwd_options *options, const char *port, const struct pie_stage_stats *stats) {
+static void write_gauge(FILE *file, const char *port, const char *name, const char *what, double value) {
+    write_head(file, name, "gauge", what);
+    fprintf(file, "pie_%s{port=\"%s\"} %.12g\n", name, port, value);
+}
+
+static void write_drops(FILE *file, const char *port, const struct pie_stage_stats *stats) {
     const struct {
         const char *reason;
         uint64_t count;
     } drops[] = {
         {"early", stats->early}, {"bytes", stats->bytes}, {"packets", stats->full}, {"size", stats->oversized}, {"refused", stats->refused}};
-    write_counter(file, port, "departed_packets", "Packets that left the queue.", "packets", stats->departed);
-    write_counter(file, port, "departed_bytes", "Bytes that left the queue.", "bytes", stats->departed_bytes);
-    write_counter(file, port, "queued_packets", "Packets that were queued.", "packets", stats->queued);
-    write_counter(file, port, "marked_packets", "Packets that were marked (CE).", "packets", stats->marked);
-    fprintf(file, "# TYPE pie_dropped_packets counter\n# UNIT pie_dropped_packets packets\n# HELP pie_dropped_packets Packets that were dropped.\n");
+    write_head(file, "dropped_packets_total", "counter", "Packets that were dropped.");
     for (size_t i = 0; i < sizeof drops / sizeof drops[0]; i++)
         fprintf(file, "pie_dropped_packets_total{port=\"%s\",reason=\"%s\"} %" PRIu64 "\n", port, drops[i].reason, drops[i].count);
-    fprintf(file, "# TYPE pie_wait_seconds summary\n# UNIT pie_wait_seconds seconds\n# HELP pie_wait_seconds Time that packets waited.\n");
-    fprintf(file, "pie_wait_seconds_count{port=\"%s\"} %" PRIu64 "\npie_wait_seconds_sum{port=\"%s\"} %" PRIu64 ".%09" PRIu64 "\n", port,
-            stats->departed, port, stats->waited / 1000000000, stats->waited % 1000000000);
-    write_counter(file, port, "updates", "Updates of the probability.", "", stats->updates);
-    write_gauge(file, port, "probability_ratio", "Probability of a drop or a mark.", "ratio", (double)stats->prob / 1e12);
-    write_gauge(file, port, "delay_seconds", "Queueing delay that the last update took.", "seconds", (double)stats->delay / 1e9);
-    write_gauge(file, port, "waiting_packets", "Packets in the queue.", "packets", (double)stats->waiting);
-    write_gauge(file, port, "waiting_bytes", "Bytes in the queue.", "bytes", (double)stats->waiting_bytes);
+}
+
+/* The histogram of waits: of each bound how many packets waited no longer. */
+static void write_waits(FILE *file, const char *port, const struct pie_stage_stats *stats) {
+    uint64_t count = 0;
+    write_head(file, "wait_seconds", "histogram", "Time that packets waited.");
+    for (uint32_t i = 0; i + 1 < PIE_STAGE_WAITS; i++) {
+        count += stats->waits[i];
+        fprintf(file, "pie_wait_seconds_bucket{port=\"%s\",le=\"%g\"} %" PRIu64 "\n", port, (double)pie_stage_wait_bound(i) / 1e9, count);
+    }
+    fprintf(file, "pie_wait_seconds_bucket{port=\"%s\",le=\"+Inf\"} %" PRIu64 "\n", port, stats->departed);
+    fprintf(file, "pie_wait_seconds_sum{port=\"%s\"} %" PRIu64 ".%09" PRIu64 "\npie_wait_seconds_count{port=\"%s\"} %" PRIu64 "\n", port,
+            stats->waited / 1000000000, stats->waited % 1000000000, port, stats->departed);
+}
+
+static void write_metrics(FILE *file, const struct fwd_options *options, const char *port, const struct pie_stage_stats *stats) {
+    write_counter(file, port, "departed_packets_total", "Packets that left the queue.", stats->departed);
+    write_counter(file, port, "departed_bytes_total", "Bytes that left the queue.", stats->departed_bytes);
+    write_counter(file, port, "queued_packets_total", "Packets that were queued.", stats->queued);
+    write_counter(file, port, "marked_packets_total", "Packets that were marked (CE).", stats->marked);
+    write_drops(file, port, stats);
+    write_waits(file, port, stats);
+    write_counter(file, port, "updates_total", "Updates of the probability.", stats->updates);
+    write_counter(file, port, "late_updates_total", "Updates that were later than by a whole period.", stats->late);
+    write_gauge(file, port, "probability_ratio", "Probability of a drop or a mark.", (double)stats->prob / 1e12);
+    write_gauge(file, port, "delay_seconds", "Queueing delay that the last update took.", (double)stats->delay / 1e9);
+    write_gauge(file, port, "burst_allowance_seconds", "Burst allowance that is left.", (double)stats->burst / 1e9);
+    write_gauge(file, port, "waiting_packets", "Packets in the queue.", (double)stats->waiting);
+    write_gauge(file, port, "waiting_bytes", "Bytes in the queue.", (double)stats->waiting_bytes);
     if (options->history != NULL)
-        write_counter(file, port, "lost_events", "Events that the history lacks.", "events", stats->lost);
-    fprintf(file, "# EOF\n");
+        write_counter(file, port, "lost_events_total", "Events that the history lacks.", stats->lost);
 }
 
 /* alpha and beta are in sixteenths, times in microseconds, and limit in packets, as tc has them. */
@@ -94,5 +112,9 @@ static bool replace(const char *path, writer *write, const struct fwd_options *o
 }
 
 bool fwd_write_files(const struct fwd_options *options, const char *port, const struct pie_stage_stats *stats) {
-    return replace(options->open_metrics, write_open_metrics, options, port, stats) && replace(options->json, write_json, options, port, stats);
+    return replace(options->metrics, write_metrics, options, port, stats) && replace(options->json, write_json, options, port, stats);
+}
+
+bool fwd_remove_metrics(const struct fwd_options *options) {
+    return options->metrics == NULL || remove(options->metrics) == 0 || errno == ENOENT;
 }

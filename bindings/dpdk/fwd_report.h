@@ -1,4 +1,4 @@
-/* What pie-fwd tells: a line, OpenMetrics text, and JSON in the shape of tc -s -j. */
+/* What pie-fwd tells: a line, metrics in the text format of Prometheus, and JSON in the shape of tc -s -j. */
 #ifndef FWD_REPORT_H
 #define FWD_REPORT_H
 
@@ -9,5 +9,8 @@ void fwd_print_line(const struct pie_stage_stats *before, const struct pie_stage
 
 /* Replaces the files that the options name, each as a whole; false where that fails, with errno. */
 bool fwd_write_files(const struct fwd_options *options, const char *port, const struct pie_stage_stats *stats);
+
+/* Removes the file of the metrics, since there is no queue any more of which it tells; false where that fails, with errno. */
+bool fwd_remove_metrics(const struct fwd_options *options);
 
 #endif

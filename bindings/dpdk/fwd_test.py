@@ -7,6 +7,7 @@ usage: bindings/dpdk/fwd_test.py PIE_FWD PIE [--real-time]"""
 import json
 import os
 import re
+import shutil
 import signal
 import subprocess
 import sys
@@ -59,38 +60,58 @@ def refused():
 
 
 def interrupt():
-    """Its files while it runs, and its end."""
+    """Its files while it runs, and its end, after which that of the metrics is gone."""
     with tempfile.TemporaryDirectory() as work:
-        words = ["--total-num-mbufs", "8192", "--rate=100mbit", "--open-metrics", f"{work}/metrics", "--json", f"{work}/json"]
+        words = ["--total-num-mbufs", "8192", "--rate=100mbit", "--metrics", f"{work}/pie.prom", "--json", f"{work}/json"]
         process = subprocess.Popen(command(RING, *words), stdout=subprocess.PIPE, text=True)
         lines = [process.stdout.readline(), process.stdout.readline()]
+        while not files(Path(work, "pie.prom").read_text(), json.loads(Path(work, "json").read_text())):
+            lines.append(process.stdout.readline())  # (one of them was of the second before)
+            assert len(lines) < 20, "the files never agree"
         process.send_signal(signal.SIGINT)
         rest = process.communicate(timeout=30)[0]
         assert process.returncode == 0 and all(LINE.match(line) for line in lines), (process.returncode, lines, rest)
         told(rest)
-        files(Path(work, "metrics").read_text(), json.loads(Path(work, "json").read_text()))
-        assert sorted(os.listdir(work)) == ["json", "metrics"]
+        assert os.listdir(work) == ["json"]
     return "interrupt"
 
 
 def files(metrics, queues):
-    lines = metrics.splitlines()
-    assert lines[-1] == "# EOF"
-    numbers = {line.rsplit(" ", 1)[0]: float(line.rsplit(" ", 1)[1]) for line in lines if not line.startswith("#")}
-    assert all(re.fullmatch(r'pie_\w+\{port="net_ring0"(,reason="\w+")?\}', name) for name in numbers), numbers
-    family = ""
-    for line in lines[:-1]:  # each number stands under its family, and a counter's name ends with _total
-        if line.startswith("# TYPE"):
-            family, kind = line.split()[2:]
-        elif not line.startswith("#"):
-            ending = line.split("{")[0].removeprefix(family)
-            assert ending in {"counter": ["_total"], "gauge": [""], "summary": ["_count", "_sum"]}[kind], line
+    """Checks both; False where they are not of the same moment."""
+    family, kinds, numbers = "", {}, {}
+    for line in metrics.splitlines():  # each number stands under its family, whose type and help are told
+        if line.startswith("# "):
+            word, family, rest = line[2:].split(" ", 2)
+            kinds.setdefault(family, set()).add(word)
+            kind = rest if word == "TYPE" else ""
+        else:
+            name, number = line.rsplit(" ", 1)
+            numbers[name] = float(number)
+            assert re.fullmatch(r'pie_\w+\{port="net_ring0"(,(reason|le)="[\w.+]+")?\}', name), name
+            ending = name.split("{")[0].removeprefix(family)
+            assert ending in ({"_bucket", "_count", "_sum"} if kind == "histogram" else {""}), line
+            assert kind != "counter" or family.endswith("_total"), line
+    assert all(words == {"TYPE", "HELP"} for words in kinds.values()), kinds
+    waits = [number for name, number in numbers.items() if name.startswith("pie_wait_seconds_bucket")]
+    assert len(waits) == 13 and waits == sorted(waits) and waits[-1] == numbers['pie_wait_seconds_count{port="net_ring0"}']
+    assert {"pie_late_updates_total", "pie_burst_allowance_seconds"} <= set(kinds)
+    lint(metrics)
     (queue,) = queues
+    if queue["packets"] != numbers['pie_departed_packets_total{port="net_ring0"}']:
+        return False
     assert queue["kind"] == "pie" and queue["options"]["target"] == 15000 and queue["options"]["alpha"] == 2
-    assert queue["packets"] == numbers['pie_departed_packets_total{port="net_ring0"}'] > 0
+    assert queue["packets"] > 0
     assert queue["backlog"] == numbers['pie_waiting_bytes{port="net_ring0"}'] and queue["prob"] == numbers['pie_probability_ratio{port="net_ring0"}']
     drops = sum(count for name, count in numbers.items() if name.startswith("pie_dropped_packets_total"))
     assert queue["drops"] == drops and queue["pkts_in"] - queue["packets"] == queue["qlen"]
+    return True
+
+
+def lint(metrics):
+    """What node_exporter's textfile collector would say of the metrics: promtool finds nothing wrong with them."""
+    if shutil.which("promtool") is not None:
+        done = subprocess.run(["promtool", "check", "metrics"], input=metrics, capture_output=True, text=True, check=False)
+        assert (done.returncode, done.stdout, done.stderr) == (0, "", ""), done
 
 
 def audited(path):
@@ -259,6 +280,8 @@ def main():
     if sys.argv[3:] == ["--real-time"]:
         real_time()
         return
+    if shutil.which("promtool") is None:
+        print("NOT RUN: bindings/dpdk/fwd_test.py: no promtool here, so nothing else than this script read the metrics (bindings/dpdk/install.sh)")
     with ThreadPoolExecutor(max_workers=3) as pool:
         print("; ".join(pool.map(lambda it: it(), (full_speed, flight, interrupt, paced, segments, device_full, refused))))
 

@@ -1,4 +1,4 @@
 #!/usr/bin/env bash
-# for: the stage for DPDK's data planes, and pie-fwd (bindings/dpdk)
+# for: the stage for DPDK's data planes, pie-fwd, and promtool, which checks the metrics of pie-fwd (bindings/dpdk)
 . "$(dirname "$0")/../../tests/shared/packages.sh"
-packages gcc make pkg-config python3 dpdk-dev libdpdk-dev
+packages gcc make pkg-config python3 dpdk-dev libdpdk-dev prometheus

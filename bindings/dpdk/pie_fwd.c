@@ -209,7 +209,7 @@ static void report(void) {
             pie_stage_read(forward.stage, &after);
             fwd_print_line(&before, &after, (double)(now - told) / (double)hz);
             if (!fwd_write_files(&forward.options, port, &after) && !is_told_of_file) {
-                fprintf(stderr, "pie-fwd: the file of --open-metrics or --json: %s\n", strerror(errno));
+                fprintf(stderr, "pie-fwd: the file of --metrics or --json: %s\n", strerror(errno));
                 is_told_of_file = true;
             }
             before = after;
@@ -237,6 +237,10 @@ static bool close_all(void) {
     uint16_t port;
     struct pie_stage_stats stats = {0};
     bool is_written = fwd_history_close(&forward.history, forward.stage);
+    if (!fwd_remove_metrics(&forward.options)) {
+        fprintf(stderr, "pie-fwd: --metrics %s: %s\n", forward.options.metrics, strerror(errno));
+        is_written = false;
+    }
     if (forward.stage != NULL)
         pie_stage_read(forward.stage, &stats);
     RTE_ETH_FOREACH_DEV(port) {

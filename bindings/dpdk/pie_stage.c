@@ -23,7 +23,7 @@
 #define SMALLEST 64u /* bytes of an Ethernet frame */
 #define LEAST_EVENTS 16u
 #define AHEAD 12u /* events ahead whose slots are fetched */
-#define HANDED_OVER 256u /* packets that wait of which the flight recorder's text is told in one turn at the lock */
+#define HANDED_OVER 256u /* packets that wait of which a text is told in one turn at the lock */
 #define RECORDED_PACKETS (1u << 20) /* the most that a history's queue has room for */
 #define RECORDED_EVENTS (UINT64_C(1) << 47)
 #define TAIL 1024 /* events that the book which decides again keeps */
@@ -46,8 +46,9 @@ struct cut {
     struct pie_state pie;
     struct pie_stats stats;
     uint64_t count, bytes;  /* events so far, bytes that wait */
+    uint64_t first;         /* the number of the oldest packet that waits */
     uint32_t packets, told; /* packets that wait, and those of them that are told */
-    struct waiting *queue;  /* memory for those */
+    struct waiting *queue;  /* memory for those: number n is at the place n modulo the queue's room */
     unsigned char gap[PIE_RECORD_ROOM];
     size_t gap_size;
 };
@@ -89,7 +90,7 @@ struct pie_stage {
     uint32_t room;
     bool ecn, hands_back;
 
-    struct pie_text text __rte_cache_aligned; /* of who writes the history, and its first line */
+    struct pie_ring_history text __rte_cache_aligned; /* of who writes the history, and its first line */
     bool is_timed;                            /* the text has told the time of day */
     unsigned char first[PIE_RECORD_ROOM];
     size_t first_size;
@@ -507,6 +508,13 @@ static __rte_always_inline void depart(struct pie_stage *stage, const struct wai
     }
 }
 
+/* The sort of a wait (pie_stage_wait_bound). */
+static inline uint32_t sort_of(uint64_t wait) {
+    uint64_t bounds = (wait - (wait != 0)) / pie_stage_wait_bound(0);
+    uint32_t sort = bounds == 0 ? 0 : 64 - (uint32_t)__builtin_clzll(bounds);
+    return RTE_MIN(sort, (uint32_t)PIE_STAGE_WAITS - 1);
+}
+
 /* Under the lock, the `count` oldest packets leave, BURST of them at the most, and no more than bring the sum of their sizes to `bytes`, which is
  * less by that sum then; answers how many. */
 static __rte_always_inline uint32_t depart_burst(struct pie_stage *stage, struct rte_mbuf **mbufs, uint32_t count, uint64_t *bytes,
@@ -526,6 +534,7 @@ static __rte_always_inline uint32_t depart_burst(struct pie_stage *stage, struct
         uint64_t wait = turn->reached - oldest->arrived;
         longest = RTE_MAX(longest, wait);
         waited += wait;
+        stats->waits[sort_of(wait)]++;
         mbufs[taken++] = oldest->mbuf;
         oldest++;
     }
@@ -597,7 +606,7 @@ static size_t begin_text(struct pie_stage *stage, unsigned char *text, size_t ro
         cut->state = BEGUN;
     }
     for (; cut->told < cut->packets && room - size >= PIE_RECORD_ROOM; cut->told++, stage->text.records++) {
-        const struct waiting *it = &cut->queue[cut->told];
+        const struct waiting *it = &cut->queue[(cut->first + cut->told) % stage->room];
         size += pie_write_queued(it->tag, it->size, it->ecn, it->arrived, text + size, room - size);
     }
     if (cut->told == cut->packets)
@@ -644,23 +653,32 @@ size_t pie_stage_history_end(struct pie_stage *stage, unsigned char *text, size_
     return size != 0 || stage->slots == NULL || room < PIE_RECORD_ROOM ? size : pie_ring_last_gap(&stage->events, &stage->text, text, room);
 }
 
-/* Under the lock, the packets that wait. */
-static uint32_t copy_queue(struct pie_stage *stage, struct waiting *to) {
+/* Under the lock, hands over the packets that wait from the number `next` on and below `end`, `most` of them at the most, and answers the next
+ * number. They are numbered from 0 on, as they were queued; of those that have departed nothing is handed over. */
+static uint64_t hand_turn(struct pie_stage *stage, uint64_t next, uint64_t end, uint64_t most,
+                          void take(void *to, uint64_t number, const struct waiting *packet), void *to) {
     struct rte_ring_zc_data data = {0};
-    uint32_t found = rte_ring_dequeue_zc_burst_elem_start(stage->ring, sizeof *to, stage->packets, &data, NULL);
-    if (found != 0)
-        memcpy(to, data.ptr1, data.n1 * sizeof *to);
-    if (found > data.n1)
-        memcpy(to + data.n1, data.ptr2, (found - data.n1) * sizeof *to);
+    uint64_t first = stage->stats.departed;
+    next = RTE_MAX(next, first);
+    end = RTE_MIN(end, next + most);
+    uint32_t found = rte_ring_dequeue_zc_burst_elem_start(stage->ring, sizeof(struct waiting), stage->packets, &data, NULL);
+    for (; next < end && next - first < found; next++) {
+        uint64_t place = next - first;
+        const struct waiting *one = data.ptr1, *two = data.ptr2;
+        take(to, next, place < data.n1 ? one + place : two + (place - data.n1));
+    }
     rte_ring_dequeue_zc_elem_finish(stage->ring, 0);
-    return found;
+    return next;
 }
 
-bool pie_stage_history_cut(struct pie_stage *stage) {
+static void copy_packet(void *to, uint64_t number, const struct waiting *packet) {
+    struct pie_stage *stage = to;
+    stage->cut.queue[number % stage->room] = *packet;
+}
+
+/* Under the lock, cuts where the packets that wait are copied. */
+static void cut_here(struct pie_stage *stage) {
     struct cut *cut = &stage->cut;
-    if (stage->slots == NULL || cut->state != NONE || stage->text.records == 0)
-        return false;
-    rte_spinlock_lock(&stage->lock);
     pie_ring_publish(&stage->events);
     cut->at = stage->events.head;
     cut->gap_size = pie_ring_last_gap(&stage->events, &stage->text, cut->gap, sizeof cut->gap);
@@ -668,30 +686,51 @@ bool pie_stage_history_cut(struct pie_stage *stage) {
     cut->stats = history_stats(stage);
     cut->count = stage->arrivals + stage->stats.departed + stage->stats.updates;
     cut->bytes = stage->bytes;
-    cut->packets = copy_queue(stage, cut->queue);
-    rte_spinlock_unlock(&stage->lock);
+    cut->first = stage->stats.departed;
+    cut->packets = stage->packets;
     cut->told = 0;
     cut->state = AHEAD_OF_US;
+}
+
+/* The packets that wait are copied first, some in each turn at the lock, and the cut is in the turn that comes to the last of them. Where as many
+ * came meanwhile as were copied, the next turn is twice as long. */
+bool pie_stage_history_cut(struct pie_stage *stage) {
+    uint64_t next = 0, most = HANDED_OVER, left = UINT64_MAX, before;
+    if (stage->slots == NULL || stage->cut.state != NONE || stage->text.records == 0)
+        return false;
+    do {
+        before = left;
+        rte_spinlock_lock(&stage->lock);
+        next = hand_turn(stage, next, UINT64_MAX, most, copy_packet, stage);
+        left = stage->stats.queued - next;
+        if (left == 0)
+            cut_here(stage);
+        rte_spinlock_unlock(&stage->lock);
+        most *= left >= before ? 2 : 1;
+    } while (left != 0);
     return true;
+}
+
+/* The memory that a flight recorder's packets are handed over to. */
+struct handed {
+    PIE_RING_WORD *queued;
+    uint64_t places;
+};
+
+static void tell_packet(void *to, uint64_t number, const struct waiting *packet) {
+    const struct handed *handed = to;
+    pie_flight_waits(handed->queued, handed->places, number, packet->tag, packet->size, packet->ecn, packet->arrived);
 }
 
 /* Hands over the packets that wait, some in each turn at the lock: those that leave meanwhile are told by their departures. */
 static void hand_over(void *owner, PIE_RING_WORD *queued, uint64_t places) {
     struct pie_stage *stage = owner;
+    struct handed handed = {queued, places};
     uint64_t next = 0, end = UINT64_MAX;
     while (next < end) {
-        struct rte_ring_zc_data data = {0};
         rte_spinlock_lock(&stage->lock);
-        uint64_t first = stage->stats.departed;
         end = RTE_MIN(end, stage->stats.queued);
-        next = RTE_MAX(next, first);
-        uint32_t found = rte_ring_dequeue_zc_burst_elem_start(stage->ring, sizeof(struct waiting), stage->packets, &data, NULL);
-        for (uint32_t part = 0; part < HANDED_OVER && next < end && next - first < found; part++, next++) {
-            uint64_t place = next - first;
-            const struct waiting *one = data.ptr1, *two = data.ptr2, *it = place < data.n1 ? one + place : two + (place - data.n1);
-            pie_flight_waits(queued, places, next, it->tag, it->size, it->ecn, it->arrived);
-        }
-        rte_ring_dequeue_zc_elem_finish(stage->ring, 0);
+        next = hand_turn(stage, next, end, HANDED_OVER, tell_packet, &handed);
         rte_spinlock_unlock(&stage->lock);
     }
 }

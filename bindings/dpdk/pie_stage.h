@@ -56,6 +56,13 @@ struct pie_stage;
 #define PIE_STAGE_MAX_FLIGHT (1u << 24)  /* the most events of the flight recorder */
 #define PIE_STAGE_FLIGHT (1u << 14)      /* .. and those of the default parameters */
 
+#define PIE_STAGE_WAITS 13 /* how many sorts of waits are counted */
+
+/* The longest wait of each sort but the last, which has no bound: 250 us, 500 us and so on to 512 ms, in nanoseconds. */
+static inline uint64_t pie_stage_wait_bound(uint32_t sort) {
+    return UINT64_C(250000) << sort;
+}
+
 struct pie_stage_params {
     struct pie_params pie; /* the controller's parameters */
     uint32_t profile;      /* PIE_ALWAYS_ON or PIE_ON_AND_OFF */
@@ -88,6 +95,7 @@ struct pie_stage_stats {
     uint64_t departed_bytes; /* their bytes */
     uint64_t waited;         /* nanoseconds that they waited, all together */
     uint64_t longest;        /* nanoseconds that the longest of these waits took */
+    uint64_t waits[PIE_STAGE_WAITS]; /* packets by their waits: those of a sort waited no longer than its bound, and longer than that before it */
     uint64_t updates;        /* updates made */
     uint64_t late;           /* of these, updates made more than t_update after they were due */
     uint64_t earlier;        /* calls with packets whose `now` was earlier than one before it */
@@ -149,7 +157,7 @@ size_t pie_stage_history_end(struct pie_stage *stage, unsigned char *text, size_
 /* Cuts the history here: pie_stage_history writes the text up to this moment, answers 0 once where it is whole, and from then on writes a new
  * text, which resumes (docs/FORMATS.md) and stands alone. A gap stays in the text before the cut. By the thread that writes the history. Answers
  * false, and cuts nothing, where nothing is recorded, nothing was written yet, or the text before the last cut is not yet whole. The lock is held
- * while the packets that wait are copied, 24 bytes each. */
+ * for 256 of the packets that wait at once; for more only while packets come as quickly as they are copied. */
 bool pie_stage_history_cut(struct pie_stage *stage);
 
 /* Nanoseconds in so many cycles of the TSC, by the clock of the stage. It rounds down, and is exact to 10^-13. */

@@ -34,6 +34,7 @@
 
 static struct rte_mempool *pool;
 static const char *folder;
+static int are_done; /* of a test with threads */
 
 static struct rte_mbuf *alloc(void) {
     struct rte_mbuf *mbuf = rte_pktmbuf_alloc(pool);
@@ -682,6 +683,63 @@ static void test_cut(void) {
     printf("stage_test: a history that is cut\n");
 }
 
+/* Keeps some 3000 packets waiting. */
+static void *churn(void *argument) {
+    struct rte_mbuf *mbufs[8], *out[16];
+    struct pie_stage_stats stats;
+    for (uint32_t round = 0; !__atomic_load_n(&are_done, __ATOMIC_SEQ_CST); round++) {
+        for (int i = 0; i < 8; i++)
+            mbufs[i] = plain((uint16_t)(100 + round % 900), i % 2 == 0 ? PIE_ECT0 : PIE_NOT_ECT);
+        pie_stage_enqueue(argument, mbufs, 8, rte_rdtsc());
+        pie_stage_read(argument, &stats);
+        rte_pktmbuf_free_bulk(out, pie_stage_dequeue(argument, out, stats.waiting > 3000 ? 16 : 4, rte_rdtsc()));
+        if (round % 64 == 0)
+            sched_yield();
+    }
+    return NULL;
+}
+
+/* A history that is cut while packets come and go, of a queue that is copied in many turns: each text stands alone, and begins where the one before
+ * ends. */
+static void test_cut_beside(int cuts) {
+    struct pie_stage_params params;
+    struct told told = {0};
+    pthread_t other;
+    char name[64] = "turns-0";
+    uint64_t last = 0;
+    unrecorded(&params);
+    params.packets = 4000;
+    params.events = 1 << 16;
+    params.pie.limit_bytes = 1 << 24;
+    params.pie.target = UINT64_C(10000000000); // (so that none is dropped early)
+    struct pie_stage *stage = stage_of(&params);
+    are_done = 0;
+    EXPECT(pthread_create(&other, NULL, churn, stage) == 0);
+    for (int cut = 0; cut < cuts; cut++) {
+        FILE *file = open_history(name);
+        while (told.lines < 5000) // (so that the queue is long, and what waits at one cut is gone at the next)
+            take_history(stage, file, false, &told);
+        EXPECT(pie_stage_history_cut(stage) && !pie_stage_history_cut(stage));
+        take_history(stage, file, false, &told);
+        EXPECT(fclose(file) == 0);
+        struct resumed resumed = {.before = 0, .events = told.lines - 1};
+        if (cut > 0)
+            resumed = read_resumed(name);
+        EXPECT(last == 0 || resumed.before == last);
+        last = told.gaps != 0 ? 0 : resumed.before + resumed.events;
+        told = (struct told){0};
+        snprintf(name, sizeof name, "turns-%d", cut + 1);
+    }
+    __atomic_store_n(&are_done, 1, __ATOMIC_SEQ_CST);
+    EXPECT(pthread_join(other, NULL) == 0);
+    FILE *file = open_history(name);
+    take_history(stage, file, true, &told);
+    EXPECT(fclose(file) == 0);
+    pie_stage_free(stage);
+    expect_all_back();
+    printf("stage_test: a history that is cut while packets come and go\n");
+}
+
 /* The pace of pie-fwd: right on the average, and of a pause of a second it makes up for 10 ms. */
 static void test_pace(void) {
     uint64_t now = 1000, bytes = 0;
@@ -700,6 +758,38 @@ static void test_pace(void) {
     fwd_pace_rest(&pace, now + 500000);
     EXPECT(fwd_pace_bytes(&pace, now + 500000) == 1);
     printf("stage_test: the pace of pie-fwd\n");
+}
+
+/* Each packet's wait is counted once, in the first sort whose bound it doesn't exceed. */
+static void test_waits(void) {
+    struct pie_stage_params params;
+    struct pie_stage_stats before = {0}, after;
+    unrecorded(&params);
+    params.pie.target = UINT64_C(10000000000);
+    struct pie_stage *stage = stage_of(&params);
+    uint64_t hz = rte_get_tsc_hz(), now = rte_rdtsc(), found = 0;
+    for (int i = 0; i < 3000; i++) {
+        uint64_t near = (uint64_t)((double)pie_stage_wait_bound((uint32_t)i % PIE_STAGE_WAITS) / 1e9 * (double)hz);
+        struct rte_mbuf *mbuf = plain(100, 0);
+        EXPECT(pie_stage_enqueue(stage, &mbuf, 1, now) == 1);
+        now += i < 13 ? 0 : near + (uint64_t)(i % 7) * 2 - 6;
+        EXPECT(pie_stage_dequeue(stage, &mbuf, 1, now) == 1);
+        rte_pktmbuf_free(mbuf);
+        pie_stage_read(stage, &after);
+        uint64_t wait = after.waited - before.waited;
+        uint32_t sort = 0;
+        while (sort + 1 < PIE_STAGE_WAITS && wait > pie_stage_wait_bound(sort))
+            sort++;
+        before.waits[sort]++;
+        EXPECT(memcmp(before.waits, after.waits, sizeof after.waits) == 0);
+        before.waited = after.waited;
+    }
+    for (uint32_t sort = 0; sort < PIE_STAGE_WAITS; sort++)
+        found += before.waits[sort] != 0;
+    EXPECT(found == PIE_STAGE_WAITS);
+    pie_stage_free(stage);
+    expect_all_back();
+    printf("stage_test: waits by their sorts\n");
 }
 
 /* Updates are made when due, by enqueuing, dequeuing, or a timer. */
@@ -736,7 +826,6 @@ struct sender {
 };
 
 static struct sender senders[SENDERS];
-static int are_done;
 
 static void *send_bursts(void *argument) {
     struct sender *sender = argument;
@@ -902,6 +991,7 @@ int main(int count, char **words) {
         test_decisions(1 << 16, 100);
         test_first_marks();
         test_updates();
+        test_waits();
         test_record();
         test_flight(1);
         test_flight(50);
@@ -911,6 +1001,7 @@ int main(int count, char **words) {
         test_threads(4000, 0, 0);
         test_threads(4000, 0, 2000);
     }
+    test_cut_beside(10);
     test_threads(1500, 1 << 14, 0);
     test_threads(1500, 0, 4000);
     test_threads(1500, 1 << 14, 4000);

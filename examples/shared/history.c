@@ -12,7 +12,7 @@ bool open_history(struct history *history, const char *name, const struct contro
     history->file = strcmp(name, "-") == 0 ? stdout : fopen(name, "w");
     if (history->file == NULL)
         return false;
-    history->text = (struct pie_text){0};
+    history->text = (struct pie_ring_history){0};
     pie_ring_open(&history->ring, history->slots, HISTORY_SLOTS);
     size_t count = write_rolling_opening(&control->params, moment, (uint32_t)control->profile, control->choices, control->packets,
                                          LOG_EVENTS, MOST_EVENTS, line);

@@ -21,7 +21,7 @@ enum { SENDER = 1, LINK = 2, TIMER = 3 };
 struct history {
     FILE *file;             /* NULL where none is written */
     struct pie_ring ring;
-    struct pie_text text;
+    struct pie_ring_history text;
     struct pie_event slots[HISTORY_SLOTS];
     struct pie_event spare; /* of a decision that nobody records */
 };

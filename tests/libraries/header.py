@@ -290,6 +290,14 @@ def compare_flight(header, rust):
     yield from same("bindings/rust: the bits of a flight recorder's parameters", here, there, "in include/pie_flight.h")
 
 
+def compare_names(root):
+    """In C++ a function hides the struct of its name, so that `pie_x x{}` is no declaration: no struct has the name of a function."""
+    text = "".join(re.sub(r"/\*.*?\*/", "", path.read_text(), flags=re.S) for path in sorted((root / "include").glob("*.h")))
+    structs, functions = set(re.findall(r"struct (\w+) \{", text)), set(re.findall(r"\b(pie_\w+)\(", text))
+    for name in sorted(structs & functions):
+        yield f"include: {name} is a struct and a function"
+
+
 def compare_rates(header, sizes):
     """The tables of rates, and from which rate on a default holds less than the default target."""
     limit, most = (int(it) for it in (default(header.comments["pie_params"]["limit_bytes"]), bound(header.comments["pie_params"]["limit_bytes"])[1]))
@@ -348,6 +356,7 @@ def differences(root):
     recorder = "".join((root / f"bindings/rust/src/{it}.rs").read_text() for it in ("flight", "flight_event"))
     yield from compare_flight((root / "include/pie_flight.h").read_text(), recorder)
     yield from compare_versions(header, root)
+    yield from compare_names(root)
 
 
 PROBES = """/* Written by tests/libraries/header.py: each number of the comments of include/pie.h, asked of the library. */

@@ -88,7 +88,7 @@ static void text(void) {
     static const char wanted[] = "clock,7,8\nrefused,3,3\nlost,1\nrefused,5,1\nlost,3\n";
     static struct pie_event few[4];
     unsigned char bytes[1024];
-    struct pie_text text = {0, 0, 0};
+    struct pie_ring_history text = {0, 0, 0};
     static const uint32_t codes[] = {PIE_TOO_SOON, PIE_BAD_QUEUE, 55, PIE_BAD_MOMENT};
     size_t count;
     uint64_t number;

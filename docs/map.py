@@ -1,24 +1,27 @@
 #!/usr/bin/env python3
 """Draws the map of the crates, docs/crates.svg, from crates.txt: a box for each group, an arrow from each crate to those that it stands
-on, without the arrows that others imply; and writes the table of crates in docs/ARCHITECTURE.md, with the first sentence of each crate's
-root file. It takes graphviz (Debian's package).
+on, without the arrows that others imply, and in colour the three ways of a packet, each step of which has its arrow. And it writes the list of
+crates in docs/ARCHITECTURE.md. It takes graphviz (Debian's package).
 
 usage: docs/map.py           draws and writes
-       docs/map.py --check   draws nothing: ends with status 1 where picture or table are not those of crates.txt (needs no graphviz)
+       docs/map.py --check   draws nothing: ends with status 1 where picture or list are not those of crates.txt (needs no graphviz)
 """
 import hashlib
 import html
 import re
 import subprocess
 import sys
+import textwrap
 from pathlib import Path
 
 DOCS = Path(__file__).resolve().parent
 PICTURE = DOCS / "crates.svg"
 PAGE = DOCS / "ARCHITECTURE.md"
 BEGIN, END = "<!-- by docs/map.py from crates.txt -->", "<!-- to here -->"
-# where a packet comes in from outside, and the crate that takes it
-DOORS = {"a trace": "pie", "a call from C": "pie_c", "a thread at a link": "pie_link"}
+# where a packet comes in from outside, its colour, and its way: each crate stands on the next
+WAYS = {"a trace": ("#c07000", ["pie", "pie_commands", "pie_trace", "pie_book", "pie_aqm", "pie_early"]),
+        "a call from C": ("#6a3fb5", ["pie_c", "pie_aqm", "pie_early"]),
+        "a thread at a link": ("#b0305c", ["pie_link", "pie_kept", "pie_book", "pie_aqm", "pie_early"])}
 COLOURS = {"rules": "#e8f1e4", "words": "#f4f4ec", "controller": "#cfe5c4", "book": "#dce6f5", "text": "#f5f0d8", "threads": "#f3dfe6", "C": "#e3ddf0",
            "program": "#e6eaec", "tests and measures": "#ffffff"}
 
@@ -51,6 +54,11 @@ def all_crates():
     return {name: it for _, _, crates in groups() for name, it in crates.items()}
 
 
+def steps():
+    """Each step of each way: the crate, the one below it, and the way's colour."""
+    return [(*step, colour) for colour, way in WAYS.values() for step in zip(way, way[1:])]
+
+
 def drawing():
     """What `dot` is handed."""
     lines = ["digraph crates {", 'rankdir=TB; newrank=true; compound=true; nodesep=0.18; ranksep=0.42; fontname="Helvetica"; fontsize=15;',
@@ -61,9 +69,11 @@ def drawing():
                      f'fillcolor="{COLOURS.get(name, "#eeeeee")}";')
         lines += [f'{crate} [label=<<b>{crate}</b><br/><font point-size="11">{said}</font>>];' for crate, (_, said) in crates.items()]
         lines.append("}")
-    for door, crate in DOORS.items():
-        lines.append(f'"{door}" [shape=cds, fillcolor="#ffd27f"]; "{door}" -> {crate} [color="#c07000", penwidth=1.8];')
-    lines += [f"{crate} -> {below};" for crate, below in arrows(all_crates())]
+    for door, (colour, way) in WAYS.items():
+        lines.append(f'"{door}" [shape=cds, fillcolor="{colour}", fontcolor=white]; "{door}" -> {way[0]} [color="{colour}", penwidth=2.4];')
+    lines += [f'{crate} -> {below} [color="{colour}", penwidth=2.4];' for crate, below, colour in steps()]
+    on_a_way = {step[:2] for step in steps()}
+    lines += [f"{crate} -> {below};" for crate, below in arrows(all_crates()) if (crate, below) not in on_a_way]
     return "\n".join([*lines, "}"]) + "\n"
 
 
@@ -71,19 +81,10 @@ def mark():
     return f"<!-- of the drawing {hashlib.sha256(drawing().encode()).hexdigest()[:16]} -->"
 
 
-def head(crate):
-    """The first sentence of a crate's root file."""
-    source = DOCS.parent / "crates" / crate / "src"
-    text = next(it for it in (source / "lib.rt", source / "main.rt") if it.exists()).read_text()
-    first = " ".join(line.removeprefix("//!").strip() for line in text.partition("//!\n")[0].splitlines() if line.startswith("//!"))
-    return re.split(r"\.(?=\s|$)|; ", first)[0].replace("|", "\\|")
-
-
-def table():
-    rows = ["| layer | crate | what it is |", "|---|---|---|"]
-    for name, meaning, crates in groups():
-        rows += [f"| {f'**{name}**: {meaning}' if not at else ''} | {crate} | {head(crate)} |" for at, crate in enumerate(crates)]
-    return "\n".join(rows)
+def listing():
+    """Of each layer a line, with its crates and what each is."""
+    lines = [f"- **{name}** ({meaning}): " + "; ".join(f"{crate}: {said}" for crate, (_, said) in crates.items()) for name, meaning, crates in groups()]
+    return "\n".join(textwrap.fill(line, 148, subsequent_indent="  ", break_on_hyphens=False) for line in lines)
 
 
 def page_with(text):
@@ -95,23 +96,25 @@ def wrong():
     """What of picture and page is not as crates.txt has it."""
     crates, picture = all_crates(), PICTURE.read_text()
     drawn = {html.unescape(it) for it in re.findall(r"<title>(.*?)</title>", picture)}
-    wanted = {*crates, *(f"{one}->{other}" for one, other in [*arrows(crates), *DOORS.items()])}
+    yield from (f"docs/map.py: {one} does not stand on {other}" for one, other, _ in steps() if other not in crates.get(one, [[]])[0])
+    ways = [(door, way[0]) for door, (_, way) in WAYS.items()]
+    wanted = {*crates, *(f"{it[0]}->{it[1]}" for it in [*arrows(crates), *ways, *steps()])}
     yield from (f"docs/crates.svg lacks {it}" for it in sorted(wanted - drawn))
-    yield from (f"docs/crates.svg has {it}" for it in sorted(drawn - wanted - {*DOORS, "crates"}) if not it.startswith("cluster_"))
+    yield from (f"docs/crates.svg has {it}" for it in sorted(drawn - wanted - {*WAYS, "crates"}) if not it.startswith("cluster_"))
     if mark() not in picture:
         yield "docs/crates.svg was drawn from other lines"
-    if page_with(table()) != PAGE.read_text():
-        yield "docs/ARCHITECTURE.md has another table of crates"
+    if page_with(listing()) != PAGE.read_text():
+        yield "docs/ARCHITECTURE.md has another list of crates"
 
 
 def main():
     if sys.argv[1:] == ["--check"]:
         found = list(wrong())
-        print("\n".join([*found, "docs/map.py makes them anew"] if found else ["docs/map.py: map and table are those of crates.txt"]))
+        print("\n".join([*found, "docs/map.py makes them anew"] if found else ["docs/map.py: map and list are those of crates.txt"]))
         sys.exit(bool(found))
     drawn = subprocess.run(["dot", "-Tsvg"], input=drawing(), capture_output=True, text=True, check=True).stdout
     PICTURE.write_text(drawn.replace("<!-- Title", mark() + "\n<!-- Title", 1))
-    PAGE.write_text(page_with(table()))
+    PAGE.write_text(page_with(listing()))
 
 
 if __name__ == "__main__":

@@ -1,6 +1,6 @@
 #!/usr/bin/env python3
 """Holds the documents to the code: docs/MODEL.md names each definition that a clause of a public function cites, and each function,
-definition and wrong body of its table of rules exists; map and table of crates in docs/ARCHITECTURE.md are those of crates.txt
+definition and wrong body of its table of rules exists; map and list of crates in docs/ARCHITECTURE.md are those of crates.txt
 (docs/map.py --check). And each `==` of a type is derived, so that it compares every field: what a test or an audit finds equal is the same.
 It reads by the layout that `rt fmt` writes. Exit status 1 where something is missing.
 

@@ -2,7 +2,7 @@
 """A fleet on this machine: a Dask scheduler and three workers, 300 histories of storms and examples, some damaged, some that differ. The table is
 what one process makes of the same files, also where a worker is killed in the middle; a second run takes only what changed, and says what did; a
 worker with another `pie` gets no work; files that vanish, hosts without a worker and a run that was stopped are told, and nothing is counted twice.
-Then the way over SSH of docs/FLEET.md: three servers on loopback addresses, by GNU parallel.
+Then the way over SSH of docs/OPERATING.md: three servers on loopback addresses, by GNU parallel.
 
 usage: tests/fleet/fleet.py [PROGRAM [HISTORIES]]      PROGRAM: crates/pie/out/pie where none is named; of HISTORIES (300) a tenth is damaged
 needs: program
@@ -467,7 +467,7 @@ def start_servers(ssh, hosts):
 
 
 def run_ssh(work, names):
-    """docs/FLEET.md's commands over SSH, with three servers on loopback addresses: all histories, which every host sees, and some that are sent."""
+    """docs/OPERATING.md's commands over SSH, with three servers on loopback addresses: all histories, which every host sees, and some that are sent."""
     if not shutil.which("parallel") or not shutil.which("rsync") or not os.path.exists("/usr/sbin/sshd"):
         print("NOT RUN: tests/fleet/fleet.py: no GNU parallel, no rsync or no sshd here (fleet/install.sh), so nothing went over SSH")
         return

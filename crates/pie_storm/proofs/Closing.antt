@@ -84,7 +84,7 @@ gathered_storm : (plan : Plan) (link : LinkView) (caller : CallerView) (passed m
     → link.origin ≡ Some (opening_of plan)
     → AllCameAt link plan (senders plan + 5) (events_in caller.front) passed → AllBelow plan caller.front
     → NoneElseFolds plan (callers_of_plan plan) caller.front
-    → AreFolded (opening_of plan) (folder plan) caller.front [] plan.folds.items (entries_of (folder plan) caller.front) many
+    → AreFolded (opening_of plan) (folder plan) caller.front [] [] plan.folds.items (entries_of (folder plan) caller.front) many
     → IsStorm plan (events_in caller.front) passed many
 unfolding AllCameAt
 gathered_storm plan link caller passed many sound from came below none folds =
@@ -95,7 +95,7 @@ gathered_storm plan link caller passed many sound from came below none folds =
 -- what came of the folds at the link, where all was well
 folds_are : (plan : Plan) (link : LinkView) (work : Work) → link.origin ≡ Some (opening_of plan) → MadeFolds link plan work
     → work.folding.is_short_of_memory ≡ false → WereHanded (opening_of plan) (folder plan) work.folding.events.items work.caller.front
-    × AreFolded (opening_of plan) (folder plan) work.caller.front [] plan.folds.items (entries_of (folder plan) work.caller.front)
+    × AreFolded (opening_of plan) (folder plan) work.caller.front [] [] plan.folds.items (entries_of (folder plan) work.caller.front)
     work.folding.too_many
 unfolding AreFoldedAt
 folds_are plan link work from made fine = made (opening_of plan) from fine

@@ -158,20 +158,20 @@ no_more plan =
     let four : length (commands_of plan (suc (suc (suc (suc n))))) ≡ 0 = ap at e4 ∙ ap size (after_senders plan 4 (omega arith)) in
     omega (arith, of_senders plan n (omega arith), sent_total plan.arrivals.items n, one, two, three, four)
 
-made_fits : (opening : Opening) (caller : ℕ) (h earlier : List Event) (commands : List Command) (later : List Event) (passed : ℕ)
-    → AreMade opening caller h earlier commands later passed → length later ≤ length commands
-made_fits opening caller h earlier [] later passed m = omega (arith, ap (λ (l : List Event). length l) m.0)
-made_fits opening caller h earlier (command ∷ commands) later passed (inl m) =
-    omega (arith, ap (λ (l : List Event). length l) m.2, made_fits opening caller h (earlier ++ m.0 ∷ []) commands m.1 passed m.4)
-made_fits opening caller h earlier (command ∷ commands) later passed (inr m) =
-    omega (arith, made_fits opening caller h earlier commands later m.1.0 m.1.2)
+made_fits : (opening : Opening) (caller : ℕ) (h seen earlier : List Event) (commands : List Command) (later : List Event) (passed : ℕ)
+    → AreMade opening caller h seen earlier commands later passed → length later ≤ length commands
+made_fits opening caller h seen earlier [] later passed m = omega (arith, ap (λ (l : List Event). length l) m.0)
+made_fits opening caller h seen earlier (command ∷ commands) later passed (inl m) =
+    omega (arith, ap (λ (l : List Event). length l) m.2, made_fits opening caller h (m.4.0 ++ m.0 ∷ []) (earlier ++ m.0 ∷ []) commands m.1 passed m.4.2)
+made_fits opening caller h seen earlier (command ∷ commands) later passed (inr m) =
+    omega (arith, made_fits opening caller h m.0 earlier commands later m.3.0 m.3.2)
 
 -- what came of all callers below n, where none was cut short
 abbrev pub AllMade : Opening → Plan → ℕ → List Event → ℕ → Type 0
 AllMade opening plan zero h passed = passed ≡ 0
 AllMade opening plan (suc n) h passed =
     (others : ℕ) × (its : ℕ) × (passed ≡ others + its) × AllMade opening plan n h others
-    × AreMade opening n h [] (commands_of plan n) (events_of n h) its
+    × AreMade opening n h [] [] (commands_of plan n) (events_of n h) its
 
 -- the book was full after a beginning of the history
 record WasFull (opening : Opening) (h : List Event) : Type 0 where
@@ -182,7 +182,7 @@ record WasFull (opening : Opening) (h : List Event) : Type 0 where
 came_fits : (opening : Opening) (caller : ℕ) (commands : List Command) (h : List Event) (passed : ℕ) → CameOf opening caller commands h passed
     → length (events_of caller h) ≤ length commands
 unfolding CameOf
-came_fits opening caller commands h passed (inl m) = made_fits opening caller h [] commands (events_of caller h) passed m
+came_fits opening caller commands h passed (inl m) = made_fits opening caller h [] [] commands (events_of caller h) passed m
 came_fits opening caller commands h passed (inr cut) = omega (arith, cut.fewer)
 
 all_fit : (opening : Opening) (plan : Plan) (n : ℕ) (h : List Event) (passed : ℕ) → AllCameOf opening plan n h passed
@@ -202,7 +202,7 @@ one_more opening plan n h passed others its is (inl made) fit (inl m) = inl (oth
 one_more opening plan n h passed others its is (inl made) fit (inr cut) =
     inr (record { before = cut.before; begins = cut.begins; full = cut.full }, omega (arith, fit, cut.fewer))
 one_more opening plan n h passed others its is (inr short) fit (inl m) =
-    inr (short.0, omega (arith, short.1, made_fits opening n h [] (commands_of plan n) (events_of n h) its m))
+    inr (short.0, omega (arith, short.1, made_fits opening n h [] [] (commands_of plan n) (events_of n h) its m))
 one_more opening plan n h passed others its is (inr short) fit (inr cut) = inr (short.0, omega (arith, short.1, cut.fewer))
 
 made_or_full : (opening : Opening) (plan : Plan) (n : ℕ) (h : List Event) (passed : ℕ) → AllCameOf opening plan n h passed
@@ -251,15 +251,16 @@ never_too_soon opening h command due calm e =
     let on_time = calm (effective_moment opening h) (due_after opening h) in
     chain (nat_lt last_moment (handed_in command)) (has_bad_size command) (length h == opening.limits.events) due (rw on_time at e)
 
-made_whole : (opening : Opening) (caller : ℕ) (h earlier : List Event) (commands : List Command) (later : List Event) (passed : ℕ)
+made_whole : (opening : Opening) (caller : ℕ) (h seen earlier : List Event) (commands : List Command) (later : List Event) (passed : ℕ)
     → All IsNoUpdate commands
-    → AreMade opening caller h earlier commands later passed → (commands_in later ≡ commands) × (passed ≡ 0)
-made_whole opening caller h earlier [] later passed calm m = (ap commands_in m.0, m.1)
-made_whole opening caller h earlier (command ∷ commands) later passed calm (inl m) =
-    let rest = made_whole opening caller h (earlier ++ m.0 ∷ []) commands m.1 passed (All-tail IsNoUpdate command commands calm) m.4 in
+    → AreMade opening caller h seen earlier commands later passed → (commands_in later ≡ commands) × (passed ≡ 0)
+made_whole opening caller h seen earlier [] later passed calm m = (ap commands_in m.0, m.1)
+made_whole opening caller h seen earlier (command ∷ commands) later passed calm (inl m) =
+    let rest = made_whole opening caller h (m.4.0 ++ m.0 ∷ []) (earlier ++ m.0 ∷ []) commands m.1 passed (All-tail IsNoUpdate command commands calm)
+    m.4.2 in
     (ap commands_in m.2 ∙ (ap (λ c. c ∷ commands_in m.1) m.3 ∙ ap (λ cs. command ∷ cs) rest.0), rest.1)
-made_whole opening caller h earlier (command ∷ commands) later passed calm (inr m) =
-    absurd (never_too_soon opening m.0.before command m.0.due (All-head IsNoUpdate command commands calm) m.0.refused)
+made_whole opening caller h seen earlier (command ∷ commands) later passed calm (inr m) =
+    absurd (never_too_soon opening m.0 command m.2.due (All-head IsNoUpdate command commands calm) m.2.refused)
 
 of_if : {A : Type 0} (P : A → Type 0) (b : Bool) (x y : A) → (b ≡ true → P x) → P y → P (if b then x else y)
 of_if P true x y p q = p refl
@@ -283,11 +284,11 @@ no_updates plan caller other =
     (of_either F (n == 3) _ _ (no_update_of plan.changes.items change (λ x before due. refl)) (All-nil IsNoUpdate)))))
 
 made_below : (opening : Opening) (plan : Plan) (n caller : ℕ) (h : List Event) (passed : ℕ) → caller < n → AllMade opening plan n h passed
-    → (its : ℕ) × AreMade opening caller h [] (commands_of plan caller) (events_of caller h) its
+    → (its : ℕ) × AreMade opening caller h [] [] (commands_of plan caller) (events_of caller h) its
 made_below opening plan zero caller h passed below all = absurd (omega arith)
 made_below opening plan (suc n) caller h passed below all =
     dite (ℕ_discrete caller n)
-    (λ same. (all.1, subst (λ (c : ℕ). AreMade opening c h [] (commands_of plan c) (events_of c h) all.1) (sym same) all.4))
+    (λ same. (all.1, subst (λ (c : ℕ). AreMade opening c h [] [] (commands_of plan c) (events_of c h) all.1) (sym same) all.4))
     (λ other. made_below opening plan n caller h all.0 (omega (arith, other)) all.3)
 
 -- the callers before that of the updates were never too soon
@@ -295,17 +296,17 @@ none_before : (opening : Opening) (plan : Plan) (n : ℕ) (h : List Event) (pass
     → passed ≡ 0
 none_before opening plan zero h passed few all = all
 none_before opening plan (suc n) h passed few all =
-    let its = (made_whole opening n h [] (commands_of plan n) (events_of n h) all.1 (no_updates plan n (λ is. omega (arith, is, few))) all.4).1 in
+    let its = (made_whole opening n h [] [] (commands_of plan n) (events_of n h) all.1 (no_updates plan n (λ is. omega (arith, is, few))) all.4).1 in
     omega (arith, all.2, none_before opening plan n h all.0 (omega arith) all.3, its)
 
 none_of : (opening : Opening) (plan : Plan) (caller : ℕ) (h : List Event) (its : ℕ) → (caller ≡ senders plan + 2 → ⊥)
-    → AreMade opening caller h [] (commands_of plan caller) (events_of caller h) its → its ≡ 0
-none_of opening plan caller h its other m = (made_whole opening caller h [] (commands_of plan caller) (events_of caller h) its
+    → AreMade opening caller h [] [] (commands_of plan caller) (events_of caller h) its → its ≡ 0
+none_of opening plan caller h its other m = (made_whole opening caller h [] [] (commands_of plan caller) (events_of caller h) its
     (no_updates plan caller other) m).1
 
 -- all that were too soon are the updates
 updates_made : (opening : Opening) (plan : Plan) (h : List Event) (passed : ℕ) → AllMade opening plan (callers_of_plan plan) h passed
-    → AreMade opening (senders plan + 2) h [] (commands_of plan (senders plan + 2)) (events_of (senders plan + 2) h) passed
+    → AreMade opening (senders plan + 2) h [] [] (commands_of plan (senders plan + 2)) (events_of (senders plan + 2) h) passed
 updates_made opening plan h passed all =
     let n = senders plan in
     let folds = all.4 in
@@ -317,15 +318,15 @@ updates_made opening plan h passed all =
     let none_first = none_before opening plan (suc (suc n)) h up.0 (omega arith) up.3 in
     let is : up.1 ≡ passed = omega (arith, all.2, rest.2, up.2, none_folds, none_changes, none_first) in
     let second : suc (suc n) ≡ n + 2 = omega arith in
-    subst (λ (c : ℕ). AreMade opening c h [] (commands_of plan c) (events_of c h) passed) second
-    (subst (λ (t : ℕ). AreMade opening (suc (suc n)) h [] (commands_of plan (suc (suc n))) (events_of (suc (suc n)) h) t) is up.4)
+    subst (λ (c : ℕ). AreMade opening c h [] [] (commands_of plan c) (events_of c h) passed) second
+    (subst (λ (t : ℕ). AreMade opening (suc (suc n)) h [] [] (commands_of plan (suc (suc n))) (events_of (suc (suc n)) h) t) is up.4)
 
 whole_of : (opening : Opening) (plan : Plan) (caller : ℕ) (h : List Event) (passed : ℕ) → (caller ≡ senders plan + 2 → ⊥)
     → caller < callers_of_plan plan
     → AllMade opening plan (callers_of_plan plan) h passed → commands_in (events_of caller h) ≡ commands_of plan caller
 whole_of opening plan caller h passed other below all =
     let m = made_below opening plan (callers_of_plan plan) caller h passed below all in
-    (made_whole opening caller h [] (commands_of plan caller) (events_of caller h) m.0 (no_updates plan caller other) m.1).0
+    (made_whole opening caller h [] [] (commands_of plan caller) (events_of caller h) m.0 (no_updates plan caller other) m.1).0
 
 empty_of_commands : (xs : List Event) → commands_in xs ≡ [] → xs ≡ []
 empty_of_commands [] e = refl
@@ -411,7 +412,7 @@ none_past plan h below none caller other =
 -- the history of a storm is what its plan asks for
 pub is_storm : (plan : Plan) (h : List Entry) (passed many : ℕ) → IsSound plan → All (λ (e : Entry). number_of e < callers_of_plan plan) h
     → AllCameOf (opening_of plan) plan (callers_of_plan plan) (events_in h) passed
-    → AreFolded (opening_of plan) (folder plan) h [] plan.folds.items (entries_of (folder plan) h) many
+    → AreFolded (opening_of plan) (folder plan) h [] [] plan.folds.items (entries_of (folder plan) h) many
     → NoneElseFolds plan (callers_of_plan plan) h → IsStorm plan (events_in h) passed many
 unfolding commands_of
 is_storm plan entries passed many sound below_all came folds none =
@@ -426,7 +427,7 @@ is_storm plan entries passed many sound below_all came folds none =
       arrivals = λ sender some. whole (sender + 1) (λ is. omega (arith, is, some)) (omega (arith, some)) ∙ of_sender plan sender some;
       departures = whole (n + 1) (λ is. omega (arith, is)) (omega arith) ∙ after_senders plan 1 (omega arith);
       changes = whole (n + 3) (λ is. omega (arith, is)) (omega arith) ∙ after_senders plan 3 (omega arith);
-      updates = subst (λ (cs : List Command). AreMade opening (n + 2) h [] cs (events_of (n + 2) h) passed) (after_senders plan 2 (omega arith))
+      updates = subst (λ (cs : List Command). AreMade opening (n + 2) h [] [] cs (events_of (n + 2) h) passed) (after_senders plan 2 (omega arith))
           (updates_made opening plan h passed all);
       history = entries;
       of_history = refl;

@@ -28,7 +28,7 @@ use Rattle.pie_kept.specs.declared.told.Told.{Told}
 use Rattle.pie_kept.specs.Entries.{entries_of, events_in, handed_to, number_of, tail_in}
 use Rattle.pie_kept.specs.EntryLaws.{EntriesLookBack}
 use Rattle.pie_link.specs.Commands.{Answers, IsTaken, IsRefused}
-use Rattle.pie_storm.specs.Storms.{AreFolded, AreFoldedAt, FoldsGo, FoldsGoAt, HasNoneAt, IsMade, OnlyMadeAt, WasTooMany, WereHanded, events_of}
+use Rattle.pie_storm.specs.Storms.{Added, AreFolded, AreFoldedAt, CameAfter, FoldsGo, FoldsGoAt, HasNoneAt, IsMade, OnlyMadeAt, WereHanded, events_of}
 use Rattle.pie_storm.specs.Storms.{fold_of, is_number, refused_by}
 use Rattle.pie_link.specs.Folds.{Folds, IsFoldMade, IsFoldRefused}
 use Rattle.pie_link.specs.Views.{LinkView, CallerView}
@@ -134,9 +134,9 @@ folds_start link caller well folds events front too_many new no_events none open
   no_events ∙ ap (λ (h : List Entry). handed_to (is_number caller) opening [] h) (sym new),
   λ history begins later n made.
       let sum : n ≡ too_many + n = omega (arith, none) in
-      subst (λ (t : ℕ). AreFolded opening caller history [] folds (entries_of caller front ++ later) t) sum
-      (subst (λ (h : List Entry). AreFolded opening caller history (entries_of caller h) folds later n
-      → AreFolded opening caller history [] folds (entries_of caller h ++ later) n)
+      subst (λ (t : ℕ). AreFolded opening caller history [] [] folds (entries_of caller front ++ later) t) sum
+      (subst (λ (h : List Entry). AreFolded opening caller history h (entries_of caller h) folds later n
+      → AreFolded opening caller history [] [] folds (entries_of caller h ++ later) n)
       (sym new) (λ m. m) made),
 )
 
@@ -150,13 +150,16 @@ go_folded opening caller folds k n front g too_many go at begins same history go
     let after : entries_of caller (g ++ fold ∷ []) ≡ entries_of caller front ++ fold ∷ [] = own_entry caller g fold refl
     ∙ ap (λ w. w ++ fold ∷ []) same in
     let next = drop_next folds k n at in
-    let made' : AreFolded opening caller history (entries_of caller front ++ fold ∷ []) (drop (k + 1) folds) later i =
-    subst (λ (es : List Entry). AreFolded opening caller history es (drop (k + 1) folds) later i) after made in
-    let here : AreFolded opening caller history (entries_of caller front) (drop k folds) (fold ∷ later) i =
-    subst (λ (ns : List ℕ). AreFolded opening caller history (entries_of caller front) ns (fold ∷ later) i) (sym next) (inl (later, refl, made')) in
+    let made' : AreFolded opening caller history (g ++ fold ∷ []) (entries_of caller front ++ fold ∷ []) (drop (k + 1) folds) later i =
+    subst (λ (es : List Entry). AreFolded opening caller history (g ++ fold ∷ []) es (drop (k + 1) folds) later i) after made in
+    let came : CameAfter (entries_of caller) history front (entries_of caller front) g = record
+    { begins = prefix_trans g (g ++ fold ∷ []) history (fold ∷ [], refl) goes_on; goes_on = begins; has_earlier = same } in
+    let here : AreFolded opening caller history front (entries_of caller front) (drop k folds) (fold ∷ later) i =
+    subst (λ (ns : List ℕ). AreFolded opening caller history front (entries_of caller front) ns (fold ∷ later) i) (sym next)
+    (inl (later, refl, (g, record { came = came; begins = goes_on }, made'))) in
     let all = go history (prefix_trans front (g ++ fold ∷ []) history (prefix_trans front g (g ++ fold ∷ []) begins (fold ∷ [], refl)) goes_on)
     (fold ∷ later) i here in
-    subst (λ (es : List Entry). AreFolded opening caller history [] folds es (too_many + i))
+    subst (λ (es : List Entry). AreFolded opening caller history [] [] folds es (too_many + i))
     (sym (append_assoc (entries_of caller front) (fold ∷ []) later) ∙ ap (λ w. w ++ later) (sym after)) all
 
 -- one more fold was of too many events after the history g
@@ -166,17 +169,17 @@ go_passed : (opening : Opening) (caller : ℕ) (folds : List ℕ) (k n : ℕ) (f
 unfolding FoldsGo
 go_passed opening caller folds k n front g too_many go at begins same few history goes_on later i made =
     let next = drop_next folds k n at in
-    let passed : WasTooMany opening caller history (entries_of caller front) n = record
-    { before = g; begins = goes_on; has_earlier = same; fewer = few } in
-    let made' : AreFolded opening caller history (entries_of caller front) (drop (k + 1) folds) later i =
-    subst (λ (es : List Entry). AreFolded opening caller history es (drop (k + 1) folds) later i) same made in
-    let here : AreFolded opening caller history (entries_of caller front) (drop k folds) later (i + 1) =
-    subst (λ (ns : List ℕ). AreFolded opening caller history (entries_of caller front) ns later (i + 1)) (sym next)
-    (inr (passed, (i, refl, made'))) in
+    let came : CameAfter (entries_of caller) history front (entries_of caller front) g = record
+    { begins = goes_on; goes_on = begins; has_earlier = same } in
+    let made' : AreFolded opening caller history g (entries_of caller front) (drop (k + 1) folds) later i =
+    subst (λ (es : List Entry). AreFolded opening caller history g es (drop (k + 1) folds) later i) same made in
+    let here : AreFolded opening caller history front (entries_of caller front) (drop k folds) later (i + 1) =
+    subst (λ (ns : List ℕ). AreFolded opening caller history front (entries_of caller front) ns later (i + 1)) (sym next)
+    (inr (g, came, few, (i, refl, made'))) in
     let all = go history (prefix_trans front g history begins goes_on) later (i + 1) here in
     let sums : too_many + (i + 1) ≡ too_many + 1 + i = omega arith in
-    subst (λ (es : List Entry). AreFolded opening caller history [] folds (es ++ later) (too_many + 1 + i)) (sym same)
-    (subst (λ (t : ℕ). AreFolded opening caller history [] folds (entries_of caller front ++ later) t) sums all)
+    subst (λ (es : List Entry). AreFolded opening caller history [] [] folds (es ++ later) (too_many + 1 + i)) (sym same)
+    (subst (λ (t : ℕ). AreFolded opening caller history [] [] folds (entries_of caller front ++ later) t) sums all)
 
 pub folds_next : (law : EntriesLookBack) (link : LinkView) (folds : List ℕ) (k n : ℕ) (answer : Result (Told (Vec Event Global)) FoldRefusal)
     (before after : CallerView)
@@ -234,26 +237,49 @@ unfolding FoldsGoAt FoldsGo AreFoldedAt
 folds_end link caller well folds k events front too_many end go opening from fine =
     let g = go opening from fine in
     let nothing : drop k folds ≡ [] = ap (λ (i : ℕ). drop i folds) end ∙ drop-length folds in
-    let here : AreFolded opening caller front (entries_of caller front) (drop k folds) [] 0 =
-    subst (λ (ns : List ℕ). AreFolded opening caller front (entries_of caller front) ns [] 0) (sym nothing) (refl, refl) in
+    let here : AreFolded opening caller front front (entries_of caller front) (drop k folds) [] 0 =
+    subst (λ (ns : List ℕ). AreFolded opening caller front front (entries_of caller front) ns [] 0) (sym nothing) (refl, refl) in
     let all = g.1 front (prefix_self front) [] 0 here in
     let sum : too_many + 0 ≡ too_many = omega arith in (
       g.0,
-      subst (λ (es : List Entry). AreFolded opening caller front [] folds es too_many) (append-nil (entries_of caller front))
-          (subst (λ (t : ℕ). AreFolded opening caller front [] folds (entries_of caller front ++ []) t) sum all),
+      subst (λ (es : List Entry). AreFolded opening caller front [] [] folds es too_many) (append-nil (entries_of caller front))
+          (subst (λ (t : ℕ). AreFolded opening caller front [] [] folds (entries_of caller front ++ []) t) sum all),
     )
 
--- what came of folds in a history came of them in one that goes on from there
+-- what came in a history came in one that goes on from there
+pub came_after_on : {A : Type 0} (own_of : List A → List A) (h k : List A) → IsPrefix h k → (seen earlier before : List A)
+    → CameAfter own_of h seen earlier before → CameAfter own_of k seen earlier before
+came_after_on own_of h k begins seen earlier before came =
+    record { begins = prefix_trans before h k came.begins begins; goes_on = came.goes_on; has_earlier = came.has_earlier }
+
+pub added_on : {A : Type 0} (own_of : List A → List A) (h k : List A) → IsPrefix h k → (seen earlier before : List A) (made : A)
+    → Added own_of h seen earlier before made → Added own_of k seen earlier before made
+added_on own_of h k begins seen earlier before made added = record {
+  came = came_after_on own_of h k begins seen earlier before added.came;
+  begins = prefix_trans (before ++ made ∷ []) h k added.begins begins;
+}
+
 made_on : (opening : Opening) (caller : ℕ) (h k : List Entry) → IsPrefix h k
-    → (earlier : List Entry) (folds : List ℕ) (later : List Entry) (too_many : ℕ)
-    → AreFolded opening caller h earlier folds later too_many → AreFolded opening caller k earlier folds later too_many
-made_on opening caller h k begins earlier [] later too_many m = m
-made_on opening caller h k begins earlier (n ∷ folds) later too_many (inl m) =
-    inl (m.0, m.1, made_on opening caller h k begins (earlier ++ fold_of caller n ∷ []) folds m.0 too_many m.2)
-made_on opening caller h k begins earlier (n ∷ folds) later too_many (inr m) =
+    → (seen earlier : List Entry) (folds : List ℕ) (later : List Entry) (too_many : ℕ)
+    → AreFolded opening caller h seen earlier folds later too_many → AreFolded opening caller k seen earlier folds later too_many
+made_on opening caller h k begins seen earlier [] later too_many m = m
+made_on opening caller h k begins seen earlier (n ∷ folds) later too_many (inl m) =
+    let fold = fold_of caller n in
+    inl (
+      m.0,
+      m.1,
+      (
+        m.2.0,
+        added_on (entries_of caller) h k begins seen earlier m.2.0 fold m.2.1,
+        made_on opening caller h k begins (m.2.0 ++ fold ∷ []) (earlier ++ fold ∷ []) folds m.0 too_many m.2.2,
+      ),
+    )
+made_on opening caller h k begins seen earlier (n ∷ folds) later too_many (inr m) =
     inr (
-      record { before = m.0.before; begins = prefix_trans m.0.before h k m.0.begins begins; has_earlier = m.0.has_earlier; fewer = m.0.fewer },
-      (m.1.0, m.1.1, made_on opening caller h k begins earlier folds later m.1.0 m.1.2),
+      m.0,
+      came_after_on (entries_of caller) h k begins seen earlier m.0 m.1,
+      m.2,
+      (m.3.0, m.3.1, made_on opening caller h k begins m.0 earlier folds later m.3.0 m.3.2),
     )
 
 pub folds_on : (law : EntriesLookBack) (link : LinkView) (caller : ℕ) (well : Type 0) (folds : List ℕ) (events : List Event)
@@ -264,8 +290,8 @@ unfolding AreFoldedAt
 folds_on law link caller well folds events front longer too_many begins same made opening from fine =
     let m = made opening from fine in (
       m.0 ∙ sym (handed_same law opening caller front longer begins same),
-      subst (λ (es : List Entry). AreFolded opening caller longer [] folds es too_many) (sym same)
-          (made_on opening caller front longer begins [] folds (entries_of caller front) too_many m.1),
+      subst (λ (es : List Entry). AreFolded opening caller longer [] [] folds es too_many) (sym same)
+          (made_on opening caller front longer begins [] [] folds (entries_of caller front) too_many m.1),
     )
 
 -- ---- a caller that makes no folds

@@ -23,26 +23,32 @@ use Rattle.pie_kept.specs.EntryLaws.{EntriesLookBack}
 use Rattle.pie_storm.specs.Storms.{events_of, caller_of, folder, AreMade, CameOf, AllCameOf, CameAt, AllCameAt, IsMade, NoneElseFolds, NoneElseFoldsAt}
 use Rattle.pie_storm.specs.Storms.{Begins, IsWorkBelow, IsWorkOf, OnlyMadeAt}
 use Rattle.pie_link.specs.Views.{LinkView, CallerView}
-use Rattle.pie_storm.proofs.FoldsMade.{folds_on}
+use Rattle.pie_storm.proofs.FoldsMade.{added_on, came_after_on, folds_on}
 use Rattle.pie_storm.proofs.OwnEvents.{events-go_on}
 
 -- what was made in a history was made in one that goes on from there
 made_on : (opening : Opening) (caller : ℕ) (h k : List Event) → IsPrefix h k
-    → (earlier : List Event) (commands : List Command) (later : List Event) (passed : ℕ)
-    → AreMade opening caller h earlier commands later passed → AreMade opening caller k earlier commands later passed
-made_on opening caller h k begins earlier [] later passed m = m
-made_on opening caller h k begins earlier (command ∷ commands) later passed (inl m) =
-    inl (m.0, m.1, m.2, m.3, made_on opening caller h k begins (earlier ++ m.0 ∷ []) commands m.1 passed m.4)
-made_on opening caller h k begins earlier (command ∷ commands) later passed (inr m) =
+    → (seen earlier : List Event) (commands : List Command) (later : List Event) (passed : ℕ)
+    → AreMade opening caller h seen earlier commands later passed → AreMade opening caller k seen earlier commands later passed
+made_on opening caller h k begins seen earlier [] later passed m = m
+made_on opening caller h k begins seen earlier (command ∷ commands) later passed (inl m) =
+    inl (
+      m.0,
+      m.1,
+      m.2,
+      m.3,
+      (
+        m.4.0,
+        added_on (events_of caller) h k begins seen earlier m.4.0 m.0 m.4.1,
+        made_on opening caller h k begins (m.4.0 ++ m.0 ∷ []) (earlier ++ m.0 ∷ []) commands m.1 passed m.4.2,
+      ),
+    )
+made_on opening caller h k begins seen earlier (command ∷ commands) later passed (inr m) =
     inr (
-      record {
-        before = m.0.before;
-        begins = prefix_trans m.0.before h k m.0.begins begins;
-        has_earlier = m.0.has_earlier;
-        due = m.0.due;
-        refused = m.0.refused;
-      },
-      (m.1.0, m.1.1, made_on opening caller h k begins earlier commands later m.1.0 m.1.2),
+      m.0,
+      came_after_on (events_of caller) h k begins seen earlier m.0 m.1,
+      m.2,
+      (m.3.0, m.3.1, made_on opening caller h k begins m.0 earlier commands later m.3.0 m.3.2),
     )
 
 pub came_on : (opening : Opening) (caller : ℕ) (commands : List Command) (h k : List Event) (passed : ℕ) → IsPrefix h k
@@ -50,8 +56,8 @@ pub came_on : (opening : Opening) (caller : ℕ) (commands : List Command) (h k 
     → CameOf opening caller commands h passed → CameOf opening caller commands k passed
 unfolding CameOf
 came_on opening caller commands h k passed begins same (inl m) =
-    inl (subst (λ (es : List Event). AreMade opening caller k [] commands es passed) (sym same)
-    (made_on opening caller h k begins [] commands (events_of caller h) passed m))
+    inl (subst (λ (es : List Event). AreMade opening caller k [] [] commands es passed) (sym same)
+    (made_on opening caller h k begins [] [] commands (events_of caller h) passed m))
 came_on opening caller commands h k passed begins same (inr cut) =
     inr (record {
       before = cut.before;

@@ -36,7 +36,12 @@ use Rattle.pie_storm.specs.Plans.{IsFair, IsSound, commands_of}
 use Rattle.pie_link.specs.Commands.{Answers, IsTaken, IsRefused}
 use Rattle.pie_storm.proofs.OwnEvents.{events-go_on}
 use Rattle.pie_storm.proofs.PlanCommands.{fair_at}
-use Rattle.pie_storm.specs.Storms.{events_of, WasTooSoon, AreMade, IsCutShort, CameOf, CameAt, Goes, EachGoes, GoesOrEnds, added_by, HasNoneAt}
+use Rattle.pie_storm.specs.Storms.{events_of, AreMade, CameAfter, IsCutShort, CameOf, CameAt, Goes, EachGoes, GoesOrEnds, added_by, HasNoneAt}
+
+pub after_less : {A : Type 0} (own_of : List A → List A) (history less seen earlier before : List A) → IsPrefix less seen
+    → CameAfter own_of history seen earlier before → CameAfter own_of history less earlier before
+after_less own_of history less seen earlier before begins came =
+    record { begins = came.begins; goes_on = prefix_trans less seen before begins came.goes_on; has_earlier = came.has_earlier }
 
 pub drop_next : {A : Type 0} (xs : List A) (k : ℕ) (x : A) → slice_get xs k ≡ Some x → drop k xs ≡ x ∷ drop (k + 1) xs
 drop_next xs k x e =
@@ -55,15 +60,28 @@ own_event caller g event e =
     filter-append (λ (x : Event). is_within caller (caller + 1) x.caller) g (event ∷ [])
     ∙ ap (λ w. events_of caller g ++ w) (cond_true (is_within caller (caller + 1) event.caller) (event ∷ []) [] yes)
 
+-- what was made by a caller that was shown so much, was made by one that was shown less
+pub from_less : (opening : Opening) (caller : ℕ) (history less seen earlier : List Event) (commands : List Command) (later : List Event)
+    (passed : ℕ) → IsPrefix less seen → AreMade opening caller history seen earlier commands later passed
+    → AreMade opening caller history less earlier commands later passed
+from_less opening caller history less seen earlier [] later passed begins m = m
+from_less opening caller history less seen earlier (command ∷ commands) later passed begins (inl m) =
+    let added = m.4.1 in
+    inl (m.0, m.1, m.2, m.3, (m.4.0, record { came = after_less (events_of caller) history less seen earlier m.4.0 begins added.came; begins = added.begins }, m.4.2))
+from_less opening caller history less seen earlier (command ∷ commands) later passed begins (inr m) =
+    inr (m.0, after_less (events_of caller) history less seen earlier m.0 begins m.1, m.2, m.3)
+
 pub goes_start : (opening : Opening) (caller : ℕ) (commands : List Command) (front : List Event) → events_of caller front ≡ []
     → Goes opening caller commands 0 front 0
 goes_start opening caller commands front none = record {
   few = omega (arith, ap (λ (l : List Event). length l) none);
   made = λ history begins later n m.
       let more : n ≡ 0 + n = omega arith in
-      subst (λ (t : ℕ). AreMade opening caller history [] commands (events_of caller front ++ later) t) more
-      (subst (λ (es : List Event). AreMade opening caller history es commands later n → AreMade opening caller history [] commands (es ++ later) n)
-      (sym none) (λ made. made) m);
+      subst (λ (t : ℕ). AreMade opening caller history [] [] commands (events_of caller front ++ later) t) more
+      (subst (λ (es : List Event). AreMade opening caller history [] es commands later n
+      → AreMade opening caller history [] [] commands (es ++ later) n)
+      (sym none) (λ made. made)
+      (from_less opening caller history [] front (events_of caller front) commands later n (front, refl) m));
 }
 
 -- it goes on the same in a history with no further event of the caller
@@ -73,8 +91,9 @@ pub goes_seen : (opening : Opening) (caller : ℕ) (commands : List Command) (k 
 goes_seen opening caller commands k front g passed goes begins same = record {
   few = omega (arith, goes.few, ap (λ (l : List Event). length l) same);
   made = λ history shown_all later n m.
-      let m' = subst (λ (es : List Event). AreMade opening caller history es (drop k commands) later n) same m in
-      subst (λ (es : List Event). AreMade opening caller history [] commands (es ++ later) (passed + n)) (sym same)
+      let m' = subst (λ (es : List Event). AreMade opening caller history front es (drop k commands) later n) same
+      (from_less opening caller history front g (events_of caller g) (drop k commands) later n begins m) in
+      subst (λ (es : List Event). AreMade opening caller history [] [] commands (es ++ later) (passed + n)) (sym same)
       (goes.made history (prefix_trans front g history begins shown_all) later n m');
 }
 
@@ -90,14 +109,16 @@ goes_event opening caller commands k front g passed command event goes at begins
     let next = drop_next commands k command at in record {
       few = omega (arith, goes.few, ap (λ (l : List Event). length l) after, length-append (events_of caller front) (event ∷ []));
       made = λ history shown_all later n m.
-          let m' : AreMade opening caller history (events_of caller front ++ event ∷ []) (drop (k + 1) commands) later n =
-          subst (λ (es : List Event). AreMade opening caller history es (drop (k + 1) commands) later n) after m in
-          let here : AreMade opening caller history (events_of caller front) (drop k commands) (event ∷ later) n =
-          subst (λ (cs : List Command). AreMade opening caller history (events_of caller front) cs (event ∷ later) n) (sym next)
-          (inl (event, later, refl, is, m')) in
+          let m' : AreMade opening caller history (g ++ event ∷ []) (events_of caller front ++ event ∷ []) (drop (k + 1) commands) later n =
+          subst (λ (es : List Event). AreMade opening caller history (g ++ event ∷ []) es (drop (k + 1) commands) later n) after m in
+          let came : CameAfter (events_of caller) history front (events_of caller front) g = record
+          { begins = prefix_trans g (g ++ event ∷ []) history (event ∷ [], refl) shown_all; goes_on = begins; has_earlier = same } in
+          let here : AreMade opening caller history front (events_of caller front) (drop k commands) (event ∷ later) n =
+          subst (λ (cs : List Command). AreMade opening caller history front (events_of caller front) cs (event ∷ later) n) (sym next)
+          (inl (event, later, refl, is, (g, record { came = came; begins = shown_all }, m'))) in
           let all = goes.made history (prefix_trans front (g ++ event ∷ []) history
           (prefix_trans front g (g ++ event ∷ []) begins (event ∷ [], refl)) shown_all) (event ∷ later) n here in
-          subst (λ (es : List Event). AreMade opening caller history [] commands es (passed + n))
+          subst (λ (es : List Event). AreMade opening caller history [] [] commands es (passed + n))
           (sym (append_assoc (events_of caller front) (event ∷ []) later) ∙ ap (λ w. w ++ later) (sym after)) all;
     }
 
@@ -110,31 +131,31 @@ goes_passed opening caller commands k front g passed command due goes at begins 
     let next = drop_next commands k command at in record {
       few = omega (arith, goes.few, ap (λ (l : List Event). length l) same);
       made = λ history shown_all later n m.
-          let soon : WasTooSoon opening caller history (events_of caller front) command =
-          record { before = g; begins = shown_all; has_earlier = same; due = due; refused = refused } in
-          let m' : AreMade opening caller history (events_of caller front) (drop (k + 1) commands) later n =
-          subst (λ (es : List Event). AreMade opening caller history es (drop (k + 1) commands) later n) same m in
-          let here : AreMade opening caller history (events_of caller front) (drop k commands) later (n + 1) =
-          subst (λ (cs : List Command). AreMade opening caller history (events_of caller front) cs later (n + 1)) (sym next)
-          (inr (soon, (n, refl, m'))) in
+          let came : CameAfter (events_of caller) history front (events_of caller front) g =
+          record { begins = shown_all; goes_on = begins; has_earlier = same } in
+          let m' : AreMade opening caller history g (events_of caller front) (drop (k + 1) commands) later n =
+          subst (λ (es : List Event). AreMade opening caller history g es (drop (k + 1) commands) later n) same m in
+          let here : AreMade opening caller history front (events_of caller front) (drop k commands) later (n + 1) =
+          subst (λ (cs : List Command). AreMade opening caller history front (events_of caller front) cs later (n + 1)) (sym next)
+          (inr (g, came, record { due = due; refused = refused }, (n, refl, m'))) in
           let all = goes.made history (prefix_trans front g history begins shown_all) later (n + 1) here in
           let sums : passed + (n + 1) ≡ passed + 1 + n = omega arith in
-          subst (λ (es : List Event). AreMade opening caller history [] commands (es ++ later) (passed + 1 + n)) (sym same)
-          (subst (λ (t : ℕ). AreMade opening caller history [] commands (events_of caller front ++ later) t) sums all);
+          subst (λ (es : List Event). AreMade opening caller history [] [] commands (es ++ later) (passed + 1 + n)) (sym same)
+          (subst (λ (t : ℕ). AreMade opening caller history [] [] commands (events_of caller front ++ later) t) sums all);
     }
 
 -- all commands were asked
 pub goes_end : (opening : Opening) (caller : ℕ) (commands : List Command) (k : ℕ) (front : List Event) (passed : ℕ)
     → Goes opening caller commands k front passed → k ≡ length commands
-    → AreMade opening caller front [] commands (events_of caller front) passed
+    → AreMade opening caller front [] [] commands (events_of caller front) passed
 goes_end opening caller commands k front passed goes end =
     let nothing : drop k commands ≡ [] = ap (λ (i : ℕ). drop i commands) end ∙ drop-length commands in
-    let here : AreMade opening caller front (events_of caller front) (drop k commands) [] 0 =
-    subst (λ (cs : List Command). AreMade opening caller front (events_of caller front) cs [] 0) (sym nothing) (refl, refl) in
+    let here : AreMade opening caller front front (events_of caller front) (drop k commands) [] 0 =
+    subst (λ (cs : List Command). AreMade opening caller front front (events_of caller front) cs [] 0) (sym nothing) (refl, refl) in
     let all = goes.made front (prefix_self front) [] 0 here in
     let zero_more : passed + 0 ≡ passed = omega arith in
-    subst (λ (es : List Event). AreMade opening caller front [] commands es passed) (append-nil (events_of caller front))
-    (subst (λ (t : ℕ). AreMade opening caller front [] commands (events_of caller front ++ []) t) zero_more all)
+    subst (λ (es : List Event). AreMade opening caller front [] [] commands es passed) (append-nil (events_of caller front))
+    (subst (λ (t : ℕ). AreMade opening caller front [] [] commands (events_of caller front ++ []) t) zero_more all)
 
 -- a caller with one number
 pub record IsAlone (caller : CallerView) (number : ℕ) : Type 0 where
@@ -302,7 +323,7 @@ pub came_of_none : (link : LinkView) (plan : Plan) (number : ℕ) (front : List 
     → CameAt link plan number front 0
 unfolding CameAt CameOf HasNoneAt
 came_of_none link plan number front no_commands none opening from =
-    subst (λ (cs : List Command). AreMade opening number front [] cs (events_of number front) 0 ⊎ IsCutShort opening number cs front)
+    subst (λ (cs : List Command). AreMade opening number front [] [] cs (events_of number front) 0 ⊎ IsCutShort opening number cs front)
     (sym no_commands)
     (inl (none opening from, refl))
 

@@ -36,23 +36,33 @@ caller_of event = event.caller
 abbrev pub events_of : ℕ → List Event → List Event
 events_of caller history = own caller_of caller (caller + 1) history
 
--- a command was too soon after a beginning of the history that has these events of the caller, and no others of it
-pub record WasTooSoon (opening : Opening) (caller : ℕ) (history earlier : List Event) (command : Command) : Type 0 where
-  pub before : List Event
+-- where a caller's next call came, after this beginning of the history: it has all that the caller was shown at its call before, its
+-- earlier ones, and no others of it
+pub record CameAfter {A : Type 0} (own_of : List A → List A) (history seen earlier before : List A) : Type 0 where
   pub begins : IsPrefix before history
-  pub has_earlier : events_of caller before ≡ earlier
+  pub goes_on : IsPrefix seen before
+  pub has_earlier : own_of before ≡ earlier
+
+-- .. and made this
+pub record Added {A : Type 0} (own_of : List A → List A) (history seen earlier before : List A) (made : A) : Type 0 where
+  pub came : CameAfter own_of history seen earlier before
+  pub begins : IsPrefix (before ++ made ∷ []) history
+
+-- a command was too soon after this history
+pub record WasTooSoon (opening : Opening) (before : List Event) (command : Command) : Type 0 where
   pub due : ℕ
   pub refused : refusal_by_rule opening before command ≡ Some (TooSoon due)
 
--- where the caller has these earlier events in the history, these commands are its later ones, each the next, but for so
--- many that were too soon
-abbrev pub AreMade : Opening → ℕ → List Event → List Event → List Command → List Event → ℕ → Type 0
-AreMade opening caller history earlier [] later passed = (later ≡ []) × (passed ≡ 0)
-AreMade opening caller history earlier (command ∷ commands) later passed =
+-- where the caller was shown so much of the history, with these earlier events of its own, these commands are its later ones, each the
+-- next, but for so many that were too soon; none came before those that it made earlier, taken or not
+abbrev pub AreMade : Opening → ℕ → List Event → List Event → List Event → List Command → List Event → ℕ → Type 0
+AreMade opening caller history seen earlier [] later passed = (later ≡ []) × (passed ≡ 0)
+AreMade opening caller history seen earlier (command ∷ commands) later passed =
     ((event : Event) × (others : List Event) × (later ≡ event ∷ others) × (event.command ≡ command)
-    × AreMade opening caller history (earlier ++ event ∷ []) commands others passed)
-    ⊎ (WasTooSoon opening caller history earlier command
-    × ((fewer : ℕ) × (passed ≡ fewer + 1) × AreMade opening caller history earlier commands later fewer))
+    × ((before : List Event) × Added (events_of caller) history seen earlier before event
+    × AreMade opening caller history (before ++ event ∷ []) (earlier ++ event ∷ []) commands others passed))
+    ⊎ ((before : List Event) × CameAfter (events_of caller) history seen earlier before × WasTooSoon opening before command
+    × ((fewer : ℕ) × (passed ≡ fewer + 1) × AreMade opening caller history before earlier commands later fewer))
 
 -- the caller stopped where the book was full, after a beginning of the history, and before it had an event for each command
 pub record IsCutShort (opening : Opening) (caller : ℕ) (commands : List Command) (history : List Event) : Type 0 where
@@ -64,7 +74,7 @@ pub record IsCutShort (opening : Opening) (caller : ℕ) (commands : List Comman
 -- what came of a caller's commands in this history
 unfoldable pub CameOf : Opening → ℕ → List Command → List Event → ℕ → Type 0
 CameOf opening caller commands history passed =
-    AreMade opening caller history [] commands (events_of caller history) passed
+    AreMade opening caller history [] [] commands (events_of caller history) passed
     ⊎ IsCutShort opening caller commands history
 
 -- what came of the commands of all callers below n, of which so many were too soon
@@ -86,8 +96,8 @@ AllCameAt link plan n history passed = (opening : Opening) → link.origin ≡ S
 pub record Goes (opening : Opening) (caller : ℕ) (commands : List Command) (k : ℕ) (front : List Event) (passed : ℕ) : Type 0 where
   pub few : length (events_of caller front) ≤ k
   pub made : (history : List Event) → IsPrefix front history → (later : List Event) (n : ℕ)
-      → AreMade opening caller history (events_of caller front) (drop k commands) later n
-      → AreMade opening caller history [] commands (events_of caller front ++ later) (passed + n)
+      → AreMade opening caller history front (events_of caller front) (drop k commands) later n
+      → AreMade opening caller history [] [] commands (events_of caller front ++ later) (passed + n)
 
 unfoldable pub EachGoes : LinkView → ℕ → List Command → ℕ → List Event → ℕ → Type 0
 EachGoes link caller commands k front passed = (opening : Opening) → link.origin ≡ Some opening → Goes opening caller commands k front passed
@@ -122,23 +132,20 @@ is_number number caller = caller == number
 abbrev pub fold_of : ℕ → ℕ → Entry
 fold_of caller n = Folded caller n
 
--- a fold of n events was of too many after a beginning of the history that has these entries of the caller, and no others of it:
--- the tail held fewer there
-pub record WasTooMany (opening : Opening) (caller : ℕ) (history earlier : List Entry) (n : ℕ) : Type 0 where
-  pub before : List Entry
-  pub begins : IsPrefix before history
-  pub has_earlier : entries_of caller before ≡ earlier
-  pub fewer : length (tail_in opening before) < n
+-- a fold of n events was of too many after this history: the tail held fewer
+abbrev pub WasTooMany : Opening → List Entry → ℕ → Type 0
+WasTooMany opening before n = length (tail_in opening before) < n
 
--- where the caller has these earlier entries in the history, these folds are its later ones, each the next, but for so many that
--- were of too many events
-abbrev pub AreFolded : Opening → ℕ → List Entry → List Entry → List ℕ → List Entry → ℕ → Type 0
-AreFolded opening caller history earlier [] later too_many = (later ≡ []) × (too_many ≡ 0)
-AreFolded opening caller history earlier (n ∷ folds) later too_many =
+-- where the caller was shown so much of the history, with these earlier entries of its own, these folds are its later ones, each the next,
+-- but for so many that were of too many events; none came before those that it made earlier, taken or not
+abbrev pub AreFolded : Opening → ℕ → List Entry → List Entry → List Entry → List ℕ → List Entry → ℕ → Type 0
+AreFolded opening caller history seen earlier [] later too_many = (later ≡ []) × (too_many ≡ 0)
+AreFolded opening caller history seen earlier (n ∷ folds) later too_many =
     ((others : List Entry) × (later ≡ fold_of caller n ∷ others)
-    × AreFolded opening caller history (earlier ++ fold_of caller n ∷ []) folds others too_many)
-    ⊎ (WasTooMany opening caller history earlier n
-    × ((fewer : ℕ) × (too_many ≡ fewer + 1) × AreFolded opening caller history earlier folds later fewer))
+    × ((before : List Entry) × Added (entries_of caller) history seen earlier before (fold_of caller n)
+    × AreFolded opening caller history (before ++ fold_of caller n ∷ []) (earlier ++ fold_of caller n ∷ []) folds others too_many))
+    ⊎ ((before : List Entry) × CameAfter (entries_of caller) history seen earlier before × WasTooMany opening before n
+    × ((fewer : ℕ) × (too_many ≡ fewer + 1) × AreFolded opening caller history before earlier folds later fewer))
 
 -- an entry is an event
 abbrev pub IsMade : Entry → Type 0
@@ -153,8 +160,8 @@ NoneElseFolds plan n history = (caller : ℕ) → caller < n → (caller ≡ fol
 -- history that goes on from there, comes of all
 unfoldable pub FoldsGo : Opening → ℕ → List ℕ → ℕ → List Entry → ℕ → Type 0
 FoldsGo opening caller folds k front too_many = (history : List Entry) → IsPrefix front history → (later : List Entry) (n : ℕ)
-    → AreFolded opening caller history (entries_of caller front) (drop k folds) later n
-    → AreFolded opening caller history [] folds (entries_of caller front ++ later) (too_many + n)
+    → AreFolded opening caller history front (entries_of caller front) (drop k folds) later n
+    → AreFolded opening caller history [] [] folds (entries_of caller front ++ later) (too_many + n)
 
 -- these events are what the caller's folds handed out
 abbrev pub WereHanded : Opening → ℕ → List Event → List Entry → Type 0
@@ -169,7 +176,7 @@ FoldsGoAt link caller well folds k events front too_many =
 unfoldable pub AreFoldedAt : LinkView → ℕ → Type 0 → List ℕ → List Event → List Entry → ℕ → Type 0
 AreFoldedAt link caller well folds events front too_many =
     (opening : Opening) → link.origin ≡ Some opening → well
-    → WereHanded opening caller events front × AreFolded opening caller front [] folds (entries_of caller front) too_many
+    → WereHanded opening caller events front × AreFolded opening caller front [] [] folds (entries_of caller front) too_many
 
 -- what an answer adds to the folds that were too many
 unfoldable pub refused_by : Result (Told (Vec Event Global)) FoldRefusal → ℕ
@@ -246,12 +253,12 @@ pub record IsStorm (plan : Plan) (events : List Event) (too_soon too_many : ℕ)
   pub departures : commands_in (events_of (senders plan + 1) events) ≡ map Depart plan.departs.items
   pub changes : commands_in (events_of (senders plan + 3) events) ≡ map change plan.changes.items
   -- the updates, in order, but for those that were too soon
-  pub updates : AreMade (opening_of plan) (senders plan + 2) events [] (map Update plan.updates.items) (events_of (senders plan + 2) events) too_soon
+  pub updates : AreMade (opening_of plan) (senders plan + 2) events [] [] (map Update plan.updates.items) (events_of (senders plan + 2) events) too_soon
   -- the link's history, of which these are the events; its folds are those of the plan, in order, but for those that were of too
   -- many events, each at its place
   pub history : List Entry
   pub of_history : events_in history ≡ events
-  pub folds : AreFolded (opening_of plan) (folder plan) history [] plan.folds.items (entries_of (folder plan) history) too_many
+  pub folds : AreFolded (opening_of plan) (folder plan) history [] [] plan.folds.items (entries_of (folder plan) history) too_many
   -- no other caller has an event, and no other a fold
   pub no_others : (caller : ℕ) → (caller ≡ 0) ⊎ (senders plan + 3 < caller) → events_of caller events ≡ []
   pub no_other_folds : (caller : ℕ) → (caller ≡ folder plan → ⊥) → All IsMade (entries_of caller history)

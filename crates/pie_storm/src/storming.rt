@@ -1,6 +1,8 @@
 //! A storm is made by its plan, and its events are audited and written as a history.
-ghost use Rattle.std.specs.Prelude.{◌≡◌, IfOk, OnOk, map};
+ghost use Rattle.std.specs.Prelude.{◌≡◌, ◌≢◌, Err, IfOk, OnOk, map};
 ghost use Rattle.pie_book.specs.Decision.{IsLegal};
+ghost use Rattle.pie_book.specs.Registers.{registers_after};
+ghost use Rattle.pie_book.specs.Statistics.{stats_after};
 ghost use Rattle.pie_record.specs.declared.history_record.Line.TheVariants.{Made};
 ghost use Rattle.pie_audit.specs.Auditor.{Audits};
 ghost use Rattle.pie_storm.specs.Plans.{opening_of};
@@ -48,6 +50,9 @@ pub fn make_storm<H: Threads + Wait + Clock + Sync>(
     ensures planned { IfOk result (λ made. IsStormPlan numbers made.plan) }
     ensures legal { IfOk result (λ made. IsLegal (opening_of made.plan) made.end.events.items) }
     ensures made { IfOk result (λ made. IsStorm made.plan made.end.events.items made.end.too_soon made.end.too_many) }
+    ensures registers { IfOk result (λ made. made.end.registers ≡ registers_after (opening_of made.plan) made.end.events.items) }
+    ensures stats { IfOk result (λ made. made.end.stats ≡ stats_after (opening_of made.plan) made.end.events.items) }
+    ensures no_gap { result ≢ Err StormFault.Gap }
 {
     let plan = match storm_plan(alloc, numbers) {
         Ok(plan) => plan,
@@ -67,6 +72,9 @@ fn run_plan<H: Threads + Wait + Clock + Sync>(
 ) -> Result<StormEnd, StormFault>
     ensures legal { IfOk result (λ end. IsLegal (opening_of plan.now) end.events.items) }
     ensures made { IfOk result (λ end. IsStorm plan.now end.events.items end.too_soon end.too_many) }
+    ensures registers { IfOk result (λ end. end.registers ≡ registers_after (opening_of plan.now) end.events.items) }
+    ensures stats { IfOk result (λ end. end.stats ≡ stats_after (opening_of plan.now) end.events.items) }
+    ensures no_gap { result ≢ Err StormFault.Gap }
 {
     let pace = Pace::new(rt, plan);
     storm(rt, alloc, plan, &pace)

@@ -1,0 +1,122 @@
+#!/usr/bin/env python3
+"""Says which public function nobody calls: each `pub fn` of a library in crates/ that others can name (functions, methods and those that C calls),
+whose name no other crate calls, and no test, measure, binding or example. A law, which does nothing and takes nothing, has no caller: it counts where docs/PROMISES.md or
+docs/MODEL.md name it. Exit status 1 where there is one.
+
+It goes by names. A function is called where a crate that stands on its own names it outside contracts; one of a type with no `self`
+where the type stands before it, a method where a dot does, or its type. Of two types with a method of one name it cannot see whose is called,
+nor whether code that calls one is itself reached.
+
+usage: tests/documents/unused.py
+needs: nothing
+"""
+import os
+import re
+import sys
+
+sys.path.insert(0, f"{os.path.dirname(os.path.abspath(__file__))}/../shared")
+from checks import NAME, ROOT  # noqa: E402
+
+FUNCTION = re.compile(r'^( *)pub (?:const )?(?:unsafe )?(extern "C" )?fn (\w+)')
+OWNER = re.compile(r"^(?:unsafe )?(?:impl|pub trait|trait)\b(?:<[^{]*?>)? ?(?:[\w:<>', ]+ for )?(\w+)")
+# what a contract says, a comment, and what is imported for contracts or by a `use`
+CLAUSE = re.compile(r"^ *(?:requires|ensures|invariant|ghost)\b|^ *(?:pub )?use ")
+OUTSIDE = ("bench", "bindings", "examples", "include", "tests", "fleet", "report")
+ENDINGS = {".c", ".h", ".cc", ".cpp", ".hpp", ".rs", ".py", ".sh"}
+
+
+def stood_on():
+    """Of each crate all on which it stands."""
+    lines = [line.partition("#")[0] for line in (ROOT / "crates.txt").read_text().splitlines()]
+    below = {line.partition(":")[0].split()[0]: set(line.partition(":")[2].split()) for line in lines if ":" in line}
+    for crate in below:
+        while more := {lower for it in below[crate] for lower in below.get(it, ())} - below[crate]:
+            below[crate] |= more
+    return below
+
+
+def blocks(line):
+    """How many braces a line opens beyond those that it closes."""
+    return line.count("{") - line.count("}")
+
+
+def code_of(text):
+    """The lines of a source without its comments, contracts and imports."""
+    kept, depth, within = [], 0, False
+    for line in text.splitlines():
+        line = line if '"' in line else line.partition("//")[0]
+        if not within and CLAUSE.match(line):
+            within, depth = True, 0
+        if within:
+            depth += blocks(line)
+            within = depth > 0 or not line.rstrip().endswith((";", "}"))
+            continue
+        kept.append(line)
+    return "\n".join(kept)
+
+
+class Function:
+    """A public function: its crate, the type that it is of, if any, whether it takes `self`, and whether it is a law or for C."""
+
+    def __init__(self, crate, owner, name, head, is_for_c):
+        self.crate, self.owner, self.name, self.is_for_c = crate, owner, name, is_for_c
+        taken = re.search(r"fn \w+(?:<[^(]*>)?\(([^)]*)", head)[1]
+        self.is_method = re.match(r"\s*(?:&(?:'\w+ )?)?(?:mut )?self\b", taken) is not None
+        self.is_law = not owner and not taken.strip() and "->" not in head
+        own = rf"\b{owner}::(?:<[^(]*>::)?{name}\b"
+        plain = rf"(?<![\w.])(?<!fn ){name}\b(?=\s*(?:\(|::<|,|\)))"
+        self.call = re.compile(rf"\.{name}(?:::<|\()|{own}" if self.is_method else own if owner else plain)
+
+    def title(self):
+        return f"{self.crate}: {self.owner + '::' if self.owner else ''}{self.name}"
+
+
+def named_outside(crate, texts):
+    """Which functions and types of a crate others can name: those of its public modules, and those that it hands on."""
+    root = texts[ROOT / "crates" / crate / "src/lib.rt"]
+    modules = set(re.findall(r"^pub mod (\w+);", root, re.M))
+    handed_on = {name for uses in re.findall(r"^pub use ([^;]*);", root, re.M) for name in re.findall(r"\w+", uses)}
+    within = [text for path, text in texts.items() if path.relative_to(ROOT / "crates" / crate / "src").parts[0].removesuffix(".rt") in modules]
+    return handed_on | {name for text in within for name in re.findall(r"^pub (?:struct|enum|trait|fn) (\w+)", text, re.M)}
+
+
+def functions(crate):
+    texts = {path: path.read_text() for path in sorted((ROOT / "crates" / crate / "src").rglob("*.rt"))}
+    outside = named_outside(crate, texts)
+    for text in texts.values():
+        owner, lines = "", text.splitlines()
+        for start, line in enumerate(lines):
+            if found := OWNER.match(line):
+                owner = found[1]
+            elif line.startswith("}"):
+                owner = ""
+            if found := FUNCTION.match(line):
+                end = next(n for n in range(start, len(lines)) if re.match(r"^ *(?:requires|ensures|\{)|.*\{(?:\})?$", lines[n]))
+                head = " ".join(lines[start : end + 1]).partition(" ensures ")[0]
+                it = Function(crate, owner if found[1] else "", found[3], head, bool(found[2]))
+                if it.is_for_c or (it.owner or it.name) in outside:
+                    yield it
+
+
+def main():
+    below = stood_on()
+    source = {crate: "\n".join(code_of(path.read_text()) for path in (ROOT / "crates" / crate / "src").rglob("*.rt")) for crate in below}
+    outside = "\n".join(path.read_text() for folder in OUTSIDE for path in (ROOT / folder).rglob("*")
+                        if path.suffix in ENDINGS and path.is_file() and path != ROOT / "include/pie.h")
+    named = set(re.findall(r"`(?:\w+::)*(\w+)`", "".join((ROOT / page).read_text() for page in ("docs/PROMISES.md", "docs/MODEL.md"))))
+    found, unused = 0, []
+    for crate in below:
+        # (a program has no public functions)
+        if (ROOT / "crates" / crate / "src/main.rt").exists():
+            continue
+        above = [source[other] for other in below if crate in below[other]]
+        for it in functions(crate):
+            found += 1
+            calls = [outside] if it.is_for_c else above
+            if not (any(it.call.search(text) for text in calls) or it.is_law and it.name in named):
+                unused.append(it.title())
+    print("\n".join(unused) or f"{NAME}: each of {found} public functions is called")
+    sys.exit(bool(unused) or not found)
+
+
+main()

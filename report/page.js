@@ -105,6 +105,13 @@ function card(title, field, big, rows) {
     }
 }
 
+// Whether the delay and the waits were above the target for very different times, as `pie explain --summary` says it in words.
+function disagree() {
+    if (!has("time_waited_above_target")) return false;
+    const [delay, waits] = [whole("time_above_target"), whole("time_waited_above_target")];
+    return delay < waits / 2n || waits < delay / 2n;
+}
+
 function headline() {
     const arrivals = total("arrivals");
     const count = (name) => grouped(whole(name));
@@ -112,6 +119,7 @@ function headline() {
     const dropped = total("early") + total("bytes") + total("packets");
     const more = (name, title, show) => has(name) && [title, show(DATA.summary[column.get(name)]), name];
     const ms = (ns) => `${millis(ns)} ms`;
+    const shareOfTime = (ns) => `${duration(Number(ns))}, ${percent(Math.min(Number(ns), LENGTH), LENGTH)}`;
     card("Arrivals", "arrivals", count("arrivals"), [
         ["bytes", count("arrived_bytes"), "arrived_bytes"],
         ["offered", rate(whole("arrived_bytes"), LENGTH), "offered"],
@@ -129,11 +137,14 @@ function headline() {
     card("Mean wait", "mean_wait", ms(total("mean_wait")), [
         more("wait_99", "99 % waited at most", ms),
         ["greatest", ms(total("greatest_wait")), "greatest_wait"],
+        more("waited_above_target", "above the target", (of) => `${grouped(of)}, ${percent(Number(of), total("left"))}`),
+        more("time_waited_above_target", "time above it", shareOfTime),
     ]);
     card("Greatest queueing delay", "greatest_delay", ms(total("greatest_delay")), [
         ["last", ms(total("last_delay")), "last_delay"],
         ["target", ms(has("last_target") ? total("last_target") : DATA.target), "target"],
-        more("time_above_target", "time above it", (ns) => `${duration(Number(ns))}, ${percent(Math.min(Number(ns), LENGTH), LENGTH)}`),
+        more("time_above_target", "time above it", shareOfTime),
+        disagree() && ["not what packets waited", "", "disagree"],
     ]);
     card("Greatest drop probability", "greatest_probability", probability(total("greatest_probability")), [
         ["last", probability(total("last_probability")), "last_probability"],

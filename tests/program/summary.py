@@ -91,7 +91,22 @@ def numbers(rows):
     found |= {"last_target": rows[-1]["target_after"] if rows else 0}
     found |= {"last_burst_allowance": int(rows[-1]["burst_allowance_after"]) if rows else 0}
     found |= {"time_above_target": sum(row["since"] for row in updates if row["active"] == "1" and int(row["delay"]) > row["target"])}
+    found |= dict(zip(("waited_above_target", "time_waited_above_target"), above_target(rows)))
     return found
+
+
+def above_target(rows):
+    """How many packets that left had waited longer than the target, and how long one of these was the first in the queue: of each what it had waited
+    longer, as far back as the packet before it left, or the first event."""
+    longer = late = 0
+    since = int(rows[0]["effective_moment"]) if rows else 0
+    for row in rows:
+        if row["verdict"] == "left":
+            excess, moment = int(row["waited"]) - row["target"], int(row["effective_moment"])
+            longer += excess > 0
+            late += min(max(excess, 0), moment - since)
+            since = moment
+    return longer, late
 
 
 def percent(prob):
@@ -109,6 +124,11 @@ def in_words(n):
     lines += [f"  the greatest probability was {percent(n['greatest_probability'])}, and the last {percent(n['last_probability'])}"]
     lines += [f"  delays were above the target for {millis(n['time_above_target'])};", f"    at the end it was {millis(n['last_target'])},"]
     lines += [f"    and the burst allowance {millis(n['last_burst_allowance'])}"]
+    above, late = n["time_above_target"], n["time_waited_above_target"]
+    longer = share(n["waited_above_target"], n["left"]).replace(", ", " packets, ")
+    lines += [f"  {longer} of those that left, had waited longer than the target,", f"    at the head of the queue for {millis(late)}"]
+    if above < late // 2 or late < above // 2:
+        lines += ["    the two times disagree: the controller's delay was not what packets waited"]
     for way in ("on", "off"):
         if n[f"turned_{way}"]:
             lines += [f"  turned {way} {n[f'turned_{way}']} times, first at {millis(n[f'first_turned_{way}'])},"]

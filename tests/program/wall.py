@@ -2,13 +2,14 @@
 """Holds the times of day that `pie explain --wall` tells, and those that `--from` and `--to` take, to Python's dates: of random histories of version
 three by tests/shared/reference.py, with records of the time of day at random places (none, one, or some, between which the time jumps), each record
 of `--all --csv --wall` has the time of day of its effective moment by the last such record before it, and else is the record without the option; the
-words have it in place of milliseconds, also for the last update; and the events within some times of day are explained, and no others. Then times at
-the ends of years, months and days, what lies before 1970 or past 2^64 - 1 ns, texts that are no times of day, and what doesn't go together. Exit
-status 1 where something differs.
+words have it in place of milliseconds, also for the last update; the events within some times of day are explained, and no others; and summaries
+have the times of day of their events. Then times at the ends of years, months and days, what lies before 1970 or past 2^64 - 1 ns, texts that are no
+times of day, and what doesn't go together. Exit status 1 where something differs.
 
 usage: tests/program/wall.py [PROGRAM [FIRST_SEED [RUNS [STEPS]]]]      PROGRAM: crates/pie/out/pie where none is given
 needs: program
 """
+import csv
 import os
 import random
 import re
@@ -95,6 +96,48 @@ def hold_within(name, history, lines, times, words):
     expect(f"{name}: a summary", (summed[0], summed[1].splitlines()[1].split(",")[0]), (0, str(later)))
 
 
+def told(times, spaces):
+    """What a summary says in words of these times of day, and nothing where none is known."""
+    known = [utc(time) for time in times if time is not None]
+    return [f"{spaces}by the time of day from {known[0]} to {known[-1]}\n"] if known else []
+
+
+def summed(plain, rows, times):
+    """A summary in words with the times of day of these records: behind its first line, and behind each time that the controller turned."""
+    first, *others = plain.splitlines(keepends=True)
+    out, ways = [first, *told(times, "  ")], {"  turned on ": ("0", "1"), "  turned off ": ("1", "0")}
+    turning = None
+    for line in others:
+        out.append(line)
+        if turning:
+            out += told([time for row, time in zip(rows, times) if (row["active"], row["active_after"]) == turning], "    ")
+        turning = next((ends for way, ends in ways.items() if line.startswith(way)), None)
+    return "".join(out)
+
+
+def hold_sums(name, history, lines, times, words):
+    """--summary, --every and --digest with --wall: they are those without it, with the times of day."""
+    rows = list(csv.DictReader(lines))
+    moments = [int(row["effective_moment"]) for row in rows]
+    every = (moments[-1] - moments[0]) // words.randrange(2, 9) + 1
+    for options, period in ((("--summary",), 2**64), (("--every", str(every)), every)):
+        starts = [0] + [at for at in range(1, len(rows)) if moments[at] // period != moments[at - 1] // period]
+        parts = [(rows[start:end], times[start:end]) for start, end in zip(starts, [*starts[1:], len(rows)])]
+        header, *plain = pie(history, *options, "--csv")[1].splitlines()
+        walls = [next((utc(time) for time in some if time is not None), "") for _, some in parts]
+        wanted = [f"{header},wall"] + [f"{line},{wall}" for line, wall in zip(plain, walls, strict=True)]
+        expect(f"{name}: {options} --csv --wall", pie(history, *options, "--csv", "--wall"), (0, "".join(f"{it}\n" for it in wanted), ""))
+        plain = re.findall(r"^\d+ events, .*\n(?:  .*\n)*", pie(history, *options)[1], re.M)
+        wanted = "".join(summed(text, *part) for text, part in zip(plain, parts, strict=True))
+        expect(f"{name}: {options} --wall", pie(history, *options, "--wall"), (0, wanted, ""))
+    status, digest, errors = pie(history, "--digest", "--every", str(every), "--wall")
+    packets = [pie(history, which, "--wall")[1] for which in ("--lost", "--marked")]
+    both = sorted(re.findall(r"^event .*\n(?:  .*\n)*", "".join(packets), re.M), key=lambda it: int(it.split()[1][:-1]))
+    expect(f"{name}: --digest --wall: the packets", (status, re.findall(r"^event .*\n(?:  .*\n)*", digest, re.M), errors), (0, both, ""))
+    sums = "".join(re.findall(r"^\d+ events, .*\n(?:  .*\n)*", digest, re.M))
+    expect(f"{name}: --digest --wall: the summaries", sums, pie(history, "--every", str(every), "--wall")[1])
+
+
 def hold_dates():
     """The first and the last nanosecond of each year, of each month of some years, and of other days."""
     days = [datetime(year, 1, 1, tzinfo=timezone.utc) for year in range(1971, 2555)]
@@ -153,9 +196,6 @@ def hold_texts():
     expect("after", pie(history, "--all", "--from", two, "--to", one), (1, "", order))
     expect("the same", pie(history, "--all", "--from", one, "--to", one), (0, "", ""))
     expect("of two kinds", pie(history, "--all", "--from", two, "--to", "0"), (0, "", ""))
-    sums = "pie: --wall: not with --summary, --every or --digest\n"
-    for option in ("--summary", "--every=1s", "--digest"):
-        expect(f"--wall {option}", pie(history, option, "--wall"), (1, "", sums))
 
 
 def main():
@@ -171,6 +211,7 @@ def main():
         lines, times = hold_records(name, history, clocks)
         hold_words(name, history, clocks)
         hold_within(name, history, lines, times, words)
+        hold_sums(name, history, lines, times, words)
     expect("histories of version three", held >= RUNS // 3, True)
     print(f"{NAME}: {held} histories, and the ends of years, months and days: times of day are those of Python's dates")
 

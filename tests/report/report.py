@@ -271,9 +271,13 @@ class Page:
             rate = 8000 * count.get(field, 0) / length if length else 0
             near = field not in row or abs(float(seen[name].split()[0]) - rate) <= max(0.0001, 0.01 * rate)
             self.says(near, f"{name}: {seen.get(name)}, and not {rate}")
-        above = seen.get("time_above_target", "")
-        wanted = f", {share(min(count.get('time_above_target', 0), length), length)}"
-        self.says("time_above_target" not in row or above.endswith(wanted), f"time above the target: {above}, and not {wanted}")
+        parts = {"time_above_target": length, "time_waited_above_target": length, "waited_above_target": count["left"]}
+        for field, whole in parts.items():
+            wanted = f", {share(min(count.get(field, 0), whole), whole)}"
+            self.says(field not in row or seen.get(field, "").endswith(wanted), f"{field}: {seen.get(field)}, and not {wanted}")
+        delay, waits = count.get("time_above_target", 0), count.get("time_waited_above_target", 0)
+        differ = delay < waits // 2 or waits < delay // 2
+        self.says(("disagree" in seen) == differ, f"delays above the target for {delay} ns, waits for {waits} ns: {'' if differ else 'not '}told")
         causes = self.run("return Object.fromEntries([...document.querySelectorAll('[data-cause]')].map((it) => [it.dataset.cause, it.textContent]))")
         for field, value in row.items():
             if field in causes or (re.match("picked|no_|word|low|short|burst_allowed|inactive|little", field) and value != "0"):

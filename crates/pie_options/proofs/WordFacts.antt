@@ -104,6 +104,10 @@ name-rows matches =
     first-of (λ b. ((out-SubCommand (box_value b)).name.now, rows_of (found_of (out-SubCommand (box_value b)).matches)))
     (out-ArgMatches matches).subcommand
 
+-- what `clap` tells of a subcommand is that of the words, if there is one
+pub name-found : (words : List Text) (matches : ArgMatches) → HasMatchesOf pie_app words matches → subcommand_name_of matches ≡ subcommand_in words
+name-found words matches has = name-rows matches ∙ ap (option_map (λ (p : Text × List Row). p.0)) (has simple).1
+
 -- the subcommand that `clap` found is that of the words
 pub subcommand-found : (app : App) (words : List Text) (matches : ArgMatches) (name subcommand : Text) → app ≡ pie_app
     → HasMatchesOf app words matches

@@ -18,7 +18,7 @@ from pathlib import Path
 sys.path.insert(0, str(Path(__file__).resolve().parents[1] / "shared"))
 import reference_resumed  # noqa: E402
 from checks import ROOT, check, finish  # noqa: E402
-from excerpts import audited, explained, rows_within  # noqa: E402
+from excerpts import audited, bad_params, explained, rows_within, segments_of  # noqa: E402
 from running import run  # noqa: E402
 
 FIRST, RUNS = ([int(word) for word in sys.argv[2:4]] + [1, 12][len(sys.argv[2:4]) :])[:2]
@@ -177,16 +177,6 @@ def hold_last(history, chance):
         check(named(part, "--last", str(many)) == wanted, f"{history.name}: --last {many} of an excerpt")
 
 
-def segments_of(text):
-    """The texts that csplit makes of segments: each begins with a record that resumes."""
-    parts = []
-    for line in text.splitlines(keepends=True):
-        if line.startswith("resume,"):
-            parts.append("")
-        parts[-1] += line
-    return parts
-
-
 def hold_segments(history, chance):
     """Segments are the excerpts of their events, one after another, and an audit says that they follow each other."""
     for every in sorted({1, chance.randrange(1, history.count + 1), history.count, history.count + 1} - ({1} if history.count > SMALL else set())):
@@ -238,10 +228,7 @@ def out_of_range(history, number, chance):
     """A history with a change to parameters out of their ranges behind so many events: its text, the record, and its effective moment."""
     before = history.moments[number - 1] if number else history.book.start
     handed_in = chance.choice((0, before, before + 1, before + chance.randrange(2, 10**9), 2**60, 2**64 - 1))
-    params = [15_000_000, 15_000_000, 150_000_000, 125, 1250, 1024, 262_144, 10**11, 16_384]
-    place, wrong = chance.choice([(0, 1), (1, 0), (2, 10**12 + 1), (3, 10**6 + 1), (5, 0), (6, 2**30 + 1), (7, 2**64 - 1), (8, 1000)])
-    params[place] = wrong
-    record = ",".join(map(str, ["params", chance.randrange(2**16), handed_in, *params, "done"])) + "\n"
+    record = bad_params(handed_in, chance)
     lines = history.text.splitlines(keepends=True)
     places = [*(place for place, line in enumerate(lines) if line.startswith(COMMANDS)), len(lines)]
     return "".join([*lines[: places[number]], record, *lines[places[number] :]]), record, max(before, handed_in)
@@ -253,15 +240,17 @@ def check_unmakeable(history, chance):
     text, record, moment = out_of_range(history, number, chance)
     what, differs = f"{history.name}: {record[:-1]} behind event {number}", DIFFERS.format(number + 1)
     tried["out of range"] += 1
-    reached = next((place for place, other in enumerate(history.moments[:number], 1) if other >= moment), number + 1)
-    for words, first in ((["--from", str(moment)], reached), (["--to", str(moment)], 1), (["--event", str(number + 1)], number + 1)):
+    at = min(moment, LATEST)
+    reached = next((place for place, other in enumerate(history.moments[:number], 1) if other >= at), number + 1)
+    chosen = [(["--from", str(at)], reached), (["--event", str(number + 1)], number + 1), *[(["--to", str(at)], 1)][: moment == at]]
+    for words, first in chosen:
         status, part, errors = cut(text, *words)
         check((status, errors) == (2, differs), f"{what}: {words}: status {status}, {errors}")
         check(part.endswith("\n" + record), f"{what}: {words}: it isn't the last")
         check(not history.book or part == history.part(first, number) + record, f"{what}: {words}: another excerpt than the reference's")
         check(audited([part]) == (2, [(f"differs,{number + 1}", "")]), f"{what}: {words}: {audited([part])}")
     if 0 < number < reached:
-        status, part, errors = cut(text, "--to", str(moment - 1))
+        status, part, errors = cut(text, "--to", str(min(moment - 1, LATEST)))
         check((status, errors) == (0, ""), f"{what}: cut before it: status {status}, {errors}")
         check(not history.book or part == history.part(1, number), f"{what}: cut before it: another excerpt than the reference's")
     check_unmakeable_segments(history, text, record, number, chance.randrange(1, number + 2), what)

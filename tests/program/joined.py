@@ -2,7 +2,8 @@
 """Audits the segments of random histories by `pie audit --joined`, in order and out of it: each follows the one before it, or the gap is told, or
 that it stands on something else. Segments are left out, exchanged and repeated, and come from another history with the same numbers; each field of a
 beginning is changed, and each field of the packets that wait there, beside tests/shared/reference_resumed.py, which says what is found of such a
-text. Then whole histories among them, files with a fault and files that differ, one file, and standard input.
+text. Texts of both kinds with a change, or with parameters out of their ranges, are cut into segments by `pie cut`, which come to what the reference
+finds of the whole: each is clean and follows, but the last where the text differs. Then whole histories among them, files with a fault and files that differ, one file, and standard input.
 
 usage: tests/program/joined.py [PROGRAM [FIRST_SEED [RUNS]]]      PROGRAM: crates/pie/out/pie where none is given
 needs: program
@@ -16,14 +17,14 @@ from pathlib import Path
 sys.path.insert(0, str(Path(__file__).resolve().parents[1] / "shared"))
 import reference_resumed  # noqa: E402
 from checks import check, finish  # noqa: E402
-from excerpts import audited  # noqa: E402
+from excerpts import audited, bad_params, changed, segments_of  # noqa: E402
 from running import PROGRAM, run  # noqa: E402
 
 FIRST, RUNS = ([int(word) for word in sys.argv[2:4]] + [1, 16][len(sys.argv[2:4]) :])[:2]
 EVENTS = 40
 # The places of a record that resumes: how many events there were, what set the probability, and the first statistic.
 COUNT, SET_BY, STATISTICS = 29, 30, 45
-tried = {"follow": 0, "gaps": 0, "unlike": 0, "faults": 0, "differ": 0, "statistics": 0, "packets": 0}
+tried = {"follow": 0, "gaps": 0, "unlike": 0, "faults": 0, "differ": 0, "statistics": 0, "packets": 0, "cut": 0, "cut to a difference": 0}
 
 
 class Part:
@@ -157,10 +158,41 @@ def hold_broken(what, parts, chance):
     wanted = [("", f"record {row}: unknown kind") if number == place else (line, "") for number, line in enumerate(after)]
     check(got == (1, wanted), f"{what}: a fault in {place}: {got}")
     part = parts[place]
-    different = [*texts[:place], texts[place] + f"depart,1,{2**59},left,1,1,ce\n", *texts[place + 1 :]]
+    wrong = chance.choice((f"depart,1,{2**59},left,1,1,ce\n", bad_params(chance.randrange(2**61), chance)))
+    different = [*texts[:place], texts[place] + wrong, *texts[place + 1 :]]
     found = f"differs,{part.last + 1}" + (" follows" if place else "")
     got = audited(different, "--joined")
     check(got == (2, [(found if number == place else line, "") for number, line in enumerate(after)]), f"{what}: {place} differs: {got}")
+
+
+def hold_segments(what, text, every):
+    """Whatever a text is, its segments come to what the reference finds of it."""
+    status, finding, error = found_of(text)
+    got, output, errors = run(["cut", "--every", str(every)], text.encode())
+    if status == 1:
+        check((got, errors.decode()) == (1, f"pie: {error}\n"), f"{what}: status {got} of a text with a fault, {errors}")
+        return
+    first, last = int(text.split(",", COUNT + 1)[COUNT]) if text.startswith("resume,") else 0, int(finding.split(",")[1])
+    if first == last:
+        return
+    tried["cut"], tried["cut to a difference"] = tried["cut"] + 1, tried["cut to a difference"] + (status == 2)
+    check(got == status, f"{what}: status {got}, {errors}")
+    parts, ends = segments_of(output.decode()), [*range(first + every, last, every), last]
+    lines = [*(f"clean,{end}" for end in ends[:-1]), finding]
+    wanted = [(f"{line} follows" if place else line, "") for place, line in enumerate(lines)]
+    found = audited(parts, "--joined")
+    check(found == (status, wanted), f"{what}: wanted {wanted}, got {found}")
+
+
+def hold_findings(what, book, chance):
+    """Texts of both kinds, with a change, with parameters out of their ranges, or with neither."""
+    for text in (reference_resumed.whole_text(book), *(reference_resumed.excerpt(book, chance.randrange(len(book.events))) for _ in range(2))):
+        lines = text.splitlines(keepends=True)
+        waiting = sum(line.startswith(("open", "resume,", "queued,")) for line in lines)
+        place, moment = chance.randrange(waiting, len(lines) + 1), chance.choice((0, chance.randrange(2**40), 2**64 - 1))
+        wrong = "".join([*lines[:place], bad_params(moment, chance), *lines[place:]])
+        for number, it in enumerate((text, wrong, changed(text, chance), changed(text, chance))):
+            hold_segments(f"{what}: {lines[0][:6]} {number}", it, chance.randrange(1, 12))
 
 
 def told(words, text=b""):
@@ -203,6 +235,7 @@ def main():
         hold_fields(what, parts[place - 1], parts[place], chance)
         hold_packets(what, parts[place - 1], parts[place], chance)
         hold_broken(what, parts, chance)
+        hold_findings(what, book, chance)
         hold_words(parts)
     print(", ".join(f"{number} {what}" for what, number in tried.items()))
     check(all(tried.values()), "something was never tried")

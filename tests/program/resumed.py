@@ -15,32 +15,13 @@ from pathlib import Path
 sys.path.insert(0, str(Path(__file__).resolve().parents[1] / "shared"))
 import reference_resumed  # noqa: E402
 from checks import check, finish  # noqa: E402
-from excerpts import audited, explained, rows_within  # noqa: E402
+from excerpts import audited, changed, explained, rows_within  # noqa: E402
 
 FIRST, RUNS = ([int(word) for word in sys.argv[2:4]] + [1, 16][len(sys.argv[2:4]) :])[:2]
 # How many events a history has at most, and how many places lie between two at which it is resumed.
 EVENTS, STEP = 60, 7
 # The places from which a text was summed up as the whole is.
 summed = []
-
-
-def changed(text, chance):
-    """The text with one change, which leaves it a text of records or not."""
-    lines = text.splitlines(keepends=True)
-    kind, place = chance.randrange(4), chance.randrange(len(lines))
-    if kind == 0:
-        at = chance.randrange(len(text))
-        return text[:at] + chance.choice("0123456789,x") + text[at + 1 :]
-    if kind == 1:
-        return "".join(lines[:place] + lines[place + 1 :])
-    if kind == 2:
-        other = chance.randrange(len(lines))
-        lines[place], lines[other] = lines[other], lines[place]
-        return "".join(lines)
-    fields = lines[0].rstrip("\n").split(",")
-    at = chance.randrange(1, len(fields))
-    fields[at] = chance.choice(["0", "1", "65536", str(2**64 - 1), str(2**64), "", str(chance.randrange(2**20))])
-    return "".join([",".join(fields) + "\n", *lines[1:]])
 
 
 def check_explanations(seed, book, n, text, is_known, whole):

@@ -4,7 +4,8 @@ tests/shared/reference_resumed.py, and behind that the commands from there, with
 read, and then line for line what it writes of the whole trace from there on, with the whole's registers, statistics and number of events. Then
 other commands in place of those, parameters that are changed from there on, folds, and requests that are refused, in bounded and rolling books whose
 tail or whose limit of events is nearly full: each line is that of the look-backs of reference.py, over the history and what came after it, where the
-tail begins empty. What was written is found clean. And with a change in the text: its fault, and how far the history text goes.
+tail begins empty. What was written is found clean. The same commands are answered the same behind 2^32 and 2^40 events. And with a change in the
+text: its fault, and how far the history text goes.
 
 usage: tests/program/resumed_runs.py [PROGRAM [FIRST_SEED [RUNS]]]      PROGRAM: crates/pie/out/pie where none is given
 needs: program
@@ -17,7 +18,7 @@ from pathlib import Path
 sys.path.insert(0, str(Path(__file__).resolve().parents[1] / "shared"))
 from checks import check, finish  # noqa: E402
 from reference import PROFILES, Book, random_command, record_of  # noqa: E402
-from reference_resumed import begun, random_book, resumed_at  # noqa: E402
+from reference_resumed import begun, history_rows, random_book, resumed_at  # noqa: E402
 from reference_texts import Fault, answered, error_of, records, request, text_of, up_to_fault  # noqa: E402
 from running import PROGRAM  # noqa: E402
 
@@ -61,6 +62,19 @@ def check_same(seed, whole, n, of_whole):
     check(ran(rows) == want, f"seed {seed}, resumed after event {n}: run otherwise than the whole")
     check_clean(seed, n, want[1], len(whole.events))
     return len(later)
+
+
+def check_far(seed, whole, n, chance):
+    """Whether commands are answered the same where many more events were before them, up to as many as a history may have."""
+    last = len(whole.events)
+    more = chance.choice((2**32 - last, 2**32 - n - 1, 2**32, 2**40 - n - 1, 2**40, 2**47 - last))
+    (first, *packets) = resumed_at(whole, n, False)
+    beginning = [[*first[:10], 2**47, *first[11:29], n + more, *first[30:]], *packets]
+    rows = [*beginning, *(record_of(caller, command) for caller, command, _ in whole.events[n:])]
+    text = "".join(map(text_of, [*beginning, *history_rows(whole, n)]))
+    got = ran(rows)
+    check(got == (0, text, f"pie: {more + last} events, 0 refused records\n"), f"seed {seed}, behind {n + more} events: {got}")
+    check_clean(seed, n, text, more + last)
 
 
 def other_row(chance, book, tag):
@@ -151,6 +165,7 @@ def main():
         check((status, len(of_whole)) == (0, len(trace)), f"seed {seed}: the run of the whole ended with {status}, {len(of_whole)} lines")
         for n in range(seed % STEP, len(whole.events) + 1, STEP):
             lines += check_same(seed, whole, n, of_whole)
+            check_far(seed, whole, n, chance)
             rows, beginning = check_other(seed, whole, n, chance)
             for _ in range(3):
                 check_changed(seed, n, changed(rows, beginning, chance))

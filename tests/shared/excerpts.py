@@ -1,4 +1,5 @@
-"""What scripts share over texts that go on from the middle of a history: audits of many texts in one run, and explanations beside the whole's."""
+"""What scripts share over texts that go on from the middle of a history: audits of many texts in one run, explanations beside the whole's, the
+texts of segments, texts with a change, and records of parameters out of their ranges."""
 import subprocess
 import tempfile
 from pathlib import Path
@@ -35,3 +36,40 @@ def rows_within(whole, before, last, is_known=True):
             is_told = is_known or record[setter] and int(record[setter]) > before
             rows.append(record if is_told else [*record[:setter], "", *record[setter + 1 :]])
     return rows
+
+
+def segments_of(text):
+    """The texts that csplit makes of segments: each begins with a record that resumes."""
+    parts = []
+    for line in text.splitlines(keepends=True):
+        if line.startswith("resume,"):
+            parts.append("")
+        parts[-1] += line
+    return parts
+
+
+def changed(text, chance):
+    """The text with one change, which leaves it a text of records or not."""
+    lines = text.splitlines(keepends=True)
+    kind, place = chance.randrange(4), chance.randrange(len(lines))
+    if kind == 0:
+        at = chance.randrange(len(text))
+        return text[:at] + chance.choice("0123456789,x") + text[at + 1 :]
+    if kind == 1:
+        return "".join(lines[:place] + lines[place + 1 :])
+    if kind == 2:
+        other = chance.randrange(len(lines))
+        lines[place], lines[other] = lines[other], lines[place]
+        return "".join(lines)
+    fields = lines[0].rstrip("\n").split(",")
+    at = chance.randrange(1, len(fields))
+    fields[at] = chance.choice(["0", "1", "65536", str(2**64 - 1), str(2**64), "", str(chance.randrange(2**20))])
+    return "".join([",".join(fields) + "\n", *lines[1:]])
+
+
+def bad_params(moment, chance):
+    """The record of a change at this moment to parameters of which one is out of its range: it reads well, as an event that differs."""
+    params = [15_000_000, 15_000_000, 150_000_000, 125, 1250, 1024, 262_144, 10**11, 16_384]
+    place, wrong = chance.choice([(0, 1), (1, 0), (2, 10**12 + 1), (3, 10**6 + 1), (5, 0), (6, 2**30 + 1), (7, 2**64 - 1), (8, 1000)])
+    params[place] = wrong
+    return ",".join(map(str, ["params", chance.randrange(2**16), moment, *params, "done"])) + "\n"

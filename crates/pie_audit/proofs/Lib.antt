@@ -7,3 +7,4 @@ pub mod SetterFacts
 mod Examples
 pub mod Written
 mod PastFacts
+pub mod PartText

@@ -4,3 +4,4 @@ pub mod WrittenFacts
 mod Examples
 pub mod BeginningFacts
 pub mod AgainFacts
+pub mod GoesFacts

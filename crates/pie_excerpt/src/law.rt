@@ -1,12 +1,20 @@
 //! What is written is read back.
-ghost use Rattle.std.specs.Prelude.{◌≡◌, ◌∷◌, List, Ok, map, take};
+ghost use Rattle.std.specs.Prelude.{◌≡◌, ◌∷◌, ◌++◌, ℕ, All, List, Ok, Option, map, take, true};
+ghost use Rattle.pie_event.specs.Ranges.{CommandFits};
+ghost use Rattle.pie_event.specs.declared.command.Event.{Event};
+ghost use Rattle.pie_event.specs.declared.opening.Opening.{Opening};
+ghost use Rattle.pie_book.specs.History.{waiting_after};
+ghost use Rattle.pie_book.specs.declared.standing.Standing.{Standing};
 ghost use Rattle.pie_queue.specs.declared.packet.Waiting.{Waiting};
 ghost use Rattle.pie_record.specs.Text.{Row};
-ghost use Rattle.pie_excerpt.specs.Beginning.{Beginning, resumed_of};
+ghost use Rattle.pie_excerpt.specs.Beginning.{Beginning, GoesOn, is_resumed, resumed_of};
 ghost use Rattle.pie_excerpt.specs.Fits.{ResumeFits, WaitingFits};
 ghost use Rattle.pie_excerpt.specs.Reading.{queued_of, resume_of};
 ghost use Rattle.pie_excerpt.specs.Rows.{queued_row, resume_row};
+ghost use Rattle.pie_excerpt.specs.Written.{IsWritten, begun_at, resume_with};
 ghost use Rattle.pie_excerpt.specs.declared.resume.Resume.{Resume};
+
+use pie_book::packets_that_waited_are_taken;
 
 /// What a core stands on, and each packet that waits, is read back from its record as it was written, each register and statistic with it,
 /// whatever the numbers that their types hold (this project's own).
@@ -27,3 +35,21 @@ pub fn beginnings_are_written_again()
     ensures { (row : Row) (rows : List Row) (begun : Beginning) → resumed_of (row ∷ rows) ≡ Ok begun
         → take begun.read (row ∷ rows) ≡ row ∷ map queued_row begun.core.waiting }
 {}
+
+/// A text that begins with what was written of the numbers that stand for a history, and of the packets that waited after it, is one that goes on
+/// after that history, whatever follows (`goes_on`), and its beginning is read back as it was written (`read_back`; this project's own).
+///
+/// It does nothing: its contract is the law.
+pub fn beginnings_go_on()
+    ensures resumes { (opening : Opening) (standing : Standing) (set_by : Option ℕ) (rows : List Row)
+        → is_resumed (resume_row (resume_with opening standing set_by) ∷ rows) ≡ true }
+    ensures read_back { (opening : Opening) (standing : Standing) (past : List Event) (set_by : Option ℕ) (more : List Row)
+        → All (λ event. CommandFits event.command) past → IsWritten opening standing past set_by
+        → resumed_of (resume_row (resume_with opening standing set_by) ∷ (map queued_row (waiting_after opening past) ++ more))
+        ≡ Ok (begun_at opening standing past set_by more) }
+    ensures goes_on { (opening : Opening) (standing : Standing) (past : List Event) (set_by : Option ℕ) (more : List Row)
+        → All (λ event. CommandFits event.command) past → IsWritten opening standing past set_by
+        → GoesOn (resume_row (resume_with opening standing set_by) ∷ (map queued_row (waiting_after opening past) ++ more)) opening past }
+{
+    packets_that_waited_are_taken();
+}

@@ -13,7 +13,7 @@ mod writing;
 mod written;
 
 pub use beginning::{Begun, begin_resumed, is_resume};
-pub use law::{beginnings_are_written_again, records_are_read_back};
+pub use law::{beginnings_are_written_again, beginnings_go_on, records_are_read_back};
 pub use line::Line;
 pub use reading::{read_queued, read_resume};
 pub use resume::Resume;

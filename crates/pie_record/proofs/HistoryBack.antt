@@ -113,12 +113,12 @@ fields-some caller (Update moment) more = omega arith
 fields-some caller (Reset moment) more = omega arith
 fields-some caller (SetParams moment params) more = omega arith
 
-events-some : (events : List Event) → All HasField (map event_row events)
+pub events-some : (events : List Event) → All HasField (map event_row events)
 events-some [] = All-nil HasField
 events-some (event ∷ events) = All-cons HasField (event_row event) (map event_row events) (fields-some event.caller event.command _)
     (events-some events)
 
-events-tell : (version : Version) (events : List Event) → All EventFits events → TellEach version (map event_row events) (map Made events)
+pub events-tell : (version : Version) (events : List Event) → All EventFits events → TellEach version (map event_row events) (map Made events)
 events-tell version [] fit = TellEach-none version
 events-tell version (event ∷ events) fit =
     let fits = All-head EventFits event events fit in
@@ -126,7 +126,7 @@ events-tell version (event ∷ events) fit =
     (line-back version event.caller event.command event.answer fits.kind fits.caller fits.command fits.answer)
     (events-tell version events (All-tail EventFits event events fit))
 
-rows-many : (events : List Event) → length (map event_row events) ≡ length events
+pub rows-many : (events : List Event) → length (map event_row events) ≡ length events
 rows-many [] = refl
 rows-many (event ∷ events) = ap suc (rows-many events)
 

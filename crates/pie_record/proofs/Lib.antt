@@ -14,6 +14,7 @@ mod OpeningBack
 mod HistoryBack
 mod NotesBack
 mod ClockBack
+mod LinesBack
 mod ExamplesLines
 pub mod Openings
 pub mod Laws

@@ -1,0 +1,35 @@
+use Rattle.std.proofs.Common.{◌++◌, ◌∷◌, List, map, length, sym, subst}
+use Rattle.std.specs.Prelude.{None}
+use Rattle.pie_queue.specs.declared.packet.Waiting.{Waiting}
+use Rattle.pie_event.specs.declared.command.Event.{Event}
+use Rattle.pie_book.specs.Decision.{IsLegal}
+use Rattle.pie_record.specs.Text.{rows_text}
+use Rattle.pie_record.specs.Write.{event_row}
+use Rattle.pie_excerpt.specs.Rows.{queued_row, resume_row}
+use Rattle.pie_excerpt.specs.Written.{resume_of_excerpt}
+use Rattle.pie_audit.specs.declared.auditor.Finding.TheVariants.{Clean}
+use Rattle.pie_audit.specs.Text.{IsFound}
+use Rattle.pie_audit.proofs.PartText.{events-found, part-told}
+use Rattle.pie_audit.proofs.law.written_parts_are_told.Goals as goal
+
+pub returns-clause-lines : goal.returns-clause-lines
+returns-clause-lines c = λ opening standing past set_by rows lines fit written some tells few.
+    part-told opening standing past set_by rows lines (c.beginnings_go_on.ensures.read_back opening standing past set_by rows fit written)
+    (c.beginnings_go_on.ensures.goes_on opening standing past set_by rows fit written) some tells few
+
+pub returns-clause-events : goal.returns-clause-events
+returns-clause-events c = λ opening standing past events set_by fit written fits legal few.
+    events-found opening standing past events set_by
+    (c.beginnings_go_on.ensures.read_back opening standing past set_by (map event_row events) fit written)
+    (c.beginnings_go_on.ensures.goes_on opening standing past set_by (map event_row events) fit written) fits legal few
+
+pub returns-clause-excerpts : goal.returns-clause-excerpts
+returns-clause-excerpts c = λ excerpt history ends fit written fits legal few.
+    let found = events-found excerpt.opening excerpt.standing ends.before excerpt.events None
+    (c.beginnings_go_on.ensures.read_back excerpt.opening excerpt.standing ends.before None (map event_row excerpt.events) fit written)
+    (c.beginnings_go_on.ensures.goes_on excerpt.opening excerpt.standing ends.before None (map event_row excerpt.events) fit written) fits
+    (subst (λ (h : List Event). IsLegal excerpt.opening h) ends.whole legal) few in
+    subst (λ (h : List Event). IsFound (rows_text (resume_row (resume_of_excerpt excerpt) ∷ (map queued_row excerpt.waiting ++ map event_row excerpt.events)))
+    excerpt.opening ends.before (Clean (length h))) (sym ends.whole)
+    (subst (λ (w : List Waiting). IsFound (rows_text (resume_row (resume_of_excerpt excerpt) ∷ (map queued_row w ++ map event_row excerpt.events)))
+    excerpt.opening ends.before (Clean (length (ends.before ++ excerpt.events)))) (sym ends.waiting) found)

@@ -4,3 +4,4 @@ pub mod BurstFacts
 pub mod CountFacts
 pub mod NextFacts
 pub mod ProbabilityFacts
+pub mod SpacingFacts

@@ -26,12 +26,12 @@ use Rattle.pie_book.specs.Estimates.{active_after, delay_after, held_after, para
 use Rattle.pie_book.specs.History.{bytes_after, waiting_after}
 use Rattle.pie_book.specs.Statistics.{is_reset}
 use Rattle.pie_guarantees.specs.Bursts.{KeepsParams, updates_in}
-use Rattle.pie_guarantees.specs.Lawful.{IsLawful}
-use Rattle.pie_guarantees.specs.Probability.{AllSteady, IsActiveUpdate, IsSteady, after_updates, old_delay_after, probability_after}
+use Rattle.pie_guarantees.specs.Lawful.{AllAlong, IsLawful}
+use Rattle.pie_guarantees.specs.Probability.{IsActiveUpdate, IsSteady, after_updates, old_delay_after, probability_after}
 use Rattle.pie_guarantees.proofs.LawfulFacts.{IsStep, sound_at, step_at}
 use Rattle.pie_guarantees.proofs.NextFacts.{next_capped, next_decays, next_down, next_up}
 
-elements-is : (opening : Opening) (history : List Event) → (held_after opening history).elements ≡ opening.choices.elements
+pub elements-is : (opening : Opening) (history : List Event) → (held_after opening history).elements ≡ opening.choices.elements
 unfolding held_after held_of
 elements-is opening history = refl
 
@@ -195,10 +195,10 @@ one-update false n choice params delay prob =
     ap (λ (k : ℕ). after_updates k choice params delay prob) none
 
 pub steadily : (delay : ℕ) (opening : Opening) (before : List Event) (between : List Event) (later : List Event)
-    → IsLawful opening (before ++ between ++ later) → AllSteady delay opening before between
+    → IsLawful opening (before ++ between ++ later) → AllAlong (IsSteady delay opening) before between
     → probability_after opening (before ++ between)
     ≡ after_updates (updates_in between) opening.choices.elements.step (params_after opening before) delay (probability_after opening before)
-unfolding AllSteady after_updates
+unfolding AllAlong after_updates
 steadily delay opening before [] later lawful steady = rw (append-nil before) refl
 steadily delay opening before (event ∷ between) later lawful steady =
     let here = steady.0 in
@@ -237,7 +237,7 @@ faded-after (suc n) choice params prob =
     (fades-more (after_updates n choice params 0 (next choice params prob 0 0)) (next choice params prob 0 0) prob (100 ^ n) (98 ^ n) rest one)
 
 pub fades_away : (opening : Opening) (before : List Event) (between : List Event) (later : List Event)
-    → IsLawful opening (before ++ between ++ later) → AllSteady 0 opening before between
+    → IsLawful opening (before ++ between ++ later) → AllAlong (IsSteady 0 opening) before between
     → probability_after opening (before ++ between) * 100 ^ updates_in between ≤ probability_after opening before * 98 ^ updates_in between
 fades_away opening before between later lawful steady =
     let n = updates_in between in

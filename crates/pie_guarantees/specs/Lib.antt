@@ -3,3 +3,4 @@ pub mod Verdicts
 pub mod Bursts
 pub mod Counts
 pub mod Probability
+pub mod Spacing

@@ -8,9 +8,19 @@ pub mod counts;
 pub mod marks;
 pub mod peace;
 pub mod probability;
+pub mod spacing;
 
 pub use bursts::{allowances_begin_whole, bursts_are_let_in_so_long};
-pub use counts::{every_packet_is_accounted_for, queues_stay_within_their_limits, waits_are_bounded};
+pub use counts::{
+    every_packet_is_accounted_for, queues_stay_within_their_limits, waits_are_bounded,
+};
 pub use marks::{capable_packets_are_spared, only_capable_packets_are_marked};
-pub use peace::{bursts_are_let_in, inactive_controllers_let_all_in, low_delay_is_left_alone, short_queues_are_left_alone};
-pub use probability::{how_fast_the_probability_changes, the_probability_follows_the_delay, what_gives_a_higher_probability};
+pub use peace::{
+    bursts_are_let_in, inactive_controllers_let_all_in, low_delay_is_left_alone,
+    short_queues_are_left_alone,
+};
+pub use probability::{
+    how_fast_the_probability_changes, the_probability_follows_the_delay,
+    what_gives_a_higher_probability,
+};
+pub use spacing::{picks_are_far_apart, picks_are_not_too_far_apart, picks_start_anew};

@@ -5,3 +5,5 @@ pub mod CountFacts
 pub mod NextFacts
 pub mod ProbabilityFacts
 pub mod SpacingFacts
+pub mod TextFacts
+pub mod RateFacts

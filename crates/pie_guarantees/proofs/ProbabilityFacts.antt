@@ -1,7 +1,6 @@
 -- How the probability follows the delay, at each event of a lawful history.
-use Rattle.std.proofs.Common.{◌≡◌, ◌≤◌, ◌<◌, ◌+◌, ◌*◌, ◌-◌, ◌&&◌, ◌==◌, ◌^◌, ◌⊎◌, inl, inr, ℕ, zero, suc, List, [], ◌∷◌, ◌++◌, Bool, true, false, refl, sym}
-use Rattle.std.proofs.Common.{ap, ◌∙◌, cond, if◌then◌else◌, nat_lt, arith, subst, max, All}
-use Rattle.std.specs.Prelude.{not, ◌&&◌, nat_le}
+use Rattle.std.proofs.Common.{◌≡◌, ◌≤◌, ◌+◌, ◌*◌, ◌^◌, ◌⊎◌, inl, inr, ℕ, zero, suc, List, [], ◌∷◌, ◌++◌, Bool, true, false, refl, sym}
+use Rattle.std.proofs.Common.{ap, ◌∙◌, cond, if◌then◌else◌, arith, subst}
 use Rattle.std.proofs.lemmas.Nat.{mul-le}
 use Rattle.std.proofs.Math.Nat.{pow-suc}
 use Rattle.std.proofs.lemmas.List.{append-nil, append_assoc}
@@ -15,15 +14,15 @@ use Rattle.pie_queue.specs.Queue.{bytes_of}
 use Rattle.pie_control.specs.Next.{decayed, next, raw_step, tuned_step, tuning_divisor}
 use Rattle.pie_event.specs.Deed.{deed, deed_of, is_update}
 use Rattle.pie_aqm.specs.Calls.{after_call}
-use Rattle.pie_aqm.specs.Held.{Held, IsSound}
+use Rattle.pie_aqm.specs.Held.{Held}
 use Rattle.pie_aqm.specs.History.{held_of}
 use Rattle.pie_aqm.specs.Steps as Steps
 use Rattle.pie_aqm.specs.Steps.{anew, bytes_with, judged, wakes}
 use Rattle.pie_aqm.proofs.InRange.{in-range}
 use Rattle.pie_book.specs.Types.{RawParams, Waiting, Arrival, Command, Arrive, Depart, Update, Reset, SetParams, Answer, Enqueued, Event, Opening}
 use Rattle.pie_book.specs.Call.{arrival_of, call_of, departure_call}
-use Rattle.pie_book.specs.Estimates.{active_after, delay_after, held_after, params_after, parts_after}
-use Rattle.pie_book.specs.History.{bytes_after, waiting_after}
+use Rattle.pie_book.specs.Estimates.{active_after, delay_after, held_after, params_after}
+use Rattle.pie_book.specs.History.{waiting_after}
 use Rattle.pie_book.specs.Statistics.{is_reset}
 use Rattle.pie_guarantees.specs.Bursts.{KeepsParams, updates_in}
 use Rattle.pie_guarantees.specs.Lawful.{AllAlong, IsLawful}

@@ -11,16 +11,16 @@ use Rattle.pie_queue.specs.Ecn.{is_capable}
 use Rattle.pie_queue.specs.Queue.{bytes_of}
 use Rattle.pie_early.specs.declared.early.Choice.{Choice}
 use Rattle.pie_early.specs.declared.early.Choice.TheVariants.{Enqueue, Mark, Drop}
-use Rattle.pie_early.specs.Decision.{accu_after, choice_of, counted, counted_as, is_considered, is_picked, joined, picked_choice}
-use Rattle.pie_event.specs.Deed.{Deed, deed, deed_of}
+use Rattle.pie_early.specs.Decision.{counted_as, is_considered, is_picked, joined, picked_choice}
+use Rattle.pie_event.specs.Deed.{Deed, deed}
 use Rattle.pie_event.specs.Verdict.{answer_of}
 use Rattle.pie_event.specs.declared.verdict.Verdict.TheVariants as verdict
 use Rattle.pie_aqm.specs.Calls.{after_call}
-use Rattle.pie_aqm.specs.Held.{Held, IsSound}
+use Rattle.pie_aqm.specs.Held.{Held}
 use Rattle.pie_aqm.specs.Steps as Steps
 use Rattle.pie_aqm.specs.Steps.{anew, bytes_with, chosen, judged, offered}
 use Rattle.pie_book.specs.Types.{Packet, Waiting, Arrival, Verdict, Command, Arrive, Depart, Update, Reset, SetParams, Answer, Event, Opening}
-use Rattle.pie_book.specs.Call.{arrival_of, call_of, departure_call}
+use Rattle.pie_book.specs.Call.{arrival_of, call_of}
 use Rattle.pie_book.specs.Decision.{answer_by}
 use Rattle.pie_book.specs.Estimates.{active_after, held_after}
 use Rattle.pie_book.specs.Estimates as Book

@@ -4,3 +4,4 @@ pub mod Bursts
 pub mod Counts
 pub mod Probability
 pub mod Spacing
+pub mod Rates

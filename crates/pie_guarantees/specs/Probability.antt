@@ -4,7 +4,7 @@ use Rattle.pie_params.specs.declared.elements.Step.{Step}
 use Rattle.pie_control.specs.Next.{next}
 use Rattle.pie_event.specs.Deed.{deed_of, is_update}
 use Rattle.pie_book.specs.Types.{RawParams, Event, Opening}
-use Rattle.pie_book.specs.Estimates.{active_after, delay_after, params_after, parts_after}
+use Rattle.pie_book.specs.Estimates.{active_after, delay_after, parts_after}
 use Rattle.pie_book.specs.Statistics.{is_reset}
 use Rattle.pie_guarantees.specs.Bursts.{KeepsParams}
 

@@ -4,13 +4,16 @@
 #![tactic(auto)]
 
 pub mod bursts;
+pub mod clean;
 pub mod counts;
 pub mod marks;
 pub mod peace;
 pub mod probability;
+pub mod rates;
 pub mod spacing;
 
 pub use bursts::{allowances_begin_whole, bursts_are_let_in_so_long};
+pub use clean::clean_histories_are_lawful;
 pub use counts::{
     every_packet_is_accounted_for, queues_stay_within_their_limits, waits_are_bounded,
 };
@@ -23,4 +26,5 @@ pub use probability::{
     how_fast_the_probability_changes, the_probability_follows_the_delay,
     what_gives_a_higher_probability,
 };
+pub use rates::the_rate_lies_between_its_samples;
 pub use spacing::{picks_are_far_apart, picks_are_not_too_far_apart, picks_start_anew};

@@ -7,3 +7,4 @@ pub mod ProbabilityFacts
 pub mod SpacingFacts
 pub mod TextFacts
 pub mod RateFacts
+pub mod Examples

@@ -5,3 +5,4 @@ pub mod Counts
 pub mod Probability
 pub mod Spacing
 pub mod Rates
+pub mod Examples

@@ -1,12 +1,12 @@
 -- How the burst allowance goes down from update to update, and how far updates are apart.
-use Rattle.std.proofs.Common.{◌≡◌, ◌≤◌, ◌<◌, ◌+◌, ◌*◌, ◌-◌, ◌&&◌, ◌==◌, ℕ, List, [], ◌∷◌, ◌++◌, Bool, true, false, refl, sym, ap, ◌∙◌, cond}
-use Rattle.std.proofs.Common.{if◌then◌else◌, nat_lt, length, arith, ◌⊎◌, subst, max, All}
+use Rattle.std.proofs.Common.{◌≡◌, ◌≤◌, ◌+◌, ◌*◌, ◌-◌, ◌&&◌, ℕ, List, [], ◌∷◌, ◌++◌, Bool, true, false, refl, sym, ap, ◌∙◌, cond}
+use Rattle.std.proofs.Common.{if◌then◌else◌, arith, subst, max, All}
 use Rattle.std.proofs.lemmas.List.{append_assoc}
-use Rattle.std.proofs.lemmas.List.Elements.{All-append, All-cons, All-head, All-nil, All-tail}
+use Rattle.std.proofs.lemmas.List.Elements.{All-cons, All-head, All-nil, All-tail}
 use Rattle.std.proofs.lemmas.List.Sums.{sum_by_push, sum_by-append}
 use Rattle.pie_queue.specs.Queue.{bytes_of}
-use Rattle.pie_event.specs.Deed.{deed, deed_of, handed_in, is_update}
-use Rattle.pie_aqm.specs.Calls.{Call, after_call}
+use Rattle.pie_event.specs.Deed.{deed, deed_of, is_update}
+use Rattle.pie_aqm.specs.Calls.{after_call}
 use Rattle.pie_aqm.specs.Held.{Held, IsSound}
 use Rattle.pie_aqm.specs.Steps as Steps
 use Rattle.pie_aqm.specs.Steps.{anew, bytes_with, is_calm, judged, now_at}
@@ -16,7 +16,6 @@ use Rattle.pie_book.specs.Call.{arrival_of, call_of, departure_call}
 use Rattle.pie_book.specs.Decision.{is_too_soon}
 use Rattle.pie_book.specs.Estimates.{active_after, held_after, params_after, parts_after}
 use Rattle.pie_book.specs.History.{effective_moment, waiting_after}
-use Rattle.pie_book.specs.Statistics.{count_of}
 use Rattle.pie_book.proofs.CoreFacts.{held-is}
 use Rattle.pie_book.proofs.LegalFacts.{first-shows, first_core}
 use Rattle.pie_guarantees.specs.Bursts.{AllAllow, Allows, IsWhole, KeepsParams, SetsAllow, updates_in}

@@ -1,26 +1,25 @@
 -- What becomes of every packet.
-use Rattle.std.proofs.Common.{◌≡◌, ◌≤◌, ◌<◌, ◌+◌, ◌*◌, ◌-◌, ◌&&◌, ◌==◌, ◌^◌, ℕ, List, [], ◌∷◌, ◌++◌, map, Bool, true, false, refl, sym, ap, ◌∙◌, cond}
-use Rattle.std.proofs.Common.{◌⊎◌, inl, inr, if◌then◌else◌, nat_lt, length, arith, subst, max, All, Some, None, Option, drop, length-append}
-use Rattle.std.specs.Prelude.{sum_by, count_by}
-use Rattle.std.specs.List.{filter_map}
+use Rattle.std.proofs.Common.{◌≡◌, ◌≤◌, ◌+◌, ◌*◌, ◌==◌, ◌^◌, ℕ, List, [], ◌∷◌, ◌++◌, map, Bool, true, false, refl, sym, ap, ◌∙◌, cond}
+use Rattle.std.proofs.Common.{◌⊎◌, inl, inr, if◌then◌else◌, nat_lt, length, arith, subst, All, Some, None, Option}
+use Rattle.std.specs.Prelude.{sum_by}
 use Rattle.std.specs.Option.{option_to_list}
 use Rattle.std.proofs.lemmas.List.{append-nil, append_assoc, length-map, map-append}
 use Rattle.std.proofs.lemmas.List.Elements.{filter_map-append}
-use Rattle.std.proofs.lemmas.List.Sums.{sum_by_push, sum_by-append, sum_by-cons}
+use Rattle.std.proofs.lemmas.List.Sums.{sum_by_push, sum_by-cons}
 use Rattle.pie_queue.specs.Queue.{bytes_of}
-use Rattle.pie_event.specs.Deed.{Deed, deed, deed_of, departed, departure, fits, handed_in, marked, queued, with_ce}
+use Rattle.pie_event.specs.Deed.{Deed, deed, deed_of, departure, fits, with_ce}
 use Rattle.pie_event.specs.Verdict.{answer_of}
 use Rattle.pie_event.specs.declared.verdict.Verdict.TheVariants as verdict
 use Rattle.pie_early.specs.declared.early.Choice.{Choice}
 use Rattle.pie_early.specs.declared.early.Choice.TheVariants as choice
-use Rattle.pie_aqm.specs.Calls.{Call, after_call}
+use Rattle.pie_aqm.specs.Calls.{after_call}
 use Rattle.pie_aqm.specs.Held.{Held}
 use Rattle.pie_aqm.specs.Steps as Steps
 use Rattle.pie_aqm.proofs.InRange.{ltb}
 use Rattle.pie_aqm.proofs.Places.{filter_map-push}
-use Rattle.pie_book.specs.Types.{RawParams, Packet, Waiting, Arrival, Verdict, Command, Arrive, Depart, Update, Reset, SetParams, Answer, Enqueued}
-use Rattle.pie_book.specs.Types.{Marked, DroppedEarly, DroppedBytes, DroppedPackets, Empty, Left, Updated, Done, Event, Opening}
-use Rattle.pie_book.specs.Call.{arrival_of, call_of, departure_call}
+use Rattle.pie_book.specs.Types.{Packet, Waiting, Verdict, Command, Arrive, Depart, Update, Reset, SetParams, Answer, Enqueued}
+use Rattle.pie_book.specs.Types.{Marked, DroppedEarly, DroppedBytes, DroppedPackets, Empty, Left, Event, Opening}
+use Rattle.pie_book.specs.Call.{arrival_of, call_of}
 use Rattle.pie_book.specs.Decision.{answer_by}
 use Rattle.pie_book.specs.Estimates.{held_after, params_after}
 use Rattle.pie_book.specs.History.{bytes_after, effective_moment, waiting_after}

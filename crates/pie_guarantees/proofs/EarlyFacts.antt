@@ -1,6 +1,6 @@
 -- What is known of a packet that was marked or dropped early.
 use Rattle.std.proofs.Common.{◌≡◌, ◌≤◌, ◌<◌, ◌+◌, ◌*◌, ◌&&◌, ◌⊎◌, inl, inr, ℕ, List, [], ◌∷◌, ◌++◌, Bool, true, false, refl, sym, ap, ◌∙◌}
-use Rattle.std.proofs.Common.{if◌then◌else◌, nat_lt, arith}
+use Rattle.std.proofs.Common.{if◌then◌else◌, nat_lt, arith, subst}
 use Rattle.std.proofs.lemmas.Bool.Decides.{nat_tests}
 use Rattle.pie_queue.specs.declared.ecn.Ecn.{Ecn}
 use Rattle.pie_queue.specs.Ecn.{is_capable}
@@ -16,7 +16,7 @@ use Rattle.pie_event.specs.declared.verdict.Verdict.TheVariants as verdict
 use Rattle.pie_book.specs.Types.{RawParams, Packet, Waiting, Arrival, Arrive, Depart, Update, Reset, SetParams, Answer, DroppedEarly, Marked, Command, Event}
 use Rattle.pie_book.specs.Types.{Opening}
 use Rattle.pie_book.specs.Call.{arrival_of}
-use Rattle.pie_book.specs.Decision.{answer_by}
+use Rattle.pie_book.specs.Decision.{answer_by, answer_to_departure}
 use Rattle.pie_book.specs.Estimates.{held_after}
 use Rattle.pie_book.specs.History.{waiting_after}
 use Rattle.pie_guarantees.specs.Lawful.{IsLawful}
@@ -37,6 +37,8 @@ considered-facts params control bytes e = grind (arith, nat_tests)
 
 pub record IsChosen (h : Held) (a : Arrival) : Type 0 where
   pub picked : IsPicked h a.queued
+  pub by_sum : is_picked h.elements.picking (counted h.elements h.params h.control (offered a)) (h.accu
+      + counted h.elements h.params h.control (offered a)) a.word ≡ true
   pub verdict : verdict h a ≡ chosen (picked_choice h.params h.control.prob a.ecn)
 
 chosen-of : (h : Held) (a : Arrival) → is_early (answer_of (verdict h a)) ≡ true → IsChosen h a
@@ -56,21 +58,23 @@ chosen-of h a = by (nat_lt h.params.limit_bytes (a.queued + a.size)) a.is_full r
     at active considered picked = if active then (if considered && picked then c else Enqueue) else Enqueue
 
     inner : (active considered picked : Bool) → h.active ≡ active → is_considered h.params h.control a.queued ≡ considered
+        → is_picked h.elements.picking (counted h.elements h.params h.control (offered a)) (h.accu + counted h.elements h.params h.control (offered a))
+        a.word ≡ picked
         → verdict h a ≡ chosen (if active then (if considered && picked then c else Enqueue) else Enqueue)
         → is_early (answer_of (chosen (if active then (if considered && picked then c else Enqueue) else Enqueue))) ≡ true → IsChosen h a
-    inner true true true is con v e =
+    inner true true true is con sum v e =
         let facts = considered-facts h.params h.control a.queued con in
-        record { picked = record { active = is; no_burst = facts.0; long = facts.1; high = facts.2 }; verdict = v }
-    inner true true false is con v e = cc
-    inner true false p is con v e = cc
-    inner false con' p is con v e = cc
+        record { picked = record { active = is; no_burst = facts.0; long = facts.1; high = facts.2 }; by_sum = sum; verdict = v }
+    inner true true false is con sum v e = cc
+    inner true false p is con sum v e = cc
+    inner false con' p is con sum v e = cc
 
     by : (over full : Bool) → nat_lt h.params.limit_bytes (a.queued + a.size) ≡ over → a.is_full ≡ full
         → is_early (answer_of (if over then verdict.DroppedBytes else if full then verdict.DroppedPackets else chosen (choice h a))) ≡ true
         → IsChosen h a
     by true full o f e = cc
     by false true o f e = cc
-    by false false o f e = inner h.active considered picked refl refl (rw (o, f) refl) e
+    by false false o f e = inner h.active considered picked refl refl refl (rw (o, f) refl) e
 
 -- ---- at a place of a lawful history
 
@@ -163,3 +167,42 @@ capable_alone opening before event later lawful = λ packet arrival other marked
     let step = step_at opening before event later lawful in
     let is = arrival-chosen opening before event packet step arrival (ap (λ (x : Answer). is_early x) marked) in
     fate-marked h.params h.control.prob packet.ecn other (sym is ∙ marked)
+
+-- the arrival that was marked or dropped early
+pub record IsEarlyArrival (opening : Opening) (before : List Event) (event : Event) : Type 0 where
+  pub moment : ℕ
+  pub packet : Packet
+  pub word : ℕ
+  pub is : event.command ≡ Arrive moment packet word
+  pub chosen : IsChosen (held_after opening before) (arrival_of (waiting_after opening before) opening.limits.packets packet word)
+
+pub early_arrival : (opening : Opening) (before : List Event) (event : Event) → IsStep opening before event → is_early event.answer ≡ true
+    → IsEarlyArrival opening before event
+early_arrival opening before event step e =
+    by event.command refl (waiting_after opening before) refl (ap (λ (a : Answer). is_early a) (sym step.here.answered) ∙ e)
+  where
+    h : Held
+    h = held_after opening before
+
+    by : (command : Command) → event.command ≡ command → (waiting : List Waiting) → waiting_after opening before ≡ waiting
+        → is_early (answer_by (held_after opening before) (waiting_after opening before) opening.limits.packets event.command) ≡ true
+        → IsEarlyArrival opening before event
+    by (Arrive moment packet word) is waiting w e = record {
+      moment = moment;
+      packet = packet;
+      word = word;
+      is = is;
+      chosen = chosen-of (held_after opening before) (arrival_of (waiting_after opening before) opening.limits.packets packet word)
+          (subst (λ (c : Command). is_early (answer_by (held_after opening before) (waiting_after opening before) opening.limits.packets c) ≡ true) is e);
+    }
+    by (Depart moment) is [] w e = let wrong : is_early (answer_to_departure []) ≡ true = rw (is, w) at e in cc
+    by (Depart moment) is (oldest ∷ others) w e = let wrong : is_early (answer_to_departure (oldest ∷ others)) ≡ true = rw (is, w) at e in cc
+    by (Update moment) is waiting w e =
+        let wrong = subst (λ (c : Command). is_early (answer_by (held_after opening before) (waiting_after opening before) opening.limits.packets c) ≡ true)
+        is e in cc
+    by (Reset moment) is waiting w e =
+        let wrong = subst (λ (c : Command). is_early (answer_by (held_after opening before) (waiting_after opening before) opening.limits.packets c) ≡ true)
+        is e in cc
+    by (SetParams moment params) is waiting w e =
+        let wrong = subst (λ (c : Command). is_early (answer_by (held_after opening before) (waiting_after opening before) opening.limits.packets c) ≡ true)
+        is e in cc

@@ -4,3 +4,7 @@ pub mod BurstFacts
 pub mod CountFacts
 pub mod NextFacts
 pub mod ProbabilityFacts
+pub mod SpacingFacts
+pub mod TextFacts
+pub mod RateFacts
+pub mod Examples

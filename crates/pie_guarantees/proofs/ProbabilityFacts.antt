@@ -1,7 +1,6 @@
 -- How the probability follows the delay, at each event of a lawful history.
-use Rattle.std.proofs.Common.{◌≡◌, ◌≤◌, ◌<◌, ◌+◌, ◌*◌, ◌-◌, ◌&&◌, ◌==◌, ◌^◌, ◌⊎◌, inl, inr, ℕ, zero, suc, List, [], ◌∷◌, ◌++◌, Bool, true, false, refl, sym}
-use Rattle.std.proofs.Common.{ap, ◌∙◌, cond, if◌then◌else◌, nat_lt, arith, subst, max, All}
-use Rattle.std.specs.Prelude.{not, ◌&&◌, nat_le}
+use Rattle.std.proofs.Common.{◌≡◌, ◌≤◌, ◌+◌, ◌*◌, ◌^◌, ◌⊎◌, inl, inr, ℕ, zero, suc, List, [], ◌∷◌, ◌++◌, Bool, true, false, refl, sym}
+use Rattle.std.proofs.Common.{ap, ◌∙◌, cond, if◌then◌else◌, arith, subst}
 use Rattle.std.proofs.lemmas.Nat.{mul-le}
 use Rattle.std.proofs.Math.Nat.{pow-suc}
 use Rattle.std.proofs.lemmas.List.{append-nil, append_assoc}
@@ -15,23 +14,23 @@ use Rattle.pie_queue.specs.Queue.{bytes_of}
 use Rattle.pie_control.specs.Next.{decayed, next, raw_step, tuned_step, tuning_divisor}
 use Rattle.pie_event.specs.Deed.{deed, deed_of, is_update}
 use Rattle.pie_aqm.specs.Calls.{after_call}
-use Rattle.pie_aqm.specs.Held.{Held, IsSound}
+use Rattle.pie_aqm.specs.Held.{Held}
 use Rattle.pie_aqm.specs.History.{held_of}
 use Rattle.pie_aqm.specs.Steps as Steps
 use Rattle.pie_aqm.specs.Steps.{anew, bytes_with, judged, wakes}
 use Rattle.pie_aqm.proofs.InRange.{in-range}
 use Rattle.pie_book.specs.Types.{RawParams, Waiting, Arrival, Command, Arrive, Depart, Update, Reset, SetParams, Answer, Enqueued, Event, Opening}
 use Rattle.pie_book.specs.Call.{arrival_of, call_of, departure_call}
-use Rattle.pie_book.specs.Estimates.{active_after, delay_after, held_after, params_after, parts_after}
-use Rattle.pie_book.specs.History.{bytes_after, waiting_after}
+use Rattle.pie_book.specs.Estimates.{active_after, delay_after, held_after, params_after}
+use Rattle.pie_book.specs.History.{waiting_after}
 use Rattle.pie_book.specs.Statistics.{is_reset}
 use Rattle.pie_guarantees.specs.Bursts.{KeepsParams, updates_in}
-use Rattle.pie_guarantees.specs.Lawful.{IsLawful}
-use Rattle.pie_guarantees.specs.Probability.{AllSteady, IsActiveUpdate, IsSteady, after_updates, old_delay_after, probability_after}
+use Rattle.pie_guarantees.specs.Lawful.{AllAlong, IsLawful}
+use Rattle.pie_guarantees.specs.Probability.{IsActiveUpdate, IsSteady, after_updates, old_delay_after, probability_after}
 use Rattle.pie_guarantees.proofs.LawfulFacts.{IsStep, sound_at, step_at}
 use Rattle.pie_guarantees.proofs.NextFacts.{next_capped, next_decays, next_down, next_up}
 
-elements-is : (opening : Opening) (history : List Event) → (held_after opening history).elements ≡ opening.choices.elements
+pub elements-is : (opening : Opening) (history : List Event) → (held_after opening history).elements ≡ opening.choices.elements
 unfolding held_after held_of
 elements-is opening history = refl
 
@@ -195,10 +194,10 @@ one-update false n choice params delay prob =
     ap (λ (k : ℕ). after_updates k choice params delay prob) none
 
 pub steadily : (delay : ℕ) (opening : Opening) (before : List Event) (between : List Event) (later : List Event)
-    → IsLawful opening (before ++ between ++ later) → AllSteady delay opening before between
+    → IsLawful opening (before ++ between ++ later) → AllAlong (IsSteady delay opening) before between
     → probability_after opening (before ++ between)
     ≡ after_updates (updates_in between) opening.choices.elements.step (params_after opening before) delay (probability_after opening before)
-unfolding AllSteady after_updates
+unfolding AllAlong after_updates
 steadily delay opening before [] later lawful steady = rw (append-nil before) refl
 steadily delay opening before (event ∷ between) later lawful steady =
     let here = steady.0 in
@@ -237,7 +236,7 @@ faded-after (suc n) choice params prob =
     (fades-more (after_updates n choice params 0 (next choice params prob 0 0)) (next choice params prob 0 0) prob (100 ^ n) (98 ^ n) rest one)
 
 pub fades_away : (opening : Opening) (before : List Event) (between : List Event) (later : List Event)
-    → IsLawful opening (before ++ between ++ later) → AllSteady 0 opening before between
+    → IsLawful opening (before ++ between ++ later) → AllAlong (IsSteady 0 opening) before between
     → probability_after opening (before ++ between) * 100 ^ updates_in between ≤ probability_after opening before * 98 ^ updates_in between
 fades_away opening before between later lawful steady =
     let n = updates_in between in

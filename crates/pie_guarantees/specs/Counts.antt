@@ -1,10 +1,9 @@
 -- What becomes of every packet that arrives, and how much waits.
-use Rattle.std.specs.Prelude.{◌≡◌, ◌≤◌, ◌*◌, ◌-◌, ◌^◌, ◌++◌, ℕ, Bool, true, false, List, map, Option, Some, None, count_by, sum_by, ⊤}
+use Rattle.std.specs.Prelude.{◌≤◌, ◌*◌, ◌-◌, ◌^◌, ◌++◌, ℕ, Bool, true, false, List, map, Option, Some, None, count_by, sum_by, ⊤}
 use Rattle.std.specs.List.{filter_map}
 use Rattle.pie_event.specs.Deed.{Deed, deed_of, departure, marked, queued, with_ce}
 use Rattle.pie_book.specs.Types.{Packet, Waiting, Command, Arrive, Depart, Update, Reset, SetParams, Event, Opening}
 use Rattle.pie_book.specs.History.{effective_moment, waiting_after}
-use Rattle.pie_book.specs.Statistics.{count_of, is_dropped_bytes, is_dropped_early, is_dropped_packets, is_marked, is_queued}
 
 -- the command hands in a packet
 abbrev pub hands_in : Command → Bool

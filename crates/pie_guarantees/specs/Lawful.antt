@@ -1,5 +1,5 @@
 -- The histories of which all laws here hold: those that the rules give from an opening on, whatever made them.
-use Rattle.std.specs.Prelude.{◌≡◌, List, None, All, ⊤}
+use Rattle.std.specs.Prelude.{◌≡◌, ◌++◌, List, [], ◌∷◌, None, All, ⊤}
 use Rattle.pie_params.specs.Range.{first_bad}
 use Rattle.pie_event.specs.Opening.{opening_refusal}
 use Rattle.pie_book.specs.Types.{Command, Arrive, Depart, Update, Reset, SetParams, Event, Opening}
@@ -20,3 +20,8 @@ pub record IsLawful (opening : Opening) (history : List Event) : Type 0 where
   pub params : first_bad opening.params ≡ None
   pub set : All (λ event. SetsInRange event.command) history
   pub legal : IsLegal opening history
+
+-- this holds of each of these later events, with all events before it
+unfoldable pub AllAlong : (List Event → Event → Type 0) → List Event → List Event → Type 0
+AllAlong P before [] = ⊤
+AllAlong P before (event ∷ later) = P before event × AllAlong P (before ++ event ∷ []) later

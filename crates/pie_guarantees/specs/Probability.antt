@@ -1,10 +1,10 @@
 -- How the probability follows the delay (RFC 8033, sections 4.2, 5.1 and 5.5).
-use Rattle.std.specs.Prelude.{◌≡◌, ℕ, zero, suc, List, [], ◌∷◌, ◌++◌, true, false, ⊤}
+use Rattle.std.specs.Prelude.{◌≡◌, ℕ, zero, suc, List, true, false}
 use Rattle.pie_params.specs.declared.elements.Step.{Step}
 use Rattle.pie_control.specs.Next.{next}
 use Rattle.pie_event.specs.Deed.{deed_of, is_update}
 use Rattle.pie_book.specs.Types.{RawParams, Event, Opening}
-use Rattle.pie_book.specs.Estimates.{active_after, delay_after, params_after, parts_after}
+use Rattle.pie_book.specs.Estimates.{active_after, delay_after, parts_after}
 use Rattle.pie_book.specs.Statistics.{is_reset}
 use Rattle.pie_guarantees.specs.Bursts.{KeepsParams}
 
@@ -33,8 +33,3 @@ pub record IsSteady (delay : ℕ) (opening : Opening) (before : List Event) (eve
   pub active : active_after opening before ≡ true
   pub delay_now : is_update (deed_of event) ≡ true → delay_after opening before ≡ delay
   pub delay_old : is_update (deed_of event) ≡ true → old_delay_after opening before ≡ delay
-
--- .. at each of these, with all events before it
-unfoldable pub AllSteady : ℕ → Opening → List Event → List Event → Type 0
-AllSteady delay opening before [] = ⊤
-AllSteady delay opening before (event ∷ later) = IsSteady delay opening before event × AllSteady delay opening (before ++ event ∷ []) later

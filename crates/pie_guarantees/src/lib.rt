@@ -4,13 +4,29 @@
 #![tactic(auto)]
 
 pub mod bursts;
+pub mod clean;
 pub mod counts;
 pub mod marks;
 pub mod peace;
 pub mod probability;
+pub mod rates;
+pub mod spacing;
+pub mod worked;
 
 pub use bursts::{allowances_begin_whole, bursts_are_let_in_so_long};
-pub use counts::{every_packet_is_accounted_for, queues_stay_within_their_limits, waits_are_bounded};
+pub use clean::clean_histories_are_lawful;
+pub use counts::{
+    every_packet_is_accounted_for, queues_stay_within_their_limits, waits_are_bounded,
+};
 pub use marks::{capable_packets_are_spared, only_capable_packets_are_marked};
-pub use peace::{bursts_are_let_in, inactive_controllers_let_all_in, low_delay_is_left_alone, short_queues_are_left_alone};
-pub use probability::{how_fast_the_probability_changes, the_probability_follows_the_delay, what_gives_a_higher_probability};
+pub use peace::{
+    bursts_are_let_in, inactive_controllers_let_all_in, low_delay_is_left_alone,
+    short_queues_are_left_alone,
+};
+pub use probability::{
+    how_fast_the_probability_changes, the_probability_follows_the_delay,
+    what_gives_a_higher_probability,
+};
+pub use rates::the_rate_lies_between_its_samples;
+pub use spacing::{picks_are_far_apart, picks_are_not_too_far_apart, picks_start_anew};
+pub use worked::{bursts_may_meet_an_early_drop_so_soon, limits_may_be_lowered_below_the_queue};

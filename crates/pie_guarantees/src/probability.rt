@@ -9,8 +9,8 @@ ghost use Rattle.pie_params.specs.declared.elements.Step.{Step};
 ghost use Rattle.pie_book.specs.Types.{Event, Opening, RawParams};
 ghost use Rattle.pie_book.specs.Estimates.{active_after, delay_after, params_after};
 ghost use Rattle.pie_guarantees.specs.Bursts.{updates_in};
-ghost use Rattle.pie_guarantees.specs.Lawful.{IsLawful};
-ghost use Rattle.pie_guarantees.specs.Probability.{AllSteady, IsActiveUpdate, after_updates, old_delay_after, probability_after};
+ghost use Rattle.pie_guarantees.specs.Lawful.{AllAlong, IsLawful};
+ghost use Rattle.pie_guarantees.specs.Probability.{IsActiveUpdate, IsSteady, after_updates, old_delay_after, probability_after};
 
 /// The probability is always 0 to 1, in units of 10^-12 (`bounded`). An update of an active controller that finds the delay at or above the target and
 /// not fallen doesn't lower it (`rises`); one that finds it at or below the target and not risen doesn't raise it (`falls`). From 10 per cent on a
@@ -59,13 +59,13 @@ pub fn what_gives_a_higher_probability()
 /// It does nothing: its contract is the law.
 pub fn how_fast_the_probability_changes()
     ensures steady { (delay : ℕ) (opening : Opening) (before : List Event) (between : List Event) (later : List Event)
-        → IsLawful opening (before ++ between ++ later) → AllSteady delay opening before between
+        → IsLawful opening (before ++ between ++ later) → AllAlong (IsSteady delay opening) before between
         → probability_after opening (before ++ between)
         ≡ after_updates (updates_in between) opening.choices.elements.step (params_after opening before) delay (probability_after opening before) }
     ensures tenth_at_last { after_updates 162 Capped default_profile 30_000_000 0 ≡ 100_178_833_003 }
     ensures not_before { after_updates 161 Capped default_profile 30_000_000 0 ≡ 99_241_333_003 }
     ensures fades { (opening : Opening) (before : List Event) (between : List Event) (later : List Event)
-        → IsLawful opening (before ++ between ++ later) → AllSteady 0 opening before between
+        → IsLawful opening (before ++ between ++ later) → AllAlong (IsSteady 0 opening) before between
         → probability_after opening (before ++ between) * 100 ^ updates_in between ≤ probability_after opening before * 98 ^ updates_in between }
     ensures faded { after_updates 87 Capped default_profile 0 1_000_000_000_000 ≡ 96_421_179_148 }
     ensures not_yet_faded { after_updates 86 Capped default_profile 0 1_000_000_000_000 ≡ 100_263_958_315 }

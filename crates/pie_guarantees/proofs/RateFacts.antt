@@ -1,0 +1,76 @@
+-- A weighted average lies between what it is made of.
+use Rattle.std.proofs.Common.{◌≡◌, ◌≤◌, ◌<◌, ◌+◌, ◌*◌, ◌-◌, ◌/◌, ℕ, List, [], ◌∷◌, refl, sym, ap, ◌∙◌, arith, length, All, fold}
+use Rattle.std.proofs.lemmas.List.{append-nil}
+use Rattle.std.proofs.lemmas.List.Elements.{All-head, All-tail}
+use Rattle.std.proofs.lemmas.Nat.{le-div, mul-le}
+use Rattle.std.proofs.Math.Nat.{div-le_of_le-mul}
+use Rattle.pie_rate.specs.Average.{average, average_of, averaged}
+use Rattle.pie_aqm.specs.History.{held_of}
+use Rattle.pie_aqm.proofs.InRange.{threshold-holds}
+use Rattle.pie_book.specs.Types.{Event, Opening}
+use Rattle.pie_book.specs.Estimates.{average_after, held_after, params_after}
+use Rattle.pie_guarantees.specs.Lawful.{IsLawful}
+use Rattle.pie_guarantees.specs.Rates.{IsBetween, samples_after}
+use Rattle.pie_guarantees.proofs.LawfulFacts.{sound_at}
+
+apart : (n t u : ℕ) → n * (t + u) ≡ n * t + n * u
+apart n t u = grind arith
+
+-- one more sample
+weighted-above : (t u least sample before : ℕ) → t + u ≡ 65536 → least ≤ sample → least ≤ before → least ≤ (sample * t + before * u) / 65536
+weighted-above t u least sample before whole s a =
+    le-div least (sample * t + before * u) 65536 (omega arith)
+    (let one = mul-le least t sample t s (omega arith) in
+    let two = mul-le least u before u a (omega arith) in
+    let sum : least * 65536 ≡ least * t + least * u = split whole in
+    omega (arith, one, two, sum))
+  where
+    split : t + u ≡ 65536 → least * 65536 ≡ least * t + least * u
+    split e = ap (λ (n : ℕ). least * n) (sym e) ∙ apart least t u
+
+weighted-below : (t u most sample before : ℕ) → t + u ≡ 65536 → sample ≤ most → before ≤ most → (sample * t + before * u) / 65536 ≤ most
+weighted-below t u most sample before whole s a =
+    div-le_of_le-mul 65536
+    (let one = mul-le sample t most t s (omega arith) in
+    let two = mul-le before u most u a (omega arith) in
+    let sum : 65536 * most ≡ most * t + most * u = split whole in
+    let le : sample * t + before * u ≤ 65536 * most = omega (arith, one, two, sum) in le)
+  where
+    split : t + u ≡ 65536 → 65536 * most ≡ most * t + most * u
+    split e =
+        let turned : 65536 * most ≡ most * 65536 = omega arith in
+        turned ∙ ap (λ (n : ℕ). most * n) (sym e) ∙ apart most t u
+
+between-later : (t least most : ℕ) → t ≤ 65536 → (first : ℕ) (later : List ℕ) → IsBetween least most first → All (IsBetween least most) later
+    → IsBetween least most (fold (averaged t) first later)
+between-later t least most small first [] so all = so
+between-later t least most small first (sample ∷ later) so all =
+    let here = All-head (IsBetween least most) sample later all in
+    let whole : t + (65536 - t) ≡ 65536 = omega arith in
+    between-later t least most small (averaged t first sample) later
+    (weighted-above t (65536 - t) least sample first whole here.0 so.0, weighted-below t (65536 - t) most sample first whole here.1 so.1)
+    (All-tail (IsBetween least most) sample later all)
+
+between-all : (t least most : ℕ) (times : List ℕ) → t ≤ 65536 → 0 < length times → All (IsBetween least most) times
+    → IsBetween least most (average_of t times)
+between-all t least most [] small some all = absurd (omega arith)
+between-all t least most (first ∷ later) small some all =
+    between-later t least most small first later (All-head (IsBetween least most) first later all) (All-tail (IsBetween least most) first later all)
+
+pub between_samples : (least : ℕ) (most : ℕ) (opening : Opening) (history : List Event) → IsLawful opening history
+    → 0 < length (samples_after opening history) → All (IsBetween least most) (samples_after opening history)
+    → IsBetween least most (average_after opening history)
+unfolding held_after held_of average
+between_samples least most opening history lawful some all =
+    let sound = (sound_at opening history [] (rw (append-nil history) lawful)).0 in
+    let small = (threshold-holds (params_after opening history) sound.params).1 in
+    between-all (params_after opening history).dq_threshold least most (samples_after opening history) small some all
+
+none-sampled : (t : ℕ) (times : List ℕ) → length times ≡ 0 → average_of t times ≡ 0
+none-sampled t [] none = refl
+none-sampled t (first ∷ later) none = absurd (omega arith)
+
+pub no_sample : (opening : Opening) (history : List Event) → IsLawful opening history → length (samples_after opening history) ≡ 0
+    → average_after opening history ≡ 0
+unfolding held_after held_of average
+no_sample opening history lawful none = none-sampled (params_after opening history).dq_threshold (samples_after opening history) none

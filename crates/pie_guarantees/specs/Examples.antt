@@ -1,0 +1,62 @@
+-- Worked histories, in which a law that one might expect fails, or in which a bound is all but reached.
+use Rattle.std.specs.Prelude.{ℕ, List, [], ◌∷◌}
+use Rattle.pie_params.specs.declared.elements.Delay.TheVariants.{Rate, Stamp}
+use Rattle.pie_params.specs.declared.elements.Picking.TheVariants.{Derandomized, Random}
+use Rattle.pie_params.specs.declared.elements.Size.TheVariants.{Unscaled}
+use Rattle.pie_params.specs.declared.elements.Step.TheVariants.{Capped}
+use Rattle.pie_queue.specs.declared.ecn.Ecn.TheVariants.{NotEct}
+use Rattle.pie_book.specs.Types.{RawParams, One, Command, Arrive, Depart, Update, SetParams, Answer, Enqueued, DroppedEarly, Left, Updated, Done, Event}
+use Rattle.pie_book.specs.Types.{Bounded, Elements, Opening, Packet}
+
+abbrev pub event : Command → Answer → Event
+event command answer = record { caller = 1; command = command; answer = answer }
+
+-- a packet of 1000 bytes
+abbrev pub packet : ℕ → Packet
+packet tag = record { tag = tag; size = 1000; ecn = NotEct }
+
+abbrev pub opened : Elements → RawParams → Opening
+opened elements params = record {
+  moment = 0;
+  limits = record { packets = 8; tail = 32; events = 100 };
+  params = params;
+  choices = record { mode = Bounded; profile = One; elements = elements };
+}
+
+-- a limit of so many bytes
+abbrev pub limited : ℕ → RawParams
+limited bytes = record {
+  target = 2;
+  t_update = 100;
+  max_burst = 200;
+  alpha = 1000000;
+  beta = 1000000;
+  mean_pkt = 1;
+  limit_bytes = bytes;
+  mark_ecnth = 0;
+  dq_threshold = 1024;
+}
+
+-- ---- a limit that is lowered below the bytes that wait
+
+abbrev pub lowered_opening : Opening
+lowered_opening = opened (record { delay = Rate; picking = Derandomized; step = Capped; size = Unscaled }) (limited 1000)
+
+abbrev pub lowered : List Event
+lowered = event (Arrive 0 (packet 1) 0) Enqueued ∷ event (SetParams 1 (limited 500)) Done ∷ []
+
+-- ---- a burst that begins just before an update: with updates 100 apart and an allowance of 200, its first packet at 99 and the first drop at 200
+
+abbrev pub burst_opening : Opening
+burst_opening = opened (record { delay = Stamp; picking = Random; step = Capped; size = Unscaled }) (limited 100000)
+
+abbrev pub burst_begins : List Event
+burst_begins = event (Arrive 99 (packet 1) 0) Enqueued ∷ []
+
+abbrev pub burst_goes_on : List Event
+burst_goes_on =
+    event (Arrive 99 (packet 2) 0) Enqueued ∷ event (Arrive 99 (packet 3) 0) Enqueued ∷ event (Depart 100) (Left (packet 1))
+    ∷ event (Update 100) (Updated 1 0 100) ∷ event (Depart 199) (Left (packet 2)) ∷ event (Update 200) (Updated 100 96191 0) ∷ []
+
+abbrev pub first_drop : Event
+first_drop = event (Arrive 200 (packet 4) 0) DroppedEarly

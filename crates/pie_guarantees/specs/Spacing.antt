@@ -1,0 +1,51 @@
+-- How far picked packets are apart, where probabilities accumulate (RFC 8033, section 5.4).
+use Rattle.std.specs.Prelude.{◌≡◌, ◌≤◌, ◌+◌, ◌++◌, ℕ, Bool, true, false, ◌&&◌, List, [], ◌∷◌, if◌then◌else◌}
+use Rattle.pie_early.specs.Decision.{counted_as}
+use Rattle.pie_aqm.specs.History.{considered_where}
+use Rattle.pie_event.specs.Deed.{Deed, deed_of, dropped_early, marked, queued}
+use Rattle.pie_book.specs.Types.{Event, Opening}
+use Rattle.pie_book.specs.Estimates.{active_after, params_after, parts_after}
+use Rattle.pie_book.specs.History.{bytes_after}
+use Rattle.pie_book.specs.Shown.{arriving_size}
+use Rattle.pie_book.specs.Statistics.{is_dropped_bytes, is_dropped_packets, is_reset}
+use Rattle.pie_guarantees.specs.Verdicts.{is_early}
+
+-- a packet arrived that the queue had room for
+abbrev pub had_room : Deed → Bool
+had_room (queued packet) = true
+had_room (marked packet) = true
+had_room dropped_early = true
+had_room _ = false
+
+-- .. and early drop considered it
+abbrev pub was_considered : Opening → List Event → Event → Bool
+was_considered opening before event =
+    had_room (deed_of event)
+    && considered_where (active_after opening before) (params_after opening before) (parts_after opening before) (bytes_after opening before)
+
+-- what the probability counted as for it
+abbrev pub counted_at : Opening → List Event → Event → ℕ
+counted_at opening before event =
+    counted_as opening.choices.elements.size (params_after opening before) (arriving_size event.command) (parts_after opening before).prob
+
+-- how many of these packets were considered, after the events before
+unfoldable pub considered_in : Opening → List Event → List Event → ℕ
+considered_in opening before [] = 0
+considered_in opening before (event ∷ later) =
+    (if was_considered opening before event then 1 else 0) + considered_in opening (before ++ event ∷ []) later
+
+-- where a packet is considered, the probability counts as this at most
+abbrev pub CountsAtMost : ℕ → Opening → List Event → Event → Type 0
+CountsAtMost most opening before event = was_considered opening before event ≡ true → counted_at opening before event ≤ most
+
+-- .. as this at least
+abbrev pub CountsAtLeast : ℕ → Opening → List Event → Event → Type 0
+CountsAtLeast least opening before event = was_considered opening before event ≡ true → least ≤ counted_at opening before event
+
+-- the event picks no packet, and nothing else starts the accumulated probability anew: no tail drop, no reset, and the controller isn't turned on
+pub record GoesOn (opening : Opening) (before : List Event) (event : Event) : Type 0 where
+  pub unpicked : is_early event.answer ≡ false
+  pub no_bytes : is_dropped_bytes (deed_of event) ≡ false
+  pub no_packets : is_dropped_packets (deed_of event) ≡ false
+  pub unreset : is_reset (deed_of event) ≡ false
+  pub no_start : active_after opening before ≡ false → active_after opening (before ++ event ∷ []) ≡ false

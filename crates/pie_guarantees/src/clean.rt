@@ -1,0 +1,23 @@
+//! A history that an audit finds clean is one of which the laws hold.
+ghost use Rattle.std.specs.Prelude.{◌≡◌, List, ℕ, Ok};
+ghost use Rattle.pie_book.specs.Types.{Opening};
+ghost use Rattle.pie_record.specs.ReadBack.{TellsHistory};
+ghost use Rattle.pie_record.specs.Text.{records_of};
+ghost use Rattle.pie_record.specs.declared.history_record.Line.{Line};
+ghost use Rattle.pie_audit.specs.declared.auditor.Finding.TheVariants.{Clean};
+ghost use Rattle.pie_audit.specs.Finding.{events_of};
+ghost use Rattle.pie_audit.specs.Text.{text_finding};
+ghost use Rattle.pie_guarantees.specs.Lawful.{IsLawful};
+
+use pie_audit::clean_is_legal;
+
+/// All laws here hold of the events that a text tells which an audit finds `Clean`, from the opening that it tells, whatever wrote it (this
+/// project's own). `audit` of pie_audit is proved to answer what is found.
+///
+/// It does nothing: its contract is the law.
+pub fn clean_histories_are_lawful()
+    ensures { (text : List ℕ) (opening : Opening) (lines : List Line) (events : ℕ) → TellsHistory text opening lines
+        → text_finding (records_of text) ≡ Ok (Clean events) → IsLawful opening (events_of lines) }
+{
+    clean_is_legal();
+}

@@ -1,0 +1,30 @@
+//! What does not follow, and how near the bounds are: worked histories.
+ghost use Rattle.std.specs.Prelude.{◌≡◌, ◌++◌, ◌∷◌, []};
+ghost use Rattle.pie_book.specs.Decision.{IsLegal};
+ghost use Rattle.pie_book.specs.Estimates.{params_after};
+ghost use Rattle.pie_book.specs.History.{bytes_after, effective_moment};
+ghost use Rattle.pie_guarantees.specs.Bursts.{IsWhole};
+ghost use Rattle.pie_guarantees.specs.Examples.{burst_begins, burst_goes_on, burst_opening, first_drop, lowered, lowered_opening};
+ghost use Rattle.pie_guarantees.specs.Verdicts.{IsEarly};
+
+/// More bytes can wait than `limit_bytes` allows: 1000 wait when new parameters lower it to 500.
+///
+/// It does nothing: its contract is the example, which computes.
+pub fn limits_may_be_lowered_below_the_queue()
+    ensures legal { IsLegal lowered_opening lowered }
+    ensures waiting { bytes_after lowered_opening lowered ≡ 1000 }
+    ensures limit { (params_after lowered_opening lowered).limit_bytes ≡ 500 }
+{}
+
+/// A burst that begins just before an update meets its first early drop no later than the law of bursts says, but for a nanosecond: with updates 100
+/// apart and an allowance of 200, its first packet comes at 99, and the first early drop at 200. With the defaults' ten updates that is 135
+/// milliseconds, and not 150.
+///
+/// It does nothing: its contract is the example, which computes.
+pub fn bursts_may_meet_an_early_drop_so_soon()
+    ensures legal { IsLegal burst_opening (burst_begins ++ burst_goes_on ++ first_drop ∷ []) }
+    ensures whole { IsWhole burst_opening burst_begins }
+    ensures began { effective_moment burst_opening burst_begins ≡ 99 }
+    ensures dropped { effective_moment burst_opening (burst_begins ++ burst_goes_on) ≡ 200 }
+    ensures early { IsEarly first_drop }
+{}

@@ -1,6 +1,7 @@
 #!/usr/bin/env bash
 # Real TCP through the link in user space (examples/link), some seconds by tail drop and some by PIE: both histories are clean, and by
-# PIE packets wait less in the mean. Then the link is killed in the middle of a transfer: what its flight recorder wrote
+# PIE packets wait less in the mean. Its options open what pie params asks for by the same words. Then a link whose rate changes, and that
+# sends by grants, is killed in the middle of a transfer: what its flight recorder wrote
 # when it was asked, and what its file holds, is decided again. Each of these texts tells when its events were, by the time of day. Before that
 # the test of its packets: marks in IPv4 and IPv6 headers, and checksums. Where this machine lacks something that it takes, a line that begins
 # with NOT RUN says so.
@@ -115,7 +116,7 @@ if ! awk -v tail="${means[0]}" -v pie="${means[1]}" 'BEGIN { exit !(pie < tail) 
 fi
 
 # killed in the middle of a transfer: the text of what its flight recorder left is clean, and goes on behind that which it wrote when it was asked
-kill_in_the_middle "$work/killed" 4 4 --rate 10mbit --rtt 20ms --ecn || exit 1
+kill_in_the_middle "$work/killed" 4 4 --rate 10mbit,1s:2mbit --grant 5ms --rtt 20ms --ecn || exit 1
 "$link/out/flight_text" "$work/killed/flight" > "$work/killed/text" || exit 1
 asked=$("$program" audit < "$work/killed/flight.history")
 left=$("$program" audit < "$work/killed/text")
@@ -124,4 +125,8 @@ if [[ $asked != clean,* || $left != clean,* || ${asked#clean,} -lt 200 || ${left
     exit 1
 fi
 tells_time "$work/killed/flight.history" "$since" && tells_time "$work/killed/text" "$since" || exit 1
+# after the first second the link had 2 Mbit/s, and sent at its grants alone, each 5 ms
+awk -F, '$1 == "depart" && $4 == "left" && $3 > 1.1e9 { bits += 8 * $6; if ($3 != last) moments++; last = $3; if (!first) first = $3 }
+    END { time = (last - first) / 1e9; print bits, moments, time; exit !(time > 0.5 && bits > 1e5 && bits < 2.1e6 * time + 5e4 && moments < time * 200 + 5) }' \
+    "$work/killed/text" > "$work/sent" || { echo "$script: at 2 Mbit/s by grants of 5 ms: bits, moments and seconds: $(cat "$work/sent")"; exit 1; }
 echo "$script: killed: the text that was asked for is clean ($asked), and what the killed link left too ($left)"

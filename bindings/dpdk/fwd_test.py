@@ -151,7 +151,7 @@ def full_speed():
     with tempfile.TemporaryDirectory() as work:
         pipe, first = f"{work}/history", Path(work, "first")
         os.mkfifo(pipe)
-        forward = subprocess.Popen(command(RING, "--total-num-mbufs=8192", "--rate", "1gbit", "--for", "1s", "--history", pipe),
+        forward = subprocess.Popen(command(RING, "--total-num-mbufs=8192", "--rate", "1gbit", "--limit", "4000p", "--for", "1s", "--history", pipe),
                                    stdout=subprocess.PIPE, text=True)
         lines, gaps, lost, size = 0, 0, 0, 0
         with open(pipe, "rb") as history, first.open("wb") as kept:

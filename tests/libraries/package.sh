@@ -119,7 +119,7 @@ if [ -e "$repository/crates/pie/out/pie" ]; then
     expect "the program of the archive" "pie $version" bare "$unpacked/bin/pie" --version
     events=$(grep -c -E '^(arrive|depart|update|reset|params),' examples/burst.history)
     expect "an audit by the program of the archive" "clean,$events" bare "$unpacked/bin/pie" audit < examples/burst.history
-    bare "$unpacked/bin/pie-report" --pie "$unpacked/bin/pie" -o "$work/page.html" examples/burst.history ||
+    bare "$unpacked/bin/pie-report" --pie "$unpacked/bin/pie" -o "$work/archive.html" examples/burst.history ||
         fail "pie-report of the archive makes no page"
     [ -e "$unpacked/share/man/man1/pie.1" ] && [ -e "$unpacked/share/doc/pie/LICENSE-MIT" ] || fail "the archive has no manual page or licence"
     if command -v pkg-config > /dev/null && command -v cc > /dev/null; then

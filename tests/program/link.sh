@@ -50,7 +50,7 @@ done <<'END'
 --alpha|0.125|--alpha 0.125: not a whole number
 --beta|33|--beta 33: not in 0 to 32, as tc has it
 --delay|rate|--from and --to: missing
---delay|20ms|--rtt 20ms: not a value of this option
+--delay|20ms|--delay 20ms: not a value of this option
 --mark_ecnth|10%|--from and --to: missing
 --mark_ecnth|10mb|--mark_ecnth 10mb: refused: no number with a unit of its kind
 --grant|5ms|--from and --to: missing
@@ -127,6 +127,7 @@ fi
 tells_time "$work/killed/flight.history" "$since" && tells_time "$work/killed/text" "$since" || exit 1
 # after the first second the link had 2 Mbit/s, and sent at its grants alone, each 5 ms
 awk -F, '$1 == "depart" && $4 == "left" && $3 > 1.1e9 { bits += 8 * $6; if ($3 != last) moments++; last = $3; if (!first) first = $3 }
-    END { time = (last - first) / 1e9; print bits, moments, time; exit !(time > 0.5 && bits > 1e5 && bits < 2.1e6 * time + 5e4 && moments < time * 200 + 5) }' \
+    END { time = (last - first) / 1e9; print bits, moments, time
+        exit !(time > 0.5 && bits > 1e5 && bits < 2.1e6 * time + 5e4 && moments < time * 200 + 5) }' \
     "$work/killed/text" > "$work/sent" || { echo "$script: at 2 Mbit/s by grants of 5 ms: bits, moments and seconds: $(cat "$work/sent")"; exit 1; }
 echo "$script: killed: the text that was asked for is clean ($asked), and what the killed link left too ($left)"

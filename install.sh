@@ -3,11 +3,33 @@
 # with its headers and its pkg-config file.
 #
 # usage: ./install.sh PREFIX [program|library]..   both, where neither is named; DESTDIR, where it is set, is put before PREFIX
+#        ./install.sh --archive FILE               all of it as an archive, by its ending (.tar, .tar.gz, .tar.xz), which is unpacked anywhere, and
+#                                                  runs on a Debian 12 or later of the same processor, without the toolchain
 #
 # Build first: `rt run` in crates/pie makes the program, `rt lib` in crates/pie_c the library.
 set -eu
+
+# archive FILE: installs into a folder of its own, named after the version, and packs that; the same files make the same archive
+archive() {
+    local here version folder work
+    here=$(cd "$(dirname "$0")" && pwd)
+    version=$(sed -n 's/^#define PIE_VERSION "\(.*\)"$/\1/p' "$here/include/pie.h")
+    folder=juniperbowls-$version
+    work=$(mktemp -d)
+    trap 'rm -rf "$work"' RETURN
+    DESTDIR=$work "$here/install.sh" "/$folder" program library > "$work/installed" || return 1
+    # shellcheck disable=SC2016
+    sed -i 's|^prefix=.*|prefix=${pcfiledir}/../..|' "$work/$folder/lib/pkgconfig/pie_c.pc"
+    tar --create --auto-compress --file "$1" --sort=name --mtime='2000-01-01 00:00:00Z' --owner=0 --group=0 --numeric-owner -C "$work" "$folder"
+    echo "$1"
+}
+
+if [ "${1-}" = --archive ] && [ $# = 2 ]; then
+    archive "$2" || exit
+    exit 0
+fi
 if [ $# = 0 ] || [ "${1#/}" = "$1" ]; then
-    echo "usage: ./install.sh PREFIX [program|library]..    PREFIX is an absolute path, as /usr/local" >&2
+    echo "usage: ./install.sh PREFIX [program|library].. | --archive FILE    PREFIX is an absolute path, as /usr/local" >&2
     exit 2
 fi
 prefix=${1%/}

@@ -46,7 +46,9 @@ def refused():
     for ports, words, said in (
         (RING, ["--rate", "5"], "--rate 5: refused: no number with a unit"),
         (RING, ["--history", "/nowhere/history"], "the file of --history: No such file"),
-        (RING, ["--history", "/dev/null", "--total-num-mbufs", "4194304", "--packets", "1048577"], "--packets: out of its range"),
+        (RING, ["--history", "/dev/null", "--total-num-mbufs", "4194304", "--limit", "1048577p"], "--limit: out of its range"),
+        (RING, ["--limit", "4097p"], "--limit: out of its range"),
+        (RING, ["--limit", "1000"], "--limit 1000: a unit has to say of what it is"),
         (RING, ["--flight-events", "16777217"], "--flight-events: out of its range"),
         (RING, ["--history", "/dev/null", "--rotate", "1kb"], "--rotate: out of its range"),
         (RING, ["--flight-wait", "5"], "--flight-wait 5: refused: no number with a unit"),
@@ -149,7 +151,7 @@ def full_speed():
     with tempfile.TemporaryDirectory() as work:
         pipe, first = f"{work}/history", Path(work, "first")
         os.mkfifo(pipe)
-        forward = subprocess.Popen(command(RING, "--total-num-mbufs=8192", "--rate", "1gbit", "--for", "1s", "--history", pipe),
+        forward = subprocess.Popen(command(RING, "--total-num-mbufs=8192", "--rate", "1gbit", "--limit", "4000p", "--for", "1s", "--history", pipe),
                                    stdout=subprocess.PIPE, text=True)
         lines, gaps, lost, size = 0, 0, 0, 0
         with open(pipe, "rb") as history, first.open("wb") as kept:
@@ -211,6 +213,7 @@ def flight():
         process = subprocess.Popen(command(RING, "--total-num-mbufs=8192", "--rate", "10gbit", "--flight", path, "--flight-events", str(kept)),
                                    stdout=subprocess.PIPE, stderr=subprocess.PIPE, text=True)
         texts = []
+        assert "are under rate x target" in process.stderr.readline()
         for _ in range(30):
             assert LINE.match(process.stdout.readline())
             process.send_signal(signal.SIGUSR1)
@@ -226,7 +229,7 @@ def flight():
         told(printed)
         assert process.returncode == 0 and len(texts) == 3 and all(last > before > 0 for before, last in texts), (printed, texts)
         assert texts[0][1] <= texts[1][1] <= texts[2][1] and audited(f"{path}.before") == texts[1], texts
-        words = ["--rate", "20mbit", "--receive", "40mbit", "--flight-wait", "30ms", "--for", "1s", "--flight", path, "--packets", "400"]
+        words = ["--rate", "20mbit", "--receive", "40mbit", "--flight-wait", "30ms", "--for", "1s", "--flight", path, "--limit", "400p"]
         since = now()
         status, printed, errors = run(PACED, *words)
         assert status == 0 and errors.startswith(f"pie-fwd: --flight {path}: written\n"), (printed, errors)

@@ -45,7 +45,9 @@ struct bottleneck {
     struct packets there;  /* on the link: go on at the end of their transmission */
     struct packets back;   /* on the way back: go on after the delay */
     uint64_t start;        /* of the run, by CLOCK_MONOTONIC */
-    uint64_t free_at;      /* the moment from which the link is free */
+    uint64_t free_at;      /* the moment from which the link is free; with grants the next grant's */
+    uint64_t granted;      /* bits that a grant's last packet had beyond it */
+    size_t step;           /* of the rate, the one in force */
     uint64_t next_update;  /* the moment from which an update is not too soon */
     struct history history;
     struct flight_file flight;
@@ -70,22 +72,9 @@ static void die(const char *what) {
     exit(1);
 }
 
-/* A refusal that no caller of this program can cause: the call's name and pie.h's name of the code. */
+/* A refusal that no caller of this program can cause. */
 static void die_refused(const char *call, uint64_t code) {
-    static const struct {
-        uint64_t code;
-        const char *name;
-    } names[] = {
-        {PIE_BAD_MOMENT, "PIE_BAD_MOMENT"}, {PIE_BAD_SIZE, "PIE_BAD_SIZE"}, {PIE_TOO_SOON, "PIE_TOO_SOON"},
-        {PIE_BAD_PARAMS, "PIE_BAD_PARAMS"}, {PIE_BAD_STATE, "PIE_BAD_STATE"}, {PIE_BAD_ECN, "PIE_BAD_ECN"},
-        {PIE_BAD_QUEUE, "PIE_BAD_QUEUE"}, {PIE_BAD_PROFILE, "PIE_BAD_PROFILE"},
-        {PIE_BAD_CHOICES, "PIE_BAD_CHOICES"}, {PIE_BAD_ARRIVED, "PIE_BAD_ARRIVED"},
-    };
-    const char *name = "an unknown code";
-    for (size_t i = 0; i < sizeof names / sizeof names[0]; i++)
-        if (names[i].code == code)
-            name = names[i].name;
-    fprintf(stderr, "link: %s was refused: %s (%" PRIu64 ")\n", call, name, code);
+    fprintf(stderr, "link: %s: %s (%" PRIu64 ")\n", call, pie_text(code), code);
     exit(1);
 }
 
@@ -146,7 +135,7 @@ static void arrive(struct bottleneck *link, struct packet *packet, uint64_t now)
     uint32_t room = (uint32_t)link->options->control.packets - link->queue.count;
     packet->tag = ++link->counts.arrivals;
     packet->moment = now;
-    packet->ecn = link->options->control.use_ecn ? ecn_of(packet->bytes, packet->size) : PIE_NOT_ECT;
+    packet->ecn = ecn_of(packet->bytes, packet->size);
     event->tag = packet->tag;
     event->size = packet->size;
     event->ecn = (uint8_t)packet->ecn;
@@ -169,7 +158,7 @@ static void arrive(struct bottleneck *link, struct packet *packet, uint64_t now)
 
 /* What comes from the other side is delayed, and nothing else. */
 static void turn_back(struct bottleneck *link, struct packet *packet, uint64_t now) {
-    packet->moment = now + link->options->delay;
+    packet->moment = now + link->options->rtt;
     if (link->back.count < BACK_PACKETS) {
         push(&link->back, packet);
     } else {
@@ -195,28 +184,56 @@ static void receive(struct bottleneck *link, int device, void (*take)(struct bot
     }
 }
 
-static uint64_t time_on_link(const struct bottleneck *link, uint32_t size) {
-    return (uint64_t)size * 8 * 1000000000u / link->options->control.rate;
+/* Bits a second at this moment, which is no earlier than at the call before. */
+static uint64_t rate_at(struct bottleneck *link, uint64_t moment) {
+    const struct options *options = link->options;
+    while (link->step + 1 < options->steps && options->rates[link->step + 1].moment <= moment)
+        link->step++;
+    return options->rates[link->step].rate;
+}
+
+/* The oldest packet leaves the queue, and is on the link until this moment. */
+static void depart(struct bottleneck *link, uint64_t now, uint64_t until) {
+    struct packet *packet = pop(&link->queue);
+    struct pie_event *event = next_event(&link->history, LINK, now);
+    event->tag = packet->tag;
+    event->size = packet->size;
+    event->ecn = (uint8_t)packet->ecn;
+    uint32_t code = pie_depart_event(&link->pie, link->queue.bytes, packet->arrived, event);
+    if (code != PIE_DONE)
+        die_refused("pie_depart_event", code);
+    keep_event(&link->flight, &link->pie, event);
+    link->counts.departures++;
+    packet->moment = until;
+    push(&link->there, packet);
+}
+
+/* The grants that have come: at each the packets that wait then leave at once, as many as the rate allows in the time between two grants. What a
+ * packet has beyond that the next grant has less; what nobody used is lost. */
+static void serve_grants(struct bottleneck *link, uint64_t now) {
+    const uint64_t period = link->options->grant;
+    for (; link->free_at <= now; link->free_at += period) {
+        uint64_t bits = (uint64_t)((double)rate_at(link, link->free_at) * (double)period / 1e9), used = link->granted;
+        while (used < bits && link->queue.first != NULL && link->queue.first->moment <= link->free_at) {
+            used += (uint64_t)link->queue.first->size * 8;
+            depart(link, now, link->free_at);
+        }
+        link->granted = used > bits ? used - bits : 0;
+    }
 }
 
 /* The link takes each packet that it has come to. Where this program was late, it catches up: a transmission begins when the
  * one before it ended, or when the packet arrived if that is later. */
 static void serve(struct bottleneck *link, uint64_t now) {
+    if (link->options->grant != 0) {
+        serve_grants(link, now);
+        return;
+    }
     while (link->queue.first != NULL && link->free_at <= now) {
-        struct packet *packet = pop(&link->queue);
+        const struct packet *packet = link->queue.first;
         uint64_t start = packet->moment > link->free_at ? packet->moment : link->free_at;
-        struct pie_event *event = next_event(&link->history, LINK, now);
-        event->tag = packet->tag;
-        event->size = packet->size;
-        event->ecn = (uint8_t)packet->ecn;
-        uint32_t code = pie_depart_event(&link->pie, link->queue.bytes, packet->arrived, event);
-        if (code != PIE_DONE)
-            die_refused("pie_depart_event", code);
-        keep_event(&link->flight, &link->pie, event);
-        link->counts.departures++;
-        link->free_at = start + time_on_link(link, packet->size);
-        packet->moment = link->free_at;
-        push(&link->there, packet);
+        link->free_at = start + (uint64_t)packet->size * 8 * 1000000000u / rate_at(link, start);
+        depart(link, now, link->free_at);
     }
 }
 

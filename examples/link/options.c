@@ -3,6 +3,8 @@
 #include <stdio.h>
 #include <string.h>
 
+#define LEAST_GRANT 100000 /* ns */
+
 static const char help_of_use[] =
     "link --from DEVICE --to DEVICE [OPTIONS]\n"
     "\n"
@@ -11,77 +13,78 @@ static const char help_of_use[] =
     "\n";
 
 static const char help_of_link[] =
-    "  --delay 20ms         delay of the way back: s, ms, us, ns\n"
+    "\n"
+    "  --rate 10mbit,20s:2mbit,40s:10mbit\n"
+    "                       a rate that changes: from 20 s on 2 Mbit/s, from 40 s on 10 Mbit/s; a limit by the rate is by the greatest\n"
+    "  --rtt 20ms           delay of the way back: the round trip without a queue\n"
+    "  --grant 5ms          send only each 5 ms, and then at once what the rate allows in so much time, as a cable modem or Wi-Fi does\n"
     "  --history FILE       write every decision, for pie audit and pie explain\n"
     "  --flight FILE        keep the last 100000 events at the least in this file, also if the program is killed: flight_text FILE\n"
     "                       writes them as such a text, and SIGUSR1 has the link write them to FILE.history while it runs\n"
     "  --for 60s            end after this time\n"
     "\n"
-    "Times, rates and sizes are read as tc reads them, but never rounded; a time and a rate have a unit, and a size without one is in\n"
-    "bytes. It has to be root, or to have CAP_NET_ADMIN. Example:\n"
+    "The other options are those of pie params. Times, rates and sizes are read as tc reads them, but never rounded. It has to be root, or\n"
+    "to have CAP_NET_ADMIN. Example:\n"
     "\n"
-    "  link --from senders --to receivers --rate 10mbit --delay 20ms --limit 256kb --ecn --history /tmp/history\n"
+    "  link --from senders --to receivers --rate 10mbit --rtt 20ms --ecn --history /tmp/history\n"
     "\n"
     "run.sh beside it makes network namespaces, moves the devices into them, and sends TCP through.\n";
 
-/* An option of the link alone, and what is wrong with its text, NULL where nothing is; false where this word is no such option. */
-static bool read_own(const char *name, const char *text, struct options *options, const char **fault) {
-    const struct number known[] = {
-        {"--delay", pie_read_time, NULL, &options->delay},
-        {"--for", pie_read_time, NULL, &options->lasts},
-    };
-    if (read_number(name, text, known, sizeof known / sizeof known[0], fault))
-        return true;
-    if (strcmp(name, "--from") == 0)
-        options->from = text;
-    else if (strcmp(name, "--to") == 0)
-        options->to = text;
-    else if (strcmp(name, "--history") == 0)
-        options->history = text;
-    else if (strcmp(name, "--flight") == 0)
-        options->flight = text;
-    else
-        return false;
-    *fault = *text != '\0' ? NULL : "not a value of this option";
-    return true;
+/* One step of a rate, `length` bytes: as 10mbit, or behind the first as 20s:2mbit. */
+static const char *read_step(const char *text, size_t length, struct options *options) {
+    struct rate_step *step = &options->rates[options->steps];
+    const char *colon = memchr(text, ':', length);
+    size_t moment = colon != NULL ? (size_t)(colon - text) : 0, rate = colon != NULL ? length - moment - 1 : length;
+    uint32_t code = PIE_DONE;
+    step->moment = 0;
+    if ((colon != NULL) != (options->steps != 0))
+        return "not a rate, and then moments and rates, as 10mbit,20s:2mbit";
+    if (colon != NULL)
+        code = pie_read_time(text, moment, &step->moment);
+    if (code == PIE_DONE)
+        code = pie_read_rate(text + length - rate, rate, &step->rate);
+    if (code != PIE_DONE)
+        return pie_text(code);
+    if (step->rate < 1000 || (colon != NULL && step->moment <= step[-1].moment))
+        return "a rate below 1kbit, or moments that don't rise";
+    if (options->control.rate < step->rate || options->steps == 0)
+        options->control.rate = step->rate;
+    options->steps++;
+    return NULL;
 }
 
-static void set_defaults(struct options *options) {
-    *options = (struct options){.delay = 20000000, .lasts = 60000000000};
-    set_control(&options->control);
-}
-
-/* What is wrong with all the options together; NULL where nothing is. */
-static const char *fault_of(struct options *options) {
-    const char *fault = finish_control(&options->control);
-    if (fault == NULL && (options->from == NULL || options->to == NULL))
-        return "from and to";
-    return fault;
+/* The rate, and how it changes. */
+static const char *read_rates(const char *text, void *to) {
+    struct options *options = to;
+    options->steps = 0;
+    for (;;) {
+        size_t length = strcspn(text, ",");
+        const char *fault = options->steps < MOST_STEPS ? read_step(text, length, options) : "too many rates";
+        if (fault != NULL || text[length] == '\0')
+            return fault;
+        text += length + 1;
+    }
 }
 
 int read_options(int count, char **words, struct options *options) {
-    set_defaults(options);
-    for (int i = 1; i < count; i++) {
-        const char *fault = NULL;
-        if (strcmp(words[i], "--help") == 0) {
-            printf("%s%s%s", help_of_use, control_help, help_of_link);
-            return OPTIONS_HELP;
-        }
-        if (read_control_word(words[i], &options->control))
-            continue;
-        const char *text = i + 1 < count ? words[i + 1] : "";
-        if (!read_control(words[i], text, &options->control, &fault) && !read_own(words[i], text, options, &fault))
-            fault = "unknown";
-        if (fault != NULL) {
-            fprintf(stderr, "link: %s %s: %s; see link --help\n", words[i], text, fault);
-            return OPTIONS_WRONG;
-        }
-        i++;
-    }
-    const char *fault = fault_of(options);
-    if (fault != NULL) {
-        fprintf(stderr, "link: --%s: missing, or out of its range; see link --help\n", fault);
-        return OPTIONS_WRONG;
-    }
-    return OPTIONS_READ;
+    const struct option own[] = {
+        {"--from", option_text, &options->from},       {"--to", option_text, &options->to},
+        {"--history", option_text, &options->history}, {"--flight", option_text, &options->flight},
+        {"--rate", read_rates, options},               {"--rtt", option_time, &options->rtt},
+        {"--grant", option_time, &options->grant},     {"--for", option_time, &options->lasts},
+    };
+    const struct command command = {"link", {help_of_use, help_of_link}, own, sizeof own / sizeof own[0], MOST_PACKETS};
+    *options = (struct options){.rtt = 20000000, .lasts = 60000000000};
+    int place = read_words(&command, count, words, &options->control);
+    if (place == WORDS_HELP)
+        return OPTIONS_HELP;
+    if (options->steps == 0)
+        options->rates[options->steps++].rate = options->control.rate;
+    if (place >= 0 && place < count)
+        place = refuse_word(&command, words[place], "", "unknown");
+    else if (place >= 0 && (options->from == NULL || options->to == NULL))
+        place = refuse_word(&command, "--from and --to", "", "missing");
+    else if (place >= 0 && options->grant != 0 && options->grant < LEAST_GRANT)
+        place = refuse_word(&command, "--grant", "", "out of its range");
+    return place == WORDS_WRONG ? OPTIONS_WRONG : OPTIONS_READ;
 }

@@ -6,11 +6,21 @@
 
 #include <stdint.h>
 
+#define MOST_STEPS 64 /* of the rate */
+
+/* From this moment on the link has this rate. */
+struct rate_step {
+    uint64_t moment, rate;
+};
+
 struct options {
     const char *from, *to;  /* the names of the two devices */
     const char *history;    /* the file for the history; NULL with none */
     const char *flight;     /* the file of the flight recorder; NULL with none */
-    uint64_t delay;         /* ns on the way back */
+    uint64_t rtt;           /* ns on the way back */
+    uint64_t grant;         /* ns from one grant to the next; 0: the link sends whenever it is free */
+    struct rate_step rates[MOST_STEPS]; /* by their moments; the first is 0 */
+    size_t steps;
     uint64_t lasts;         /* ns until the program ends by itself */
     struct control control; /* the link and its queue */
 };

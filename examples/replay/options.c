@@ -18,30 +18,15 @@ static const char help_of_use[] =
     "  -o FILE              the history; standard output where none is named\n"
     "  -w FILE              the capture as pcapng, with a comment at each packet that was dropped or marked\n"
     "  --seed 1             of the random words: the same seed, the same history\n"
-    "  --mtu 1500b          split larger packets, as offloading joins them before they are captured, into packets of so many bytes\n";
+    "  --split 1500b        split larger packets, as offloading joins them before they are captured, into packets of so many bytes\n";
 
 static const char help_of_units[] =
     "\n"
-    "Times, rates and sizes are read as tc reads them, but never rounded; a time and a rate have a unit, and a size without one is in\n"
-    "bytes. A packet has the bytes of its IP header's length. A packet's tag in the history is its frame's number in the capture, from 1,\n"
-    "as Wireshark numbers them. Caller 1 is the sender, 2 the link, 3 the timer. Example:\n"
+    "The options of the link are those of pie params. Times, rates and sizes are read as tc reads them, but never rounded. A packet has the\n"
+    "bytes of its IP header's length. A packet's tag in the history is its frame's number in the capture, from 1, as Wireshark numbers\n"
+    "them. Caller 1 is the sender, 2 the link, 3 the timer. Example:\n"
     "\n"
-    "  replay --rate 50mbit --limit 1250kb --ecn -o history -w commented.pcapng yesterday.pcap 'dst net 192.0.2.0/24'\n";
-
-/* An option of the replay alone, and what is wrong with its text, NULL where nothing is; false where this word is no such option. */
-static bool read_own(const char *name, const char *text, struct options *options, const char **fault) {
-    const struct number known[] = {{"--seed", NULL, numbers, &options->seed}, {"--mtu", pie_read_size, NULL, &options->mtu}};
-    if (read_number(name, text, known, sizeof known / sizeof known[0], fault))
-        return true;
-    if (strcmp(name, "-o") == 0)
-        options->history = text;
-    else if (strcmp(name, "-w") == 0)
-        options->commented = text;
-    else
-        return false;
-    *fault = *text != '\0' ? NULL : "not a value of this option";
-    return true;
-}
+    "  replay --rate 50mbit --ecn -o history -w commented.pcapng yesterday.pcap 'dst net 192.0.2.0/24'\n";
 
 /* The words from here on, with spaces between them, as tcpdump joins them; NULL for want of memory. */
 static char *joined(int count, char **words) {
@@ -56,42 +41,28 @@ static char *joined(int count, char **words) {
     return text;
 }
 
-/* What is wrong with all the options together; NULL where nothing is. */
-static const char *fault_of(struct options *options) {
-    const char *fault = finish_control(&options->control);
-    if (fault != NULL)
-        return fault;
-    return options->mtu != 0 && (options->mtu < 68 || options->mtu > PIE_MAX_SIZE) ? "mtu" : NULL;
-}
-
 int read_options(int count, char **words, struct options *options) {
-    int i = 1;
+    const struct option own[] = {
+        {"-o", option_text, &options->history},
+        {"-w", option_text, &options->commented},
+        {"--seed", option_number, &options->seed},
+        {"--split", option_size, &options->split},
+    };
+    const struct command command = {"replay", {help_of_use, help_of_units}, own, sizeof own / sizeof own[0], MOST_PACKETS};
     *options = (struct options){.seed = 1, .history = "-"};
-    set_control(&options->control);
-    for (; i < count && words[i][0] == '-' && words[i][1] != '\0'; i++) {
-        const char *fault = NULL;
-        if (strcmp(words[i], "--help") == 0) {
-            printf("%s%s%s", help_of_use, control_help, help_of_units);
-            return OPTIONS_HELP;
-        }
-        if (read_control_word(words[i], &options->control))
-            continue;
-        const char *text = i + 1 < count ? words[i + 1] : "";
-        if (!read_control(words[i], text, &options->control, &fault) && !read_own(words[i], text, options, &fault))
-            fault = "unknown";
-        if (fault != NULL) {
-            fprintf(stderr, "replay: %s %s: %s; see replay --help\n", words[i], text, fault);
-            return OPTIONS_WRONG;
-        }
-        i++;
-    }
-    const char *fault = fault_of(options);
-    if (fault != NULL || i >= count) {
-        const char *what = fault == NULL ? "no capture is named" : "out of its range: --";
-        fprintf(stderr, "replay: %s%s; see replay --help\n", what, fault == NULL ? "" : fault);
+    int place = read_words(&command, count, words, &options->control);
+    if (place < 0)
+        return place == WORDS_HELP ? OPTIONS_HELP : OPTIONS_WRONG;
+    const char *fault = NULL;
+    if (options->split != 0 && (options->split < 68 || options->split > PIE_MAX_SIZE))
+        fault = "--split is out of its range";
+    else if (place == count)
+        fault = "no capture is named";
+    if (fault != NULL) {
+        fprintf(stderr, "replay: %s; see replay --help\n", fault);
         return OPTIONS_WRONG;
     }
-    options->capture = words[i];
-    options->filter = joined(count - i - 1, words + i + 1);
+    options->capture = words[place];
+    options->filter = joined(count - place - 1, words + place + 1);
     return options->filter != NULL ? OPTIONS_READ : OPTIONS_WRONG;
 }

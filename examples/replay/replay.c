@@ -117,10 +117,9 @@ static void go_on(struct replay *replay, uint64_t until) {
 /* An arrival; answers the verdict, or why it is refused. */
 static uint32_t arrive(struct replay *replay, const struct ip_packet *packet, uint32_t size, uint64_t tag) {
     struct pie_event *event = next_event(&replay->history, SENDER, replay->now);
-    uint32_t ecn = replay->options.control.use_ecn ? packet->ecn : PIE_NOT_ECT;
     event->tag = tag;
     event->size = size;
-    event->ecn = (uint8_t)ecn;
+    event->ecn = (uint8_t)packet->ecn;
     event->word = random_word(&replay->word);
     uint32_t room = (uint32_t)(replay->options.control.packets - replay->packets);
     uint32_t verdict = pie_arrive_event(&replay->pie, replay->bytes, room, event);
@@ -136,7 +135,7 @@ static uint32_t arrive(struct replay *replay, const struct ip_packet *packet, ui
             replay->rest = 0;
         }
         struct waiting *place = &replay->queue[(replay->first + replay->packets) % MOST_PACKETS];
-        *place = (struct waiting){tag, replay->pie.moment, size, verdict == PIE_MARK ? PIE_CE : ecn};
+        *place = (struct waiting){tag, replay->pie.moment, size, verdict == PIE_MARK ? PIE_CE : packet->ecn};
         replay->packets++;
         replay->bytes += size;
     }
@@ -161,7 +160,7 @@ static void tell(char *comment, const uint32_t *answers, uint32_t parts, const s
 
 /* Sends a frame's packet, split where it is a super-packet, and leaves the comment on it. */
 static void send_packet(struct replay *replay, const struct ip_packet *packet, char *comment) {
-    const uint64_t mtu = replay->options.mtu;
+    const uint64_t mtu = replay->options.split;
     const struct pie_state before = replay->pie;
     uint32_t answers[PIE_PACKETS + 1] = {0}, parts = 1, left = packet->size, most = packet->size, again = 0;
     if (mtu != 0 && packet->size > mtu && packet->headers < mtu) {
@@ -266,7 +265,7 @@ static void summarize(const struct replay *replay) {
     say(counts->cut, "frames that were captured too short to tell their packet's length, passed over");
     say(counts->wrong, "frames with lengths that can't be, passed over");
     say(counts->backwards, "frames earlier than one before them, sent at that one's time");
-    say(counts->large, "frames with packets above 1500 bytes, as offloading joins them: --mtu splits them");
+    say(counts->large, "frames with packets above 1500 bytes, as offloading joins them: --split splits them");
     say(counts->refused, "packets that were refused, as those above 65535 bytes are");
 }
 

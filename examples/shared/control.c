@@ -1,122 +1,213 @@
 #include "control.h"
 
 #include <math.h>
+#include <stdio.h>
 #include <stdlib.h>
 #include <string.h>
 
-/* Probabilities in 10^-12, gains in thousandths per second: a number with decimals, and a unit that is so many. */
-static const struct unit parts[] = {{"", 1e12}, {"%", 1e10}, {0}};
-static const struct unit gains[] = {{"", 1e3}, {0}};
-const struct unit numbers[] = {{"", 1}, {0}};
-
 const char control_help[] =
     "  --rate 10mbit        rate of the link: bit, kbit, mbit, gbit, tbit, and in bytes bps, kbps and so on\n"
-    "  --limit 256kb        the queue's limit: b, kb (1024 bytes), mb, gb\n"
-    "  --packets 65536      how many packets the queue has room for\n"
-    "  --queue pie          pie, or tail: only the limit drops (PIE with gains of 0, so that its history can be audited too)\n"
+    "  --target 15ms        the wanted delay: s, ms, us, ns\n"
+    "  --tupdate 15ms       the time between two updates\n"
+    "  --limit 1000p        how many packets may wait; also --limit 256kb (b, kb of 1024 bytes, mb, gb): how many bytes, 200 ms at the\n"
+    "                       rate where nothing is said, and 256kb if that is more\n"
+    "  --alpha 2, --beta 20 the gains of tc, in sixteenths per second\n"
     "  --ecn                mark packets whose ECN field allows it\n"
+    "  --delay stamp        what packets waited (stamp), or an estimate by the departure rate (rate, as --dq_rate_estimator)\n"
+    "  --bytemode           pick a packet below the MTU less often, in proportion to its size; --mtu 1514b\n"
+    "  --no_derandomization, --no_cap_drop_adjustment\n"
+    "                       packets picked by the random word alone, steps without a cap\n"
     "  --profile 1          1: always active; 2: turns itself on and off\n"
-    "  --no_dq_rate_estimator, --no_derandomization, --no_cap_drop_adjustment, --bytemode\n"
-    "                       delays from time stamps, packets picked by the random word alone, steps without a cap, small packets\n"
-    "                       picked less often\n"
-    "  --target 15ms, --update 15ms, --burst 150ms, --alpha 0.125, --beta 1.25, --mean-packet 1024b, --mark-below 10%,\n"
-    "  --threshold 16kb     the parameters, with their defaults\n";
+    "  --queue pie          pie, or tail: only the limit drops (PIE with gains of 0, so that its history can be audited too)\n"
+    "  --max_burst 150ms, --mean_pkt 1024b, --mark_ecnth 10%, --dq_threshold 16kb\n"
+    "                       the parameters of pie.h for which tc has no word\n";
 
-void set_control(struct control *control) {
-    *control = (struct control){.rate = 10000000, .packets = MOST_PACKETS, .profile = PIE_ALWAYS_ON};
-    pie_default_params(&control->params);
+/* What was said, beside what is in the control already. */
+struct said {
+    uint64_t alpha, beta, mtu, mean_pkt, packets, bytes, mark_ecnth;
+    bool is_rate, bytemode, no_derandomization, no_cap, is_tail;
+};
+
+static const char *fault_of(uint32_t code) {
+    return code == PIE_DONE ? NULL : pie_text(code);
 }
 
-/* The number in this text, with its unit; false where it is none. */
-static bool value_of(const char *text, const struct unit *units, uint64_t *value) {
+const char *option_time(const char *text, void *to) {
+    return fault_of(pie_read_time(text, strlen(text), to));
+}
+
+const char *option_rate(const char *text, void *to) {
+    return fault_of(pie_read_rate(text, strlen(text), to));
+}
+
+const char *option_size(const char *text, void *to) {
+    return fault_of(pie_read_size(text, strlen(text), to));
+}
+
+const char *option_packets(const char *text, void *to) {
+    return fault_of(pie_read_packets(text, strlen(text), to));
+}
+
+const char *option_number(const char *text, void *to) {
+    return strspn(text, "0123456789") == strlen(text) ? option_packets(text, to) : "not a whole number";
+}
+
+const char *option_text(const char *text, void *to) {
+    *(const char **)to = text;
+    return NULL;
+}
+
+/* A gain of tc. */
+static const char *read_gain(const char *text, void *to) {
+    uint64_t gain;
+    const char *fault = option_number(text, &gain);
+    if (fault != NULL || gain > 32)
+        return fault != NULL ? fault : "not in 0 to 32, as tc has it";
+    *(uint64_t *)to = gain;
+    return NULL;
+}
+
+/* A limit, whose unit says of what it is. */
+static const char *read_limit(const char *text, void *to) {
+    struct said *said = to;
+    char last = text[strlen(text) - 1];
+    if (last == 'p' || last == 'P')
+        return option_packets(text, &said->packets);
+    if (last >= '0' && last <= '9')
+        return "a unit has to say of what it is, as 1000p or 256kb";
+    return option_size(text, &said->bytes);
+}
+
+/* A probability, as 0.1 or 10%, into units of 10^-12. */
+static const char *read_probability(const char *text, void *to) {
     char *end;
-    double number = strtod(text, &end);
-    if (end == text || !isfinite(number) || number < 0)
-        return false;
-    const struct unit *unit = units;
-    while (*end != '\0' && unit->name != NULL && strcmp(unit->name, end) != 0)
-        unit++;
-    if (unit->name == NULL || number * unit->factor > 0x1p60)
-        return false;
-    *value = (uint64_t)llround(number * unit->factor);
-    return true;
+    double number = strtod(text, &end), unit = strcmp(end, "%") == 0 ? 1e10 : 1e12;
+    if (end == text || !isfinite(number) || number < 0 || (*end != '\0' && unit == 1e12) || number * unit > 0x1p60)
+        return pie_text(PIE_NOT_A_NUMBER);
+    *(uint64_t *)to = (uint64_t)llround(number * unit);
+    return NULL;
 }
 
-bool read_number(const char *name, const char *text, const struct number *known, size_t count, const char **fault) {
-    for (size_t i = 0; i < count; i++) {
-        if (strcmp(name, known[i].name) == 0) {
-            uint32_t code = PIE_DONE;
-            if (known[i].read != NULL)
-                code = known[i].read(text, strlen(text), known[i].value);
-            else if (!value_of(text, known[i].units, known[i].value))
-                code = PIE_NOT_A_NUMBER;
-            *fault = code == PIE_DONE ? NULL : pie_text(code);
-            return true;
-        }
-    }
-    return false;
+/* One of two words; `to` is whether it is the second. */
+static const char *one_of(const char *text, bool *to, const char *first, const char *second) {
+    *to = strcmp(text, second) == 0;
+    return *to || strcmp(text, first) == 0 ? NULL : "not a value of this option";
 }
 
-/* The flag of the choice that this word makes, 0 with none. */
-static uint32_t choice_of(const char *word) {
-    static const struct {
-        const char *word;
-        uint32_t flag;
-    } choices[] = {
-        {"--no_dq_rate_estimator", PIE_DELAY_STAMP},
-        {"--no_derandomization", PIE_PICK_RANDOM},
-        {"--no_cap_drop_adjustment", PIE_STEP_UNCAPPED},
-        {"--bytemode", PIE_SIZE_SCALED},
-    };
-    for (size_t i = 0; i < sizeof choices / sizeof choices[0]; i++)
-        if (strcmp(choices[i].word, word) == 0)
-            return choices[i].flag;
-    return 0;
+static const char *read_delay(const char *text, void *to) {
+    return one_of(text, to, "stamp", "rate");
 }
 
-bool read_control_word(const char *word, struct control *control) {
-    uint32_t choice = choice_of(word);
-    control->choices |= choice;
-    control->use_ecn |= strcmp(word, "--ecn") == 0;
-    return choice != 0 || strcmp(word, "--ecn") == 0;
+static const char *read_queue(const char *text, void *to) {
+    return one_of(text, to, "pie", "tail");
 }
 
-bool read_control(const char *name, const char *text, struct control *control, const char **fault) {
-    struct pie_params *p = &control->params;
-    const struct number known[] = {
-        {"--rate", pie_read_rate, NULL, &control->rate},     {"--packets", pie_read_packets, NULL, &control->packets},
-        {"--profile", NULL, numbers, &control->profile},     {"--target", pie_read_time, NULL, &p->target},
-        {"--update", pie_read_time, NULL, &p->t_update},     {"--burst", pie_read_time, NULL, &p->max_burst},
-        {"--alpha", NULL, gains, &p->alpha},                 {"--beta", NULL, gains, &p->beta},
-        {"--mean-packet", pie_read_size, NULL, &p->mean_pkt}, {"--limit", pie_read_size, NULL, &p->limit_bytes},
-        {"--mark-below", NULL, parts, &p->mark_ecnth},       {"--threshold", pie_read_size, NULL, &p->dq_threshold},
-    };
-    if (strcmp(name, "--queue") == 0) {
-        control->is_tail_drop = strcmp(text, "tail") == 0;
-        *fault = control->is_tail_drop || strcmp(text, "pie") == 0 ? NULL : "not a value of this option";
+int refuse_word(const struct command *command, const char *name, const char *text, const char *fault) {
+    fprintf(stderr, "%s: %s%s%s: %s; see %s --help\n", command->program, name, *text != '\0' ? " " : "", text, fault, command->program);
+    return WORDS_WRONG;
+}
+
+/* What was said makes the choices and the parameters; the first option that is out of its range, NULL where none is. */
+static const char *finish(const struct command *command, struct control *control, const struct said *said) {
+    static const char *const names[] = {"--target", "--tupdate", "--max_burst", "--alpha", "--beta", "--mean_pkt or --mtu", "--limit",
+                                        "--mark_ecnth", "--dq_threshold"};
+    struct pie_params usual, *params = &control->params;
+    if (control->rate < 1000)
+        return "--rate";
+    if (control->profile != PIE_ALWAYS_ON && control->profile != PIE_ON_AND_OFF)
+        return "--profile";
+    pie_params_for(control->rate, &usual);
+    control->packets = said->packets != 0 ? said->packets : command->most_packets < 1000 ? command->most_packets : 1000;
+    control->choices = (said->is_rate ? 0u : PIE_DELAY_STAMP) | (said->no_derandomization ? PIE_PICK_RANDOM : 0u) |
+                       (said->no_cap ? PIE_STEP_UNCAPPED : 0u) | (said->bytemode ? PIE_SIZE_SCALED : 0u);
+    params->limit_bytes = said->bytes != 0 ? said->bytes : usual.limit_bytes;
+    params->alpha = said->is_tail ? 0 : said->alpha * 1000 / 16;
+    params->beta = said->is_tail ? 0 : said->beta * 1000 / 16;
+    params->mean_pkt = said->mean_pkt != 0 ? said->mean_pkt : said->bytemode ? said->mtu : usual.mean_pkt;
+    params->mark_ecnth = control->use_ecn ? said->mark_ecnth : 0;
+    uint32_t bad = pie_check_params(params);
+    if (bad != 0)
+        return names[bad - 1];
+    return control->packets > command->most_packets ? "--limit" : NULL;
+}
+
+/* A limit that is reached before the target is. */
+static void warn(const struct command *command, const struct control *control) {
+    double wanted = (double)control->rate / 8e9 * (double)control->params.target;
+    if ((double)control->params.limit_bytes < wanted)
+        fprintf(stderr, "%s: limit_bytes, %llu, is under rate x target: the queue is full before it waits so long, and all losses are tail drops\n",
+                command->program, (unsigned long long)control->params.limit_bytes);
+    else if ((double)control->packets * 1500 < wanted)
+        fprintf(stderr, "%s: %llu packets are under rate x target: the queue is full before it waits so long, and all losses are tail drops\n",
+                command->program, (unsigned long long)control->packets);
+}
+
+static const struct option *named(const char *word, size_t length, const struct option *options, size_t count) {
+    for (size_t i = 0; i < count; i++)
+        if (strlen(options[i].name) == length && strncmp(word, options[i].name, length) == 0)
+            return &options[i];
+    return NULL;
+}
+
+/* Reads the option at this place with its text, and moves the place to its last word; what is wrong is printed. */
+static bool read_option(const struct command *command, const struct option *option, int count, char **words, int *place) {
+    const char *word = words[*place], *equals = strchr(word, '='), *fault = NULL;
+    if (option->read == NULL && equals == NULL) {
+        *(bool *)option->to = true;
         return true;
     }
-    return read_number(name, text, known, sizeof known / sizeof known[0], fault);
+    const char *text = equals != NULL ? equals + 1 : *place + 1 < count ? words[++*place] : "";
+    if (option->read == NULL)
+        fault = "it has no value";
+    else
+        fault = *text == '\0' ? "a value is missing" : option->read(text, option->to);
+    return fault == NULL || refuse_word(command, option->name, text, fault) == 0;
 }
 
-/* With gains of 0 the probability stays 0, so that no packet is picked, and only the limit drops. */
-static void make_tail_drop(struct control *control) {
-    control->params.alpha = 0;
-    control->params.beta = 0;
-}
-
-const char *finish_control(struct control *control) {
-    static const char *const parameters[] = {"target", "update", "burst", "alpha", "beta", "mean-packet", "limit", "mark-below", "threshold"};
-    uint32_t bad = pie_check_params(&control->params);
-    if (bad != 0)
-        return parameters[bad - 1];
-    if (control->rate < 1000)
-        return "rate";
-    if (control->packets < 1 || control->packets > MOST_PACKETS)
-        return "packets";
-    if (control->profile != PIE_ALWAYS_ON && control->profile != PIE_ON_AND_OFF)
-        return "profile";
-    if (control->is_tail_drop)
-        make_tail_drop(control);
-    return NULL;
+int read_words(const struct command *command, int count, char **words, struct control *control) {
+    struct said said = {.alpha = 2, .beta = 20, .mtu = 1514, .mark_ecnth = PIE_ONE / 10};
+    struct pie_params *params = &control->params;
+    const struct option shared[] = {
+        {"--rate", option_rate, &control->rate},
+        {"--target", option_time, &params->target},
+        {"--tupdate", option_time, &params->t_update},
+        {"--limit", read_limit, &said},
+        {"--alpha", read_gain, &said.alpha},
+        {"--beta", read_gain, &said.beta},
+        {"--ecn", NULL, &control->use_ecn},
+        {"--delay", read_delay, &said.is_rate},
+        {"--dq_rate_estimator", NULL, &said.is_rate},
+        {"--bytemode", NULL, &said.bytemode},
+        {"--mtu", option_size, &said.mtu},
+        {"--no_derandomization", NULL, &said.no_derandomization},
+        {"--no_cap_drop_adjustment", NULL, &said.no_cap},
+        {"--profile", option_number, &control->profile},
+        {"--queue", read_queue, &said.is_tail},
+        {"--max_burst", option_time, &params->max_burst},
+        {"--mean_pkt", option_size, &said.mean_pkt},
+        {"--mark_ecnth", read_probability, &said.mark_ecnth},
+        {"--dq_threshold", option_size, &params->dq_threshold},
+    };
+    *control = (struct control){.rate = 10000000, .profile = PIE_ALWAYS_ON};
+    pie_default_params(params);
+    int place = 1;
+    for (; place < count && words[place][0] == '-' && words[place][1] != '\0'; place++) {
+        size_t length = strcspn(words[place], "=");
+        if (strcmp(words[place], "--help") == 0) {
+            printf("%s%s%s", command->help[0], control_help, command->help[1]);
+            return WORDS_HELP;
+        }
+        const struct option *option = named(words[place], length, command->options, command->count);
+        if (option == NULL)
+            option = named(words[place], length, shared, sizeof shared / sizeof shared[0]);
+        if (option == NULL)
+            return refuse_word(command, words[place], "", "unknown");
+        if (!read_option(command, option, count, words, &place))
+            return WORDS_WRONG;
+    }
+    const char *fault = finish(command, control, &said);
+    if (fault != NULL)
+        return refuse_word(command, fault, "", "out of its range");
+    warn(command, control);
+    return place;
 }

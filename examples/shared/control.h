@@ -1,4 +1,5 @@
-/* The options of a bottleneck with PIE in front of it, as the examples' command lines have them. */
+/* The one grammar of options of the programs in C that have a link with PIE in front of it. A word means what it means to `pie params`, which has tc's
+ * words; what tc has no word for has the name that it has in pie.h. Texts are read by the library, as `pie params` reads them. */
 #ifndef SHARED_CONTROL_H
 #define SHARED_CONTROL_H
 
@@ -8,7 +9,7 @@
 #include <stddef.h>
 #include <stdint.h>
 
-#define MOST_PACKETS 65536 /* that a queue may have room for */
+#define MOST_PACKETS 65536 /* that a queue of the examples may have room for */
 
 struct control {
     uint64_t rate;            /* bits a second of the link */
@@ -16,46 +17,46 @@ struct control {
     uint64_t profile;         /* PIE_ALWAYS_ON or PIE_ON_AND_OFF */
     uint32_t choices;         /* the flags of the optional elements */
     bool use_ecn;             /* whether packets are marked */
-    bool is_tail_drop;        /* whether only the limit drops */
     struct pie_params params; /* as pie_open_with takes them */
 };
 
-/* A unit that is so many. */
-struct unit {
+/* Reads an option's text, which isn't empty, into what `to` points to; what is wrong with it, NULL where nothing is. */
+typedef const char *option_reader(const char *text, void *to);
+
+/* Into a uint64_t: nanoseconds, bits a second, bytes, packets, a whole number. */
+option_reader option_time, option_rate, option_size, option_packets, option_number;
+
+/* Into a const char *: the text itself. */
+option_reader option_text;
+
+/* An option; one without a reader has no text, and sets the bool that `to` points to. */
+struct option {
     const char *name;
-    double factor;
+    option_reader *read;
+    void *to;
 };
 
-/* Of a number without a unit; the last of a list of units has no name. */
-extern const struct unit numbers[];
-
-/* The number in a text by one of the library's readers, which answers why there is none. */
-typedef uint32_t reader(const char *text, size_t length, uint64_t *value);
-
-/* An option with a number: by a reader of the library, or with these units. */
-struct number {
-    const char *name;
-    reader *read;
-    const struct unit *units;
-    uint64_t *value;
+/* A program: its name in what it says; its help, in parts, between which control_help stands; and its options beside those of the link, which
+ * come before these where they have the same name. */
+struct command {
+    const char *program;
+    const char *help[2];
+    const struct option *options;
+    size_t count;
+    uint64_t most_packets; /* the greatest limit in packets */
 };
 
-/* The options' help, a line each. */
+/* The help of the link's options, a line each. */
 extern const char control_help[];
 
-/* The defaults. */
-void set_control(struct control *control);
+/* What read_words answers beside the place of a word. */
+enum { WORDS_HELP = -1, WORDS_WRONG = -2 };
 
-/* Reads an option of these with its text, and what is wrong with that, NULL where nothing is; false where it is none of these. */
-bool read_number(const char *name, const char *text, const struct number *known, size_t count, const char **fault);
+/* Reads the words from 1 on, as `--name text` and `--name=text`, up to the first that is no option, and answers its place. The help that was asked
+ * for, and what is wrong, is printed. */
+int read_words(const struct command *command, int count, char **words, struct control *control);
 
-/* Reads an option that has no value; false where this word is none. */
-bool read_control_word(const char *word, struct control *control);
-
-/* Reads an option with its value, and what is wrong with it, NULL where nothing is; false where this word is no such option. */
-bool read_control(const char *name, const char *text, struct control *control, const char **fault);
-
-/* The first option out of its range, NULL where none is; then the options are ready. */
-const char *finish_control(struct control *control);
+/* Tells what is wrong, and answers WORDS_WRONG. */
+int refuse_word(const struct command *command, const char *name, const char *text, const char *fault);
 
 #endif

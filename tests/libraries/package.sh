@@ -1,7 +1,8 @@
 #!/usr/bin/env bash
 # Takes the library as a package: installs it into a temporary folder, and from an empty folder builds the README's example over it by
 # pkg-config, in C11 and C++17 with warnings as errors, and a Rust program that depends on bindings/rust; runs them; installs below
-# DESTDIR as packagers do; and installs the program, where it was built. What is missing here is told on a line that begins with NOT RUN.
+# DESTDIR as packagers do; installs the program, where it was built; and makes the archive of all, unpacks it elsewhere, and uses program and library
+# with nothing of the toolchain in reach. What is missing here is told on a line that begins with NOT RUN.
 #
 # usage: tests/libraries/package.sh
 # needs: library, program
@@ -102,6 +103,31 @@ if [ -e "$repository/crates/pie/out/pie" ]; then
     "$prefix/bin/pie-report" --pie "$prefix/bin/pie" -o "$work/page.html" "$repository/examples/burst.history" ||
         fail "the installed pie-report makes no page"
     [ -e "$prefix/share/man/man1/pie-report.1" ] || fail "pie-report has no manual page"
+    # the archive, unpacked elsewhere: it needs libc alone, of Debian 12 or before, and no path of this machine is in what pkg-config tells
+    ./install.sh --archive "$work/pie.tar.gz" > /dev/null && ./install.sh --archive "$work/again.tar.gz" > /dev/null || fail "no archive is made"
+    cmp "$work/pie.tar.gz" "$work/again.tar.gz" || fail "two archives of the same files differ"
+    mkdir "$work/elsewhere" && tar -xf "$work/pie.tar.gz" -C "$work/elsewhere"
+    unpacked=$work/elsewhere/juniperbowls-$version
+    bare() {
+        env -i PATH=/usr/bin:/bin HOME=/nonexistent "$@"
+    }
+    only='^(linux-vdso\.so\.1|libc\.so\.6|libm\.so\.6|/lib64/ld-linux-x86-64\.so\.2|statically|not)$'
+    needed=$(bare ldd "$unpacked/bin/pie" 2>&1 | awk '{ print $1 }' | grep -v -E "$only" || true)
+    [ -z "$needed" ] || fail "the program of the archive needs $needed"
+    newest=$(grep -a -o 'GLIBC_2\.[0-9]*' "$unpacked/bin/pie" | sort -V | tail -n 1)
+    [ "$(printf '%s\n' "${newest:-GLIBC_2.0}" GLIBC_2.36 | sort -V | tail -n 1)" = GLIBC_2.36 ] || fail "the program of the archive needs $newest"
+    expect "the program of the archive" "pie $version" bare "$unpacked/bin/pie" --version
+    events=$(grep -c -E '^(arrive|depart|update|reset|params),' examples/burst.history)
+    expect "an audit by the program of the archive" "clean,$events" bare "$unpacked/bin/pie" audit < examples/burst.history
+    bare "$unpacked/bin/pie-report" --pie "$unpacked/bin/pie" -o "$work/archive.html" examples/burst.history ||
+        fail "pie-report of the archive makes no page"
+    [ -e "$unpacked/share/man/man1/pie.1" ] && [ -e "$unpacked/share/doc/pie/LICENSE-MIT" ] || fail "the archive has no manual page or licence"
+    if command -v pkg-config > /dev/null && command -v cc > /dev/null; then
+        # shellcheck disable=SC2046
+        (cd "$work/empty" && export PKG_CONFIG_PATH=$unpacked/lib/pkgconfig && bare cc -o example example.c \
+            $(pkg-config --cflags --libs pie_c)) || fail "the README's example is not built over the archive"
+        expect "the README's example over the archive" "$wanted" "$work/empty/example"
+    fi
 else
-    not_run "crates/pie/out/pie was not built, so the program was not installed"
+    not_run "crates/pie/out/pie was not built, so the program was not installed, and no archive made"
 fi

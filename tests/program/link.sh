@@ -1,6 +1,7 @@
 #!/usr/bin/env bash
 # Real TCP through the link in user space (examples/link), some seconds by tail drop and some by PIE: both histories are clean, and by
-# PIE packets wait less in the mean. Then the link is killed in the middle of a transfer: what its flight recorder wrote
+# PIE packets wait less in the mean. Its options open what pie params asks for by the same words. Then a link whose rate changes, and that
+# sends by grants, is killed in the middle of a transfer: what its flight recorder wrote
 # when it was asked, and what its file holds, is decided again. Each of these texts tells when its events were, by the time of day. Before that
 # the test of its packets: marks in IPv4 and IPv6 headers, and checksums. Where this machine lacks something that it takes, a line that begins
 # with NOT RUN says so.
@@ -32,17 +33,52 @@ while IFS='|' read -r option text said; do
 done <<'END'
 --target|1.5|--target 1.5: refused: no number with a unit of its kind
 --target|1.5ns|--target 1.5ns: refused: no whole number, or more than 18 decimals
---target|20MSecs|--from and to: missing, or out of its range
---target|11s|--target: missing, or out of its range
+--target|20MSecs|--from and --to: missing
+--target|11s|--target: out of its range
 --rate|10000000|--rate 10000000: refused: no number with a unit of its kind
---rate|999999tbit|--from and to: missing, or out of its range
 --rate|1152922tbit|--rate 1152922tbit: refused: a number above 2^60 - 1
---limit|1mb|--from and to: missing, or out of its range
---limit|1500|--from and to: missing, or out of its range
---packets|1000p|--from and to: missing, or out of its range
---mark-below|10%|--from and to: missing, or out of its range
---mark-below|10mb|--mark-below 10mb: refused: no number with a unit of its kind
+--rate|10mbit,20s:2mbit,40s:10mbit|--from and --to: missing
+--rate|10mbit,20s:2mbit,20s:10mbit|--rate 10mbit,20s:2mbit,20s:10mbit: a rate below 1kbit, or moments that don't rise
+--rate|10mbit,2mbit|--rate 10mbit,2mbit: not a rate, and then moments and rates, as 10mbit,20s:2mbit
+--rate|1s:10mbit|--rate 1s:10mbit: not a rate, and then moments and rates, as 10mbit,20s:2mbit
+--rate|10mbit,1s:|--rate 10mbit,1s:: refused: no number with a unit of its kind
+--limit|1mb|--from and --to: missing
+--limit|1000p|--from and --to: missing
+--limit|1500|--limit 1500: a unit has to say of what it is, as 1000p or 256kb
+--limit|65537p|--limit: out of its range
+--alpha|2|--from and --to: missing
+--alpha|0.125|--alpha 0.125: not a whole number
+--beta|33|--beta 33: not in 0 to 32, as tc has it
+--delay|rate|--from and --to: missing
+--delay|20ms|--delay 20ms: not a value of this option
+--mark_ecnth|10%|--from and --to: missing
+--mark_ecnth|10mb|--mark_ecnth 10mb: refused: no number with a unit of its kind
+--grant|5ms|--from and --to: missing
+--grant|5us|--grant: out of its range
 --queue|red|--queue red: not a value of this option
+END
+# what is opened where these options are given is what pie params asks for with the same words; the link's log of events alone is its own
+opened() {
+    ip netns add "${names[1]}" && (within "${names[1]}" "$link/out/link" --from senders --to receivers --for 1ms --history "$work/opened" "$@") \
+        > /dev/null 2> "$work/warned"
+    ip netns del "${names[1]}"
+}
+bound=10
+while read -r words; do
+    # shellcheck disable=SC2086
+    opened $words && wanted=$("$program" params $words 2> /dev/null | cut -d, -f1-9,11-)
+    found=$(head -n 1 "$work/opened" | cut -d, -f1-9,11-)
+    nine=15000000,15000000,150000000,125,1250,1024,262144,100000000000,16384
+    if [ "$(tr -d '\n' <<< "${found%,"$nine"}")" != "${wanted%,"$nine"}" ]; then
+        echo "$script: with $words the link opens $found, and pie params says $wanted"
+        exit 1
+    fi
+done <<'END'
+--rate 10mbit
+--rate 100mbit --target 20ms --limit 1000p --alpha 3 --beta 21 --tupdate 10ms --ecn
+--rate 9000kbit --dq_rate_estimator --no_derandomization --no_cap_drop_adjustment --ecn
+--rate 10mbit --bytemode
+--rate 10mbit --bytemode --mtu 9000 --limit 77p
 END
 # tells_time TEXT SINCE: each event of a text is told by a time of day that isn't earlier than this one, nor later than now
 tells_time() {
@@ -55,7 +91,7 @@ tells_time() {
 }
 since=$(date -u +%Y-%m-%dT%H:%M:%S.%NZ)
 for queue in tail pie; do
-    measure "$work/$queue" "$seconds" 4 --rate 10mbit --delay 20ms --limit 256kb --queue "$queue" || exit 1
+    measure "$work/$queue" "$seconds" 4 --rate 10mbit --rtt 20ms --queue "$queue" || exit 1
     events=$(grep -c -E '^(arrive|depart|update),' "$work/$queue/history")
     found=$("$program" audit < "$work/$queue/history")
     if [ "$found" != "clean,$events" ]; then
@@ -80,7 +116,7 @@ if ! awk -v tail="${means[0]}" -v pie="${means[1]}" 'BEGIN { exit !(pie < tail) 
 fi
 
 # killed in the middle of a transfer: the text of what its flight recorder left is clean, and goes on behind that which it wrote when it was asked
-kill_in_the_middle "$work/killed" 4 4 --rate 10mbit --delay 20ms --limit 256kb --ecn || exit 1
+kill_in_the_middle "$work/killed" 4 4 --rate 10mbit,1s:2mbit --grant 5ms --rtt 20ms --ecn || exit 1
 "$link/out/flight_text" "$work/killed/flight" > "$work/killed/text" || exit 1
 asked=$("$program" audit < "$work/killed/flight.history")
 left=$("$program" audit < "$work/killed/text")
@@ -89,4 +125,9 @@ if [[ $asked != clean,* || $left != clean,* || ${asked#clean,} -lt 200 || ${left
     exit 1
 fi
 tells_time "$work/killed/flight.history" "$since" && tells_time "$work/killed/text" "$since" || exit 1
+# after the first second the link had 2 Mbit/s, and sent at its grants alone, each 5 ms
+awk -F, '$1 == "depart" && $4 == "left" && $3 > 1.1e9 { bits += 8 * $6; if ($3 != last) moments++; last = $3; if (!first) first = $3 }
+    END { time = (last - first) / 1e9; print bits, moments, time
+        exit !(time > 0.5 && bits > 1e5 && bits < 2.1e6 * time + 5e4 && moments < time * 200 + 5) }' \
+    "$work/killed/text" > "$work/sent" || { echo "$script: at 2 Mbit/s by grants of 5 ms: bits, moments and seconds: $(cat "$work/sent")"; exit 1; }
 echo "$script: killed: the text that was asked for is clean ($asked), and what the killed link left too ($left)"

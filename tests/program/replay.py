@@ -185,12 +185,12 @@ def each_kind(tool):
 
 def choices(tool):
     data = pcap(RAW, [(m, p) for m, p, _, _ in traffic(1500)])
-    words = ["--no_dq_rate_estimator", "--no_derandomization", "--no_cap_drop_adjustment", "--bytemode"]
+    words = ["--dq_rate_estimator", "--no_derandomization", "--no_cap_drop_adjustment", "--bytemode"]
     for number in range(16):
         for profile in "12":
             # (at this rate and threshold cycles of the departure rate open and end all the time)
             chosen = [it for i, it in enumerate(words) if number >> i & 1]
-            swing = ["--rate", "16500kbit", "--threshold", "1kb", "--update", "2ms", "--limit", "9kb", "--ecn"]
+            swing = ["--rate", "16500kbit", "--dq_threshold", "1kb", "--tupdate", "2ms", "--limit", "9kb", "--ecn"]
             status, lines, found, _, said = tool.run(data, "--profile", profile, *swing, *chosen)
             expect(status == 0 and is_clean(lines, found), f"choices {number} of profile {profile}: {found}, {said}")
 
@@ -210,7 +210,7 @@ def filters(tool):
 def super_packets(tool):
     """A TCP packet of 4396 bytes with headers of 52, and an IPv6 one of 3000 with 72: split at 1500 they have 3 and 3 segments."""
     frames = [(0, ipv4(4396, 2, 6)), (10**6, ipv6(3000, 2, 6)), (2 * 10**6, ipv4(1500, 0, 6)), (3 * 10**6, ipv4(2000, 0, 6, total=0))]
-    _, lines, found, _, said = tool.run(pcap(RAW, frames), "--mtu", "1500b")
+    _, lines, found, _, said = tool.run(pcap(RAW, frames), "--split", "1500b")
     sizes = [(int(it[3]), int(it[4])) for it in arrivals(lines)]
     wanted = [(1, 1500), (1, 1500), (1, 1500), (2, 1500), (2, 1500), (2, 144), (3, 1500), (4, 1500), (4, 552)]
     expect(sizes == wanted and is_clean(lines, found) and "above 1500" not in said, f"super-packets: {sizes}")

@@ -28,7 +28,7 @@ BUDGETS = {
     "docs/PROMISES.md": 1800,
     "docs/PROVING.md": 4000,
     "docs/RESULTS.md": 3500,
-    "bench/*.md": 1100,
+    "bench/*.md": 1250,
     "bindings/ and examples/": 5000,
 }
 LONGEST = 150

@@ -38,7 +38,8 @@ from_day-chosen : (name : Text) → choice_of (options_in (name ∷ codes "expla
 unfolding clap_on_literals choice_of digit_count number_after utc_in utc_with unix_of seconds_part date_part has_marks nanos_in day_number
 from_day-chosen name = refl
 
-wall_of_sums : (name : Text) → choice_of (options_in (name ∷ codes "explain" ∷ codes "--wall" ∷ codes "--summary" ∷ [])) ≡ None
+wall_of_sums : (name : Text) → choice_of (options_in (name ∷ codes "explain" ∷ codes "--wall" ∷ codes "--summary" ∷ []))
+    ≡ Some (at_all_moments All)
 unfolding clap_on_literals choice_of
 wall_of_sums name = refl
 

@@ -16,7 +16,6 @@ use Rattle.pie_units.specs.declared.when.When.{When}
 use Rattle.pie_units.specs.declared.when.When.TheVariants as when
 use Rattle.pie_units.specs.declared.when.WhenFault.{WhenFault}
 use Rattle.pie_explanation.specs.Output.{pages}
-use Rattle.pie_summary.specs.Digest.{digest_of}
 use Rattle.pie_summary.specs.Summary.{summary_of}
 use Rattle.pie_commands.specs.declared.explain.Tale.{Tale}
 
@@ -114,8 +113,7 @@ choice_at _ _ _ _ = None
 -- what these options choose; nothing where they don't say it as they have to
 unfoldable pub choice_of : List Row → Option Choice
 choice_of options =
-    if is_by_wall options && is_summary options then None
-    else choice_at (which_of options) (bound_given (codes "from") options) (bound_given (codes "to") options) (moment_given (codes "every") options)
+    choice_at (which_of options) (bound_given (codes "from") options) (bound_given (codes "to") options) (moment_given (codes "every") options)
 
 -- in words, and as CSV where the first holds; with times of day where the second does
 abbrev pub form_where : Bool → Bool → Form
@@ -129,8 +127,7 @@ form_of options = form_where (flag_given (codes "csv") options) (is_by_wall opti
 
 -- what is told of the explained events: each; or summaries of all or of each period, with the words for lost and marked packets or without
 abbrev pub tale_by : Bool → Bool → Option ℕ → Form → List Explained → List ℕ
-tale_by true true every form = digest_of (record { summary = record { form = form; every = every } })
-tale_by true false every form = summary_of (record { form = form; every = every })
+tale_by true digest every form = summary_of (record { form = form; every = every; packets = digest })
 tale_by false digest every form = pages form
 
 abbrev pub tale_of : List Row → List Explained → List ℕ

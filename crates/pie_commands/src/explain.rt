@@ -17,7 +17,7 @@ use clap::ArgMatches;
 use pie_explain::{Choice, ExplainFault, Form, Which, explain_either};
 use pie_files::{NamedFiles, Watched, fault, reader_of};
 use pie_options::{file, flag, number};
-use pie_summary::{Digest, Summary};
+use pie_summary::Summary;
 use pie_units::{When, WhenFault};
 use std::alloc::Global;
 use std::io::{Read, Write};
@@ -26,9 +26,6 @@ use std::time::Clock;
 /// What is said where the words don't choose events by exactly one option.
 const NO_CHOICE: &str =
     "explain takes one of --event N, --tag T, --lost, --marked and --all, or --summary, --every or --digest; see pie explain --help";
-
-/// What is said where times of day are asked for in sums.
-const NO_WALL: &str = "--wall: not with --summary, --every or --digest";
 
 /// What is said where a period has no length.
 const NO_PERIOD: &str = "--every: a period lasts at least 1 ns";
@@ -151,10 +148,6 @@ fn choice_of<E: Write>(options: &ArgMatches<'_>, errors: &mut E) -> Option<Choic
         fault(errors, NO_CHOICE);
         return None;
     };
-    if is_by_wall(options) && is_summary(options) {
-        fault(errors, NO_WALL);
-        return None;
-    }
     let Ok(from) = bound_of(options, "from", errors) else {
         return None;
     };
@@ -222,14 +215,16 @@ fn tell<R: Read + Drop, W: Write>(
     ensures { IfSome (R.remaining input) (λ text. ExplainsEither choice (told_by tale) (records_of text) result (W.contents output.old)
         (W.contents output.new)) }
 {
-    let (form, every) = (tale.form, tale.every);
-    let summaries = Summary { form, every };
-    match (tale.summary, tale.digest) {
-        (true, true) => {
-            explain_either(alloc, input, output, choice, Digest { summary: summaries })
-        }
-        (true, false) => explain_either(alloc, input, output, choice, summaries),
-        (false, _) => explain_either(alloc, input, output, choice, form),
+    let (form, every, packets) = (tale.form, tale.every, tale.digest);
+    if tale.summary {
+        let summaries = Summary {
+            form,
+            every,
+            packets,
+        };
+        explain_either(alloc, input, output, choice, summaries)
+    } else {
+        explain_either(alloc, input, output, choice, form)
     }
 }
 

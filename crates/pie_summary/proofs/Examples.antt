@@ -29,7 +29,7 @@ use Rattle.pie_summary.specs.Record.{count_fields, first_fields, last_fields, re
 use Rattle.pie_summary.specs.Counts.{kept}
 use Rattle.pie_summary.specs.Ranges.{end_within, first_up_to, range_end, range_of, ranges_of}
 use Rattle.pie_summary.specs.Series.{series_of}
-use Rattle.pie_summary.specs.Summary.{header, summary_of}
+use Rattle.pie_summary.specs.Summary.{header, noted, summary_of}
 use Rattle.pie_summary.specs.Sums.{above_by, answer_place, cause_place, excess_by, late_at, moment_at, sums_of, turned_at, waits_of}
 use Rattle.pie_summary.specs.Words.{above_words, arrival_words, arrived_words, cause_row, cause_words, disagree, disagree_words, dropped_words}
 use Rattle.pie_summary.specs.Words.{head_words, late_words, later_words, left_words, mean, time_words, turning_words}
@@ -40,7 +40,7 @@ unfoldable worked : Type 0
 unfolding greatest last_or places sums_of header digits millis per_cent share first_fields count_fields record_of row_words queued_words dropped_words
     word_of_cause cause_row cause_words head_words arrived_words left_words update_words target_words range_of range_end ranges_of waits_of turned_words
     verdict_words title arrival_words later_words words last_fields
-    late_words disagree_words above_words turning_words time_words utc_text date_of date_in year_among year_day
+    noted late_words disagree_words above_words turning_words time_words utc_text date_of date_in year_among year_day
 worked = ⊤
 
 -- ---- two times
@@ -293,14 +293,14 @@ abbrev names : List ℕ
 names = field_line ++ codes "\n"
 
 -- one record of all
-all-record : summary_of (record { form = Csv; every = None }) fourteen
+all-record : summary_of (record { form = Csv; every = None; packets = false }) fourteen
     ≡ names ++ codes "14,40,499,6,68664,2,1,1,1,1,1,1,2,0,0,0,0,0,0,0,0,1,1,0,0,3,140,88,3,30,4,200000000000,0,2,40,405,1,250,250,"
     ++ codes "140,2565,15000000,0,0,0,0\n"
 unfolding worked
 all-record = refl
 
 -- one of each period that has events
-period-records : summary_of (record { form = Csv; every = Some 100 }) fourteen
+period-records : summary_of (record { form = Csv; every = Some 100; packets = false }) fourteen
     ≡ names ++ codes "2,40,99,1,1000,1,0,0,0,0,0,0,1,0,0,0,0,0,0,0,0,0,0,0,0,0,0,0,1,30,30,200000000000,200000000000,1,40,40,0,0,0,"
     ++ codes "0,0,15000000,0,0,0,0\n"
     ++ codes "3,100,151,2,2001,0,1,1,0,0,0,0,0,0,0,0,0,0,0,0,0,1,1,0,0,1,111,111,0,0,0,200000000000,200000000000,0,0,0,0,0,0,"
@@ -311,13 +311,13 @@ unfolding worked
 period-records = refl
 
 -- where there is no event, one of none
-no-record : summary_of (record { form = Csv; every = Some 100 }) []
+no-record : summary_of (record { form = Csv; every = Some 100; packets = false }) []
     ≡ names ++ codes "0,0,0,0,0,0,0,0,0,0,0,0,0,0,0,0,0,0,0,0,0,0,0,0,0,0,0,0,0,0,0,0,0,0,0,0,0,0,0,0,0,0,0,0,0,0\n"
 unfolding worked
 no-record = refl
 
 -- in words: shares of the arrivals, rounded down, no line of a cause that decided none, and times in milliseconds too
-all-words : summary_of (record { form = Text; every = None }) fourteen
+all-words : summary_of (record { form = Text; every = None; packets = false }) fourteen
     ≡ codes "14 events, from 0.000040 ms (40 ns) to 0.000499 ms (499 ns)\n  6 arrivals, 68664 bytes\n    queued: 2, 33.3333 %\n"
     ++ codes "    queued and marked: 1, 16.6666 %\n    dropped early: 1, 16.6666 %\n    dropped, no room in bytes: 1, 16.6666 %\n"
     ++ codes "    dropped, no room in packets: 1, 16.6666 %\n  by what decided them\n    no_room_in_bytes: 1, 16.6666 %\n"
@@ -375,7 +375,7 @@ unfolding worked
 late-sums = (refl, refl, refl, refl)
 
 -- a record has the first time of day that is told, and none where none is
-by-wall : (summary_of (record { form = CsvByWall; every = Some 30_000_000 }) (take 2 five)
+by-wall : (summary_of (record { form = CsvByWall; every = Some 30_000_000; packets = false }) (take 2 five)
     ≡ field_line ++ codes ",wall\n"
     ++ codes "1,20000000,20000000,0,0,0,0,0,0,0,0,0,0,0,0,0,0,0,0,0,0,0,0,0,0,1,16000000,16000000,0,0,0,0,0,0,0,0,0,0,0,"
     ++ codes "16000000,60,15000000,0,0,1,0,\n"
@@ -385,7 +385,7 @@ unfolding worked
 by-wall = refl
 
 -- in words, where the delay at no update was above the target
-late-in-words : summary_of (record { form = TextByWall; every = None }) five
+late-in-words : summary_of (record { form = TextByWall; every = None; packets = false }) five
     ≡ codes "5 events, from 20.000000 ms (20000000 ns) to 70.000000 ms (70000000 ns)\n"
     ++ codes "  by the time of day from 2026-11-26T20:00:00.030000000Z to 2026-11-26T20:00:00.070000000Z\n  0 arrivals, 0 bytes\n"
     ++ codes "    queued: 0, 0.0000 %\n    queued and marked: 0, 0.0000 %\n    dropped early: 0, 0.0000 %\n"

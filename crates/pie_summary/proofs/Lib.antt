@@ -5,4 +5,3 @@ pub mod SeriesFacts
 pub mod SumsFacts
 pub mod PeriodFacts
 pub mod SummaryFacts
-pub mod DigestFacts

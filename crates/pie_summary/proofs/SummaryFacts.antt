@@ -11,18 +11,19 @@ use Rattle.pie_summary.specs.declared.period.Period.{Period}
 use Rattle.pie_summary.specs.declared.summary.Summary.{Summary}
 use Rattle.pie_summary.specs.declared.sums.Sums.{Sums}
 use Rattle.pie_summary.specs.Period.{begins, last_events, period_at}
-use Rattle.pie_summary.specs.Summary.{ended, ended_at, header, keeps, said, summaries, summary_of}
+use Rattle.pie_summary.specs.Summary.{ended, ended_at, header, keeps, noted, said, summaries, summary_of, written_at}
 use Rattle.pie_summary.specs.Sums.{sums_of, waits_of}
 
 pub summaries-push : (summary : Summary) (shown : List Explained) (one : Explained) (period : Period) (next : ℕ)
     → keeps summary period shown → next ≡ period_at summary.every one
-    → summaries summary (shown ++ one ∷ []) ≡ summaries summary shown ++ ended summary.form (begins period.number next) period.sums period.waits
+    → summaries summary (shown ++ one ∷ []) ≡ summaries summary shown
+    ++ (ended summary.form (begins period.number next) period.sums period.waits ++ noted summary one)
 summaries-push summary shown one period next kept is =
     let same : ended summary.form (begins period.number next) period.sums period.waits ≡ ended_at summary (place_of shown one) =
     λ i. ended summary.form (begins (kept.0 i) (is i)) (kept.1 i) (kept.2 i) in
-    ap (λ ps. header summary.form ++ flat_map (ended_at summary) ps) (places-push shown one)
-    ∙ sym (flat_map_more (ended_at summary) (header summary.form) (places shown) (place_of shown one))
-    ∙ ap (λ text. summaries summary shown ++ text) (sym same)
+    ap (λ ps. header summary.form ++ flat_map (written_at summary) ps) (places-push shown one)
+    ∙ sym (flat_map_more (written_at summary) (header summary.form) (places shown) (place_of shown one))
+    ∙ ap (λ text. summaries summary shown ++ (text ++ noted summary one)) (sym same)
 
 pub summary-ends : {E : Type 0} (result : Result (Unit {0}) E) (summary : Summary) (shown : List Explained) (sums : Sums) (waits page now : List ℕ)
     → sums ≡ sums_of (last_events summary.every shown) → waits ≡ waits_of (last_events summary.every shown)

@@ -6,4 +6,3 @@ pub mod Period
 pub mod Words
 pub mod Record
 pub mod Summary
-pub mod Digest

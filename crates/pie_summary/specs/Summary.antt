@@ -1,11 +1,15 @@
--- What is written for summaries of the explained events.
-use Rattle.std.specs.Prelude.{ℕ, ◌≡◌, Bool, true, false, List, [], ◌∷◌, ◌++◌, codes}
+-- What is written for summaries of the explained events, and between them for lost and marked packets.
+use Rattle.std.specs.Prelude.{ℕ, ◌≡◌, Bool, true, false, ◌&&◌, ◌||◌, List, [], ◌∷◌, ◌++◌, Option, None, codes}
 use Rattle.std.specs.List.{flat_map}
 use Rattle.pie_aqm.specs.Places.{Place, places}
 use Rattle.pie_explanation.specs.declared.form.Form.{Form}
 use Rattle.pie_explanation.specs.declared.form.Form.TheVariants.{Text, Csv, TextByWall, CsvByWall}
 use Rattle.pie_explanation.specs.declared.explanation.Explained.{Explained}
+use Rattle.pie_explanation.specs.declared.which.Which.TheVariants.{Lost, Marked}
 use Rattle.pie_explanation.specs.Record.{line_of}
+use Rattle.pie_explanation.specs.Which.{chooses}
+use Rattle.pie_explanation.specs.Words.{words_by}
+use Rattle.pie_record.specs.declared.clock.Clock.{Clock}
 use Rattle.pie_summary.specs.declared.period.Period.{Period}
 use Rattle.pie_summary.specs.declared.summary.Summary.{Summary}
 use Rattle.pie_summary.specs.declared.sums.Sums.{Sums}
@@ -43,9 +47,37 @@ ended_at summary place =
     ended summary.form (begins (last_period summary.every place.before) (period_at summary.every place.event))
     (sums_of (last_events summary.every place.before)) (waits_of (last_events summary.every place.before))
 
+-- ---- lost and marked packets
+
+-- an event is one that `--lost` chooses, or `--marked`
+abbrev pub is_lost_or_marked : Explained → Bool
+is_lost_or_marked one = chooses Lost one.told.number one.told.event || chooses Marked one.told.number one.told.event
+
+-- the record by which a form tells moments as times of day
+abbrev pub clock_for : Form → Option Clock → Option Clock
+clock_for Text clock = None
+clock_for Csv clock = None
+clock_for TextByWall clock = clock
+clock_for CsvByWall clock = clock
+
+-- the words for an event, where this holds
+abbrev pub words_where : Bool → Option Clock → Explained → List ℕ
+words_where true clock one = words_by clock one
+words_where false clock one = []
+
+-- what is said of an event by itself: its words, where packets are explained and it lost or marked one
+unfoldable pub noted : Summary → Explained → List ℕ
+noted summary one = words_where (summary.packets && is_lost_or_marked one) (clock_for summary.form one.told.clock) one
+
+-- ---- the whole
+
+-- what is written at an event: a summary of the events before it, where it is in another period, and then what is said of it by itself
+abbrev pub written_at : Summary → Place Explained → List ℕ
+written_at summary place = ended_at summary place ++ noted summary place.event
+
 -- .. at each of these events
 abbrev pub summaries : Summary → List Explained → List ℕ
-summaries summary all = header summary.form ++ flat_map (ended_at summary) (places all)
+summaries summary all = header summary.form ++ flat_map (written_at summary) (places all)
 
 -- .. and behind them, a summary of the last ones
 abbrev pub summary_of : Summary → List Explained → List ℕ

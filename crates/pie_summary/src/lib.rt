@@ -3,11 +3,9 @@
 //!
 //! `Summary` is a report that `explain` of pie_explain writes of the chosen events, and its text is `summary_of` them. The numbers of a
 //! summary are those of `sums_of`, which looks at the whole list of its events. Each event costs the same, and nothing is kept of it but
-//! the numbers. `Digest` is the report of summaries between which each packet that was lost or marked is explained, so that a history is
-//! read once for both; its text is `digest_of` them.
+//! the numbers. With `packets` each packet that was lost or marked is explained between the summaries, so that a history is read once for both.
 #![tactic(auto)]
 
-pub mod digest;
 pub mod period;
 pub mod ranges;
 mod record;
@@ -16,7 +14,6 @@ pub mod summary;
 pub mod sums;
 mod words;
 
-pub use digest::Digest;
 pub use period::Period;
 pub use ranges::Ranges;
 pub use series::Series;

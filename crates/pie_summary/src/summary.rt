@@ -1,15 +1,16 @@
-//! Summaries of the explained events.
+//! Summaries of the explained events, and between them the words for each packet that was lost or marked.
 ghost use Rattle.std.specs.Prelude.{◌≡◌, ◌++◌, OnOk, string_bytes};
 ghost use Rattle.pie_summary.specs.Period.{begins};
-ghost use Rattle.pie_summary.specs.Summary.{ended, header, said};
+ghost use Rattle.pie_summary.specs.Summary.{clock_for, ended, header, is_lost_or_marked, noted, said};
 
 use crate::period::{Period, period_of};
 use crate::ranges::Ranges;
 use crate::record::{NAMES, push_record};
 use crate::sums::Sums;
 use crate::words::{push_words, wait_99};
-use pie_explanation::{Explained, Form, Report};
+use pie_explanation::{Explained, Form, Report, Which};
 use pie_page::Page;
+use pie_record::Clock;
 use std::alloc::AllocError;
 
 /// Summaries of the explained events: how many arrivals each verdict and each cause had, how long packets waited, what the updates
@@ -22,11 +23,14 @@ pub struct Summary {
     pub form: Form,
     /// How many nanoseconds a period lasts, 1 at least, the first from moment 0 on; none where all events are summed up together.
     pub every: Option<u64>,
+    /// Whether between the summaries each event that lost or marked a packet is explained in words, whatever the form. A summary is written
+    /// when its last event is known, so before the words for the first event of the next period.
+    pub packets: bool,
 }
 
 /// Writes what stands before the first summary: for CSV the header row.
 #[tactic(auto, unfolding(crate::specs::Summary::header, pie_aqm::specs::CauseName::word_of_cause))]
-pub(crate) fn push_header(page: &mut Page, form: Form) -> Result<(), AllocError>
+fn push_header(page: &mut Page, form: Form) -> Result<(), AllocError>
     ensures { OnOk result (page.new ≡ page.old ++ header form) }
 {
     match form {
@@ -56,7 +60,7 @@ fn push_sums(text: &mut String, form: Form, sums: &Sums, waits: &Ranges) -> Resu
 }
 
 /// Writes the numbers of a period onto the page.
-pub(crate) fn push_said(page: &mut Page, form: Form, period: &Period) -> Result<(), AllocError>
+fn push_said(page: &mut Page, form: Form, period: &Period) -> Result<(), AllocError>
     ensures { OnOk result (page.new ≡ page.old ++ said form period.now.sums period.now.waits) }
 {
     let mut text = page.words();
@@ -65,18 +69,43 @@ pub(crate) fn push_said(page: &mut Page, form: Form, period: &Period) -> Result<
 }
 
 /// Writes a summary of the events of a period, where the next event is in another one.
-pub(crate) fn push_ended(
-    page: &mut Page,
-    form: Form,
-    period: &Period,
-    next: u64,
-) -> Result<(), AllocError>
+fn push_ended(page: &mut Page, form: Form, period: &Period, next: u64) -> Result<(), AllocError>
     ensures { OnOk result (page.new ≡ page.old ++ ended form (begins period.now.number next) period.now.sums period.now.waits) }
 {
     if !period.ends_before(next) {
         return Ok(());
     }
     push_said(page, form, period)
+}
+
+/// Whether an event lost or marked a packet.
+fn is_lost_or_marked(told: &Explained) -> bool
+    ensures { result ≡ is_lost_or_marked told.now }
+{
+    let (number, event) = (told.told.number, &told.told.event);
+    Which::Lost.chooses(number, event) || Which::Marked.chooses(number, event)
+}
+
+/// The record by which a form tells moments as times of day.
+fn clock_for(form: Form, clock: Option<Clock>) -> Option<Clock>
+    ensures { result ≡ clock_for form clock }
+{
+    match form {
+        Form::Text | Form::Csv => None,
+        Form::TextByWall | Form::CsvByWall => clock,
+    }
+}
+
+/// Writes the words for an event that lost or marked a packet, where packets are explained.
+#[tactic(auto, unfolding(crate::specs::Summary::noted))]
+fn push_noted(page: &mut Page, summary: &Summary, told: &Explained) -> Result<(), AllocError>
+    ensures { OnOk result (page.new ≡ page.old ++ noted summary.now told.now) }
+{
+    if summary.packets && is_lost_or_marked(told) {
+        pie_explanation::push_words(page, clock_for(summary.form, told.told.clock), told)
+    } else {
+        Ok(())
+    }
 }
 
 impl Report for Summary {
@@ -104,6 +133,7 @@ impl Report for Summary {
     ) -> Result<(), AllocError> {
         let next = period_of(self.every, told.told.moment);
         push_ended(page, self.form, state, next)?;
+        push_noted(page, self, told)?;
         state.take(self.every, told);
         Ok(())
     }

@@ -6,7 +6,7 @@
 #        ./install.sh --archive FILE               all of it as an archive, by its ending (.tar, .tar.gz, .tar.xz), which is unpacked anywhere, and
 #                                                  runs on a Debian 12 or later of the same processor, without the toolchain
 #
-# Build first: `rt run` in crates/pie makes the program, `rt lib` in crates/pie_c the library.
+# Build first. Where something was not built, this installs nothing, and says the command that builds it.
 set -eu
 
 # archive FILE: installs into a folder of its own, named after the version, and packs that; the same files make the same archive
@@ -43,14 +43,13 @@ put() {
     echo "$prefix/$3"
 }
 
-# built FILE FOLDER CMD: ends where the file isn't there
+# built FILE CMD: whether the file is there; else its command joins those that build what is missing
 built() {
-    [ -e "$1" ] || { echo "install.sh: $1 is not there: in $2, \`$3\` builds it" >&2; exit 1; }
+    [ -e "$1" ] || { missing+=("$1"); builds="$builds${builds:+ && }($2)"; }
 }
 
 program() {
     local part
-    built crates/pie/out/pie crates/pie "rt run"
     put 755 crates/pie/out/pie bin/pie
     put 755 report/pie-report bin/pie-report
     for part in page.html page.css page.js; do
@@ -66,7 +65,6 @@ program() {
 
 library() {
     local version
-    built crates/pie_c/out/libpie_c.a crates/pie_c "rt lib"
     version=$(sed -n 's/^#define PIE_VERSION "\(.*\)"$/\1/p' include/pie.h)
     put 644 crates/pie_c/out/libpie_c.a lib/libpie_c.a
     put 644 include/pie.h include/pie.h
@@ -79,15 +77,31 @@ library() {
     put 644 "$work/pie_c.pc" lib/pkgconfig/pie_c.pc
 }
 
-work=$(mktemp -d)
-trap 'rm -rf "$work"' EXIT
+# what is asked for, and whether all of it was built, before anything is installed
+parts=() missing=() builds=""
 for part in "${@:-both}"; do
     case $part in
-        program) program ;;
-        library) library ;;
-        both) program && library ;;
+        program | library) parts+=("$part") ;;
+        both) parts+=(program library) ;;
         *) echo "install.sh: $part is neither program nor library" >&2; exit 2 ;;
     esac
 done
+for part in "${parts[@]}"; do
+    case $part in
+        program) built crates/pie/out/pie "cd crates/pie && rt run > /dev/null" ;;
+        library) built crates/pie_c/out/libpie_c.a "cd crates/pie_c && rt lib" ;;
+    esac
+done
+if [ ${#missing[@]} != 0 ]; then
+    echo "install.sh: nothing was installed, since this was not built: ${missing[*]}. In $PWD this builds it, in some minutes:" >&2
+    echo "  $builds" >&2
+    exit 1
+fi
+
+work=$(mktemp -d)
+trap 'rm -rf "$work"' EXIT
 put 644 LICENSE-MIT share/doc/pie/LICENSE-MIT
 put 644 LICENSE-APACHE share/doc/pie/LICENSE-APACHE
+for part in "${parts[@]}"; do
+    $part
+done

@@ -97,6 +97,34 @@ grep -qx "prefix=/usr" "$work/stage/usr/lib/pkgconfig/pie_c.pc" || fail "the pkg
 if ./install.sh relative > /dev/null 2>&1 || ./install.sh "$work/it" nothing > /dev/null 2>&1; then
     fail "install.sh takes a relative prefix, or a part that is not there"
 fi
+# in a fresh clone, where nothing was built, it installs nothing and says one command; that command builds, and then all of it is installed. What the
+# command calls hands out what was built here, since a build in the clone would take minutes
+mkdir -p "$work/clone/crates/pie" "$work/clone/crates/pie_c" "$work/bin"
+cp -r install.sh include report man completions LICENSE-MIT LICENSE-APACHE "$work/clone"
+printf '%s\n' '#!/bin/sh' 'here=$(basename "$PWD")' 'mkdir -p out' 'case "$here $1" in' \
+    "'pie run') cp \"$repository/crates/pie/out/pie\" out ;;" "'pie_c lib') cp \"$repository/crates/pie_c/out/libpie_c.a\" out ;;" \
+    '*) exit 1 ;;' 'esac' > "$work/bin/rt"
+chmod +x "$work/bin/rt"
+
+# refused PART..: nothing is installed of these, and the command is on the last line
+refused() {
+    if (cd "$work/clone" && ./install.sh "$work/fresh" "$@") > /dev/null 2> "$work/refused"; then
+        fail "install.sh $* installs what was not built"
+    fi
+    [ ! -e "$work/fresh" ] || fail "install.sh $* installed something, though not all was built"
+}
+refused
+refused library
+grep -q 'nothing was installed, since this was not built: crates/pie_c/out/libpie_c.a\. ' "$work/refused" || fail "install.sh does not say what is missing"
+(cd "$work/clone" && PATH="$work/bin:$PATH" bash -c "$(tail -n 1 "$work/refused")") || fail "what install.sh says does not build"
+if [ -e "$repository/crates/pie/out/pie" ]; then
+    refused
+    (cd "$work/clone" && PATH="$work/bin:$PATH" bash -c "$(tail -n 1 "$work/refused")") || fail "what install.sh says does not build"
+    (cd "$work/clone" && ./install.sh "$work/fresh") > "$work/installed" || fail "install.sh does not install what was built"
+    for file in bin/pie lib/libpie_c.a share/doc/pie/LICENSE-MIT share/doc/pie/LICENSE-APACHE; do
+        [ -s "$work/fresh/$file" ] || fail "$file was not installed from a fresh clone"
+    done
+fi
 if [ -e "$repository/crates/pie/out/pie" ]; then
     ./install.sh "$prefix" program > "$work/installed"
     expect "the installed program" "pie $version" "$prefix/bin/pie" --version

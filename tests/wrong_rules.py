@@ -2,8 +2,8 @@
 """Shows that the laws of pie_guarantees say something that isn't the rules again: each wrong rule of crates/pie_guarantees/wrong_rules/ is put in
 the place of the right definition, and the lemma that a law rests on has to be refused; with the right definition in the same place it is
 accepted. Lines of such a file: `law:` the function, `lemma:` what has to be refused, `spec:` the files of definitions that are copied into
-pie_guarantees, so that no other crate is checked again, and `file:`, `old:` and `new:`, texts of one line. For whoever changes a law: a rule takes some 20
-processor seconds.
+pie_guarantees, so that no other crate is checked again, and `file:`, `old:` and `new:`, texts of one line. For whoever changes a law: a rule takes
+some 15 processor seconds.
 
 usage: tests/wrong_rules.py [RULE ..]      as picks_at_half; all where none is named
 needs: rt, and what `rt check` kept of the crates below pie_guarantees

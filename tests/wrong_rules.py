@@ -2,8 +2,8 @@
 """Shows that the laws of pie_guarantees say something that isn't the rules again: each wrong rule of crates/pie_guarantees/wrong_rules/ is put in
 the place of the right definition, and the lemma that a law rests on has to be refused; with the right definition in the same place it is
 accepted. Lines of such a file: `law:` the function, `lemma:` what has to be refused, `spec:` the files of definitions that are copied into
-pie_guarantees, so that no other crate is checked again, and `file:`, `old:` and `new:`, texts of one line. For whoever changes a law: a rule takes some 20
-processor seconds.
+pie_guarantees, so that no other crate is checked again, and `file:`, `old:` and `new:`, texts of one line. For whoever changes a law: a rule takes
+some 15 processor seconds.
 
 usage: tests/wrong_rules.py [RULE ..]      as picks_at_half; all where none is named
 needs: rt, and what `rt check` kept of the crates below pie_guarantees
@@ -34,20 +34,51 @@ def copied(spec):
     return f"Rattle.{crate}.specs.{name}", f"Wrong{crate.removeprefix('pie_').capitalize()}{name}"
 
 
-def refused(rule, is_wrong):
-    """What the check refuses, with the copies of this rule's files, changed or not."""
-    with tempfile.TemporaryDirectory() as folder:
-        folder = Path(folder)
-        for name in ("crates.txt", "HANDLES"):
-            shutil.copy(ROOT / name, folder)
-        subprocess.run(["cp", "-a", "--reflink=auto", ROOT / "crates", folder], check=True)
-        crate = folder / "crates/pie_guarantees"
+def below(lines):
+    """The lines of crates.txt of pie_guarantees and what its laws stand on: not the audits, of which one law alone speaks (`clean`)."""
+    found = {}
+    for line in lines:
+        head, colon, rest = line.partition(":")
+        if colon and not line.startswith("#"):
+            found[head.split()[0]] = rest.partition("#")[0].split()
+    found["pie_guarantees"] = [name for name in found["pie_guarantees"] if name not in ("pie_audit", "pie_record")]
+    names, todo = [], ["pie_guarantees"]
+    while todo:
+        name = todo.pop()
+        if name in found and name not in names:
+            names.append(name)
+            todo += found[name]
+    return {name: found[name] for name in found if name in names}
+
+
+class Copy:
+    """A copy of pie_guarantees and the crates below it, in which each rule is tried in turn."""
+
+    def __init__(self, folder):
+        self.crate = folder / "crates/pie_guarantees"
+        crates = below((ROOT / "crates.txt").read_text().splitlines())
+        (folder / "crates.txt").write_text("".join(f"{name}: {' '.join(rest)}\n" for name, rest in crates.items()))
+        shutil.copy(ROOT / "HANDLES", folder)
+        (folder / "crates").mkdir()
+        for name in crates:
+            subprocess.run(["cp", "-a", "--reflink=auto", ROOT / "crates" / name, folder / "crates"], check=True)
+        shutil.rmtree(self.crate / "proofs/clean")
+        for path, line in (("src/lib.rt", "clean"), ("proofs/Lib.antt", "TextFacts")):
+            kept = [it for it in (self.crate / path).read_text().splitlines() if not re.search(rf"\b{line}\b", it)]
+            (self.crate / path).write_text("\n".join(kept) + "\n")
+        for path in ("src/clean.rt", "proofs/TextFacts.antt"):
+            (self.crate / path).unlink()
+        self.lib = (self.crate / "specs/Lib.antt").read_text()
+        self.proofs = {path: path.read_text() for path in (self.crate / "proofs").glob("*.antt")}
+
+    def refused(self, rule, is_wrong):
+        """What the check refuses, with the copies of this rule's files, changed or not."""
         names = dict(copied(spec) for spec in rule["spec"])
 
         def moved(text):
             for old, new in names.items():
-                text = text.replace(f"use {old}.", f"use Rattle.pie_guarantees.specs.{new}.").replace(
-                    f"use {old} as", f"use Rattle.pie_guarantees.specs.{new} as")
+                for after in (".", " as"):
+                    text = text.replace(f"use {old}{after}", f"use Rattle.pie_guarantees.specs.{new}{after}")
             return text
 
         texts = {spec: (ROOT / spec).read_text() for spec in rule["spec"]}
@@ -56,33 +87,40 @@ def refused(rule, is_wrong):
                 if texts[path].count(old) != 1:
                     sys.exit(f"tests/wrong_rules.py: {path}: {texts[path].count(old)} times: {old}")
                 texts[path] = texts[path].replace(old, new)
+        for path in (self.crate / "specs").glob("Wrong*.antt"):
+            path.unlink()
         for spec, text in texts.items():
-            (crate / "specs" / f"{copied(spec)[1]}.antt").write_text(moved(text))
-        with (crate / "specs/Lib.antt").open("a") as lib:
-            lib.write("".join(f"pub mod {name}\n" for name in names.values()))
-        for path in (crate / "proofs").glob("*.antt"):
-            path.write_text(moved(path.read_text()))
-        said = subprocess.run(["rt", "check", "--allow-holes"], cwd=crate, capture_output=True, text=True, check=False)
-        said = said.stdout + said.stderr
+            (self.crate / "specs" / f"{copied(spec)[1]}.antt").write_text(moved(text))
+        (self.crate / "specs/Lib.antt").write_text(self.lib + "".join(f"pub mod {name}\n" for name in names.values()))
+        for path, text in self.proofs.items():
+            path.write_text(moved(text))
+        done = subprocess.run(["rt", "check", "--allow-holes"], cwd=self.crate, capture_output=True, text=True, check=False)
+        said = done.stdout + done.stderr
         return set(re.findall(r"^\./proofs/\w+\.antt:\d+:\d+: error: `([^`]+)`", said, re.M)), said
 
 
-def main():
-    names = sys.argv[1:] or sorted(path.stem for path in RULES.glob("*.rule"))
+def tried(copy, names):
+    """How many rules were not refused, or also the right one."""
     bad, right = 0, {}
     for name in names:
         rule = read(RULES / f"{name}.rule")
         lemma, specs = rule["lemma"][0], tuple(rule["spec"])
         if specs not in right:
-            right[specs] = refused(rule, False)[0]
-        with_right = right[specs]
-        with_wrong, said = refused(rule, True)
-        held = lemma in with_wrong and lemma not in with_right
+            right[specs] = copy.refused(rule, False)[0]
+        wrong, said = copy.refused(rule, True)
+        held = lemma in wrong and lemma not in right[specs]
         bad += not held
         print(f"{name}: {rule['law'][0]}: " + (f"`{lemma}` is refused, as it must be" if held else
-              f"`{lemma}`: refused {sorted(with_wrong)}, with the right rule {sorted(with_right)}"), flush=True)
-        if not held and not with_wrong:
-            print(said[-1500:])
+              f"`{lemma}` is not: refused {sorted(wrong)}, with the right rule {sorted(right[specs])}"), flush=True)
+        if not held and not wrong:
+            print(said[-1500:], flush=True)
+    return bad
+
+
+def main():
+    names = sys.argv[1:] or sorted(path.stem for path in RULES.glob("*.rule"))
+    with tempfile.TemporaryDirectory() as folder:
+        bad = tried(Copy(Path(folder)), names)
     print(f"{len(names) - bad} refused, {bad} not")
     sys.exit(bool(bad))
 

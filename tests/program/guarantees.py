@@ -157,8 +157,8 @@ def hold_all(rows):
     laws = Laws(rows[0])
     for row, was, now in events(rows):
         if was is None:
-            was = {"moment": laws.start, "packets": 0, "bytes": 0, "prob": 0, "old": 0, "accu": 0, "burst": laws.params["max_burst"], "last": laws.start,
-                   "average": 0, "measuring": 0, "active": int(laws.profile == 1)}
+            was = {"moment": laws.start, "packets": 0, "bytes": 0, "prob": 0, "old": 0, "accu": 0, "burst": laws.params["max_burst"],
+                   "last": laws.start, "average": 0, "measuring": 0, "active": int(laws.profile == 1)}
         if row[0] in ("arrive", "depart", "update"):
             getattr(laws, row[0])(row, was, now)
         laws.after(row, was, now)
@@ -198,7 +198,7 @@ def main():
     hold("135 ms", bool(drops) and drops[0] == (150_000_000 if WRONG else 135_001_000), drops[:1])
     weak = [law for law in seen if WRONG and not broken[law]]
     if WRONG:
-        print(f"{NAME}: of {len(seen)} bounds, each taken too tight, {len(seen) - len(weak)} failed" + (f", and not: {', '.join(weak)}" if weak else ""))
+        print(f"{NAME}: of {len(seen)} bounds, each taken too tight, {len(seen) - len(weak)} failed, and not: {', '.join(weak) or 'none'}")
         sys.exit(bool(weak))
     print(f"{NAME}: {len(seen)} bounds held {sum(seen.values())} times in {runs} random histories, {sum(broken.values())} did not")
     sys.exit(1 if broken else 0)

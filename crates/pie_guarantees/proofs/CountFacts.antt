@@ -118,10 +118,16 @@ one-new : (gone all : List Packet) (waiting : List Waiting) (new : Waiting) → 
     → (gone ++ []) ++ packets-of (waiting ++ new ∷ []) ≡ all ++ new.packet ∷ []
 unfolding packets-of
 one-new gone all waiting new e =
-    rw (append-nil gone, map-append (λ (entry : Waiting). entry.packet) waiting (new ∷ []), ← append_assoc gone (packets-of waiting) (new.packet ∷ []))
+    rw (
+      append-nil gone,
+      map-append (λ (entry : Waiting). entry.packet) waiting (new ∷ []),
+      ← append_assoc gone (packets-of waiting)
+          (new.packet ∷ []),
+    )
     (ap (λ (ps : List Packet). ps ++ new.packet ∷ []) e)
 
-in-order : (h : Held) (waiting : List Waiting) (packets : ℕ) (command : Command) (now : ℕ) (gone all : List Packet) → gone ++ packets-of waiting ≡ all
+in-order : (h : Held) (waiting : List Waiting) (packets : ℕ) (command : Command) (now : ℕ) (gone all : List Packet)
+    → gone ++ packets-of waiting ≡ all
     → (gone ++ option_to_list (departure (deed command (answer_by h waiting packets command))))
     ++ packets-of (waiting_next waiting now (deed command (answer_by h waiting packets command)))
     ≡ all ++ option_to_list (packet_queued (deed command (answer_by h waiting packets command)))
@@ -137,7 +143,11 @@ in-order h waiting packets (Arrive moment packet word) now gone all e = by (Step
     by verdict.DroppedBytes = none-new gone all waiting e
     by verdict.DroppedPackets = none-new gone all waiting e
 in-order h [] packets (Depart moment) now gone all e = none-new gone all [] e
-in-order h (oldest ∷ others) packets (Depart moment) now gone all e = rw (append-nil all, append_assoc gone (oldest.packet ∷ []) (packets-of others)) e
+in-order h (oldest ∷ others) packets (Depart moment) now gone all e = rw (
+  append-nil all,
+  append_assoc gone (oldest.packet ∷ [])
+      (packets-of others),
+) e
 in-order h waiting packets (Update moment) now gone all e = none-new gone all waiting e
 in-order h waiting packets (Reset moment) now gone all e = none-new gone all waiting e
 in-order h waiting packets (SetParams moment params) now gone all e = none-new gone all waiting e
@@ -160,11 +170,13 @@ ordered-first opening none = rw none refl
 pub in_order : (opening : Opening) (history : List Event) → IsLawful opening history
     → packets_departed history ++ packets_waiting opening history ≡ packets_queued history
 unfolding Ordered
-in_order opening history lawful = throughout (Ordered opening) opening (ordered-first opening (sym (first-shows opening).waiting)) (ordered-next opening) history lawful
+in_order opening history lawful = throughout (Ordered opening) opening (ordered-first opening (sym (first-shows opening).waiting))
+    (ordered-next opening) history lawful
 
 -- ---- limits
 
-pub in_the_ring : (opening : Opening) (history : List Event) → IsLawful opening history → length (waiting_after opening history) ≤ opening.limits.packets
+pub in_the_ring : (opening : Opening) (history : List Event) → IsLawful opening history → length
+    (waiting_after opening history) ≤ opening.limits.packets
 in_the_ring opening history lawful =
     let it = stands_at opening history [] (rw (append-nil history) lawful) in
     subst (λ (w : List Waiting). length w ≤ opening.limits.packets) it.shows.waiting it.room
@@ -208,13 +220,18 @@ bounded h waiting packets (Arrive moment packet word) now =
         (if over then verdict.DroppedBytes else if full then verdict.DroppedPackets else Steps.chosen choice))))
     by true full o choice = same
     by false true o choice = same
-    by false false o choice.Enqueue = more (record { packet = packet; since = now }) refl (ltb h.params.limit_bytes (bytes_of waiting + packet.size) o)
+    by false false o choice.Enqueue = more (record { packet = packet; since = now }) refl (ltb h.params.limit_bytes
+        (bytes_of waiting + packet.size) o)
     by false false o choice.Mark = more (record { packet = with_ce packet; since = now }) refl
         (ltb h.params.limit_bytes (bytes_of waiting + packet.size) o)
     by false false o choice.Drop = same
 bounded h [] packets (Depart moment) now = record { or = inl (omega arith); queue = λ packet is. cc }
 bounded h (oldest ∷ others) packets (Depart moment) now =
-    record { or = inl (let first = sum_by-cons (λ (entry : Waiting). entry.packet.size) oldest others in omega (arith, first)); queue = λ packet is. cc }
+    record {
+      or = inl (let first = sum_by-cons (λ (entry : Waiting). entry.packet.size) oldest others in omega
+          (arith, first));
+      queue = λ packet is. cc;
+    }
 bounded h waiting packets (Update moment) now = record { or = inl (omega (arith, bytes-none waiting)); queue = λ packet is. cc }
 bounded h waiting packets (Reset moment) now = record { or = inl (omega (arith, bytes-none waiting)); queue = λ packet is. cc }
 bounded h waiting packets (SetParams moment params) now = record { or = inl (omega (arith, bytes-none waiting)); queue = λ packet is. cc }
@@ -345,8 +362,10 @@ waits_bounded rate opening before event between later packet lawful in_queue man
     let b = before ++ event ∷ [] in
     let split : before ++ event ∷ [] ++ between ++ later ≡ before ++ (event ∷ (between ++ later)) =
     append_assoc b between later ∙ append_assoc before (event ∷ []) (between ++ later) in
-    let room = room_for_bytes opening before event (between ++ later) packet (subst (λ (h : List Event). IsLawful opening h) split lawful) in_queue in
+    let room = room_for_bytes opening before event (between ++ later) packet (subst (λ
+    (h : List Event). IsLawful opening h) split lawful) in_queue in
     let out : packets_departed between ≡ packets_waiting opening b = first_out opening b between later lawful many in
     let bytes : bytes_departed between ≡ bytes_after opening b =
     ap (λ (ps : List Packet). sum_by (λ (packet : Packet). packet.size) ps) out ∙ sizes-of (waiting_after opening b) in
-    scaled (rate * time_of opening b between) (bytes_departed between) (params_after opening before).limit_bytes carries (subst (λ (n : ℕ). n ≤ (params_after opening before).limit_bytes) (sym bytes) room)
+    scaled (rate * time_of opening b between) (bytes_departed between) (params_after opening before).limit_bytes carries (subst (λ
+    (n : ℕ). n ≤ (params_after opening before).limit_bytes) (sym bytes) room)

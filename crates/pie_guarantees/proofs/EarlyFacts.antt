@@ -13,7 +13,8 @@ use Rattle.pie_aqm.specs.Held.{Held}
 use Rattle.pie_aqm.specs.Steps.{choice, chosen, offered, verdict}
 use Rattle.pie_event.specs.Verdict.{answer_of}
 use Rattle.pie_event.specs.declared.verdict.Verdict.TheVariants as verdict
-use Rattle.pie_book.specs.Types.{RawParams, Packet, Waiting, Arrival, Arrive, Depart, Update, Reset, SetParams, Answer, DroppedEarly, Marked, Command, Event}
+use Rattle.pie_book.specs.Types.{RawParams, Packet, Waiting, Arrival, Arrive, Depart, Update}
+use Rattle.pie_book.specs.Types.{Reset, SetParams, Answer, DroppedEarly, Marked, Command, Event}
 use Rattle.pie_book.specs.Types.{Opening}
 use Rattle.pie_book.specs.Call.{arrival_of}
 use Rattle.pie_book.specs.Decision.{answer_by, answer_to_departure}
@@ -52,13 +53,15 @@ chosen-of h a = by (nat_lt h.params.limit_bytes (a.queued + a.size)) a.is_full r
     considered = is_considered h.params h.control a.queued
 
     picked : Bool
-    picked = is_picked h.elements.picking (counted h.elements h.params h.control (offered a)) (h.accu + counted h.elements h.params h.control (offered a)) a.word
+    picked = is_picked h.elements.picking (counted h.elements h.params h.control (offered a))
+        (h.accu + counted h.elements h.params h.control (offered a)) a.word
 
     at : Bool → Bool → Bool → Choice
     at active considered picked = if active then (if considered && picked then c else Enqueue) else Enqueue
 
     inner : (active considered picked : Bool) → h.active ≡ active → is_considered h.params h.control a.queued ≡ considered
-        → is_picked h.elements.picking (counted h.elements h.params h.control (offered a)) (h.accu + counted h.elements h.params h.control (offered a))
+        → is_picked h.elements.picking (counted h.elements h.params h.control (offered a)) (h.accu + counted h.elements h.params h.control
+        (offered a))
         a.word ≡ picked
         → verdict h a ≡ chosen (if active then (if considered && picked then c else Enqueue) else Enqueue)
         → is_early (answer_of (chosen (if active then (if considered && picked then c else Enqueue) else Enqueue))) ≡ true → IsChosen h a
@@ -126,7 +129,8 @@ module _ (opening : Opening) (before : List Event) (event : Event) (later : List
 
 fate-early : (params : RawParams) (prob : ℕ) (ecn : Ecn) → prob < params.mark_ecnth → is_capable ecn ≡ true
     → answer_of (chosen (picked_choice params prob ecn)) ≡ DroppedEarly → ⊥
-fate-early params prob ecn below capable = by (is_capable ecn) (nat_lt prob params.mark_ecnth) capable (let yes : nat_lt prob params.mark_ecnth ≡ true =
+fate-early params prob ecn below capable = by (is_capable ecn) (nat_lt prob params.mark_ecnth) capable
+    (let yes : nat_lt prob params.mark_ecnth ≡ true =
     grind (arith, nat_tests) in yes)
   where
     by : (a b : Bool) → a ≡ true → b ≡ true → answer_of (chosen (if a && b then Mark else Drop)) ≡ DroppedEarly → ⊥
@@ -193,16 +197,20 @@ early_arrival opening before event step e =
       word = word;
       is = is;
       chosen = chosen-of (held_after opening before) (arrival_of (waiting_after opening before) opening.limits.packets packet word)
-          (subst (λ (c : Command). is_early (answer_by (held_after opening before) (waiting_after opening before) opening.limits.packets c) ≡ true) is e);
+          (subst (λ (c : Command). is_early (answer_by (held_after opening before)
+          (waiting_after opening before) opening.limits.packets c) ≡ true) is e);
     }
     by (Depart moment) is [] w e = let wrong : is_early (answer_to_departure []) ≡ true = rw (is, w) at e in cc
     by (Depart moment) is (oldest ∷ others) w e = let wrong : is_early (answer_to_departure (oldest ∷ others)) ≡ true = rw (is, w) at e in cc
     by (Update moment) is waiting w e =
-        let wrong = subst (λ (c : Command). is_early (answer_by (held_after opening before) (waiting_after opening before) opening.limits.packets c) ≡ true)
+        let wrong = subst (λ (c : Command). is_early (answer_by (held_after opening before)
+        (waiting_after opening before) opening.limits.packets c) ≡ true)
         is e in cc
     by (Reset moment) is waiting w e =
-        let wrong = subst (λ (c : Command). is_early (answer_by (held_after opening before) (waiting_after opening before) opening.limits.packets c) ≡ true)
+        let wrong = subst (λ (c : Command). is_early (answer_by (held_after opening before)
+        (waiting_after opening before) opening.limits.packets c) ≡ true)
         is e in cc
     by (SetParams moment params) is waiting w e =
-        let wrong = subst (λ (c : Command). is_early (answer_by (held_after opening before) (waiting_after opening before) opening.limits.packets c) ≡ true)
+        let wrong = subst (λ (c : Command). is_early (answer_by (held_after opening before)
+        (waiting_after opening before) opening.limits.packets c) ≡ true)
         is e in cc

@@ -159,7 +159,8 @@ same-next delay h waiting packets (Arrive moment packet word) answer keeps unres
     same : (g : Held) → g ≡ judged h (arrival_of waiting packets packet word) moment → Next delay h.elements.step h g false
     same g is = record { params = ap (λ (k : Held). k.params) is; prob = ap (λ (k : Held). k.control.prob) is }
 
-    by : (answer : Answer) → Steps.arrived h (arrival_of waiting packets packet word) moment ≡ judged h (arrival_of waiting packets packet word) moment
+    by : (answer : Answer) → Steps.arrived h (arrival_of waiting packets packet word) moment ≡ judged h
+        (arrival_of waiting packets packet word) moment
         → Next delay h.elements.step h (Steps.arrived h (arrival_of waiting packets packet word) moment)
         (is_update (deed (Arrive moment packet word) answer))
     by Enqueued is = same (Steps.arrived h (arrival_of waiting packets packet word) moment) is

@@ -48,7 +48,8 @@ abbrev v-room : Packet → Verdict → Bool
 v-room packet v = had_room (deed (Arrive 0 packet 0) (answer_of v))
 
 grows-by : (over full active con zero picked : Bool) (c : Choice) (packet : Packet) (picking : Picking) (accu q : ℕ)
-    → (if over then 0 else (if full then 0 else (if active then (if not con then accu else (if zero || picked then 0 else joined picking accu q)) else accu)))
+    → (if over then 0 else (if full then 0 else (if active then (if not con then accu else (if zero || picked then 0
+    else joined picking accu q)) else accu)))
     ≤ accu + (if v-room packet (if over then verdict.DroppedBytes else (if full then verdict.DroppedPackets else chosen c)) && (active && con)
     then q else 0)
 grows-by true full active con zero picked c packet picking accu q = omega arith
@@ -105,7 +106,8 @@ grows h waiting packets (SetParams moment params) = omega arith
 zero-by : (over full active con zero picked : Bool) (c : Choice) (picking : Picking) (accu q : ℕ)
     → is_early (answer_of (if over then verdict.DroppedBytes else (if full then verdict.DroppedPackets else chosen
     (if active then (if con && picked then c else Enqueue) else Enqueue)))) ≡ true
-    → (if over then 0 else (if full then 0 else (if active then (if not con then accu else (if zero || picked then 0 else joined picking accu q)) else accu)))
+    → (if over then 0 else (if full then 0 else (if active then (if not con then accu else (if zero || picked then 0
+    else joined picking accu q)) else accu)))
     ≡ 0
 zero-by true full active con zero picked c picking accu q e = refl
 zero-by false true active con zero picked c picking accu q e = refl
@@ -148,7 +150,8 @@ starts_anew opening before event later lawful early =
 q-is : (opening : Opening) (before : List Event) (event : Event)
     → q-of (held_after opening before) (arriving_size event.command) ≡ counted_at opening before event
 q-is opening before event =
-    ap (λ (e : Elements). counted_as e.size (held_after opening before).params (arriving_size event.command) (held_after opening before).control.prob)
+    ap (λ (e : Elements). counted_as e.size (held_after opening before).params (arriving_size event.command)
+    (held_after opening before).control.prob)
     (elements-is opening before)
 
 grows-at : (opening : Opening) (before : List Event) (event : Event) → IsStep opening before event
@@ -236,7 +239,8 @@ keeps-by : (moment word : ℕ) (packet : Packet) (over full active con picked : 
     → 0 < least
     → (had_room (deed-by moment word packet over full (if active then (if con && picked then c else Enqueue) else Enqueue)) && (active && con) ≡ true
     → least ≤ q)
-    → accu + (if had_room (deed-by moment word packet over full (if active then (if con && picked then c else Enqueue) else Enqueue)) && (active && con)
+    → accu + (if had_room (deed-by moment word packet over full (if active then (if con && picked then c else Enqueue) else Enqueue)) &&
+    (active && con)
     then least else 0)
     ≤ (if over then 0 else (if full then 0 else (if active then (if not con then accu else (if (q == 0) || picked then 0 else joined picking accu q))
     else accu)))
@@ -283,7 +287,8 @@ module _ (h : Held) (moment word least : ℕ) (packet : Packet) (waiting : List 
       → is_dropped_bytes d ≡ false → is_dropped_packets d ≡ false → 0 < least
       → (had_room d && con-of h (bytes_of waiting) ≡ true → least ≤ q-of h packet.size)
       → (h.active ≡ false → (Steps.arrived h (arrival_of waiting packets packet word) moment).active ≡ false)
-      → h.accu + (if had_room d && con-of h (bytes_of waiting) then least else 0) ≤ (Steps.arrived h (arrival_of waiting packets packet word) moment).accu
+      → h.accu + (if had_room d && con-of h (bytes_of waiting) then least else 0) ≤ (Steps.arrived h
+      (arrival_of waiting packets packet word) moment).accu
   arrival-keeps spaced e b p some large no_start =
       by (Steps.turns_on h (bytes_with (Steps.verdict h (arrival_of waiting packets packet word)) (bytes_of waiting) packet.size)) refl no_start
     where
@@ -334,7 +339,8 @@ keeps-at least opening before event step spaced some large on =
     picking = ap (λ (e : Elements). e.picking) (elements-is opening before) ∙ spaced
 
     by : (answer : Answer) → event.answer ≡ answer
-        → ((held_after opening before).elements.picking ≡ Derandomized → is_early answer ≡ false → is_dropped_bytes (deed event.command answer) ≡ false
+        → ((held_after opening before).elements.picking ≡ Derandomized → is_early answer ≡ false → is_dropped_bytes
+        (deed event.command answer) ≡ false
         → is_dropped_packets (deed event.command answer) ≡ false → is_reset (deed event.command answer) ≡ false → 0 < least
         → (considers (held_after opening before) (bytes_of (waiting_after opening before)) event.command answer ≡ true
         → least ≤ q-of (held_after opening before) (arriving_size event.command))
@@ -356,7 +362,8 @@ keeps-at least opening before event step spaced some large on =
         (λ con. subst (λ (q : ℕ). least ≤ q) (sym (q-is opening before event))
         (large (ap (λ (a : Answer). considers (held_after opening before) (bytes_of (waiting_after opening before)) event.command a) is ∙ con)))
         (λ off. ap (λ (g : Held). g.active) (sym step.held) ∙ on.no_start off)) in
-        subst (λ (g : Held). (held_after opening before).accu + (if was_considered opening before event then least else 0) ≤ g.accu) (sym step.held) done
+        subst (λ (g : Held). (held_after opening before).accu + (if was_considered opening before event then least else 0) ≤ g.accu)
+        (sym step.held) done
 
 more-at-least : (b : Bool) (n least accu next : ℕ) → n * least ≤ accu → accu + (if b then least else 0) ≤ next
     → (n + (if b then 1 else 0)) * least ≤ next

@@ -30,7 +30,8 @@ use Rattle.pie_record.specs.Command.{arrival_at, asked_at, change_at, change_to,
 use Rattle.pie_record.specs.Field.{and_then, is_kind, packet_at, most_u128, most_u16, most_u64, number_at, params_at}
 use Rattle.pie_record.specs.FirstRecord.{first_fields, first_kind}
 use Rattle.pie_record.specs.HistoryLines.{Coming, after_opening, history_opening, history_version, lines_from, told_by}
-use Rattle.pie_record.specs.HistoryRecord.{active_line, answer_at, clock_line, event_line, has_length, line_by, line_for, line_of, note_line, numbers_at, registers_at}
+use Rattle.pie_record.specs.HistoryRecord.{active_line, answer_at, clock_line, event_line, has_length}
+use Rattle.pie_record.specs.HistoryRecord.{line_by, line_for, line_of, note_line, numbers_at, registers_at}
 use Rattle.pie_record.specs.HistoryRecord.{shown_line}
 use Rattle.pie_record.specs.Opening.{opening_by, opening_of, opening_read}
 use Rattle.pie_record.specs.ReadBack.{TellsHistory}

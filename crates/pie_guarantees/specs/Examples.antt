@@ -5,7 +5,8 @@ use Rattle.pie_params.specs.declared.elements.Picking.TheVariants.{Derandomized,
 use Rattle.pie_params.specs.declared.elements.Size.TheVariants.{Unscaled}
 use Rattle.pie_params.specs.declared.elements.Step.TheVariants.{Capped}
 use Rattle.pie_queue.specs.declared.ecn.Ecn.TheVariants.{NotEct}
-use Rattle.pie_book.specs.Types.{RawParams, One, Command, Arrive, Depart, Update, SetParams, Answer, Enqueued, DroppedEarly, Left, Updated, Done, Event}
+use Rattle.pie_book.specs.Types.{RawParams, One, Command, Arrive, Depart, Update, SetParams}
+use Rattle.pie_book.specs.Types.{Answer, Enqueued, DroppedEarly, Left, Updated, Done, Event}
 use Rattle.pie_book.specs.Types.{Bounded, Elements, Opening, Packet}
 
 abbrev pub event : Command → Answer → Event

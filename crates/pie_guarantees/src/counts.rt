@@ -5,7 +5,8 @@ ghost use Rattle.pie_book.specs.Types.{Event, Opening, Packet};
 ghost use Rattle.pie_book.specs.Estimates.{params_after};
 ghost use Rattle.pie_book.specs.History.{bytes_after, waiting_after};
 ghost use Rattle.pie_book.specs.Statistics.{count_of, is_dropped_bytes, is_dropped_early, is_dropped_packets, is_marked, is_queued};
-ghost use Rattle.pie_guarantees.specs.Counts.{Carries, SetsLimit, packet_queued, packets_departed, packets_handed_in, packets_queued, packets_waiting, time_of};
+ghost use Rattle.pie_guarantees.specs.Counts.{Carries, SetsLimit, packet_queued, packets_departed};
+ghost use Rattle.pie_guarantees.specs.Counts.{packets_handed_in, packets_queued, packets_waiting, time_of};
 ghost use Rattle.pie_guarantees.specs.Lawful.{IsLawful};
 
 /// Every packet that was handed in was queued, marked, dropped early, or dropped for want of room, exactly once (`once`); those that departed,

@@ -12,7 +12,8 @@ ghost use Rattle.pie_guarantees.specs.Bursts.{updates_in};
 ghost use Rattle.pie_guarantees.specs.Lawful.{AllAlong, IsLawful};
 ghost use Rattle.pie_guarantees.specs.Probability.{IsActiveUpdate, IsSteady, after_updates, old_delay_after, probability_after};
 
-/// The probability is always 0 to 1, in units of 10^-12 (`bounded`). An update of an active controller that finds the delay at or above the target and
+/// The probability is always 0 to 1, in units of 10^-12 (`bounded`). An update of an active controller that finds the delay at or above the
+/// target and
 /// not fallen doesn't lower it (`rises`); one that finds it at or below the target and not risen doesn't raise it (`falls`). From 10 per cent on a
 /// rise is at most 2 points, where rises are capped (`capped`); and an update that finds no delay, as the one before did, leaves at
 /// most 98 hundredths (`decays`). No other event raises it (`nothing_else_raises`).
@@ -53,7 +54,8 @@ pub fn what_gives_a_higher_probability()
 {}
 
 /// While each update finds the same delay the probability is that after so many updates of one delay (`steady`). With the defaults, from 0 at
-/// twice the target it is at least 10 per cent after 162 updates, 2.43 seconds (`tenth_at_last`, `not_before`). With no delay it falls by 2 per cent an
+/// twice the target it is at least 10 per cent after 162 updates, 2.43 seconds (`tenth_at_last`, `not_before`). With no delay it falls by 2 per
+/// cent an
 /// update at least (`fades`), so from 1 to a tenth in at most 87 updates, 1.3 seconds (`faded`, `not_yet_faded`).
 ///
 /// It does nothing: its contract is the law.

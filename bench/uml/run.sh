@@ -1,0 +1,53 @@
+#!/usr/bin/env bash
+# Runs a command as root in a Linux of its own: Debian's user-mode-linux, an ordinary process over this machine's files. It has namespaces, TUN, and
+# queue disciplines of its own modules, whatever the kernel here has and whoever calls it; files are read and written with the caller's leave.
+# The command runs in this folder, with its output and its exit status handed on, and no input. TMPDIR is in that Linux's memory.
+#
+# usage: bench/uml/run.sh COMMAND [WORDS..]
+#   UML_MEMORY   its memory, 1024M where it isn't set; UML_SECONDS: it is ended after so many, 3600. Status 125 where it didn't come to an end.
+set -u
+here=$(cd "$(dirname "$0")" && pwd)
+if [ $# = 0 ] || [ "$1" = --help ]; then
+    sed -n '2,7s/^# \{0,1\}//p' "$0"
+    [ "${1:-}" = --help ]
+    exit
+fi
+if ! missing=$("$here/missing.sh"); then
+    printf '%s\n' "$missing" "$0: the above is missing, so nothing was run; bench/uml/install.sh installs what Debian has of it" >&2
+    exit 125
+fi
+state=$(mktemp -d)
+linux=
+end() {
+    [ -z "$linux" ] || kill -TERM "$linux" 2> /dev/null
+    wait
+    rm -rf "$state"
+}
+trap end EXIT
+trap 'exit 130' INT
+trap 'exit 143' TERM HUP
+touch "$state/out" "$state/err"
+{
+    printf 'cd %q\nexport PATH=%q:/usr/sbin:/sbin HOME=%q IN_USER_MODE_LINUX=1' "$PWD" "$PATH" "${HOME:-/}"
+    [ -z "${LINK_FAMILY:-}" ] || printf ' LINK_FAMILY=%q' "$LINK_FAMILY"
+    printf '\nexec'
+    printf ' %q' "$@"
+    echo
+} > "$state/command"
+# (its memory is all that this process gets of the machine, so that it is woken in time)
+before_others=
+! nice -n -15 true 2> /dev/null || [ "$(id -u)" != 0 ] || before_others='nice -n -15'
+# shellcheck disable=SC2086
+$before_others timeout --kill-after=5 "${UML_SECONDS:-3600}" linux.uml "mem=${UML_MEMORY:-1024M}" root=/dev/root rootfstype=hostfs rootflags=/ rw \
+    "init=$here/boot.sh" "STATE=$state" "uml_dir=$state" con=null con0=null,fd:1 quiet > "$state/kernel" 2>&1 < /dev/null &
+linux=$!
+tail --quiet --bytes=+1 --sleep-interval=0.2 --follow --pid="$linux" "$state/out" &
+tail --quiet --bytes=+1 --sleep-interval=0.2 --follow --pid="$linux" "$state/err" >&2 &
+wait
+linux=
+if [ ! -s "$state/status" ]; then
+    echo "$0: the Linux in a process did not come to an end of $1; what its kernel said:" >&2
+    tail -n 40 "$state/kernel" >&2
+    exit 125
+fi
+exit "$(cat "$state/status")"

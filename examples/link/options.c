@@ -82,9 +82,9 @@ int read_options(int count, char **words, struct options *options) {
         options->rates[options->steps++].rate = options->control.rate;
     if (place >= 0 && place < count)
         place = refuse_word(&command, words[place], "", "unknown");
-    else if (place >= 0 && (options->from == NULL || options->to == NULL))
-        place = refuse_word(&command, "--from and --to", "", "missing");
     else if (place >= 0 && options->grant != 0 && options->grant < LEAST_GRANT)
         place = refuse_word(&command, "--grant", "", "out of its range");
+    else if (place >= 0 && (options->from == NULL || options->to == NULL))
+        place = refuse_word(&command, "--from and --to", "", "missing");
     return place == WORDS_WRONG ? OPTIONS_WRONG : OPTIONS_READ;
 }

@@ -9,12 +9,12 @@ use Rattle.pie_book.specs.Types.{RawParams, One, Command, Arrive, Depart, Update
 use Rattle.pie_book.specs.Types.{Answer, Enqueued, DroppedEarly, Left, Updated, Done, Event}
 use Rattle.pie_book.specs.Types.{Bounded, Elements, Opening, Packet}
 
-abbrev pub event : Command → Answer → Event
-event command answer = record { caller = 1; command = command; answer = answer }
+abbrev pub happened : Command → Answer → Event
+happened command answer = record { caller = 1; command = command; answer = answer }
 
 -- a packet of 1000 bytes
-abbrev pub packet : ℕ → Packet
-packet tag = record { tag = tag; size = 1000; ecn = NotEct }
+abbrev pub thousand_bytes : ℕ → Packet
+thousand_bytes tag = record { tag = tag; size = 1000; ecn = NotEct }
 
 abbrev pub opened : Elements → RawParams → Opening
 opened elements params = record {
@@ -44,7 +44,7 @@ abbrev pub lowered_opening : Opening
 lowered_opening = opened (record { delay = Rate; picking = Derandomized; step = Capped; size = Unscaled }) (limited 1000)
 
 abbrev pub lowered : List Event
-lowered = event (Arrive 0 (packet 1) 0) Enqueued ∷ event (SetParams 1 (limited 500)) Done ∷ []
+lowered = happened (Arrive 0 (thousand_bytes 1) 0) Enqueued ∷ happened (SetParams 1 (limited 500)) Done ∷ []
 
 -- ---- a burst that begins just before an update: with updates 100 apart and an allowance of 200, its first packet at 99 and the first drop at 200
 
@@ -52,12 +52,13 @@ abbrev pub burst_opening : Opening
 burst_opening = opened (record { delay = Stamp; picking = Random; step = Capped; size = Unscaled }) (limited 100000)
 
 abbrev pub burst_begins : List Event
-burst_begins = event (Arrive 99 (packet 1) 0) Enqueued ∷ []
+burst_begins = happened (Arrive 99 (thousand_bytes 1) 0) Enqueued ∷ []
 
 abbrev pub burst_goes_on : List Event
 burst_goes_on =
-    event (Arrive 99 (packet 2) 0) Enqueued ∷ event (Arrive 99 (packet 3) 0) Enqueued ∷ event (Depart 100) (Left (packet 1))
-    ∷ event (Update 100) (Updated 1 0 100) ∷ event (Depart 199) (Left (packet 2)) ∷ event (Update 200) (Updated 100 96191 0) ∷ []
+    happened (Arrive 99 (thousand_bytes 2) 0) Enqueued ∷ happened (Arrive 99 (thousand_bytes 3) 0) Enqueued
+    ∷ happened (Depart 100) (Left (thousand_bytes 1))
+    ∷ happened (Update 100) (Updated 1 0 100) ∷ happened (Depart 199) (Left (thousand_bytes 2)) ∷ happened (Update 200) (Updated 100 96191 0) ∷ []
 
 abbrev pub first_drop : Event
-first_drop = event (Arrive 200 (packet 4) 0) DroppedEarly
+first_drop = happened (Arrive 200 (thousand_bytes 4) 0) DroppedEarly

@@ -6,16 +6,22 @@
 #   PIE      the built program, as crates/pie/out/ has it after `rt run`
 #   FOLDER   gets the histories, what the programs said, and the picture
 #   SECONDS  of each of the three runs, 20 where it isn't given; FLOWS: 4
-# `out/link --help` has the link's options. LINK_FAMILY=6 in the environment makes the traffic IPv6. It has to be root. Status 1 where
-# something is missing, a run failed or a history is not clean.
+# `out/link --help` has the link's options. LINK_FAMILY=6 in the environment makes the traffic IPv6. Without root or /dev/net/tun it runs
+# in a Linux in a process, bench/uml, where Debian's user-mode-linux is installed. Status 1: something is missing, a run failed
+# or a history is not clean.
 set -u
 here=$(cd "$(dirname "$0")" && pwd)
 if [ $# -lt 2 ] || [ "$1" = --help ]; then
-    sed -n '2,10s/^# \{0,1\}//p' "$0"
+    sed -n '2,11s/^# \{0,1\}//p' "$0"
     [ "${1:-}" = --help ]
     exit
 fi
-if ! "$here/missing.sh"; then
+if ! missing=$("$here/missing.sh"); then
+    if "$here/../../bench/uml/helps.sh" "$missing"; then
+        make -s -C "$here" && exec "$here/../../bench/uml/run.sh" "$here/run.sh" "$@"
+        exit 1
+    fi
+    echo "$missing"
     echo "examples/link/run.sh: the above is missing, so nothing was run; examples/link/install.sh installs what Debian has of it"
     exit 1
 fi

@@ -3,20 +3,29 @@
 # PIE packets wait less in the mean. Its options open what pie params asks for by the same words. Then a link whose rate changes, and that
 # sends by grants, is killed in the middle of a transfer: what its flight recorder wrote
 # when it was asked, and what its file holds, is decided again. Each of these texts tells when its events were, by the time of day. Before that
-# the test of its packets: marks in IPv4 and IPv6 headers, and checksums. Where this machine lacks something that it takes, a line that begins
-# with NOT RUN says so.
+# the test of its packets: marks in IPv4 and IPv6 headers, and checksums. Without root or /dev/net/tun all of it runs in a Linux in a process,
+# bench/uml. Where this machine lacks something that it takes, a line that begins with NOT RUN says so.
 # usage: tests/program/link.sh [PROGRAM]      PROGRAM: crates/pie/out/pie where none is given
 # needs: program, library, root, quiet
 . "$(dirname "$0")/../shared/script.sh"
 link=$top/examples/link
 seconds=5
+inside=()
 if ! missing=$("$link/missing.sh"); then
+    ! "$top/bench/uml/helps.sh" "$missing" || inside=("$top/bench/uml/run.sh")
+fi
+if [ -n "$missing" ] && [ ${#inside[@]} = 0 ]; then
     echo "NOT RUN: $script: no packet went through the link in user space, for want of $(tr '\n' ' ' <<<"$missing")"
     exit 0
 fi
 if ! (cd "$top/crates/pie_c" && { [ -e out/libpie_c.a ] || rt lib; } && make -s -C "$link") > "$work/build.log" 2>&1; then
     cat "$work/build.log"
     exit 1
+fi
+if [ ${#inside[@]} != 0 ]; then
+    echo "$script: in a Linux in a process (bench/uml), for want of $(tr '\n' ' ' <<< "$missing")"
+    "${inside[@]}" "$here/link.sh" "$program"
+    exit
 fi
 . "$link/measure.sh"
 trap 'clean_up; rm -rf "$work"' EXIT

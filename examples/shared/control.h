@@ -1,5 +1,6 @@
-/* The one grammar of options of the programs in C that have a link with PIE in front of it. A word means what it means to `pie params`, which has tc's
- * words; what tc has no word for has the name that it has in pie.h. Texts are read by the library, as `pie params` reads them. */
+/* The one grammar of options of the programs in C that have a link with PIE in front of it. A word means what it means to `pie params`,
+ * which has tc's words; what tc has no word for has the name that it has in pie.h. Texts are read by the library, as `pie params` reads
+ * them. */
 #ifndef SHARED_CONTROL_H
 #define SHARED_CONTROL_H
 

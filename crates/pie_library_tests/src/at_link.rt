@@ -184,3 +184,11 @@ pub(crate) fn excerpt<R: Wait>(
 {
     link.excerpt(rt, caller, excerpt).is_ok()
 }
+
+/// Whether an excerpt is filled, where the link is free.
+pub(crate) fn try_excerpt(link: &Link, caller: &mut Caller, excerpt: &mut Excerpt) -> bool
+    requires own { caller.old.lock ≡ link.now }
+    ensures stays { StaysOne caller.old caller.new }
+{
+    link.try_excerpt(caller, excerpt).is_ok()
+}

@@ -5,7 +5,7 @@ mod link;
 mod lock;
 mod parts;
 
-use crate::threads::link::{bursts, dumps, one_thread, storms};
+use crate::threads::link::{bursts, dumps, excerpts, one_thread, storms};
 use crate::threads::lock::sleepers;
 use std::alloc::Global;
 use std::io;
@@ -24,15 +24,19 @@ pub(crate) enum Test {
     Lacking,
     Till,
     Sleepers,
+    Gathered,
     Above,
     Bursts,
     Held,
     Folds,
+    Early,
+    Longest,
+    Excerpts,
     Dumps,
 }
 
 /// All of them.
-const TESTS: [Test; 13] = [
+const TESTS: [Test; 17] = [
     Test::Words,
     Test::Ring,
     Test::Openings,
@@ -41,10 +45,14 @@ const TESTS: [Test; 13] = [
     Test::Lacking,
     Test::Till,
     Test::Sleepers,
+    Test::Gathered,
     Test::Above,
     Test::Bursts,
     Test::Held,
     Test::Folds,
+    Test::Early,
+    Test::Longest,
+    Test::Excerpts,
     Test::Dumps,
 ];
 
@@ -60,10 +68,14 @@ impl Test {
             Test::Lacking => "a_pass_that_lacks_numbers_closes_a_free_lock",
             Test::Till => "a_till_sells_to_passes_that_lack_numbers",
             Test::Sleepers => "those_that_sleep_at_a_held_lock_all_wake",
+            Test::Gathered => "those_that_sleep_wake_where_gathered_passes_put",
             Test::Above => "a_caller_of_65535_is_answered_and_closes",
             Test::Bursts => "nothing_comes_between_the_packets_of_a_burst",
             Test::Held => "a_held_sender_comes_last",
             Test::Folds => "folds_and_a_change_take_part",
+            Test::Early => "a_fold_that_comes_too_early_is_passed_over",
+            Test::Longest => "a_storm_in_the_longest_bursts_ends",
+            Test::Excerpts => { "a_caller_that_lacks_numbers_takes_an_excerpt_whose_text_is_clean" }
             Test::Dumps => "excerpts_are_clean_while_threads_are_at_work",
         }
     }
@@ -79,10 +91,18 @@ impl Test {
             Test::Lacking => lock::a_pass_that_lacks_numbers_closes_a_free_lock(alloc),
             Test::Till => lock::a_till_sells_to_passes_that_lack_numbers(alloc),
             Test::Sleepers => sleepers::those_that_sleep_at_a_held_lock_all_wake(rt, alloc),
+            Test::Gathered => {
+                sleepers::those_that_sleep_wake_where_gathered_passes_put(rt, alloc)
+            }
             Test::Above => one_thread::a_caller_of_65535_is_answered_and_closes(rt, alloc),
             Test::Bursts => bursts::nothing_comes_between_the_packets_of_a_burst(rt, alloc),
             Test::Held => storms::a_held_sender_comes_last(rt, alloc),
             Test::Folds => storms::folds_and_a_change_take_part(rt, alloc),
+            Test::Early => storms::a_fold_that_comes_too_early_is_passed_over(rt, alloc),
+            Test::Longest => storms::a_storm_in_the_longest_bursts_ends(rt, alloc),
+            Test::Excerpts => {
+                excerpts::a_caller_that_lacks_numbers_takes_an_excerpt_whose_text_is_clean(alloc)
+            }
             Test::Dumps => dumps::excerpts_are_clean_while_threads_are_at_work(rt, alloc),
         }
     }

@@ -4,6 +4,7 @@ ghost use Rattle.std.specs.Prelude.{◌≡◌, IfOk};
 
 pub(crate) mod bursts;
 pub(crate) mod dumps;
+pub(crate) mod excerpts;
 pub(crate) mod one_thread;
 pub(crate) mod storms;
 

@@ -163,9 +163,10 @@ fn all_calls<R: Wait>(rt: &R, link: &Link, caller: &mut Caller, upper: &mut Call
     requires own { (caller.old.lock ≡ link.now) × (upper.old.lock ≡ link.now) }
     ensures { upper.new.lock ≡ link.now }
 {
+    let is_last = upper.first() == 65534 && upper.limit() == 65535;
     let first = first_calls(link, upper);
     let later = later_calls(rt, link, upper);
-    first && later && folds_from_above(link, caller, upper)
+    is_last && first && later && folds_from_above(link, caller, upper)
 }
 
 // Whether the calls are answered so, and the uppermost caller then closes.

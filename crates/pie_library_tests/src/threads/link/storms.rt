@@ -5,7 +5,10 @@ use crate::books::packet;
 use crossbeam_utils::Backoff;
 use pie_book::{Event, Limits, Profile};
 use pie_params::{Elements, Params};
-use pie_storm::{Arrival, Change, Gate, Plan, StormEnd, storm};
+use pie_queue::Memory;
+use pie_storm::{
+    Arrival, Change, Gate, LONGEST_BURST, NoGate, Plan, StormEnd, StormNumbers, storm, storm_plan,
+};
 use std::alloc::Global;
 use std::sync::Wait;
 use std::sync::atomic::{AtomicU64, Ordering};
@@ -185,4 +188,49 @@ pub(crate) fn folds_and_a_change_take_part<R: Threads + Wait + Sync>(
     is_so
         && gate.asked_in_all.load(Ordering::SeqCst) == 11
         && gate.answered_in_all.load(Ordering::SeqCst) == 11
+}
+
+// Whether a fold of three events is counted as one of too many, since the only sender is held until it was answered.
+pub(crate) fn a_fold_that_comes_too_early_is_passed_over<R: Threads + Wait + Sync>(
+    rt: &R,
+    alloc: Global,
+) -> bool {
+    let mut plan = plan(alloc, &[1, 2], &[]);
+    let _ = plan.folds.push(3);
+    match storm(rt, alloc, &plan, &holding(1, 6, 1)) {
+        Ok(end) => end.events.len() == 2 && end.too_many == 1,
+        Err(_) => false,
+    }
+}
+
+// Two senders that hand in all their packets at once.
+fn longest_bursts(alloc: Global) -> Result<Plan, Memory> {
+    storm_plan(
+        alloc,
+        StormNumbers {
+            senders: 2,
+            packets: 1024,
+            burst: LONGEST_BURST,
+            load: 100,
+            seed: 1,
+            changes: 0,
+            folds: 0,
+            profile: Profile::One,
+            elements: Elements::usual(),
+        },
+    )
+}
+
+// Whether a storm ends in which each sender makes one call, with as many packets as a burst may have.
+pub(crate) fn a_storm_in_the_longest_bursts_ends<R: Threads + Wait + Sync>(
+    rt: &R,
+    alloc: Global,
+) -> bool {
+    match longest_bursts(alloc) {
+        Ok(plan) => match storm(rt, alloc, &plan, &NoGate) {
+            Ok(end) => end.stats.arrivals == 2048 && end.too_many == 0,
+            Err(_) => false,
+        },
+        Err(_) => false,
+    }
 }

@@ -10,3 +10,7 @@ mod SegmentEnds
 mod LastFacts
 mod Examples
 mod JoinedFacts
+mod WholeFacts
+mod TextFacts
+mod CutText
+mod ShownOnce

@@ -5,6 +5,7 @@
 #![tactic(auto)]
 
 pub mod beginning;
+pub mod fits;
 pub mod law;
 mod line;
 pub mod reading;
@@ -13,6 +14,7 @@ mod writing;
 mod written;
 
 pub use beginning::{Begun, begin_resumed, is_resume};
+pub use fits::{params_are_good, resume_fits, waiting_fits};
 pub use law::{beginnings_are_written_again, beginnings_go_on, records_are_read_back};
 pub use line::Line;
 pub use reading::{read_queued, read_resume};

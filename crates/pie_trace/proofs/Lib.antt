@@ -18,3 +18,4 @@ pub mod MigrateTrace
 pub mod ExamplesMigration
 pub mod RunFindings
 pub mod MigrationFinding
+mod LostPart

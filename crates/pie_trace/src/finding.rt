@@ -1,5 +1,5 @@
 //! What a run writes, beside the audit of it.
-ghost use Rattle.std.specs.Prelude.{◌≡◌, ◌<◌, ◌≤◌, ◌^◌, ◌∷◌, ℕ, List, length, None, Some, Ok};
+ghost use Rattle.std.specs.Prelude.{◌≡◌, ◌≢◌, ◌<◌, ◌≤◌, ◌^◌, ◌∷◌, ◌++◌, ℕ, List, length, None, Some, Ok};
 ghost use Rattle.pie_event.specs.declared.opening.Opening.{Opening};
 ghost use Rattle.pie_trace.specs.declared.run.RunEnd.{RunEnd};
 ghost use Rattle.pie_trace.specs.History.{before_fault, end_of, fault_of, history_text, progress_at_end, requests_of};
@@ -7,7 +7,8 @@ ghost use Rattle.pie_record.specs.FirstRecord.{version_of};
 ghost use Rattle.pie_record.specs.Opening.{opening_of};
 ghost use Rattle.pie_record.specs.Text.{Row, records_of};
 ghost use Rattle.pie_audit.specs.declared.auditor.Finding.TheVariants.{Clean};
-ghost use Rattle.pie_audit.specs.Text.{text_finding};
+ghost use Rattle.pie_text.specs.Lost.{lost_row};
+ghost use Rattle.pie_audit.specs.Text.{excerpt_fault, text_finding};
 
 use crate::law::history_texts_are_read_back;
 
@@ -25,3 +26,11 @@ pub fn runs_are_clean()
 {
     history_texts_are_read_back();
 }
+
+/// Where a record of lost events stands among the records of a text, whoever reads that text as one that goes on from the middle of a history meets
+/// a fault. So no audit finds it clean.
+///
+/// It does nothing: its contract is the law (this project's own).
+pub fn lost_records_are_faults_of_parts()
+    ensures { (count : ℕ) (before after : List Row) → excerpt_fault (before ++ lost_row count ∷ after) ≢ None }
+{}

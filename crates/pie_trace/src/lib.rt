@@ -30,7 +30,7 @@ mod resumed;
 pub mod run;
 mod session;
 
-pub use finding::runs_are_clean;
+pub use finding::{lost_records_are_faults_of_parts, runs_are_clean};
 pub use law::{history_texts_are_read_back, resumed_runs_go_on_as_the_whole};
 pub use migration::migrate;
 pub use migration_finding::migration_keeps_the_finding;

@@ -1,0 +1,5 @@
+use Rattle.pie_cut.proofs.ShownOnce.{goes-follows}
+use Rattle.pie_cut.proofs.law.texts_that_go_on_follow.Goals as goal
+
+pub returns : goal.returns
+returns c = goes-follows

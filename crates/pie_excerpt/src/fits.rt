@@ -1,0 +1,105 @@
+//! The numbers that are written are those that the types of their fields hold. These functions do nothing: their contracts say it of values in
+//! hand.
+ghost use Rattle.std.specs.Prelude.{◌≡◌, ◌<◌, ◌^◌, None};
+ghost use Rattle.pie_params.specs.Range.{first_bad};
+ghost use Rattle.pie_event.specs.Ranges.{StatsFit};
+ghost use Rattle.pie_excerpt.specs.Fits.{ControllerFits, CycleFits, LimitsFit, NineFit, ResumeFits, SetterFits, WaitingFits};
+
+use crate::resume::Resume;
+use pie_aqm::RawController;
+use pie_book::{Limits, Stats};
+use pie_params::{Params, RawParams};
+use pie_queue::Waiting;
+use pie_rate::RawCycle;
+
+/// Parameters that were checked are in their ranges.
+pub fn params_are_good(params: Params)
+    ensures { first_bad params ≡ None }
+{
+    let _ = params.raw();
+}
+
+/// Limits.
+fn limits_fit(limits: Limits)
+    ensures { LimitsFit limits }
+{
+    let _ = (limits.packets, limits.tail, limits.events);
+}
+
+/// The nine parameters, in their ranges or not.
+fn nine_fit(params: RawParams)
+    ensures { NineFit params }
+{
+    let _ = (params.target, params.t_update, params.max_burst);
+    let _ = (params.alpha, params.beta, params.mean_pkt);
+    let _ = (params.limit_bytes, params.mark_ecnth, params.dq_threshold);
+}
+
+/// A cycle of the departure rate, or none.
+fn cycle_fits(cycle: Option<RawCycle>)
+    ensures { CycleFits cycle }
+{
+    match cycle {
+        Some(cycle) => {
+            let _ = (cycle.start, cycle.count);
+        }
+        None => {}
+    }
+}
+
+/// The event that set the probability, where it is known.
+fn setter_fits(set_by: Option<u64>)
+    ensures { SetterFits set_by }
+{
+    match set_by {
+        Some(number) => {
+            let _ = number;
+        }
+        None => {}
+    }
+}
+
+/// What a controller holds.
+fn controller_fits(c: RawController)
+    ensures { ControllerFits c }
+{
+    nine_fit(c.params);
+    cycle_fits(c.rate.begun);
+    let _ = (c.moment, c.control.prob, c.control.old_delay, c.accu);
+    let _ = (c.control.burst, c.control.last, c.rate.average, c.waited);
+}
+
+/// Statistics.
+fn stats_fit(s: Stats)
+    ensures { StatsFit s }
+{
+    let _ = (s.arrivals, s.enqueued, s.marked, s.early, s.over_bytes);
+    let _ = (s.over_packets, s.left, s.left_bytes, s.empty, s.updates);
+    let _ = (
+        s.resets,
+        s.changes,
+        s.largest_queue,
+        s.largest_delay,
+        s.waited,
+    );
+}
+
+/// What the first record says.
+pub fn resume_fits(resume: Resume)
+    ensures { ResumeFits resume }
+{
+    limits_fit(resume.limits);
+    nine_fit(resume.params);
+    setter_fits(resume.set_by);
+    controller_fits(resume.standing.controller);
+    stats_fit(resume.standing.stats);
+    let _ = (resume.opened, resume.standing.count);
+    let _ = (resume.standing.packets, resume.standing.bytes);
+}
+
+/// A packet that waits.
+pub fn waiting_fits(waiting: Waiting)
+    ensures { WaitingFits waiting }
+{
+    let _ = (waiting.packet.tag, waiting.packet.size, waiting.since);
+}

@@ -1,7 +1,4 @@
 //! What decides an arrival: the first case of the rules that holds, with the numbers that it compared (`raw` finds it).
-ghost use Rattle.std.specs.Prelude.{◌≡◌};
-
-use crate::Verdict;
 
 /// Why a picked packet was marked or dropped (RFC 8033, section 5.1).
 #[derive(Clone, Copy, Debug, PartialEq, Eq)]
@@ -100,40 +97,4 @@ pub enum Cause {
         /// The random word.
         word: u64,
     },
-}
-
-impl Cause {
-    ghost use Rattle.pie_aqm.specs.Cause.{verdict_of};
-
-    /// The verdict on an arrival that this decided.
-    pub fn verdict(self) -> Verdict
-        ensures { result ≡ verdict_of self }
-    {
-        match self {
-            Cause::NoRoomInBytes { .. } => Verdict::DroppedBytes,
-            Cause::NoRoomInPackets { .. } => Verdict::DroppedPackets,
-            Cause::Inactive
-            | Cause::BurstAllowed { .. }
-            | Cause::LowDelay { .. }
-            | Cause::ShortQueue { .. }
-            | Cause::NoProbability
-            | Cause::LittleAccumulated { .. }
-            | Cause::WordNotBelow { .. } => Verdict::Enqueued,
-            Cause::PickedBySum { fate, .. } | Cause::PickedByWord { fate, .. } => fate.verdict(),
-        }
-    }
-}
-
-impl Fate {
-    ghost use Rattle.pie_aqm.specs.Cause.{verdict_on_picked};
-
-    /// The verdict on a picked packet.
-    pub fn verdict(self) -> Verdict
-        ensures { result ≡ verdict_on_picked self }
-    {
-        match self {
-            Fate::Marked { .. } => Verdict::Marked,
-            Fate::NotCapable | Fate::NotBelow { .. } => Verdict::DroppedEarly,
-        }
-    }
 }

@@ -169,17 +169,9 @@ impl Controller {
         self.raw.due()
     }
 
-    /// The profile.
-    #[inline(always)]
-    pub fn profile(&self) -> Profile
-        ensures { result ≡ self.now.profile }
-    {
-        self.raw.profile
-    }
-
     /// The optional elements of RFC 8033, as they were chosen.
     #[inline(always)]
-    pub fn elements(&self) -> Elements
+    pub(crate) fn elements(&self) -> Elements
         ensures { result ≡ self.now.elements }
     {
         self.raw.elements

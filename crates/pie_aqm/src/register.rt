@@ -31,7 +31,7 @@ const REGISTERS: [Register; 12] = [
 impl RawController {
     /// The first of the numbers that no controller holds, in the order of [`Register`]: it is out of its range, or doesn't fit those
     /// before it. `None` where the numbers are sound.
-    pub fn first_unsound(&self) -> Option<Register>
+    pub(crate) fn first_unsound(&self) -> Option<Register>
         ensures first { result ≡ first_unsound (held_by self.now) }
         ensures sound { (result ≡ None) ↔ IsSound (held_by self.now) }
     {

@@ -62,14 +62,6 @@ impl Early {
         Early { accu: 0 }
     }
 
-    /// Early drop with an accumulated probability, which is below 8.5.
-    pub fn from_parts(accu: Accu) -> Self
-        requires { accu < ALWAYS_PICKED }
-        ensures { result ≡ accu }
-    {
-        Early { accu: accu.units() }
-    }
-
     /// Early drop with so many units of `10^-12` accumulated, below 8.5.
     #[inline(always)]
     pub fn from_units(accu: u64) -> Self

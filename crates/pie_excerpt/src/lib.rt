@@ -1,7 +1,7 @@
 //! The records with which a text begins that goes on from the middle of a history: what a core stands on, and the packets that wait.
 //!
 //! What they mean is pie_book's (`Standing`, `Core::resume`); here they are written (`put_resume`, `put_queued`, and a whole excerpt by
-//! `write_excerpt`) and read (`read_resume`, `read_queued`, and a whole beginning by `begin_resumed`).
+//! `write_excerpt`) and read (a whole beginning by `begin_resumed`).
 #![tactic(auto)]
 
 pub mod beginning;
@@ -17,7 +17,6 @@ pub use beginning::{Begun, begin_resumed, is_resume};
 pub use fits::{params_are_good, resume_fits, waiting_fits};
 pub use law::{beginnings_are_written_again, beginnings_go_on, records_are_read_back};
 pub use line::Line;
-pub use reading::{read_queued, read_resume};
 pub use resume::Resume;
 pub use writing::{make_resume, put_queued, put_resume};
 pub use written::{add_queue, write_excerpt};

@@ -12,7 +12,7 @@ pub mod fault;
 pub mod law;
 
 pub use either::explain_either;
-pub use explainer::{explain, explain_after};
+pub use explainer::explain;
 pub use fault::ExplainFault;
 pub use law::excerpts_are_explained_as_the_whole;
 pub use pie_audit::sets_probability;

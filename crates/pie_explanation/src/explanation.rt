@@ -89,7 +89,7 @@ impl Explanation {
     /// What there is to say of an event with this number that a core is about to decide, where `set_by` is what last set the
     /// probability, and `clock` the last record that tells the time of day. The core is as it was.
     #[inline(always)]
-    pub fn of(
+    pub(crate) fn of(
         core: &Core,
         number: u64,
         event: &Event,

@@ -1,14 +1,9 @@
 -- What one more departure makes of an estimate (after RFC 8033, section 5.2), told from the estimate
 -- before it.
 use Rattle.std.specs.Prelude.{ℕ, ◌+◌, ◌-◌, max, Option, Some, None, nat_lt, if◌then◌else◌}
-use Rattle.pie_rate.specs.declared.rate.OpenCycle.{OpenCycle}
 use Rattle.pie_rate.specs.Departures.{Departure}
 use Rattle.pie_rate.specs.Average.{with_sample}
 use Rattle.pie_rate.specs.Estimate.{Begun, Estimate}
-
--- the two numbers of a cycle that is begun
-abbrev pub begun_of : OpenCycle → Begun
-begun_of cycle = record { start = cycle.start; count = cycle.count }
 
 -- the cycle that a departure opens, where none is begun
 abbrev pub opened_by : ℕ → Departure → Option Begun

@@ -9,5 +9,5 @@
 mod rate;
 mod raw;
 
-pub use rate::{OpenCycle, Rate};
+pub use rate::Rate;
 pub use raw::{MAX_THRESHOLD, RawCycle, RawRate};

@@ -6,20 +6,11 @@ ghost use Rattle.pie_rate.specs.Departures.{Departure, departure};
 ghost use Rattle.std.specs.Prelude.{option_map};
 ghost use Rattle.std.specs.Option.{ForSome};
 ghost use Rattle.pie_rate.specs.Estimate.{IsWithin, Shows, estimate_of};
-ghost use Rattle.pie_rate.specs.Step.{after_departure, begun_of};
+ghost use Rattle.pie_rate.specs.Step.{after_departure};
 
 use crate::raw::{RawCycle, RawRate};
 use pie_fixed::Nanos;
 use std::marker::Model;
-
-/// A measurement cycle that no departure has closed yet (RFC 8033, section 5.2).
-#[derive(Clone, Copy, Debug, PartialEq, Eq)]
-pub struct OpenCycle {
-    /// The moment of the departure that opened it.
-    pub start: Nanos,
-    /// The bytes of the departures after that one, below 65536.
-    pub count: u64,
-}
 
 /// How long the queue takes to let a threshold of bytes depart, estimated from measurement cycles
 /// (RFC 8033, section 5.2).
@@ -54,23 +45,6 @@ impl Rate {
     {
         Rate {
             raw: RawRate::cleared(),
-        }
-    }
-
-    /// An estimate in any state: the average is below `2^60`, and a cycle that is begun has counted
-    /// less than 65536 bytes.
-    pub fn from_parts(average: u64, begun: Option<OpenCycle>) -> Rate
-        requires average { average < 2 ^ 60 }
-        requires count { ForSome begun (λ cycle. cycle.count < 65536) }
-        ensures average { result.average ≡ average }
-        ensures begun { result.begun ≡ option_map begun_of begun }
-    {
-        let begun = begun.map(|cycle| RawCycle {
-            start: cycle.start.units(),
-            count: cycle.count,
-        });
-        Rate {
-            raw: RawRate { average, begun },
         }
     }
 
@@ -145,19 +119,5 @@ impl Rate {
         ensures { estimate_of result ≡ self.now }
     {
         self.raw
-    }
-
-    /// The cycle that is begun, if there is one (RFC 8033, section 5.2).
-    pub fn begun(&self) -> Option<OpenCycle>
-        ensures value { option_map begun_of result ≡ self.now.begun }
-        ensures bound { ForSome result (λ cycle. cycle.count < 65536) }
-    {
-        match self.raw.begun {
-            Some(RawCycle { start, count }) => Some(OpenCycle {
-                start: Nanos::of_units(start),
-                count,
-            }),
-            None => None,
-        }
     }
 }

@@ -1,62 +1,49 @@
 -- How a cut ends.
 use Rattle.std.proofs.Common.{◌≡◌, ℕ, List, Bool, true, false, Option, Some, None, codes, inl, inr, refl}
-use Rattle.std.specs.Prelude.{IfSome, Result, Ok, Err, if◌then◌else◌}
+use Rattle.std.specs.Prelude.{IfSome, Ok, Err}
 use Rattle.std.specs.Str.{bytes_eq}
 use Rattle.clap.specs.Words.{Row, Text}
 use Rattle.pie_record.specs.declared.fault.TraceFault.{TraceFault}
 use Rattle.pie_record.specs.Text.{Row as Fields, records_of}
-use Rattle.pie_cut.specs.declared.fault.CutFault.{CutFault}
 use Rattle.pie_cut.specs.declared.fault.CutFault.TheVariants.{Trace}
 use Rattle.pie_cut.specs.Answer.{CutsEither}
 use Rattle.pie_cut.specs.Last.{LastEither}
 use Rattle.pie_files.specs.Files.{text_given}
 use Rattle.pie_commands.specs.declared.end.End.{End}
-use Rattle.pie_commands.specs.declared.end.End.TheVariants.{Fault, Failed}
+use Rattle.pie_commands.specs.declared.end.End.TheVariants.{Fault, Unable}
 use Rattle.pie_commands.specs.declared.cut.Wanted.{Wanted}
 use Rattle.pie_commands.specs.declared.cut.Wanted.TheVariants.{Part, Last, Every}
-use Rattle.pie_commands.specs.CutEnds.{CutsLast, EndsBy, EndsCut, cut_ends, end_of_cut, is_named, last_of, wanted_of}
+use Rattle.pie_commands.specs.Ends.{EndsBy}
+use Rattle.pie_commands.specs.CutEnds.{CutsLast, EndsCut, cut_ends, end_of_cut, is_named, last_of, wanted_of}
 
 -- ---- it never began
 
-cut_ends-failed : (wanted : Option Wanted) (named : Bool) (rows : List Fields) (before now : Option (List ℕ)) → now ≡ before
-    → cut_ends wanted named rows Failed before now
-cut_ends-failed None named rows before now same = (refl, same)
-cut_ends-failed (Some (Part span)) named rows before now same = inl (refl, same)
-cut_ends-failed (Some (Last many)) false rows before now same = (refl, same)
-cut_ends-failed (Some (Last many)) true rows before now same = inl (refl, same)
-cut_ends-failed (Some (Every every)) named rows before now same = inl (refl, same)
+cut_ends-unable : (wanted : Option Wanted) (named : Bool) (rows : List Fields) (before now : Option (List ℕ)) → now ≡ before
+    → cut_ends wanted named rows Unable before now
+cut_ends-unable None named rows before now same = (inl refl, same)
+cut_ends-unable (Some (Part span)) named rows before now same = inl (refl, same)
+cut_ends-unable (Some (Last many)) false rows before now same = (inl refl, same)
+cut_ends-unable (Some (Last many)) true rows before now same = inl (refl, same)
+cut_ends-unable (Some (Every every)) named rows before now same = inl (refl, same)
 
-pub EndsCut-failed : (options : List Row) (file : Option Text) (known : Option (List ℕ)) (before now : Option (List ℕ)) → now ≡ before
-    → IfSome known (λ text. EndsCut options file text Failed before now)
-EndsCut-failed options file None before now same = tt
-EndsCut-failed options file (Some text) before now same =
-    cut_ends-failed (wanted_of options) (is_named file) (records_of text) before now same
-
-pub failed-by : (cuts : List ℕ → Result ℕ CutFault → Option (List ℕ) → Option (List ℕ) → Type 0) (known : Option (List ℕ))
-    (before : Option (List ℕ)) → IfSome known (λ text. EndsBy (cuts text) Failed before before)
-failed-by cuts None before = tt
-failed-by cuts (Some text) before = inl (refl, refl)
-
--- ---- it answered and wrote this
-
-pub told-by : (cuts : List ℕ → Result ℕ CutFault → Option (List ℕ) → Option (List ℕ) → Type 0) (known : Option (List ℕ))
-    (given : Result ℕ CutFault) (before now : Option (List ℕ)) → IfSome known (λ text. cuts text given before now)
-    → IfSome known (λ text. EndsBy (cuts text) (end_of_cut given) before now)
-told-by cuts None given before now so = tt
-told-by cuts (Some text) given before now so = inr (given, refl, so)
+pub EndsCut-unable : (options : List Row) (file : Option Text) (known : Option (List ℕ)) (before now : Option (List ℕ)) → now ≡ before
+    → IfSome known (λ text. EndsCut options file text Unable before now)
+EndsCut-unable options file None before now same = tt
+EndsCut-unable options file (Some text) before now same =
+    cut_ends-unable (wanted_of options) (is_named file) (records_of text) before now same
 
 -- ---- the last events
 
 -- a fault was found where they were counted
 pub last-faulted : (many : ℕ) (known : Option (List ℕ)) (why : TraceFault) (before : Option (List ℕ))
     → IfSome known (λ text. LastEither (records_of text) (Err why))
-    → IfSome known (λ text. EndsBy (CutsLast many (records_of text)) (Fault why) before before)
+    → IfSome known (λ text. EndsBy end_of_cut (CutsLast many (records_of text)) (Fault why) before before)
 last-faulted many None why before counts = tt
 last-faulted many (Some text) why before counts = inr (Err (Trace why), refl, (Err why, counts, (refl, refl)))
 
 last-cut : (many number : ℕ) (rows : List Fields) (end : End) (before now : Option (List ℕ)) → LastEither rows (Ok number)
-    → EndsBy (CutsEither (last_of number many) rows) end before now → EndsBy (CutsLast many rows) end before now
-last-cut many number rows end before now counts (inl failed) = inl failed
+    → EndsBy end_of_cut (CutsEither (last_of number many) rows) end before now → EndsBy end_of_cut (CutsLast many rows) end before now
+last-cut many number rows end before now counts (inl unable) = inl unable
 last-cut many number rows end before now counts (inr told) = inr (told.0, told.1, (Ok number, counts, told.2))
 
 -- the text is that of a file that has a name
@@ -66,15 +53,15 @@ named-text input files name P other so = rw other at so
 
 last-both : (many number : ℕ) (known : Option (List ℕ)) (end : End) (before now : Option (List ℕ))
     → IfSome known (λ text. LastEither (records_of text) (Ok number))
-    → IfSome known (λ text. EndsBy (CutsEither (last_of number many) (records_of text)) end before now)
-    → IfSome known (λ text. EndsBy (CutsLast many (records_of text)) end before now)
+    → IfSome known (λ text. EndsBy end_of_cut (CutsEither (last_of number many) (records_of text)) end before now)
+    → IfSome known (λ text. EndsBy end_of_cut (CutsLast many (records_of text)) end before now)
 last-both many number None end before now counts cuts = tt
 last-both many number (Some text) end before now counts cuts = last-cut many number (records_of text) end before now counts cuts
 
 pub last-told : (many number : ℕ) (input : Option (List ℕ)) (files : Text → Option (List ℕ)) (name : Text) (end : End) (before now : Option (List ℕ))
     → bytes_eq name (codes "-") ≡ false → IfSome (files name) (λ text. LastEither (records_of text) (Ok number))
-    → IfSome (text_given input files (Some name)) (λ text. EndsBy (CutsEither (last_of number many) (records_of text)) end before now)
-    → IfSome (files name) (λ text. EndsBy (CutsLast many (records_of text)) end before now)
+    → IfSome (text_given input files (Some name)) (λ text. EndsBy end_of_cut (CutsEither (last_of number many) (records_of text)) end before now)
+    → IfSome (files name) (λ text. EndsBy end_of_cut (CutsLast many (records_of text)) end before now)
 last-told many number input files name end before now other counts cuts =
     last-both many number (files name) end before now counts
-    (named-text input files name (λ text. EndsBy (CutsEither (last_of number many) (records_of text)) end before now) other cuts)
+    (named-text input files name (λ text. EndsBy end_of_cut (CutsEither (last_of number many) (records_of text)) end before now) other cuts)

@@ -1,6 +1,6 @@
 -- How a subcommand ends that never began, and a run, a migration and an audit.
 use Rattle.std.proofs.Common.{◌≡◌, ◌≤◌, ◌^◌, ℕ, List, [], ◌∷◌, Option, Some, None, arith, inl, inr, refl, subst}
-use Rattle.std.specs.Prelude.{◌⊎◌, Bool, true, false, IfErr, IfOk, IfSome, Result, Ok, Err}
+use Rattle.std.specs.Prelude.{Bool, true, false, IfErr, IfOk, IfSome, Result, Ok, Err}
 use Rattle.std.specs.Io.KnownBytes.{Appends}
 use Rattle.clap.specs.Words.{Text}
 use Rattle.pie_record.specs.declared.fault.TraceFault.{TraceFault}
@@ -14,9 +14,9 @@ use Rattle.pie_audit.specs.declared.auditor.Finding.{Finding}
 use Rattle.pie_audit.specs.declared.auditor.Finding.TheVariants as finding
 use Rattle.pie_audit.specs.Text.{FindsEither, finding_line}
 use Rattle.pie_commands.specs.declared.end.End.{End}
-use Rattle.pie_commands.specs.declared.end.End.TheVariants.{Done, Differs, Fault, Failed}
+use Rattle.pie_commands.specs.declared.end.End.TheVariants.{Done, Differs, Fault, Unable, Failed}
 use Rattle.pie_commands.specs.JointEnds.{EndsEither, EndsOfFiles}
-use Rattle.pie_commands.specs.Ends.{EndsAudit, EndsMigrate, EndsRun, TellsFound, audit_ends, end_found, end_of, run_ends, run_ends_by, status_of}
+use Rattle.pie_commands.specs.Ends.{EndsAudit, EndsBy, EndsMigrate, EndsRun, TellsFound, audit_ends, end_found, end_of, run_ends, run_ends_by, status_of}
 
 -- ---- the status
 
@@ -24,6 +24,7 @@ pub status-most : (end : End) → status_of end ≤ 2
 status-most Done = omega arith
 status-most Differs = omega arith
 status-most (Fault why) = omega arith
+status-most Unable = omega arith
 status-most Failed = omega arith
 
 -- where an event differs it is 2
@@ -32,29 +33,38 @@ no-difference end most is =
     let two : status_of Differs ≤ 1 = subst (λ (e : End). status_of e ≤ 1) is most in
     omega arith
 
-pub no-difference-by : {P : Type 0} (end : End) → (status_of end ≡ 1) ⊎ ((status_of end ≡ 0) × P) → end ≡ Differs → ⊥
-no-difference-by end (inl one) is = no-difference end (omega arith) is
-no-difference-by end (inr done) is = no-difference end (omega (arith, done.0)) is
+-- ---- by what it answered
+
+pub told-by : {A : Type 0} (end_for : A → End) (tells : List ℕ → A → Option (List ℕ) → Option (List ℕ) → Type 0) (known : Option (List ℕ)) (given : A)
+    (before now : Option (List ℕ)) → IfSome known (λ text. tells text given before now)
+    → IfSome known (λ text. EndsBy end_for (tells text) (end_for given) before now)
+told-by end_for tells None given before now so = tt
+told-by end_for tells (Some text) given before now so = inr (given, refl, so)
+
+pub unable-by : {A : Type 0} (end_for : A → End) (tells : List ℕ → A → Option (List ℕ) → Option (List ℕ) → Type 0) (known before : Option (List ℕ))
+    → IfSome known (λ text. EndsBy end_for (tells text) Unable before before)
+unable-by end_for tells None before = tt
+unable-by end_for tells (Some text) before = inl (refl, refl)
 
 -- ---- before a subcommand begins
 
-run-failed : (kind : Bool) (rows : List Row) (before now : Option (List ℕ)) → now ≡ before → run_ends_by kind rows Failed before now
-run-failed false rows before now same = same
-run-failed true rows before now same = same
+run-unable : (kind : Bool) (rows : List Row) (before now : Option (List ℕ)) → now ≡ before → run_ends_by kind rows Unable before now
+run-unable false rows before now same = same
+run-unable true rows before now same = same
 
-pub EndsRun-failed : (known : Option (List ℕ)) (before now : Option (List ℕ)) → now ≡ before → IfSome known (λ text. EndsRun text Failed before now)
-EndsRun-failed None before now same = tt
-EndsRun-failed (Some text) before now same = run-failed (is_resumed (records_of text)) (records_of text) before now same
+pub EndsRun-unable : (known : Option (List ℕ)) (before now : Option (List ℕ)) → now ≡ before → IfSome known (λ text. EndsRun text Unable before now)
+EndsRun-unable None before now same = tt
+EndsRun-unable (Some text) before now same = run-unable (is_resumed (records_of text)) (records_of text) before now same
 
-pub EndsAudit-failed : (known : Option (List ℕ)) (before now : Option (List ℕ)) → now ≡ before
-    → IfSome known (λ text. EndsAudit text Failed before now)
-EndsAudit-failed None before now same = tt
-EndsAudit-failed (Some text) before now same = same
+pub EndsAudit-unable : (known : Option (List ℕ)) (before now : Option (List ℕ)) → now ≡ before
+    → IfSome known (λ text. EndsAudit text Unable before now)
+EndsAudit-unable None before now same = tt
+EndsAudit-unable (Some text) before now same = same
 
-pub EndsMigrate-failed : (known : Option (List ℕ)) (before now : Option (List ℕ)) → now ≡ before
-    → IfSome known (λ text. EndsMigrate text Failed before now)
-EndsMigrate-failed None before now same = tt
-EndsMigrate-failed (Some text) before now same = same
+pub EndsMigrate-unable : (known : Option (List ℕ)) (before now : Option (List ℕ)) → now ≡ before
+    → IfSome known (λ text. EndsMigrate text Unable before now)
+EndsMigrate-unable None before now same = tt
+EndsMigrate-unable (Some text) before now same = same
 
 -- ---- `pie run` and `pie migrate`
 
@@ -122,12 +132,12 @@ EndsAudit-told (Some text) found end before now tells finds = audit-told (FindsE
 
 -- ---- of files
 
-files-failed : (joined : Bool) (input : Option (List ℕ)) (files : Text → Option (List ℕ)) (names : List Text) (before now : Option (List ℕ))
-    → now ≡ before → EndsOfFiles joined input files names Failed before now
-files-failed false input files names before now same = inr (inl (refl, same))
-files-failed true input files names before now same = inr (inl (refl, same))
+files-unable : (joined : Bool) (input : Option (List ℕ)) (files : Text → Option (List ℕ)) (names : List Text) (before now : Option (List ℕ))
+    → now ≡ before → EndsOfFiles joined input files names Unable before now
+files-unable false input files names before now same = inr (inl (refl, same))
+files-unable true input files names before now same = inr (inl (refl, same))
 
-pub EndsEither-failed : (joined : Bool) (input : Option (List ℕ)) (files : Text → Option (List ℕ)) (names : List Text)
-    (before now : Option (List ℕ)) → now ≡ before → EndsEither joined input files names Failed before now
-EndsEither-failed joined input files [] before now same = EndsAudit-failed input before now same
-EndsEither-failed joined input files (name ∷ names) before now same = files-failed joined input files (name ∷ names) before now same
+pub EndsEither-unable : (joined : Bool) (input : Option (List ℕ)) (files : Text → Option (List ℕ)) (names : List Text)
+    (before now : Option (List ℕ)) → now ≡ before → EndsEither joined input files names Unable before now
+EndsEither-unable joined input files [] before now same = EndsAudit-unable input before now same
+EndsEither-unable joined input files (name ∷ names) before now same = files-unable joined input files (name ∷ names) before now same

@@ -1,5 +1,5 @@
 -- What an audit of the files of one history writes of each, and how it ends, worked out.
-use Rattle.std.specs.Prelude.{◌≡◌, List, [], ◌∷◌, Some, None, true, false, codes, refl}
+use Rattle.std.specs.Prelude.{◌≡◌, [], Some, None, true, false, codes, refl}
 use Rattle.std.specs.Fmt.{digits}
 use Rattle.pie_audit.specs.declared.auditor.Finding.TheVariants.{Clean, Differs}
 use Rattle.pie_cut.specs.declared.joined.Joined.{Joined}

@@ -2,9 +2,10 @@
 use Rattle.std.proofs.Common.{◌≡◌, ℕ, List, Bool, true, false, Option, Some, None, refl, sym, subst, inl, inr}
 use Rattle.std.specs.Prelude.{IsSome}
 use Rattle.clap.specs.Words.{Text}
+use Rattle.pie_files.specs.Files.{file_of}
 use Rattle.pie_files.specs.Output.{Held, IsEmpty, Keeps, Places, Settles}
 use Rattle.pie_commands.specs.declared.end.End.{End}
-use Rattle.pie_commands.specs.declared.end.End.TheVariants.{Done, Differs, Fault, Failed}
+use Rattle.pie_commands.specs.declared.end.End.TheVariants.{Done, Differs, Fault, Unable, Failed}
 use Rattle.pie_commands.specs.Ends.{settled, status_of}
 use Rattle.pie_commands.specs.Outputs.{EndsAt, EndsIn, is_whole}
 
@@ -30,25 +31,29 @@ places-since read forced name left old mid new kept another places = record {
 
 -- how a subcommand ends that wrote to a file which is then in its place or not
 pub ends-settled : (read : Option Text) (forced : Bool) (name : Text) (old mid new : Held)
-    (ends : End → Option (List ℕ) → Option (List ℕ) → Type 0) (end : End) (there : Bool) (made left : Option (List ℕ)) → IsEmpty made → Keeps old mid
+    (ends : End → Option (List ℕ) → Option (List ℕ) → Type 0) (end : End) (there : Bool) (fresh left : Option (List ℕ)) → IsEmpty fresh → Keeps old mid
     → (IsSome (old name) → read ≡ Some name → ⊥) → Settles there None forced name left mid new → (is_whole end ≡ false → there ≡ false)
-    → ends end made left → EndsAt read forced name old new ends (settled end there)
-ends-settled read forced name old mid new ends Done true made left empty kept another settles whole ended =
-    inr (made, left, empty, ended, places-since read forced name left old mid new kept another settles)
-ends-settled read forced name old mid new ends Differs true made left empty kept another settles whole ended =
-    inr (made, left, empty, ended, places-since read forced name left old mid new kept another settles)
-ends-settled read forced name old mid new ends Done false made left empty kept another settles whole ended =
+    → ends end fresh left → EndsAt read forced name fresh old new ends (settled end there)
+ends-settled read forced name old mid new ends Done true fresh left empty kept another settles whole ended =
+    inr (left, empty, ended, places-since read forced name left old mid new kept another settles)
+ends-settled read forced name old mid new ends Differs true fresh left empty kept another settles whole ended =
+    inr (left, empty, ended, places-since read forced name left old mid new kept another settles)
+ends-settled read forced name old mid new ends Done false fresh left empty kept another settles whole ended =
     inl (refl, keeps-both old mid new kept settles)
-ends-settled read forced name old mid new ends Differs false made left empty kept another settles whole ended =
+ends-settled read forced name old mid new ends Differs false fresh left empty kept another settles whole ended =
     inl (refl, keeps-both old mid new kept settles)
-ends-settled read forced name old mid new ends (Fault why) true made left empty kept another settles whole ended =
+ends-settled read forced name old mid new ends (Fault why) true fresh left empty kept another settles whole ended =
     let wrong : true ≡ false = whole refl in cc
-ends-settled read forced name old mid new ends (Fault why) false made left empty kept another settles whole ended =
-    inr (made, left, empty, ended, keeps-both old mid new kept settles)
-ends-settled read forced name old mid new ends Failed true made left empty kept another settles whole ended =
+ends-settled read forced name old mid new ends (Fault why) false fresh left empty kept another settles whole ended =
+    inr (left, empty, ended, keeps-both old mid new kept settles)
+ends-settled read forced name old mid new ends Unable true fresh left empty kept another settles whole ended =
     let wrong : true ≡ false = whole refl in cc
-ends-settled read forced name old mid new ends Failed false made left empty kept another settles whole ended =
+ends-settled read forced name old mid new ends Unable false fresh left empty kept another settles whole ended =
     inl (refl, keeps-both old mid new kept settles)
+ends-settled read forced name old mid new ends Failed true fresh left empty kept another settles whole ended =
+    let wrong : true ≡ false = whole refl in cc
+ends-settled read forced name old mid new ends Failed false fresh left empty kept another settles whole ended =
+    inr (left, empty, ended, keeps-both old mid new kept settles)
 
 -- with the status 1 each file holds what it held
 settles-keeps : (read : Option Text) (forced : Bool) (name : Text) (left : Option (List ℕ)) (old new : Held) (end : End) → status_of end ≡ 1
@@ -56,29 +61,30 @@ settles-keeps : (read : Option Text) (forced : Bool) (name : Text) (left : Optio
 settles-keeps read forced name left old new Done one settles = cc
 settles-keeps read forced name left old new Differs one settles = cc
 settles-keeps read forced name left old new (Fault why) one settles = settles
+settles-keeps read forced name left old new Unable one settles = settles
 settles-keeps read forced name left old new Failed one settles = settles
 
-pub ends-keep : (output read : Option Text) (forced : Bool) (old new : Held) (ends : End → Option (List ℕ) → Option (List ℕ) → Type 0) (end : End)
-    (before now : Option (List ℕ)) → status_of end ≡ 1 → EndsIn output read forced old new ends end before now → Keeps old new
-ends-keep None read forced old new ends end before now one ended = ended.0
-ends-keep (Some name) read forced old new ends end before now one ended = elim ended.1 [
+pub ends-keep : (output read : Option Text) (forced : Bool) (fresh : Option (List ℕ)) (old new : Held) (ends : End → Option (List ℕ) → Option (List ℕ) → Type 0) (end : End)
+    (before now : Option (List ℕ)) → status_of end ≡ 1 → EndsIn output read forced fresh old new ends end before now → Keeps old new
+ends-keep None read forced fresh old new ends end before now one ended = ended.0
+ends-keep (Some name) read forced fresh old new ends end before now one ended = elim ended.1 [
   | inl failed ↦ failed.1
-  | inr made ↦ settles-keeps read forced name made.1 old new end one made.4
+  | inr made ↦ settles-keeps (file_of read) forced name made.0 old new end one made.3
 ]
 
 -- to the writer that is handed in
-pub ends-output : (output read : Option Text) (forced : Bool) (held : Held) (ends : End → Option (List ℕ) → Option (List ℕ) → Type 0) (end : End)
-    (before now : Option (List ℕ)) → output ≡ None → ends end before now → EndsIn output read forced held held ends end before now
-ends-output output read forced held ends end before now is ended = rw is (keeps-same held, ended)
+pub ends-output : (output read : Option Text) (forced : Bool) (fresh : Option (List ℕ)) (held : Held) (ends : End → Option (List ℕ) → Option (List ℕ) → Type 0) (end : End)
+    (before now : Option (List ℕ)) → output ≡ None → ends end before now → EndsIn output read forced fresh held held ends end before now
+ends-output output read forced fresh held ends end before now is ended = rw is (keeps-same held, ended)
 
 -- to a file
-pub ends-file : (output read : Option Text) (forced : Bool) (name : Text) (old new : Held)
+pub ends-file : (output read : Option Text) (forced : Bool) (name : Text) (fresh : Option (List ℕ)) (old new : Held)
     (ends : End → Option (List ℕ) → Option (List ℕ) → Type 0) (end : End) (before now : Option (List ℕ)) → output ≡ Some name → now ≡ before
-    → EndsAt read forced name old new ends end → EndsIn output read forced old new ends end before now
-ends-file output read forced name old new ends end before now is same ended = rw is (same, ended)
+    → EndsAt (file_of read) forced name fresh old new ends end → EndsIn output read forced fresh old new ends end before now
+ends-file output read forced name fresh old new ends end before now is same ended = rw is (same, ended)
 
 -- a subcommand that never began
-pub ends-failed : (output read : Option Text) (forced : Bool) (held : Held) (ends : End → Option (List ℕ) → Option (List ℕ) → Type 0)
-    (before now : Option (List ℕ)) → now ≡ before → ends Failed before now → EndsIn output read forced held held ends Failed before now
-ends-failed None read forced held ends before now same ended = (keeps-same held, ended)
-ends-failed (Some name) read forced held ends before now same ended = (same, inl (refl, keeps-same held))
+pub ends-unable : (output read : Option Text) (forced : Bool) (fresh : Option (List ℕ)) (held : Held) (ends : End → Option (List ℕ) → Option (List ℕ) → Type 0)
+    (before now : Option (List ℕ)) → now ≡ before → ends Unable before now → EndsIn output read forced fresh held held ends Unable before now
+ends-unable None read forced fresh held ends before now same ended = (keeps-same held, ended)
+ends-unable (Some name) read forced fresh held ends before now same ended = (same, inl (refl, keeps-same held))

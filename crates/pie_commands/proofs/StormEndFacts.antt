@@ -1,5 +1,5 @@
--- A storm of the plan that the options ask for ends with 0, or with 1 where something failed.
-use Rattle.std.proofs.Common.{◌≡◌, ℕ, List, Option, Some, subst, inr, refl}
+-- How a storm of the plan that the options ask for ends.
+use Rattle.std.proofs.Common.{◌≡◌, ℕ, List, Option, Some, None, subst, sym, inl, inr, refl}
 use Rattle.clap.specs.Words.{Row}
 use Rattle.pie_params.specs.declared.elements.Elements.{Elements}
 use Rattle.pie_event.specs.declared.command.Event.{Event}
@@ -10,19 +10,18 @@ use Rattle.pie_storm.specs.Plans.{opening_of}
 use Rattle.pie_storm.specs.Storms.{IsStorm}
 use Rattle.pie_storm.specs.StormHistory.{WritesHistory}
 use Rattle.pie_storm.specs.StormPlan.{IsStormPlan}
-use Rattle.pie_commands.specs.StormEnds.{EndsStorm, elements_in, numbers_in}
+use Rattle.pie_commands.specs.StormEnds.{EndsStorm, elements_in, numbers_in, storm_ends}
+use Rattle.pie_commands.specs.declared.end.End.TheVariants.{Done, Differs, Fault, Unable, Failed}
+use Rattle.pie_record.specs.declared.fault.TraceFault.{TraceFault}
+use Rattle.pie_record.specs.Fault.{IsWrite}
 
 pub storm-ends : (options : List Row) (elements : Elements) (numbers : StormNumbers) (plan : Plan) (events listed : List Event) (too_soon too_many : ℕ)
     (before now : Option (List ℕ))
     → elements_in options ≡ Some elements → numbers ≡ numbers_in elements options → IsStormPlan numbers plan
     → IsStorm plan events too_soon too_many → IsLegal (opening_of plan) events → listed ≡ events → WritesHistory plan listed before now
-    → EndsStorm options 0 before now
-storm-ends options elements numbers plan events listed too_soon too_many before now chosen numbers_are is_plan storm legal same written = inr (
-  refl,
-  (
-    elements,
-    chosen,
-    (
+    → EndsStorm options Done before now
+storm-ends options elements numbers plan events listed too_soon too_many before now chosen numbers_are is_plan storm legal same written =
+    subst (λ (chosen : Option Elements). storm_ends chosen options Done before now) (sym chosen) (
       plan,
       subst (λ (n : StormNumbers). IsStormPlan n plan) numbers_are is_plan,
       record {
@@ -33,6 +32,23 @@ storm-ends options elements numbers plan events listed too_soon too_many before 
         legal = legal;
         history = subst (λ (list : List Event). WritesHistory plan list before now) same written;
       },
-    ),
-  ),
-)
+    )
+
+-- .. one that could not be made, or written, or whose words name no choice
+pub storm-unable : (chosen : Option Elements) (options : List Row) (before now : Option (List ℕ)) → now ≡ before
+    → storm_ends chosen options Unable before now
+storm-unable None options before now same = (inl refl, same)
+storm-unable (Some elements) options before now same = same
+
+pub storm-unwritten : (options : List Row) (elements : Elements) (why : TraceFault) (before now : Option (List ℕ)) → elements_in options ≡ Some elements
+    → IsWrite why → EndsStorm options (Fault why) before now
+storm-unwritten options elements why before now chosen write = rw chosen write
+
+pub storm-unchosen : (options : List Row) (before : Option (List ℕ)) → elements_in options ≡ None → EndsStorm options Failed before before
+storm-unchosen options before none = rw none (inr refl, refl)
+
+-- no event of a storm differs
+pub storm-same : (options : List Row) (chosen : Option Elements) (before now : Option (List ℕ)) → storm_ends chosen options Differs before now → ⊥
+storm-same options None before now (inl unable, same) = cc
+storm-same options None before now (inr failed, same) = cc
+storm-same options (Some elements) before now ended = ended

@@ -11,44 +11,46 @@ use Rattle.pie_record.specs.Text.{records_of}
 use Rattle.pie_audit.specs.Text.{FindsEither}
 use Rattle.pie_audit.specs.declared.auditor.Finding.{Finding}
 use Rattle.pie_commands.specs.declared.end.End.{End}
-use Rattle.pie_commands.specs.declared.end.End.TheVariants.{Differs, Failed}
+use Rattle.pie_commands.specs.declared.end.End.TheVariants.{Differs, Unable, Failed}
 use Rattle.pie_options.specs.declared.subcommand.Subcommand.{Subcommand}
 use Rattle.pie_options.specs.declared.subcommand.Subcommand.TheVariants.{Run, Audit, Explain, Cut, Migrate, Storm, Params}
 use Rattle.pie_options.specs.Words.{file_in, files_in, is_forced, is_joined, options_in, pie_app}
 use Rattle.pie_options.specs.Subcommands.{word_of}
-use Rattle.pie_options.proofs.WordFacts.{options-in, same-word, subcommand-found}
+use Rattle.pie_options.proofs.WordFacts.{name-found, options-in, same-word, subcommand-found}
 use Rattle.pie_cut.specs.declared.joined.Joined.{Joined}
 use Rattle.pie_cut.specs.Joined.{EndView, JoinsText}
 use Rattle.pie_files.specs.Files.{text_given}
 use Rattle.pie_files.specs.Output.{Held, Keeps}
 use Rattle.pie_commands.specs.AuditEnds.{EndsFiles, IsFound, Told}
 use Rattle.pie_commands.specs.CutEnds.{EndsCut}
-use Rattle.pie_commands.specs.Ends.{EndsMigrate, EndsRun, status_of}
+use Rattle.pie_commands.specs.Ends.{EndsMigrate, EndsRun}
 use Rattle.pie_commands.specs.ExplainEnds.{EndsExplain}
 use Rattle.pie_commands.specs.JointEnds.{AreJoined, EndsEither, EndsJoined, EndsOfFiles, JoinsFile, ToldJoined}
+use Rattle.pie_commands.specs.StormEnds.{elements_in}
 use Rattle.pie_commands.specs.Subcommands.{Answers, EndsAs, EndsTo, Finds, may_differ, output_for}
-use Rattle.pie_commands.proofs.CutFacts.{EndsCut-failed}
-use Rattle.pie_commands.proofs.EndFacts.{EndsEither-failed, EndsMigrate-failed, EndsRun-failed}
-use Rattle.pie_commands.proofs.ExplainFacts.{EndsExplain-failed}
-use Rattle.pie_commands.proofs.OutputFacts.{ends-failed, ends-keep, keeps-same}
+use Rattle.pie_commands.proofs.CutFacts.{EndsCut-unable}
+use Rattle.pie_commands.proofs.EndFacts.{EndsEither-unable, EndsMigrate-unable, EndsRun-unable}
+use Rattle.pie_commands.proofs.ExplainFacts.{EndsExplain-unable}
+use Rattle.pie_commands.proofs.StormEndFacts.{storm-unable}
+use Rattle.pie_commands.proofs.OutputFacts.{ends-unable, ends-keep, keeps-same}
 
--- a subcommand that never began has failed, and wrote nothing
-EndsAs-failed : (subcommand : Subcommand) (options : List Row) (input : Option (List ℕ)) (files : Held) (before now : Option (List ℕ)) → now ≡ before
-    → EndsAs subcommand options input files Failed before now
-EndsAs-failed Run options input files before now same = EndsRun-failed (text_given input files (file_in options)) before now same
-EndsAs-failed Audit options input files before now same = EndsEither-failed (is_joined options) input files (files_in options) before now same
-EndsAs-failed Explain options input files before now same =
-    EndsExplain-failed options (text_given input files (file_in options)) 1 before now refl same
-EndsAs-failed Cut options input files before now same = EndsCut-failed options (file_in options) (text_given input files (file_in options)) before now same
-EndsAs-failed Migrate options input files before now same = EndsMigrate-failed (text_given input files (file_in options)) before now same
-EndsAs-failed Storm options input files before now same = inl refl
-EndsAs-failed Params options input files before now same = inl refl
+-- a subcommand that could not begin wrote nothing
+EndsAs-unable : (subcommand : Subcommand) (options : List Row) (input : Option (List ℕ)) (files : Held) (before now : Option (List ℕ)) → now ≡ before
+    → EndsAs subcommand options input files Unable before now
+EndsAs-unable Run options input files before now same = EndsRun-unable (text_given input files (file_in options)) before now same
+EndsAs-unable Audit options input files before now same = EndsEither-unable (is_joined options) input files (files_in options) before now same
+EndsAs-unable Explain options input files before now same =
+    EndsExplain-unable options (text_given input files (file_in options)) before now same
+EndsAs-unable Cut options input files before now same = EndsCut-unable options (file_in options) (text_given input files (file_in options)) before now same
+EndsAs-unable Migrate options input files before now same = EndsMigrate-unable (text_given input files (file_in options)) before now same
+EndsAs-unable Storm options input files before now same = storm-unable (elements_in options) options before now same
+EndsAs-unable Params options input files before now same = same
 
-EndsTo-failed : (subcommand : Subcommand) (options : List Row) (input : Option (List ℕ)) (files : Held) (before now : Option (List ℕ))
-    → now ≡ before → EndsTo subcommand options input files files Failed before now
-EndsTo-failed subcommand options input files before now same =
-    ends-failed (output_for subcommand options) (file_in options) (is_forced options) files (EndsAs subcommand options input files) before now same
-    (EndsAs-failed subcommand options input files before now same)
+EndsTo-unable : (subcommand : Subcommand) (options : List Row) (input fresh : Option (List ℕ)) (files : Held) (before now : Option (List ℕ))
+    → now ≡ before → EndsTo subcommand options input fresh files files Unable before now
+EndsTo-unable subcommand options input fresh files before now same =
+    ends-unable (output_for subcommand options) (file_in options) (is_forced options) fresh files (EndsAs subcommand options input files) before now same
+    (EndsAs-unable subcommand options input files before now same)
 
 -- ---- what is said of files that may hold more than they did holds of what they held
 
@@ -150,7 +152,7 @@ EndsAs-kept Run options input old new end before now keeps ended =
 EndsAs-kept Audit options input old new end before now keeps ended =
     either-kept (is_joined options) input old new (files_in options) end before now keeps ended
 EndsAs-kept Explain options input old new end before now keeps ended =
-    text-kept input old new (file_in options) (λ text. EndsExplain options text (status_of end) before now) keeps ended
+    text-kept input old new (file_in options) (λ text. EndsExplain options text end before now) keeps ended
 EndsAs-kept Cut options input old new end before now keeps ended =
     text-kept input old new (file_in options) (λ text. EndsCut options (file_in options) text end before now) keeps ended
 EndsAs-kept Migrate options input old new end before now keeps ended =
@@ -179,32 +181,41 @@ finds-so app words (Ok matches) is matched passes = subst (λ (a : App). HasMatc
 finds-so app words (Err why) is matched passes = subst (λ (a : App). takes a words ≡ true → kind_of why ≡ OutOfMemory) is passes
 
 -- the subcommand that it found was performed
-pub answers-performed : (words : List Text) (matches : ArgMatches) (subcommand : Subcommand) (rows : List Row) (input : Option (List ℕ))
+pub answers-performed : (words : List Text) (matches : ArgMatches) (subcommand : Subcommand) (rows : List Row) (input fresh : Option (List ℕ))
     (old new : Held) (end : End) (before now : Option (List ℕ)) → HasMatchesOf pie_app words matches
     → Some (word_of subcommand) ≡ subcommand_name_of matches
     → Some rows ≡ option_map (λ (given : Text × List Row). given.1) (subcommand_rows_of matches)
-    → (end ≡ Differs → may_differ subcommand ≡ true) → EndsTo subcommand rows input old new end before now
-    → Answers words input old new end before now
-answers-performed words matches subcommand rows input old new end before now matched name given differs ended =
+    → (end ≡ Differs → may_differ subcommand ≡ true) → EndsTo subcommand rows input fresh old new end before now
+    → Answers words input fresh old new end before now
+answers-performed words matches subcommand rows input fresh old new end before now matched name given differs ended =
     let found = subcommand-found pie_app words matches (word_of subcommand) (word_of subcommand) refl matched name refl in
     record {
-      keeps = λ one. ends-keep (output_for subcommand rows) (file_in rows) (is_forced rows) old new (EndsAs subcommand rows input old) end before now
+      keeps = λ one. ends-keep (output_for subcommand rows) (file_in rows) (is_forced rows) fresh old new (EndsAs subcommand rows input old) end before now
           one ended;
       differs = λ is. (subcommand, differs is, found);
       ends = λ other asks.
-          subst (λ (s : Subcommand). EndsTo s (options_in words) input old new end before now)
+          subst (λ (s : Subcommand). EndsTo s (options_in words) input fresh old new end before now)
           (same-word subcommand other (sym found ∙ asks.found))
-          (subst (λ (options : List Row). EndsTo subcommand options input old new end before now)
+          (subst (λ (options : List Row). EndsTo subcommand options input fresh old new end before now)
           (sym (options-in pie_app words matches rows refl matched given)) ended);
     }
 
--- no subcommand began
-pub answers-failed : (words : List Text) (input : Option (List ℕ)) (held : Held) (end : End) (before now : Option (List ℕ))
-    → (end ≡ Differs → ⊥) → (takes pie_app words ≡ true → (end ≡ Failed) × (now ≡ before)) → Answers words input held held end before now
-answers-failed words input held end before now same fails = record {
+-- no subcommand began, for want of memory or since the words ask for none
+pub answers-unable : (words : List Text) (input fresh : Option (List ℕ)) (held : Held) (end : End) (before now : Option (List ℕ))
+    → (end ≡ Differs → ⊥) → (takes pie_app words ≡ true → (end ≡ Unable) × (now ≡ before)) → Answers words input fresh held held end before now
+answers-unable words input fresh held end before now same unable = record {
   keeps = λ one. keeps-same held;
   differs = λ is. absurd (same is);
   ends = λ subcommand asks.
-      let failed = fails asks.taken in
-      rw failed.0 (EndsTo-failed subcommand (options_in words) input held before now failed.1);
+      let is = unable asks.taken in
+      rw is.0 (EndsTo-unable subcommand (options_in words) input fresh held before now is.1);
+}
+
+pub answers-none : (words : List Text) (matches : ArgMatches) (input fresh : Option (List ℕ)) (held : Held) (before now : Option (List ℕ))
+    → HasMatchesOf pie_app words matches → ((subcommand : Subcommand) → subcommand_name_of matches ≡ Some (word_of subcommand) → ⊥)
+    → Answers words input fresh held held Failed before now
+answers-none words matches input fresh held before now matched none = record {
+  keeps = λ one. keeps-same held;
+  differs = λ is. cc;
+  ends = λ subcommand asks. absurd (none subcommand (name-found words matches matched ∙ asks.found));
 }

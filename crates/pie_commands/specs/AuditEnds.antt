@@ -10,7 +10,7 @@ use Rattle.pie_audit.specs.declared.auditor.Finding.{Finding}
 use Rattle.pie_audit.specs.declared.auditor.Finding.TheVariants as finding
 use Rattle.pie_audit.specs.Text.{FindsEither}
 use Rattle.pie_commands.specs.declared.end.End.{End}
-use Rattle.pie_commands.specs.declared.end.End.TheVariants.{Done, Differs, Fault, Failed}
+use Rattle.pie_commands.specs.declared.end.End.TheVariants.{Done, Differs, Fault, Unable, Failed}
 use Rattle.pie_files.specs.Files.{text_given}
 
 -- a file's name, and its finding; or none, where it has a fault, or could not be opened or read
@@ -62,5 +62,5 @@ pub record AuditsFiles (input : Option (List ℕ)) (files : Text → Option (Lis
 -- .. and the end is the worst of all; or a line could not be written; or memory was wanting, and nothing was written
 abbrev pub EndsFiles : Option (List ℕ) → (Text → Option (List ℕ)) → List Text → End → Option (List ℕ) → Option (List ℕ) → Type 0
 EndsFiles input files names end before now =
-    (end ≡ Fault trace_fault.Write) ⊎ ((end ≡ Failed) × (now ≡ before))
+    (end ≡ Fault trace_fault.Write) ⊎ ((end ≡ Unable) × (now ≡ before))
     ⊎ ((unfound : Bool) × (different : Bool) × (end ≡ worst unfound different) × AuditsFiles input files names unfound different before now)

@@ -1,5 +1,5 @@
 -- `pie cut`: what the words choose, and how it ends.
-use Rattle.std.specs.Prelude.{ℕ, ◌≡◌, ◌==◌, ◌⊎◌, ◌+◌, ◌-◌, ◌^◌, ◌<◌, List, Bool, true, false, Option, Some, None, Result, Ok, Err, ⊤, codes, min, not, nat_le}
+use Rattle.std.specs.Prelude.{ℕ, ◌≡◌, ◌==◌, ◌+◌, ◌-◌, ◌^◌, ◌<◌, List, Bool, true, false, Option, Some, None, Result, Ok, Err, ⊤, codes, min, not, nat_le}
 use Rattle.std.specs.Prelude.{if◌then◌else◌}
 use Rattle.std.specs.Str.{bytes_eq}
 use Rattle.clap.specs.Words.{Row, Text}
@@ -23,6 +23,7 @@ use Rattle.pie_commands.specs.declared.cut.Pieces.TheVariants as pieces
 use Rattle.pie_commands.specs.declared.cut.Wanted.{Wanted}
 use Rattle.pie_commands.specs.declared.cut.Wanted.TheVariants.{Part, Last, Every}
 use Rattle.pie_commands.specs.Choice.{moment_given}
+use Rattle.pie_commands.specs.Ends.{EndsBy, WritesNothing}
 
 -- ---- the choice
 
@@ -88,10 +89,6 @@ end_of_cut (Err (fault.Trace why)) = Fault why
 end_of_cut (Err (fault.Differs event)) = Differs
 end_of_cut (Err fault.NoEvents) = Failed
 
--- it never began, or ended by what it answered
-abbrev pub EndsBy : (Result ℕ CutFault → Option (List ℕ) → Option (List ℕ) → Type 0) → End → Option (List ℕ) → Option (List ℕ) → Type 0
-EndsBy cuts end before now = ((end ≡ Failed) × (now ≡ before)) ⊎ ((given : Result ℕ CutFault) × (end ≡ end_of_cut given) × cuts given before now)
-
 -- into segments
 abbrev pub CutsSegments : ℕ → List Fields → Result ℕ CutFault → Option (List ℕ) → Option (List ℕ) → Type 0
 CutsSegments every rows given before now = TextTold every_answer (IsInSegments every) (is_resumed rows) rows given before now
@@ -120,15 +117,15 @@ is_named (Some name) = not (bytes_eq name (codes "-"))
 
 -- the last events are those of such a file, which is read twice
 abbrev pub ends_last : Bool → ℕ → List Fields → End → Option (List ℕ) → Option (List ℕ) → Type 0
-ends_last false many rows end before now = (end ≡ Failed) × (now ≡ before)
-ends_last true many rows end before now = EndsBy (CutsLast many rows) end before now
+ends_last false many rows end before now = WritesNothing end before now
+ends_last true many rows end before now = EndsBy end_of_cut (CutsLast many rows) end before now
 
 -- a text of these records is cut, and the end is that of the answer; options that choose nothing fail, and nothing is written
 abbrev pub cut_ends : Option Wanted → Bool → List Fields → End → Option (List ℕ) → Option (List ℕ) → Type 0
-cut_ends None named rows end before now = (end ≡ Failed) × (now ≡ before)
-cut_ends (Some (Part span)) named rows end before now = EndsBy (CutsEither span rows) end before now
+cut_ends None named rows end before now = WritesNothing end before now
+cut_ends (Some (Part span)) named rows end before now = EndsBy end_of_cut (CutsEither span rows) end before now
 cut_ends (Some (Last many)) named rows end before now = ends_last named many rows end before now
-cut_ends (Some (Every every)) named rows end before now = EndsBy (CutsSegments every rows) end before now
+cut_ends (Some (Every every)) named rows end before now = EndsBy end_of_cut (CutsSegments every rows) end before now
 
 -- .. what is chosen being what these options say, and the file that they name
 abbrev pub EndsCut : List Row → Option Text → List ℕ → End → Option (List ℕ) → Option (List ℕ) → Type 0

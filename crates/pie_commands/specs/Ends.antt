@@ -15,23 +15,35 @@ use Rattle.pie_audit.specs.declared.auditor.Finding.{Finding}
 use Rattle.pie_audit.specs.declared.auditor.Finding.TheVariants as finding
 use Rattle.pie_audit.specs.Text.{FindsEither, finding_line}
 use Rattle.pie_commands.specs.declared.end.End.{End}
-use Rattle.pie_commands.specs.declared.end.End.TheVariants.{Done, Differs, Fault, Failed}
+use Rattle.pie_commands.specs.declared.end.End.TheVariants.{Done, Differs, Fault, Unable, Failed}
 
 -- the exit status of an end
 abbrev pub status_of : End → ℕ
 status_of Done = 0
 status_of Differs = 2
 status_of (Fault why) = 1
+status_of Unable = 1
 status_of Failed = 1
 
 -- the end where what was written had to be put in its place, and is there or not
 abbrev pub settled : End → Bool → End
 settled Done true = Done
-settled Done false = Failed
+settled Done false = Unable
 settled Differs true = Differs
-settled Differs false = Failed
+settled Differs false = Unable
 settled (Fault why) there = Fault why
+settled Unable there = Unable
 settled Failed there = Failed
+
+-- ---- any subcommand
+
+-- it has failed, or could not begin, and nothing was written
+abbrev pub WritesNothing : End → Option (List ℕ) → Option (List ℕ) → Type 0
+WritesNothing end before now = ((end ≡ Unable) ⊎ (end ≡ Failed)) × (now ≡ before)
+
+-- it could not begin, and nothing was written; or it ended by what it answered
+abbrev pub EndsBy : {A : Type 0} → (A → End) → (A → Option (List ℕ) → Option (List ℕ) → Type 0) → End → Option (List ℕ) → Option (List ℕ) → Type 0
+EndsBy {A} end_for tells end before now = ((end ≡ Unable) × (now ≡ before)) ⊎ ((given : A) × (end ≡ end_for given) × tells given before now)
 
 -- ---- `pie run`
 
@@ -42,19 +54,21 @@ end_of (Err why) = Fault why
 
 -- where this is the first fault of a trace, if it has one, and this its history text: the run ends well where there is no fault, and its
 -- history text is written; or it ends at the fault, and the history text of the records before it is written. Or the reader, the writer
--- or memory failed
+-- or memory failed; or it could not begin, and nothing is written
 abbrev pub run_ends : Option TraceFault → List ℕ → End → Option (List ℕ) → Option (List ℕ) → Type 0
 run_ends found history Done before now = (found ≡ None) × Appends before now history
 run_ends found history Differs before now = ⊥
 run_ends found history (Fault why) before now = is_device why ≡ false → (found ≡ Some why) × Appends before now history
-run_ends found history Failed before now = now ≡ before
+run_ends found history Unable before now = now ≡ before
+run_ends found history Failed before now = ⊥
 
 -- .. a trace of these records that goes on from the middle of a history: what is written is as whatever history it goes on after has it
 abbrev pub excerpt_run_ends : List Row → End → Option (List ℕ) → Option (List ℕ) → Type 0
 excerpt_run_ends rows Done before now = (resumed_fault rows ≡ None) × WritesExcerpt rows before now
 excerpt_run_ends rows Differs before now = ⊥
 excerpt_run_ends rows (Fault why) before now = is_device why ≡ false → (resumed_fault rows ≡ Some why) × WritesExcerpt rows before now
-excerpt_run_ends rows Failed before now = now ≡ before
+excerpt_run_ends rows Unable before now = now ≡ before
+excerpt_run_ends rows Failed before now = ⊥
 
 -- .. a trace of either kind
 abbrev pub run_ends_by : Bool → List Row → End → Option (List ℕ) → Option (List ℕ) → Type 0
@@ -82,13 +96,14 @@ TellsFound (Err why) end before now = (end ≡ Fault why) × (now ≡ before)
 TellsFound (Ok found) end before now = (end ≡ Fault trace_fault.Write) ⊎ ((end ≡ end_found found) × Appends before now (finding_line found))
 
 -- a text is found to be so, and the line of that is written; or it has a fault, and nothing is written. Or the reader or memory failed,
--- and nothing is written; or the line could not be written
+-- or it could not begin, and nothing is written; or the line could not be written
 abbrev pub audit_ends : (Result Finding TraceFault → Type 0) → End → Option (List ℕ) → Option (List ℕ) → Type 0
 audit_ends finds Done before now = (events : ℕ) × finds (Ok (finding.Clean events)) × Appends before now (finding_line (finding.Clean events))
 audit_ends finds Differs before now = (event : ℕ) × finds (Ok (finding.Differs event)) × Appends before now (finding_line (finding.Differs event))
 audit_ends finds (Fault why) before now =
     (is_device why ≡ false → finds (Err why)) × ((now ≡ before) ⊎ ((told : Finding) × finds (Ok told) × (why ≡ trace_fault.Write)))
-audit_ends finds Failed before now = now ≡ before
+audit_ends finds Unable before now = now ≡ before
+audit_ends finds Failed before now = ⊥
 
 -- .. the text being this input: a history, or one that goes on from the middle of a history
 abbrev pub EndsAudit : List ℕ → End → Option (List ℕ) → Option (List ℕ) → Type 0

@@ -13,7 +13,7 @@ use Rattle.pie_cut.specs.declared.joined.Joint.TheVariants.{Follows, Gap, Unlike
 use Rattle.pie_cut.specs.Joined.{EndView, IsLeftBy, JoinsText}
 use Rattle.pie_files.specs.Files.{text_given}
 use Rattle.pie_commands.specs.declared.end.End.{End}
-use Rattle.pie_commands.specs.declared.end.End.TheVariants.{Fault, Failed}
+use Rattle.pie_commands.specs.declared.end.End.TheVariants.{Fault, Unable}
 use Rattle.pie_commands.specs.AuditEnds.{EndsFiles, is_different, is_unfound, named_line, worst}
 use Rattle.pie_commands.specs.Ends.{EndsAudit}
 
@@ -89,7 +89,7 @@ pub record JoinsFiles (input : Option (List ℕ)) (files : Text → Option (List
 -- .. and the end is the worst of all; or a line could not be written; or memory was wanting, and nothing was written
 abbrev pub EndsJoined : Option (List ℕ) → (Text → Option (List ℕ)) → List Text → End → Option (List ℕ) → Option (List ℕ) → Type 0
 EndsJoined input files names end before now =
-    (end ≡ Fault trace_fault.Write) ⊎ ((end ≡ Failed) × (now ≡ before))
+    (end ≡ Fault trace_fault.Write) ⊎ ((end ≡ Unable) × (now ≡ before))
     ⊎ ((unfound : Bool) × (broken : Bool) × (last : Option EndView) × (end ≡ worst unfound broken)
     × JoinsFiles input files names unfound broken last before now)
 

@@ -1,27 +1,28 @@
 -- What a subcommand writes that may write to a file, and what becomes of files meanwhile.
 use Rattle.std.specs.Prelude.{ℕ, ◌≡◌, ◌⊎◌, List, Bool, true, false, Option, Some, None}
 use Rattle.clap.specs.Words.{Text}
+use Rattle.pie_files.specs.Files.{file_of}
 use Rattle.pie_files.specs.Output.{Held, IsEmpty, Keeps, Settles}
 use Rattle.pie_commands.specs.declared.end.End.{End}
-use Rattle.pie_commands.specs.declared.end.End.TheVariants.{Done, Differs, Fault, Failed}
+use Rattle.pie_commands.specs.declared.end.End.TheVariants.{Done, Differs, Fault, Unable, Failed}
 
 -- all that there was to write was written
 abbrev pub is_whole : End → Bool
 is_whole Done = true
 is_whole Differs = true
 is_whole (Fault why) = false
+is_whole Unable = false
 is_whole Failed = false
 
--- a subcommand ends so by what it writes to an empty file, which is then in the place of this name where all was written, and else in none; or it
--- could not be made, or moved there, and nothing is in another place
-abbrev pub EndsAt : Option Text → Bool → Text → Held → Held → (End → Option (List ℕ) → Option (List ℕ) → Type 0) → End → Type 0
-EndsAt read forced name old new ends end = ((end ≡ Failed) × Keeps old new)
-    ⊎ ((made : Option (List ℕ)) × (left : Option (List ℕ)) × IsEmpty made × ends end made left
-    × Settles (is_whole end) read forced name left old new)
+-- a subcommand ends so by what it writes to a new file, of which this is known: that it is empty, or nothing. The file is then in the place of this
+-- name where all was written, and else in none; or it could not be made, or moved there, and nothing is in another place
+abbrev pub EndsAt : Option Text → Bool → Text → Option (List ℕ) → Held → Held → (End → Option (List ℕ) → Option (List ℕ) → Type 0) → End → Type 0
+EndsAt read forced name fresh old new ends end = ((end ≡ Unable) × Keeps old new)
+    ⊎ ((left : Option (List ℕ)) × IsEmpty fresh × ends end fresh left × Settles (is_whole end) read forced name left old new)
 
 -- a subcommand ends so by what it writes: to the writer that is handed in, and every file holds what it held; or, where the words name one, to that
 -- file, and nothing to that writer
-abbrev pub EndsIn : Option Text → Option Text → Bool → Held → Held → (End → Option (List ℕ) → Option (List ℕ) → Type 0)
+abbrev pub EndsIn : Option Text → Option Text → Bool → Option (List ℕ) → Held → Held → (End → Option (List ℕ) → Option (List ℕ) → Type 0)
     → End → Option (List ℕ) → Option (List ℕ) → Type 0
-EndsIn None read forced old new ends end before now = Keeps old new × ends end before now
-EndsIn (Some name) read forced old new ends end before now = (now ≡ before) × EndsAt read forced name old new ends end
+EndsIn None read forced fresh old new ends end before now = Keeps old new × ends end before now
+EndsIn (Some name) read forced fresh old new ends end before now = (now ≡ before) × EndsAt (file_of read) forced name fresh old new ends end

@@ -1,5 +1,5 @@
 -- How `pie storm` ends, and what it writes.
-use Rattle.std.specs.Prelude.{ℕ, ◌≡◌, ◌==◌, ◌⊎◌, List, Option, Some, None, codes, option_and_then, if◌then◌else◌}
+use Rattle.std.specs.Prelude.{ℕ, ◌≡◌, ◌==◌, List, Option, Some, None, codes, option_and_then, if◌then◌else◌}
 use Rattle.clap.specs.Words.{Row, Text, first_of}
 use Rattle.pie_event.specs.declared.profile.Profile.{Profile}
 use Rattle.pie_event.specs.declared.profile.Profile.TheVariants.{One, Two}
@@ -19,6 +19,10 @@ use Rattle.pie_storm.specs.declared.plan.Plan.{Plan}
 use Rattle.pie_options.specs.Words.{burst_in, changes_in, folds_in, load_in, packets_in, profile_in, seed_in, senders_in}
 use Rattle.pie_storm.specs.StormHistory.{WritesStorm}
 use Rattle.pie_storm.specs.StormPlan.{IsStormPlan}
+use Rattle.pie_record.specs.Fault.{IsWrite}
+use Rattle.pie_commands.specs.declared.end.End.{End}
+use Rattle.pie_commands.specs.declared.end.End.TheVariants.{Done, Differs, Fault, Unable, Failed}
+use Rattle.pie_commands.specs.Ends.{WritesNothing}
 
 -- which of two choices a word names, and the first with no word
 abbrev pub choice_by : {T : Type 0} → List ℕ → T → List ℕ → T → Option Text → Option T
@@ -70,9 +74,16 @@ numbers_in elements options = record {
   elements = elements;
 }
 
--- the history of a storm of the plan that the options ask for was written, and the status is 0; or it is 1, where a word names no choice,
--- or memory, a thread or the writer failed
-abbrev pub EndsStorm : List Row → ℕ → Option (List ℕ) → Option (List ℕ) → Type 0
-EndsStorm options status before now =
-    (status ≡ 1) ⊎ ((status ≡ 0) × ((elements : Elements) × (elements_in options ≡ Some elements)
-    × ((plan : Plan) × IsStormPlan (numbers_in elements options) plan × WritesStorm plan before now)))
+-- with these elements a storm of the plan that the options ask for is made, and its history is written; or memory or the writer failed meanwhile; or
+-- it could not be made, and nothing is written. A word that names no choice fails, and nothing is written
+abbrev pub storm_ends : Option Elements → List Row → End → Option (List ℕ) → Option (List ℕ) → Type 0
+storm_ends None options end before now = WritesNothing end before now
+storm_ends (Some elements) options Done before now = (plan : Plan) × IsStormPlan (numbers_in elements options) plan × WritesStorm plan before now
+storm_ends (Some elements) options Differs before now = ⊥
+storm_ends (Some elements) options (Fault why) before now = IsWrite why
+storm_ends (Some elements) options Unable before now = now ≡ before
+storm_ends (Some elements) options Failed before now = ⊥
+
+-- .. these elements being those that the options name
+abbrev pub EndsStorm : List Row → End → Option (List ℕ) → Option (List ℕ) → Type 0
+EndsStorm options = storm_ends (elements_in options) options

@@ -25,11 +25,11 @@ abbrev pub EndsAs : Subcommand → List Row → Option (List ℕ) → Held → E
 EndsAs Run options input files end before now = IfSome (text_given input files (file_in options)) (λ text. EndsRun text end before now)
 EndsAs Audit options input files end before now = EndsEither (is_joined options) input files (files_in options) end before now
 EndsAs Explain options input files end before now =
-    IfSome (text_given input files (file_in options)) (λ text. EndsExplain options text (status_of end) before now)
+    IfSome (text_given input files (file_in options)) (λ text. EndsExplain options text end before now)
 EndsAs Cut options input files end before now = IfSome (text_given input files (file_in options)) (λ text. EndsCut options (file_in options) text end before now)
 EndsAs Migrate options input files end before now = IfSome (text_given input files (file_in options)) (λ text. EndsMigrate text end before now)
-EndsAs Storm options input files end before now = EndsStorm options (status_of end) before now
-EndsAs Params options input files end before now = EndsParams options (status_of end) before now
+EndsAs Storm options input files end before now = EndsStorm options end before now
+EndsAs Params options input files end before now = EndsParams options end before now
 
 -- the file that a subcommand is to write in place of the writer that is handed in
 abbrev pub output_for : Subcommand → List Row → Option Text
@@ -41,10 +41,10 @@ output_for Migrate options = output_in options
 output_for Storm options = None
 output_for Params options = None
 
--- .. to the writer that is handed in, or to the file that the options name, with what becomes of files
-abbrev pub EndsTo : Subcommand → List Row → Option (List ℕ) → Held → Held → End → Option (List ℕ) → Option (List ℕ) → Type 0
-EndsTo subcommand options input old new =
-    EndsIn (output_for subcommand options) (file_in options) (is_forced options) old new (EndsAs subcommand options input old)
+-- .. to the writer that is handed in, or to a new file that is for the name that the options give, with what becomes of files
+abbrev pub EndsTo : Subcommand → List Row → Option (List ℕ) → Option (List ℕ) → Held → Held → End → Option (List ℕ) → Option (List ℕ) → Type 0
+EndsTo subcommand options input fresh old new =
+    EndsIn (output_for subcommand options) (file_in options) (is_forced options) fresh old new (EndsAs subcommand options input old)
 
 -- an event can differ in what three of them read
 abbrev pub may_differ : Subcommand → Bool
@@ -65,7 +65,7 @@ Finds words (Err why) = takes pie_app words ≡ true → kind_of why ≡ OutOfMe
 
 -- the program over words ends so: with the status 1 each file holds what it held; an event differs only in a subcommand in which one can; and the
 -- subcommand that the words ask for ends as it promises
-pub record Answers (words : List Text) (input : Option (List ℕ)) (old new : Held) (end : End) (before now : Option (List ℕ)) : Type 0 where
+pub record Answers (words : List Text) (input fresh : Option (List ℕ)) (old new : Held) (end : End) (before now : Option (List ℕ)) : Type 0 where
   pub keeps : status_of end ≡ 1 → Keeps old new
   pub differs : end ≡ Differs → (subcommand : Subcommand) × (may_differ subcommand ≡ true) × (subcommand_in words ≡ Some (word_of subcommand))
-  pub ends : (subcommand : Subcommand) → Asks (word_of subcommand) words → EndsTo subcommand (options_in words) input old new end before now
+  pub ends : (subcommand : Subcommand) → Asks (word_of subcommand) words → EndsTo subcommand (options_in words) input fresh old new end before now

@@ -1,5 +1,5 @@
 -- `pie params`: what the options ask for, and how it ends.
-use Rattle.std.specs.Prelude.{ℕ, ◌≡◌, ◌≤◌, ◌^◌, ◌⊎◌, List, Option, Some, None, Result, Ok, codes}
+use Rattle.std.specs.Prelude.{ℕ, ◌≡◌, ◌<◌, ◌≤◌, ◌^◌, ◌⊎◌, List, Option, Some, None, Result, Ok, codes}
 use Rattle.std.specs.Io.KnownBytes.{Appends}
 use Rattle.clap.specs.Words.{Row, Text, first_of}
 use Rattle.pie_params.specs.Range.{IsInRange}
@@ -10,6 +10,9 @@ use Rattle.pie_record.specs.Write.{opening_row}
 use Rattle.pie_tuning.specs.Opening.{elements_for, gain_of, opening_for, params_for}
 use Rattle.pie_tuning.specs.Units.{packets_of, rate_of, time_of}
 use Rattle.pie_options.specs.Words.{flag_given, number_or}
+use Rattle.pie_record.specs.declared.fault.TraceFault.TheVariants as trace_fault
+use Rattle.pie_commands.specs.declared.end.End.{End}
+use Rattle.pie_commands.specs.declared.end.End.TheVariants.{Done, Differs, Fault, Unable, Failed}
 
 -- what an option's text comes to, and another number where it isn't given
 abbrev pub given_or : (Text → Result ℕ OptionFault) → ℕ → Option Text → Result ℕ OptionFault
@@ -39,6 +42,17 @@ pub record WritesParams (options : List Row) (before now : Option (List ℕ)) : 
   pub packets : (1 ≤ asked.packets) × (asked.packets ≤ 2 ^ 20)
   pub written : Appends before now (text_of (opening_row (opening_for asked.packets (elements_for asked) (params_for asked))))
 
--- the status is 0, and that record was written; or it is 1, where a text writes no such number, a number is out of its range, or the writer fails
-abbrev pub EndsParams : List Row → ℕ → Option (List ℕ) → Option (List ℕ) → Type 0
-EndsParams options status before now = (status ≡ 1) ⊎ ((status ≡ 0) × WritesParams options before now)
+-- no such record is asked for: a text writes no number of its kind, or a number is out of its range
+abbrev pub IsOutOfRange : Asked → Type 0
+IsOutOfRange asked = (IsInRange (params_for asked) → ⊥) ⊎ (asked.packets ≡ 0) ⊎ (2 ^ 20 < asked.packets)
+
+abbrev pub RefusesParams : List Row → Type 0
+RefusesParams options = ((asked : Asked) → AsksFor options asked → ⊥) ⊎ ((asked : Asked) × AsksFor options asked × IsOutOfRange asked)
+
+-- that record is written; or the writer failed; or no such record is asked for, and nothing is written; or it could not begin
+abbrev pub EndsParams : List Row → End → Option (List ℕ) → Option (List ℕ) → Type 0
+EndsParams options Done before now = WritesParams options before now
+EndsParams options Differs before now = ⊥
+EndsParams options (Fault why) before now = why ≡ trace_fault.Write
+EndsParams options Unable before now = now ≡ before
+EndsParams options Failed before now = (now ≡ before) × RefusesParams options

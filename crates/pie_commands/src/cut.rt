@@ -6,7 +6,8 @@ ghost use Rattle.pie_record.specs.Text.{records_of};
 ghost use Rattle.pie_cut.specs.Last.{LastEither};
 ghost use Rattle.pie_files.specs.Files.{text_given};
 ghost use Rattle.pie_options.specs.Words.{file_in};
-ghost use Rattle.pie_commands.specs.CutEnds.{CutsInto, CutsLast, EndsBy, EndsCut, HasSome, at_moments, chosen, cut_ends, end_of_cut};
+ghost use Rattle.pie_commands.specs.CutEnds.{CutsInto, CutsLast, EndsCut, HasSome, at_moments, chosen, cut_ends, end_of_cut};
+ghost use Rattle.pie_commands.specs.Ends.{EndsBy};
 ghost use Rattle.pie_commands.specs.CutEnds.{ends_last, is_named, segments, wanted_by, wanted_of};
 
 use crate::end::{End, failed, faulted};
@@ -162,7 +163,7 @@ fn cut_input<H: Clock, R: Read + Drop, W: Write, E: Write>(
     errors: &mut E,
 ) -> End
     requires { HasSome (wanted_by pieces) }
-    ensures { IfSome (R.remaining input) (λ text. EndsBy (CutsInto pieces (records_of text)) result (W.contents output.old)
+    ensures { IfSome (R.remaining input) (λ text. EndsBy end_of_cut (CutsInto pieces (records_of text)) result (W.contents output.old)
         (W.contents output.new)) }
 {
     let watched = Watched::new(input, &mut *errors, rt, is_shown);
@@ -183,11 +184,11 @@ fn cut_pieces<H: NamedFiles + Clock, R: Read + Drop, W: Write, E: Write>(
 ) -> End
     requires { HasSome (wanted_by pieces) }
     ensures { IfSome (text_given (R.remaining input) (H.holds rt.now) (option_map (λ name. name.now) name.entry))
-        (λ text. EndsBy (CutsInto pieces (records_of text)) result (W.contents output.old) (W.contents output.new)) }
+        (λ text. EndsBy end_of_cut (CutsInto pieces (records_of text)) result (W.contents output.old) (W.contents output.new)) }
 {
     match reader_of(rt, name, input, errors) {
         Some(reader) => cut_input(rt, alloc, is_shown, pieces, reader, output, errors),
-        None => End::Failed,
+        None => End::Unable,
     }
 }
 
@@ -237,10 +238,10 @@ fn cut_last<H: NamedFiles + Clock, R: Read + Drop, W: Write, E: Write>(
     errors: &mut E,
 ) -> End
     ensures { bytes_eq name.now (codes "-") ≡ false → IfSome (H.holds rt.now name.now)
-        (λ text. EndsBy (CutsLast many (records_of text)) result (W.contents output.old) (W.contents output.new)) }
+        (λ text. EndsBy end_of_cut (CutsLast many (records_of text)) result (W.contents output.old) (W.contents output.new)) }
 {
     match last_named(rt, alloc, is_shown, name, errors) {
-        None => End::Failed,
+        None => End::Unable,
         Some(Err(why)) => faulted(errors, why),
         Some(Ok(number)) => {
             let pieces = Pieces::One(Span::last(number, many));

@@ -17,7 +17,9 @@ pub enum End {
     Differs,
     /// The trace or the history has this fault, or else the reader, the writer or memory failed.
     Fault(TraceFault),
-    /// Anything else that the error stream tells.
+    /// A file can't be opened, made or moved, or there is no memory or no thread to begin with: nothing was written to what was handed in.
+    Unable,
+    /// The words ask for what there is not, or one of several files has a fault: the error stream tells which.
     Failed,
 }
 
@@ -29,7 +31,7 @@ impl End {
         match self {
             End::Done => 0,
             End::Differs => 2,
-            End::Fault(_) | End::Failed => 1,
+            End::Fault(_) | End::Unable | End::Failed => 1,
         }
     }
 
@@ -45,7 +47,7 @@ impl End {
         ensures { result ≡ settled self is_there }
     {
         if self.is_whole() && !is_there {
-            return End::Failed;
+            return End::Unable;
         }
         self
     }
@@ -69,7 +71,15 @@ pub(crate) fn faulted<E: Write>(errors: &mut E, why: TraceFault) -> End
     End::Fault(why)
 }
 
-/// The end at anything else that goes wrong, with its line on `errors`.
+/// The end where nothing can begin, with its line on `errors`.
+pub(crate) fn unable<E: Write, D: Display + Drop>(errors: &mut E, text: D) -> End
+    ensures { result ≡ End.Unable }
+{
+    fault(errors, text);
+    End::Unable
+}
+
+/// The end where there is nothing of what is asked for, with its line on `errors`.
 pub(crate) fn failed<E: Write, D: Display + Drop>(errors: &mut E, text: D) -> End
     ensures { result ≡ End.Failed }
 {

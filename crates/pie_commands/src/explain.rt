@@ -1,16 +1,15 @@
 //! `pie explain`: which events the words choose, and how explaining them ends.
-ghost use Rattle.std.specs.Prelude.{◌≡◌, Err, IfSome, Some};
+ghost use Rattle.std.specs.Prelude.{◌≡◌, IfSome, Some};
 ghost use Rattle.clap.specs.Words.{found_of, rows_of};
 ghost use Rattle.pie_record.specs.Text.{records_of};
 ghost use Rattle.pie_explain.specs.Either.{ExplainsEither};
 ghost use Rattle.pie_files.specs.Files.{text_given};
 ghost use Rattle.pie_options.specs.Words.{file_in};
-ghost use Rattle.pie_commands.specs.Ends.{status_of};
 ghost use Rattle.pie_commands.specs.Choice.{bound_given, choice_of, chosen, every_of, form_of, in_order, is_by_wall, is_digest, is_summary, lasts};
 ghost use Rattle.pie_commands.specs.Choice.{tale_of, told_by, which_of};
-ghost use Rattle.pie_commands.specs.ExplainEnds.{EndsExplain, answer_status, explain_ends};
+ghost use Rattle.pie_commands.specs.ExplainEnds.{EndsExplain, end_of_explain, explain_ends};
 
-use crate::end::End;
+use crate::end::{End, failed, faulted};
 use crate::moments::{NO_ORDER, moment, moment_of};
 use crate::screen::{Screen, shows_progress};
 use clap::ArgMatches;
@@ -228,30 +227,18 @@ fn tell<R: Read + Drop, W: Write>(
     }
 }
 
-/// The end where a history was not explained to its end.
-fn end_at(why: ExplainFault) -> End
-    ensures { status_of result ≡ answer_status (Err why) }
-{
-    match why {
-        ExplainFault::Differs { .. } => End::Differs,
-        ExplainFault::Trace(_)
-        | ExplainFault::Earlier { .. }
-        | ExplainFault::NoEvent { .. }
-        | ExplainFault::NoTag { .. }
-        | ExplainFault::NoneWithin => End::Failed,
-    }
-}
-
 /// The end of what `explain` answers, with a line on `errors` where it is no `Ok`.
 fn ended<E: Write>(errors: &mut E, given: Result<u64, ExplainFault>) -> End
-    ensures { status_of result ≡ answer_status given }
+    ensures { result ≡ end_of_explain given }
 {
     match given {
         Ok(_) => End::Done,
-        Err(why) => {
-            fault(errors, why);
-            end_at(why)
+        Err(ExplainFault::Trace(why)) => faulted(errors, why),
+        Err(ExplainFault::Differs { event }) => {
+            fault(errors, ExplainFault::Differs { event });
+            End::Differs
         }
+        Err(why) => failed(errors, why),
     }
 }
 
@@ -266,7 +253,7 @@ fn explain_chosen<H: Clock, R: Read + Drop, W: Write, E: Write>(
     output: &mut W,
     errors: &mut E,
 ) -> End
-    ensures { IfSome (R.remaining input) (λ text. explain_ends (Some choice) (told_by tale) text (status_of result) (W.contents output.old)
+    ensures { IfSome (R.remaining input) (λ text. explain_ends (Some choice) (told_by tale) text result (W.contents output.old)
         (W.contents output.new)) }
 {
     let watched = Watched::new(input, &mut *errors, rt, is_shown);
@@ -286,7 +273,7 @@ fn explain_input<H: Clock, R: Read + Drop, W: Write, E: Write>(
     output: &mut W,
     errors: &mut E,
 ) -> End
-    ensures { IfSome (R.remaining input) (λ text. EndsExplain (rows_of (found_of options.now)) text (status_of result) (W.contents output.old)
+    ensures { IfSome (R.remaining input) (λ text. EndsExplain (rows_of (found_of options.now)) text result (W.contents output.old)
         (W.contents output.new)) }
 {
     match choice_of(options, errors) {
@@ -308,11 +295,11 @@ pub(crate) fn explain<H: NamedFiles + Screen, R: Read + Drop, W: Write, E: Write
     errors: &mut E,
 ) -> End
     ensures { IfSome (text_given (R.remaining input) (H.holds rt.now) (file_in (rows_of (found_of options.now))))
-        (λ text. EndsExplain (rows_of (found_of options.now)) text (status_of result) (W.contents output.old) (W.contents output.new)) }
+        (λ text. EndsExplain (rows_of (found_of options.now)) text result (W.contents output.old) (W.contents output.new)) }
 {
     let is_shown = shows_progress(rt, options, true);
     match reader_of(rt, file(options), input, errors) {
         Some(reader) => explain_input(rt, alloc, options, is_shown, reader, output, errors),
-        None => End::Failed,
+        None => End::Unable,
     }
 }

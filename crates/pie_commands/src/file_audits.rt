@@ -1,10 +1,10 @@
 //! `pie audit FILE..`: of files, each in turn; with `--joined` of those of one history, in its order.
-ghost use Rattle.std.specs.Prelude.{◌≡◌, ◌<◌, ◌⊎◌, ◌||◌, [], IfOk, None, OnErr, OnOk, Some, get_or, length, map, true};
+ghost use Rattle.std.specs.Prelude.{◌≡◌, ◌<◌, ◌||◌, [], IfOk, None, OnErr, OnOk, Some, get_or, length, map, true};
 ghost use Rattle.std.specs.Io.KnownBytes.{Appends};
 ghost use Rattle.pie_commands.specs.AuditEnds.{is_unfound, named_line, worst};
 ghost use Rattle.pie_commands.specs.FileAudits.{TellsRead, TellsText};
 ghost use Rattle.pie_commands.specs.JointEnds.{EndsOfFiles, finding_in, is_broken, joint_line, line_of_joint, lines_of};
-ghost use Rattle.pie_files.specs.Files.{ReadsNamed};
+ghost use Rattle.pie_files.specs.Files.{ReadsNamed, left_for};
 
 use crate::end::{End, faulted};
 use pie_audit::{Finding, audit_either};
@@ -73,7 +73,7 @@ fn told_named<H: NamedFiles + Clock, R: Read + Drop, E: Write>(
     errors: &mut E,
 ) -> Option<Joined>
     ensures told { TellsRead are_joined (ReadsNamed R.remaining input.old (H.holds rt.now) name.now) end.old result end.new }
-    ensures input { (input.new ≡ input.old) ⊎ (input.new ≡ None) }
+    ensures input { input.new ≡ left_for name.now input.old }
 {
     match reader_named(rt, name, input, errors) {
         Some(reader) => told_of(rt, alloc, is_shown, are_joined, name, reader, end, errors),
@@ -141,7 +141,7 @@ fn audit_named<H: NamedFiles + Clock, R: Read + Drop, W: Write, E: Write>(
 ) -> io::Result<Option<Joined>>
     ensures told { IfOk result (λ told. TellsRead are_joined (ReadsNamed R.remaining input.old (H.holds rt.now) name.now) end.old told end.new) }
     ensures written { IfOk result (λ told. Appends (W.contents output.old) (W.contents output.new) (lines_of name.now told)) }
-    ensures input { (input.new ≡ input.old) ⊎ (input.new ≡ None) }
+    ensures input { input.new ≡ left_for name.now input.old }
 {
     match told_named(rt, alloc, is_shown, are_joined, name, input, end, errors) {
         Some(joined) => {

@@ -48,6 +48,6 @@ pub(crate) fn migrate<H: NamedFiles + Screen, R: Read + Drop, W: Write, E: Write
     let is_shown = shows_progress(rt, options, true);
     match reader_of(rt, file(options), input, errors) {
         Some(reader) => migrate_input(rt, alloc, is_shown, reader, output, errors),
-        None => End::Failed,
+        None => End::Unable,
     }
 }

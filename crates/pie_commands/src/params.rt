@@ -1,15 +1,16 @@
 //! `pie params`: the parameters and the choices that `tc`'s options ask for, as the record that opens a book.
-ghost use Rattle.std.specs.Prelude.{◌≡◌, codes, IfSome, Ok};
+ghost use Rattle.std.specs.Prelude.{◌≡◌, ℕ, codes, IfSome, None, Ok};
 ghost use Rattle.clap.specs.Words.{first_of, found_of, rows_of};
 ghost use Rattle.pie_tuning.specs.Units.{packets_of, rate_of, time_of};
-ghost use Rattle.pie_commands.specs.Ends.{status_of};
+ghost use Rattle.pie_tuning.specs.declared.asked.Asked.{Asked};
 ghost use Rattle.pie_commands.specs.Tuning.{AsksFor, EndsParams, given_or};
 
-use crate::end::{End, failed};
+use crate::end::{End, failed, faulted};
 use clap::ArgMatches;
 use pie_book::Limits;
 use pie_options::{flag, number, number_or};
 use pie_params::{Params, RawParams};
+use pie_trace::TraceFault;
 use pie_tuning::{
     Asked, OptionFault, elements_for, gain_of, is_short, opening_for, packets_of, params_for,
     rate_of, time_of, write_opening,
@@ -48,7 +49,8 @@ fn packets_in(options: &ArgMatches<'_>) -> Result<u64, OptionFault>
 
 /// The number that an option tells; none, with a line on `errors`, where it tells none.
 fn read_of<E: Write>(read: Result<u64, OptionFault>, name: &str, errors: &mut E) -> Option<u64>
-    ensures { IfSome result (λ number. read ≡ Ok number) }
+    ensures read { IfSome result (λ number. read ≡ Ok number) }
+    ensures none { result ≡ None → (number : ℕ) → read ≡ Ok number → ⊥ }
 {
     match read {
         Ok(number) => Some(number),
@@ -61,7 +63,8 @@ fn read_of<E: Write>(read: Result<u64, OptionFault>, name: &str, errors: &mut E)
 
 /// What the options ask for; none, with a line on `errors`, where a text writes no number of its kind.
 fn asked_in<E: Write>(options: &ArgMatches<'_>, errors: &mut E) -> Option<Asked>
-    ensures { IfSome result (AsksFor (rows_of (found_of options.now))) }
+    ensures asked { IfSome result (AsksFor (rows_of (found_of options.now))) }
+    ensures none { result ≡ None → (asked : Asked) → AsksFor (rows_of (found_of options.now)) asked → ⊥ }
 {
     let Some(rate) = read_of(rate_in(options), "rate", errors) else {
         return None;
@@ -120,7 +123,7 @@ pub(crate) fn params<W: Write, E: Write>(
     output: &mut W,
     errors: &mut E,
 ) -> End
-    ensures { EndsParams (rows_of (found_of options.now)) (status_of result) (W.contents output.old) (W.contents output.new) }
+    ensures { EndsParams (rows_of (found_of options.now)) result (W.contents output.old) (W.contents output.new) }
 {
     let Some(asked) = asked_in(options, errors) else {
         return End::Failed;
@@ -137,6 +140,6 @@ pub(crate) fn params<W: Write, E: Write>(
     let opening = opening_for(asked.packets as u32, elements_for(&asked), params);
     match write_opening(&opening, output) {
         Ok(()) => End::Done,
-        Err(_) => failed(errors, "cannot write the output"),
+        Err(_) => faulted(errors, TraceFault::Write),
     }
 }

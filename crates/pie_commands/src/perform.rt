@@ -1,6 +1,7 @@
 //! A subcommand with its options, over the writer that is handed in or the file that the options name.
 ghost use Rattle.std.specs.Prelude.{◌≡◌, option_map, true};
 ghost use Rattle.clap.specs.Words.{found_of, rows_of};
+ghost use Rattle.pie_files.specs.Files.{file_of};
 ghost use Rattle.pie_options.specs.Words.{file_in, is_forced};
 ghost use Rattle.pie_commands.specs.declared.end.End.{End};
 ghost use Rattle.pie_commands.specs.Outputs.{EndsAt};
@@ -60,12 +61,12 @@ fn perform_for<H: Threads + Wait + Sync + NamedFiles + Screen, R: Read + Drop, E
     errors: &mut E,
 ) -> End
     ensures differs { result ≡ End.Differs → may_differ subcommand ≡ true }
-    ensures ends { EndsAt (file_in (rows_of (found_of options.now))) (is_forced (rows_of (found_of options.now))) name.now (H.holds rt.old)
-        (H.holds rt.new) (EndsAs subcommand (rows_of (found_of options.now)) (R.remaining input) (H.holds rt.old)) result }
+    ensures ends { EndsAt (file_of (file_in (rows_of (found_of options.now)))) (is_forced (rows_of (found_of options.now))) name.now H.fresh
+        (H.holds rt.old) (H.holds rt.new) (EndsAs subcommand (rows_of (found_of options.now)) (R.remaining input) (H.holds rt.old)) result }
 {
     let is_forced = flag(options, "force");
     let Some(mut made) = make_for(rt, name, file(options), is_forced, errors) else {
-        return End::Failed;
+        return End::Unable;
     };
     let end = perform(&*rt, alloc, subcommand, options, input, &mut made, errors);
     let is_there = settle(rt, made, name, is_forced, end.is_whole(), errors);
@@ -103,7 +104,7 @@ pub(crate) fn performed<
     errors: &mut E,
 ) -> End
     ensures differs { result ≡ End.Differs → may_differ subcommand ≡ true }
-    ensures ends { EndsTo subcommand (rows_of (found_of options.now)) (R.remaining input) (H.holds rt.old) (H.holds rt.new) result
+    ensures ends { EndsTo subcommand (rows_of (found_of options.now)) (R.remaining input) H.fresh (H.holds rt.old) (H.holds rt.new) result
         (W.contents output.old) (W.contents output.new) }
 {
     match output_for(subcommand, options) {

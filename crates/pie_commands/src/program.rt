@@ -1,9 +1,10 @@
 //! The whole program over a list of words, a reader, files and two writers.
-ghost use Rattle.std.specs.Prelude.{◌≡◌, ◌≤◌, ◌⊎◌, ◌∷◌, List, IfOk, IfSome, Some, codes, false, true, map, option_map, string_bytes};
+ghost use Rattle.std.specs.Prelude.{◌≡◌, ◌≤◌, ◌⊎◌, ◌∷◌, List, IfSome, None, Some, codes, false, true, map, option_map, string_bytes};
 ghost use Rattle.clap.specs.Matches.{subcommand_name_of};
 ghost use Rattle.clap.specs.Words.{Row, Text, found_of, kind_of, rows_of, subcommand_rows_of};
 ghost use Rattle.clap.specs.declared.error.kind.ErrorKind.{ErrorKind};
 ghost use Rattle.pie_options.specs.Subcommands.{word_of};
+ghost use Rattle.pie_options.specs.declared.subcommand.Subcommand.{Subcommand};
 ghost use Rattle.pie_options.specs.Words.{AskFor, Asks, file_in, files_in, is_forced, is_joined, options_in, output_in, subcommand_in};
 ghost use Rattle.pie_files.specs.Files.{text_given};
 ghost use Rattle.pie_files.specs.Output.{Keeps};
@@ -18,13 +19,14 @@ ghost use Rattle.pie_commands.specs.StormEnds.{EndsStorm};
 ghost use Rattle.pie_commands.specs.Subcommands.{Answers, Finds};
 ghost use Rattle.pie_commands.specs.Tuning.{EndsParams};
 
-use crate::end::{End, failed};
+use crate::end::{End, failed, faulted, unable};
 use crate::perform::performed;
 use crate::screen::Screen;
 use clap::error::ErrorKind;
 use clap::{ArgMatches, Error};
 use pie_files::NamedFiles;
 use pie_options::{Subcommand, options};
+use pie_trace::TraceFault;
 use std::alloc::Global;
 use std::io::{Read, Write};
 use std::marker::Sync;
@@ -91,7 +93,7 @@ pub fn command<H: Threads + Wait + Sync + NamedFiles + Screen, R: Read + Drop, W
         → IfSome (R.remaining input) (λ text. EndsMigrate text result (W.contents output.old) (W.contents output.new)) }
     ensures runs_file { Asks (codes "run") (map string_bytes words.now)
         → EndsIn (output_in (options_in (map string_bytes words.now))) (file_in (options_in (map string_bytes words.now)))
-        (is_forced (options_in (map string_bytes words.now))) (H.holds rt.old) (H.holds rt.new)
+        (is_forced (options_in (map string_bytes words.now))) H.fresh (H.holds rt.old) (H.holds rt.new)
         (λ end before now. IfSome (text_given (R.remaining input) (H.holds rt.old) (file_in (options_in (map string_bytes words.now))))
         (λ text. EndsRun text end before now)) result (W.contents output.old) (W.contents output.new) }
     ensures audits_files { Asks (codes "audit") (map string_bytes words.now) → is_joined (options_in (map string_bytes words.now)) ≡ false
@@ -102,24 +104,24 @@ pub fn command<H: Threads + Wait + Sync + NamedFiles + Screen, R: Read + Drop, W
         → EndsJoined (R.remaining input) (H.holds rt.old) (name ∷ names) result (W.contents output.old) (W.contents output.new) }
     ensures migrates_file { Asks (codes "migrate") (map string_bytes words.now)
         → EndsIn (output_in (options_in (map string_bytes words.now))) (file_in (options_in (map string_bytes words.now)))
-        (is_forced (options_in (map string_bytes words.now))) (H.holds rt.old) (H.holds rt.new)
+        (is_forced (options_in (map string_bytes words.now))) H.fresh (H.holds rt.old) (H.holds rt.new)
         (λ end before now. IfSome (text_given (R.remaining input) (H.holds rt.old) (file_in (options_in (map string_bytes words.now))))
         (λ text. EndsMigrate text end before now)) result (W.contents output.old) (W.contents output.new) }
     ensures explains { Asks (codes "explain") (map string_bytes words.now)
         → EndsIn (output_in (options_in (map string_bytes words.now))) (file_in (options_in (map string_bytes words.now)))
-        (is_forced (options_in (map string_bytes words.now))) (H.holds rt.old) (H.holds rt.new)
+        (is_forced (options_in (map string_bytes words.now))) H.fresh (H.holds rt.old) (H.holds rt.new)
         (λ end before now. IfSome (text_given (R.remaining input) (H.holds rt.old) (file_in (options_in (map string_bytes words.now))))
-        (λ text. EndsExplain (options_in (map string_bytes words.now)) text (status_of end) before now)) result (W.contents output.old)
+        (λ text. EndsExplain (options_in (map string_bytes words.now)) text end before now)) result (W.contents output.old)
         (W.contents output.new) }
     ensures cuts { Asks (codes "cut") (map string_bytes words.now)
         → EndsIn (output_in (options_in (map string_bytes words.now))) (file_in (options_in (map string_bytes words.now)))
-        (is_forced (options_in (map string_bytes words.now))) (H.holds rt.old) (H.holds rt.new)
+        (is_forced (options_in (map string_bytes words.now))) H.fresh (H.holds rt.old) (H.holds rt.new)
         (λ end before now. IfSome (text_given (R.remaining input) (H.holds rt.old) (file_in (options_in (map string_bytes words.now))))
         (λ text. EndsCut (options_in (map string_bytes words.now)) (file_in (options_in (map string_bytes words.now))) text end before now)) result (W.contents output.old) (W.contents output.new) }
     ensures storms { Asks (codes "storm") (map string_bytes words.now)
-        → EndsStorm (options_in (map string_bytes words.now)) (status_of result) (W.contents output.old) (W.contents output.new) }
+        → EndsStorm (options_in (map string_bytes words.now)) result (W.contents output.old) (W.contents output.new) }
     ensures params { Asks (codes "params") (map string_bytes words.now)
-        → EndsParams (options_in (map string_bytes words.now)) (status_of result) (W.contents output.old) (W.contents output.new) }
+        → EndsParams (options_in (map string_bytes words.now)) result (W.contents output.old) (W.contents output.new) }
 {
     let found = matches_of(alloc, words);
     let end = answer(rt, alloc, &found, input, output, errors);
@@ -144,43 +146,42 @@ fn answer<H: Threads + Wait + Sync + NamedFiles + Screen, R: Read + Drop, W: Wri
     errors: &mut E,
 ) -> End
     ensures { (words : List Text) → Finds words found.now
-        → Answers words (R.remaining input) (H.holds rt.old) (H.holds rt.new) result (W.contents output.old) (W.contents output.new) }
+        → Answers words (R.remaining input) H.fresh (H.holds rt.old) (H.holds rt.new) result (W.contents output.old) (W.contents output.new) }
 {
     match found {
         Ok(matches) => match asked_of(matches) {
-            Ok((subcommand, options)) => {
+            Some((subcommand, options)) => {
                 performed(rt, alloc, subcommand, options, input, output, errors)
             }
-            Err(why) => failed(errors, why),
+            None => failed(errors, "no subcommand"),
         },
         Err(why) => mistake(why, output, errors),
     }
 }
 
-/// The subcommand that the words ask for, and what they give its options.
-fn asked_of<'a, 'b>(
-    matches: &'b ArgMatches<'a>,
-) -> Result<(Subcommand, &'b ArgMatches<'a>), &'static str>
-    ensures name { IfOk result (λ asked. Some (word_of asked.0) ≡ subcommand_name_of matches.now) }
-    ensures rows { IfOk result (λ asked. Some (rows_of (found_of asked.1.now))
+/// The subcommand that the words ask for, and what they give its options; none where they ask for none.
+fn asked_of<'a, 'b>(matches: &'b ArgMatches<'a>) -> Option<(Subcommand, &'b ArgMatches<'a>)>
+    ensures name { IfSome result (λ asked. Some (word_of asked.0) ≡ subcommand_name_of matches.now) }
+    ensures rows { IfSome result (λ asked. Some (rows_of (found_of asked.1.now))
         ≡ option_map (λ (given : Text × List Row). given.1) (subcommand_rows_of matches.now)) }
+    ensures none { result ≡ None → (subcommand : Subcommand) → subcommand_name_of matches.now ≡ Some (word_of subcommand) → ⊥ }
 {
     let Some((name, options)) = matches.subcommand() else {
-        return Err("no subcommand");
+        return None;
     };
     match Subcommand::named(name) {
-        Some(subcommand) => Ok((subcommand, options)),
-        None => Err("unknown subcommand"),
+        Some(subcommand) => Some((subcommand, options)),
+        None => None,
     }
 }
 
 /// What `clap` says of the words: help, or a mistake.
 fn mistake<W: Write, E: Write>(error: &Error, output: &mut W, errors: &mut E) -> End
     ensures same { result ≡ End.Differs → ⊥ }
-    ensures memory { kind_of error.now ≡ ErrorKind.OutOfMemory → (result ≡ End.Failed) × (W.contents output.new ≡ W.contents output.old) }
+    ensures memory { kind_of error.now ≡ ErrorKind.OutOfMemory → (result ≡ End.Unable) × (W.contents output.new ≡ W.contents output.old) }
 {
     if matches!(error.kind(), ErrorKind::OutOfMemory) {
-        return failed(errors, "out of memory");
+        return unable(errors, "out of memory");
     }
     if error.use_stderr() {
         let _ = write!(errors, "{error}");
@@ -188,6 +189,6 @@ fn mistake<W: Write, E: Write>(error: &Error, output: &mut W, errors: &mut E) ->
     }
     match write!(output, "{error}") {
         Ok(()) => End::Done,
-        Err(_) => failed(errors, "cannot write the output"),
+        Err(_) => faulted(errors, TraceFault::Write),
     }
 }

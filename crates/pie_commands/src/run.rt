@@ -74,6 +74,6 @@ pub(crate) fn run<H: NamedFiles + Screen, R: Read + Drop, W: Write, E: Write>(
     let is_shown = shows_progress(rt, options, true);
     match reader_of(rt, file(options), input, errors) {
         Some(reader) => run_input(rt, alloc, options, is_shown, reader, output, errors),
-        None => End::Failed,
+        None => End::Unable,
     }
 }

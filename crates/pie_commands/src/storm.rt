@@ -1,13 +1,12 @@
 //! `pie storm`: the storm that the options ask for, whose history is written.
 ghost use Rattle.std.specs.Prelude.{◌≡◌, Some};
 ghost use Rattle.clap.specs.Words.{found_of, rows_of};
-ghost use Rattle.pie_commands.specs.Ends.{status_of};
 ghost use Rattle.pie_commands.specs.StormEnds.{EndsStorm, choice_in, delay_in, elements_in, numbers_in, picking_in};
 ghost use Rattle.pie_commands.specs.StormEnds.{profile_by, size_in, step_in};
 ghost use Rattle.pie_options.specs.Words.{profile_in};
 ghost use Rattle.pie_storm.specs.StormPlan.{HasStormRange};
 
-use crate::end::{End, failed};
+use crate::end::{End, failed, faulted, unable};
 use clap::ArgMatches;
 use pie_book::{Event, Profile};
 use pie_options::{flag, number_or};
@@ -15,6 +14,7 @@ use pie_params::{Delay, Elements, Picking, Size, Step};
 use pie_record::first_record::which_of;
 use pie_record::words::{delay_word, picking_word, size_word, step_word};
 use pie_storm::{StormNumbers, write_storm};
+use pie_trace::TraceFault;
 use std::alloc::Global;
 use std::io::Write;
 use std::marker::Sync;
@@ -158,8 +158,8 @@ fn numbers_of(options: &ArgMatches<'_>, elements: Elements) -> StormNumbers
     }
 }
 
-/// `pie storm`: makes the storm that these options ask for, audits its events and writes their history. It is done, or has failed
-/// where the word of a choice is none of its own, or memory, a thread or the writer fails.
+/// `pie storm`: makes the storm that these options ask for, audits its events and writes their history. It has failed
+/// where the word of a choice is none of its own, could not begin where memory or a thread was wanting, and else is done, or the writer failed.
 pub(crate) fn make_storm<H: Threads + Wait + Clock + Sync, W: Write, E: Write>(
     rt: &H,
     alloc: Global,
@@ -167,14 +167,14 @@ pub(crate) fn make_storm<H: Threads + Wait + Clock + Sync, W: Write, E: Write>(
     output: &mut W,
     errors: &mut E,
 ) -> End
-    ensures { EndsStorm (rows_of (found_of options.now)) (status_of result) (W.contents output.old) (W.contents output.new) }
+    ensures { EndsStorm (rows_of (found_of options.now)) result (W.contents output.old) (W.contents output.new) }
 {
     let Some(elements) = elements_of(options) else {
         return failed(errors, NO_CHOICE);
     };
     let made = match pie_storm::make_storm(rt, alloc, numbers_of(options, elements)) {
         Ok(made) => made,
-        Err(why) => return failed(errors, why),
+        Err(why) => return unable(errors, why),
     };
     let events = made.end.events.as_slice();
     say_counts(options, events, errors);
@@ -182,7 +182,8 @@ pub(crate) fn make_storm<H: Threads + Wait + Clock + Sync, W: Write, E: Write>(
     drop(made);
     match written {
         Ok(()) => End::Done,
-        Err(why) => failed(errors, why),
+        Err(TraceFault::Memory) => faulted(errors, TraceFault::Memory),
+        Err(_) => faulted(errors, TraceFault::Write),
     }
 }
 

@@ -2,8 +2,9 @@ use Rattle.std.proofs.Common.{ℕ, List, Option, subst}
 use Rattle.std.specs.Prelude.{IfSome}
 use Rattle.pie_record.specs.Text.{records_of}
 use Rattle.pie_files.specs.Watched.{remaining_of}
-use Rattle.pie_commands.specs.CutEnds.{CutsInto, EndsBy, end_of_cut}
-use Rattle.pie_commands.proofs.CutFacts.{told-by}
+use Rattle.pie_commands.specs.Ends.{EndsBy}
+use Rattle.pie_commands.specs.CutEnds.{CutsInto, end_of_cut}
+use Rattle.pie_commands.proofs.EndFacts.{told-by}
 use Rattle.pie_commands.proofs.cut.cut_input.Goals as goal
 
 pub returns : goal.returns
@@ -12,6 +13,6 @@ returns g c =
     let given = c.cut_out-given.result in
     let before = g.W.Write.contents c.args.output.now in
     let now = g.W.Write.contents c.cut_out-given.new.output in
-    rw c.ended.ensures (subst (λ (read : Option (List ℕ)). IfSome read (λ text. EndsBy (cuts text) (end_of_cut given) before now))
+    rw c.ended.ensures (subst (λ (read : Option (List ℕ)). IfSome read (λ text. EndsBy end_of_cut (cuts text) (end_of_cut given) before now))
     c.new-watched.ensures
-    (told-by cuts (remaining_of g.R.Read.remaining c.new-watched.result) given before now c.cut_out-given.ensures))
+    (told-by end_of_cut cuts (remaining_of g.R.Read.remaining c.new-watched.result) given before now c.cut_out-given.ensures))

@@ -1,12 +1,12 @@
-use Rattle.std.proofs.Common.{ℕ, List, Option}
 use Rattle.pie_record.specs.Text.{records_of}
-use Rattle.pie_commands.specs.CutEnds.{CutsLast}
-use Rattle.pie_commands.proofs.CutFacts.{failed-by, last-faulted, last-told}
+use Rattle.pie_commands.specs.CutEnds.{CutsLast, end_of_cut}
+use Rattle.pie_commands.proofs.CutFacts.{last-faulted, last-told}
+use Rattle.pie_commands.proofs.EndFacts.{unable-by}
 use Rattle.pie_commands.proofs.cut.cut_last.Goals as goal
 
 pub returns-in-None : goal.returns-in-None
 returns-in-None g c other =
-    failed-by (λ text. CutsLast c.args.many (records_of text)) (g.H.NamedFiles.holds c.args.rt.now c.args.name.now)
+    unable-by end_of_cut (λ text. CutsLast c.args.many (records_of text)) (g.H.NamedFiles.holds c.args.rt.now c.args.name.now)
     (g.W.Write.contents c.args.output.now)
 
 pub returns-in-Some-Err : goal.returns-in-Some-Err

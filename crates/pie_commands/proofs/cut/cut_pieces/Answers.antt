@@ -2,17 +2,18 @@ use Rattle.std.proofs.Common.{ℕ, List, Option, subst}
 use Rattle.std.specs.Prelude.{IfSome, option_map}
 use Rattle.pie_record.specs.Text.{records_of}
 use Rattle.pie_files.specs.Files.{text_given}
-use Rattle.pie_commands.specs.CutEnds.{CutsInto, EndsBy}
-use Rattle.pie_commands.proofs.CutFacts.{failed-by}
+use Rattle.pie_commands.specs.Ends.{EndsBy}
+use Rattle.pie_commands.specs.CutEnds.{CutsInto, end_of_cut}
+use Rattle.pie_commands.proofs.EndFacts.{unable-by}
 use Rattle.pie_commands.proofs.cut.cut_pieces.Goals as goal
 
 pub returns-in-Some : goal.returns-in-Some
 returns-in-Some g c =
-    subst (λ (known : Option (List ℕ)). IfSome known (λ text. EndsBy (CutsInto c.args.pieces (records_of text)) c.cut_input.result
-    (g.W.Write.contents c.args.output.now) (g.W.Write.contents c.cut_input.new.output))) c.in-Some.ensures c.cut_input.ensures
+    subst (λ (known : Option (List ℕ)). IfSome known (λ text. EndsBy end_of_cut (CutsInto c.args.pieces (records_of text)) c.cut_input.result
+    (g.W.Write.contents c.args.output.now) (g.W.Write.contents c.cut_input.new.output))) c.in-Some.ensures.reads c.cut_input.ensures
 
 pub returns-in-None : goal.returns-in-None
 returns-in-None g c =
-    failed-by (λ text. CutsInto c.args.pieces (records_of text))
+    unable-by end_of_cut (λ text. CutsInto c.args.pieces (records_of text))
     (text_given (g.R.Read.remaining c.args.input) (g.H.NamedFiles.holds c.args.rt.now) (option_map (λ name. name.now) c.args.name))
     (g.W.Write.contents c.args.output.now)

@@ -1,26 +1,25 @@
-use Rattle.std.proofs.Common.{ℕ, List, Option, refl, subst}
+use Rattle.std.proofs.Common.{ℕ, List, Option, sym, subst}
 use Rattle.std.specs.Prelude.{IfSome}
 use Rattle.clap.specs.Words.{found_of, rows_of}
 use Rattle.pie_explanation.specs.declared.choice.Choice.{Choice}
 use Rattle.pie_explanation.specs.declared.explanation.Explained.{Explained}
 use Rattle.pie_commands.specs.Choice.{choice_of, told_by}
-use Rattle.pie_commands.specs.Ends.{status_of}
 use Rattle.pie_commands.specs.ExplainEnds.{explain_ends}
-use Rattle.pie_commands.proofs.ExplainFacts.{EndsExplain-failed}
+use Rattle.pie_commands.proofs.ExplainFacts.{EndsExplain-unchosen}
 use Rattle.pie_commands.proofs.explain.explain_input.Goals as goal
 
 pub returns-in-Some : goal.returns-in-Some
 returns-in-Some g c =
     let known = g.R.Read.remaining c.args.input in
-    let status = status_of c.explain_chosen.result in
+    let end = c.explain_chosen.result in
     let before = g.W.Write.contents c.args.output.now in
     let now = g.W.Write.contents c.explain_chosen.new.output in
-    subst (λ (tale : List Explained → List ℕ). IfSome known (λ text. explain_ends (choice_of (rows_of (found_of c.args.options.now))) tale text status
+    subst (λ (tale : List Explained → List ℕ). IfSome known (λ text. explain_ends (choice_of (rows_of (found_of c.args.options.now))) tale text end
     before now)) c.tale_of-tale.ensures
-    (subst (λ (choice : Option Choice). IfSome known (λ text. explain_ends choice (told_by c.tale_of-tale.result) text status before now))
+    (subst (λ (choice : Option Choice). IfSome known (λ text. explain_ends choice (told_by c.tale_of-tale.result) text end before now))
     c.in-Some.ensures c.explain_chosen.ensures)
 
 pub returns-in-None : goal.returns-in-None
 returns-in-None g c =
-    EndsExplain-failed (rows_of (found_of c.args.options.now)) (g.R.Read.remaining c.args.input) 1 (g.W.Write.contents c.args.output.now)
-    (g.W.Write.contents c.args.output.now) refl refl
+    EndsExplain-unchosen (rows_of (found_of c.args.options.now)) (g.R.Read.remaining c.args.input) (g.W.Write.contents c.args.output.now)
+    (sym c.in-None.ensures)

@@ -29,7 +29,7 @@ loop-place-preserved g c =
     c.loop-place.invariant.stays c.in-Ok.ensures.told)
     c.in-Ok.ensures.written in
     record {
-      stays = stays-on c.args.input c.loop-place.given c.audit_named.new.input c.loop-place.invariant.stays c.audit_named.ensures.input;
+      stays = stays-on c.args.input name c.loop-place.given c.audit_named.new.input c.loop-place.invariant.stays c.audit_named.ensures.input;
       audits = rw (c.any_unfound-unfound.ensures, c.finding_in.ensures, c.any_broken-broken.ensures)
           (by-taken joined input files names c.loop-place.place name _ _ end before now named c.name_at-name.ensures more);
     }

@@ -12,6 +12,6 @@ returns-in-Some-clause-migrates g c =
     let input = g.R.Read.remaining c.args.input in
     let held = g.H.NamedFiles.holds c.args.rt.now in
     let same : either g.R.Read.remaining g.H.File.Read.remaining c.in-Some.reader ≡ text_given input held (file_in (rows_of (found_of c.args.options.now))) =
-    c.in-Some.ensures ∙ ap (λ (name : Option Name). text_given input held name) c.file.ensures in
+    c.in-Some.ensures.reads ∙ ap (λ (name : Option Name). text_given input held name) c.file.ensures in
     subst (λ (known : Option (List ℕ)). IfSome known (λ text. EndsMigrate text c.migrate_input.result (g.W.Write.contents c.args.output.now)
     (g.W.Write.contents c.migrate_input.new.output))) same c.migrate_input.ensures.migrates

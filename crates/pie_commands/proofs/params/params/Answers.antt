@@ -1,4 +1,4 @@
-use Rattle.std.proofs.Common.{◌≡◌, ◌∙◌, ap, arith, inr, refl, rules, subst}
+use Rattle.std.proofs.Common.{◌≡◌, ◌∙◌, ap, arith, rules, subst}
 use Rattle.std.specs.Io.KnownBytes.{Appends}
 use Rattle.pie_params.specs.declared.elements.Elements.{Elements}
 use Rattle.pie_params.specs.declared.raw.RawParams.{RawParams}
@@ -18,18 +18,15 @@ returns-in-Ok-write_opening g c =
     c.opening_for-opening.ensures
     ∙ (ap (λ (e : Elements). opening_for c.in-Some.asked.packets e c.in-Ok.params) c.elements_for.ensures
     ∙ ap (λ (p : RawParams). opening_for c.in-Some.asked.packets (elements_for c.in-Some.asked) p) same) in
-    inr (
-      refl,
-      record {
-        asked = c.in-Some.asked;
-        asks = c.in-Some.ensures;
-        in_range = subst IsInRange c.params_for.ensures in_range;
-        packets = (
-          omega (arith, c.if-asked-eq0.false),
-          omega (arith, c.if-from-asked.false, c.from.ensures),
-        );
-        written = subst (λ (o : Opening). Appends (g.W.Write.contents c.args.output.now) (g.W.Write.contents c.write_opening.new.output)
-            (text_of (opening_row o)))
-            opening c.in-Ok-write_opening.ensures;
-      },
-    )
+    record {
+      asked = c.in-Some.asked;
+      asks = c.in-Some.ensures.asked;
+      in_range = subst IsInRange c.params_for.ensures in_range;
+      packets = (
+        omega (arith, c.if-asked-eq0.false),
+        omega (arith, c.if-from-asked.false, c.from.ensures),
+      );
+      written = subst (λ (o : Opening). Appends (g.W.Write.contents c.args.output.now) (g.W.Write.contents c.write_opening.new.output)
+          (text_of (opening_row o)))
+          opening c.in-Ok-write_opening.ensures;
+    }

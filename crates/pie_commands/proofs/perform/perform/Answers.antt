@@ -1,5 +1,8 @@
 use Rattle.std.proofs.Common.{refl}
-use Rattle.pie_commands.proofs.EndFacts.{no-difference, no-difference-by}
+use Rattle.clap.specs.Words.{found_of, rows_of}
+use Rattle.pie_commands.specs.StormEnds.{elements_in}
+use Rattle.pie_commands.proofs.EndFacts.{no-difference}
+use Rattle.pie_commands.proofs.StormEndFacts.{storm-same}
 use Rattle.pie_commands.proofs.perform.perform.Goals as goal
 
 -- the arm of `pie run` closes by itself
@@ -10,10 +13,13 @@ pub returns-in-Migrate-clause-differs : goal.returns-in-Migrate-clause-differs
 returns-in-Migrate-clause-differs g c is = absurd (no-difference c.migrate.result c.migrate.ensures.status is)
 
 pub returns-in-Storm-clause-differs : goal.returns-in-Storm-clause-differs
-returns-in-Storm-clause-differs g c is = absurd (no-difference-by c.make_storm.result c.make_storm.ensures is)
+returns-in-Storm-clause-differs g c is =
+    let options = rows_of (found_of c.args.options.now) in
+    absurd (storm-same options (elements_in options) (g.W.Write.contents c.args.output.now) (g.W.Write.contents c.make_storm.new.output)
+    (rw is at c.make_storm.ensures))
 
 pub returns-in-Params-clause-differs : goal.returns-in-Params-clause-differs
-returns-in-Params-clause-differs g c is = absurd (no-difference-by c.params.result c.params.ensures is)
+returns-in-Params-clause-differs g c is = absurd (rw is at c.params.ensures)
 
 pub returns-in-Audit-clause-differs : goal.returns-in-Audit-clause-differs
 returns-in-Audit-clause-differs g c is = rw c.in-Audit.is refl

@@ -1,6 +1,6 @@
-use Rattle.std.proofs.Common.{◌∙◌, Bool, Option, option_map, subst}
+use Rattle.std.proofs.Common.{◌∙◌, ℕ, List, Bool, Option, option_map, subst}
 use Rattle.clap.specs.Words.{found_of, rows_of}
-use Rattle.pie_files.specs.Files.{Name}
+use Rattle.pie_files.specs.Files.{Name, file_of}
 use Rattle.pie_options.specs.Words.{is_forced}
 use Rattle.pie_commands.specs.Ends.{settled}
 use Rattle.pie_commands.specs.Outputs.{EndsAt}
@@ -16,16 +16,18 @@ returns-clause-ends g c =
     let mid = g.H.NamedFiles.holds c.make_for.new.rt in
     let new = g.H.NamedFiles.holds c.settle-is_there.new.rt in
     let input = g.R.Read.remaining c.args.input in
-    let made = g.H.Made.Write.contents c.in-Some.made in
+    let fresh = g.H.NamedFiles.fresh in
     let left = g.H.Made.Write.contents c.perform-end.new.output in
     let ends = EndsAs c.args.subcommand options input old in
     let read = option_map (λ name. name.now) c.file.result in
-    let ended = EndsAs-kept c.args.subcommand options input old mid c.perform-end.result made left c.make_for.ensures.keeps c.perform-end.ensures.ends in
-    let at : EndsAt read c.flag-is_forced.result c.args.name.now old new ends (settled c.perform-end.result c.settle-is_there.result) =
-    ends-settled read c.flag-is_forced.result c.args.name.now old mid new ends c.perform-end.result c.settle-is_there.result made left
+    let wrote = subst (λ (made : Option (List ℕ)). EndsAs c.args.subcommand options input mid c.perform-end.result made left) c.in-Some.ensures.fresh
+    c.perform-end.ensures.ends in
+    let ended = EndsAs-kept c.args.subcommand options input old mid c.perform-end.result fresh left c.make_for.ensures.keeps wrote in
+    let at : EndsAt (file_of read) c.flag-is_forced.result c.args.name.now fresh old new ends (settled c.perform-end.result c.settle-is_there.result) =
+    ends-settled (file_of read) c.flag-is_forced.result c.args.name.now old mid new ends c.perform-end.result c.settle-is_there.result fresh left
     c.in-Some.ensures.empty c.make_for.ensures.keeps c.in-Some.ensures.other c.settle-is_there.ensures.settles
-    (λ part. c.settle-is_there.ensures.whole (c.is_whole.ensures ∙ part)) ended in
-    rw c.settled.ensures (subst (λ (name : Option Name). EndsAt name (is_forced options) c.args.name.now old new ends
+    (λ part. c.settle-is_there.ensures.part (c.is_whole.ensures ∙ part)) ended in
+    rw c.settled.ensures (subst (λ (name : Option Name). EndsAt (file_of name) (is_forced options) c.args.name.now fresh old new ends
     (settled c.perform-end.result c.settle-is_there.result)) c.file.ensures
-    (subst (λ (forced : Bool). EndsAt read forced c.args.name.now old new ends (settled c.perform-end.result c.settle-is_there.result))
+    (subst (λ (forced : Bool). EndsAt (file_of read) forced c.args.name.now fresh old new ends (settled c.perform-end.result c.settle-is_there.result))
     c.flag-is_forced.ensures at))

@@ -35,7 +35,7 @@ returns-clause-runs g c asks =
     let before = g.W.Write.contents c.args.output.now in
     let now = g.W.Write.contents c.answer-end.new.output in
     subst (λ (file : Option Text). IfSome (text_given input held file) (λ text. EndsRun text c.answer-end.result before now)) (run-file words asks)
-    (subst (λ (output : Option Text). EndsIn output (file_in (options_in words)) (is_forced (options_in words)) held
+    (subst (λ (output : Option Text). EndsIn output (file_in (options_in words)) (is_forced (options_in words)) g.H.NamedFiles.fresh held
     (g.H.NamedFiles.holds c.answer-end.new.rt) (EndsAs Run (options_in words) input held) c.answer-end.result before now)
     (run-output words asks) ((c.answer-end.ensures words c.matches_of-found.ensures).ends Run (run-asks words asks))).1
 
@@ -55,7 +55,7 @@ returns-clause-migrates g c asks =
     let now = g.W.Write.contents c.answer-end.new.output in
     subst (λ (file : Option Text). IfSome (text_given input held file) (λ text. EndsMigrate text c.answer-end.result before now))
     (migrate-file words asks)
-    (subst (λ (output : Option Text). EndsIn output (file_in (options_in words)) (is_forced (options_in words)) held
+    (subst (λ (output : Option Text). EndsIn output (file_in (options_in words)) (is_forced (options_in words)) g.H.NamedFiles.fresh held
     (g.H.NamedFiles.holds c.answer-end.new.rt) (EndsAs Migrate (options_in words) input held) c.answer-end.result before now)
     (migrate-output words asks) ((c.answer-end.ensures words c.matches_of-found.ensures).ends Migrate (migrate-asks words asks))).1
 

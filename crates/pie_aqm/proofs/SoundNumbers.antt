@@ -1,11 +1,11 @@
 -- No number of a controller can't be believed exactly where all are sound.
-use Rattle.std.proofs.Common.{◌≡◌, ◌≤◌, ◌<◌, ◌^◌, ℕ, Bool, true, false, refl, arith, ◌↔◌, ap, subst, sym, ◌∙◌, not, List, [], ◌∷◌, find}
-use Rattle.std.specs.Prelude.{Option, Some, None, nat_le, nat_lt, is_none, ⊤, All}
+use Rattle.std.proofs.Common.{◌≡◌, ◌≤◌, ◌<◌, ◌^◌, ℕ, Bool, true, false, refl, arith, ◌↔◌, ap, not, List, [], ◌∷◌, find}
+use Rattle.std.specs.Prelude.{Option, Some, None, nat_le, nat_lt, is_none}
 use Rattle.std.proofs.lemmas.Bool.Decides.{nat_tests}
 use Rattle.pie_params.specs.Range.{first_bad}
-use Rattle.pie_aqm.specs.Types.{RawParams, Begun, Profile, One, Two}
+use Rattle.pie_aqm.specs.Types.{Begun, Profile, One, Two}
 use Rattle.pie_aqm.specs.Held.{Held, IsSound, IsWithin}
-use Rattle.pie_aqm.specs.Sound.{began_by, counts_below, first_unsound, fits_profile, is_sound_at, looked_at}
+use Rattle.pie_aqm.specs.Sound.{began_by, counts_below, first_unsound, fits_profile, is_sound_at}
 use Rattle.pie_event.specs.declared.register.Register.{Register}
 use Rattle.pie_event.specs.declared.register.Register.TheVariants as register
 

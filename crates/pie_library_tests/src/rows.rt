@@ -86,7 +86,14 @@ fn replay<I: Read + Drop, R: Wait>(
         mode: Mode::Rolling,
         ..opening.choices
     };
-    match Link::open_with(alloc, Opening { choices, ..*opening }, 1) {
+    match Link::open_with(
+        alloc,
+        Opening {
+            choices,
+            ..*opening
+        },
+        1,
+    ) {
         Ok((link, mut caller)) => Ok(compare(rt, lines, &link, &mut caller)),
         Err(why) => Err(why),
     }

@@ -166,9 +166,19 @@ pub(crate) fn openings_of_each_kind(alloc: Global) -> bool {
 /// Whether a new book shows that it has no event, and when it was opened.
 fn shows_its_opening(alloc: Global) -> bool {
     match Book::open(alloc, limits(), Params::default_profile(), 3) {
-        Ok(book) => book.event(0).is_none() && book.opening().moment == 3,
+        Ok(mut book) => {
+            let checkpoint = book.checkpoint();
+            book.event(0).is_none() && book.opening().moment == 3 && checkpoint == book.registers()
+        }
         Err(_) => false,
     }
+}
+
+/// Whether the default parameters have section 4.2's gains and interval.
+fn are_defaults_read() -> bool {
+    let params = Params::default_profile();
+    let (alpha, beta) = (params.alpha().units(), params.beta().units());
+    alpha == 125 && beta == 1250 && params.t_update().units() == 15_000_000
 }
 
 /// What is accumulated after one arrival that was considered at a tenth.
@@ -188,5 +198,6 @@ fn are_gains_bounded() -> bool {
 pub(crate) fn calls_that_nothing_else_makes(alloc: Global) -> bool {
     let is_shown = shows_its_opening(alloc);
     let is_added = accumulated() == Some(100_000_000_000);
-    is_shown && is_added && are_gains_bounded() && Ecn::Ect0.bits() == 0b10
+    let are_read = are_defaults_read() && Ecn::Ect0.bits() == 0b10;
+    is_shown && is_added && are_gains_bounded() && are_read
 }

@@ -74,7 +74,7 @@ opened_well text opening lines told = by (records_of text) told.opens
 
 abbrev pub LineSets : Line → Type 0
 LineSets (line.Made event) = SetsInRange event.command
-LineSets line.Unmakeable = ⊤
+LineSets (line.Unmakeable change) = ⊤
 LineSets line.Note = ⊤
 LineSets (line.Clock clock) = ⊤
 
@@ -142,7 +142,7 @@ event-sets row k l = by (has_length k (length row))
     told : (a : Asked) (answer : Answer) → command_at row k ≡ Ok a → IsLine (Ok (line_for a answer)) (Ok l) → LineSets l
     told (asked.Command caller command) answer is e =
         subst LineSets (line-same (line_for (asked.Command caller command) answer) l e) (command-sets row k caller command is)
-    told asked.BadParams answer is e = subst LineSets (line-same line.Unmakeable l e) tt
+    told (asked.BadParams change) answer is e = subst LineSets (line-same (line.Unmakeable change) l e) tt
 
     by : (long : Bool) → (if long then and_then (command_at row k) (λ asked. and_then (answer_at row k) (λ answer. Ok (line_for asked answer)))
         else Err flaw.Fields) ≡ Ok l → LineSets l
@@ -253,6 +253,6 @@ sets_of [] all = All-nil (λ (event : Event). SetsInRange event.command)
 sets_of (line.Made event ∷ lines) all =
     All-cons (λ (e : Event). SetsInRange e.command) event (filter_map event_in lines)
     (All-head LineSets (line.Made event) lines all) (sets_of lines (All-tail LineSets (line.Made event) lines all))
-sets_of (line.Unmakeable ∷ lines) all = sets_of lines (All-tail LineSets line.Unmakeable lines all)
+sets_of (line.Unmakeable change ∷ lines) all = sets_of lines (All-tail LineSets (line.Unmakeable change) lines all)
 sets_of (line.Note ∷ lines) all = sets_of lines (All-tail LineSets line.Note lines all)
 sets_of (line.Clock clock ∷ lines) all = sets_of lines (All-tail LineSets (line.Clock clock) lines all)

@@ -2,9 +2,9 @@
 //! for an event.
 ghost use Rattle.std.specs.Prelude.{◌≡◌, IfSome};
 
-use pie_book::{Book, Choices, Limits, Mode, Profile};
+use pie_book::{Book, Choices, Limits, Mode, Opening};
 use pie_link::{Caller, Link};
-use pie_params::{Elements, Params};
+use pie_params::Params;
 use std::alloc::{AllocError, Global};
 use std::sync::Mutex;
 

@@ -6,7 +6,9 @@ use crate::at_link;
 use crate::at_link::Waited;
 use crate::books::{arrive, limits, packet};
 use crate::seen::{Seen, begin};
-use pie_book::{Answer, Choices, Command, FoldRefusal, Mode, OpenRefusal, Profile, Refusal};
+use pie_book::{
+    Answer, Choices, Command, FoldRefusal, Mode, OpenRefusal, Opening, Profile, Refusal,
+};
 use pie_link::{Arrival, Caller, Link, LinkRefusal, Told, Tried};
 use pie_params::{Elements, Params};
 use std::alloc::Global;

@@ -100,13 +100,7 @@ fn is_shared_and_taken_out(alloc: Global, link: &Link, caller: &mut Caller) -> b
 pub(crate) fn a_caller_that_lacks_numbers_takes_an_excerpt_whose_text_is_clean(
     alloc: Global,
 ) -> bool {
-    let Opening {
-        moment,
-        limits,
-        params,
-        choices,
-    } = opening();
-    match Link::open_with(alloc, limits, params, moment, 2, choices) {
+    match Link::open_with(alloc, opening(), 2) {
         Ok((link, mut caller)) => is_shared_and_taken_out(alloc, &link, &mut caller),
         Err(_) => false,
     }

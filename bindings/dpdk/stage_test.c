@@ -357,7 +357,7 @@ static void test_create(void) {
     EXPECT(pie_stage_create("other", &bad, SOCKET_ID_ANY) == NULL && rte_errno == EINVAL);
     bad = params, bad.pie.target = 1;
     EXPECT(pie_stage_create("other", &bad, SOCKET_ID_ANY) == NULL && rte_errno == EINVAL);
-    bad = params, bad.choices = 16;
+    bad = params, bad.choices = 32;
     EXPECT(pie_stage_create("other", &bad, SOCKET_ID_ANY) == NULL && rte_errno == EINVAL);
     bad = params, bad.packets = PIE_STAGE_MAX_PACKETS; // 512 megabytes, more than there are
     EXPECT(pie_stage_create("other", &bad, SOCKET_ID_ANY) == NULL && rte_errno == ENOMEM);

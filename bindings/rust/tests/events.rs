@@ -127,8 +127,8 @@ fn openings() {
     let nine = "5000000,15000000,150000000,125,1250,1024,262144,100000000000,16384";
     assert_eq!(open(&other, Profile::One, usual, LIMITS).unwrap(), format!("open,9,64,1024,100,{nine}\n"));
     assert_eq!(open(&other, Profile::Two, usual, LIMITS).unwrap(), format!("open2,2,bounded,9,64,1024,100,{nine}\n"));
-    let choices = Choices { delay_stamp: true, size_scaled: true, ..usual };
-    let wanted = format!("open3,1,stamp,derandomized,capped,scaled,bounded,9,64,1024,100,{nine}\n");
+    let choices = Choices { delay_stamp: true, size_scaled: true, decay_half: true, ..usual };
+    let wanted = format!("open3,1,stamp,derandomized,capped,scaled,half,bounded,9,64,1024,100,{nine}\n");
     assert_eq!(open(&other, Profile::One, choices, LIMITS).unwrap(), wanted);
     for limits in [Limits { packets: 0, ..LIMITS }, Limits { tail: (1 << 20) + 1, ..LIMITS }, Limits { events: (1 << 47) + 1, ..LIMITS }] {
         assert_eq!(open(&params, Profile::One, usual, limits).unwrap_err().kind(), ErrorKind::InvalidInput);

@@ -6,6 +6,7 @@ use Rattle.pie_early.specs.Decision.{is_considered, is_picked}
 use Rattle.pie_c.specs.declared.params.PieParams.{PieParams}
 use Rattle.pie_c.specs.declared.state.PieState.{PieState}
 use Rattle.pie_params.specs.Elements.{usual}
+use Rattle.pie_params.specs.declared.elements.Decay.TheVariants.{Half}
 use Rattle.pie_params.specs.declared.elements.Delay.TheVariants.{Stamp}
 use Rattle.pie_params.specs.declared.elements.Picking.TheVariants.{Random}
 use Rattle.pie_params.specs.declared.elements.Step.TheVariants.{Uncapped}
@@ -56,10 +57,10 @@ unfolding state_of reset_refusal moment_refusal packet_refusal is_sound are_in_r
 state_refusals = (refl, refl, refl, refl, refl, refl)
 
 -- where delays come from time stamps a departure says when the packet arrived; numbers of its own are looked at first
-stamped : (departure_refusal (record start { choices = 1 }) 1 0 0 ≡ 119) × (departure_refusal (record start { choices = 14 }) 1 0 0 ≡ 0)
+stamped : (departure_refusal (record start { choices = 1 }) 1 0 0 ≡ 119) × (departure_refusal (record start { choices = 30 }) 1 0 0 ≡ 0)
     × (waited_refusal (record start { choices = 1 }) 1 0 1 5 ≡ 118) × (waited_refusal (record start { choices = 1; moment = 1 }) 1 0 1 0 ≡ 0)
     × (waited_refusal start 1 0 1 0 ≡ 0) × (waited_refusal (record start { choices = 1 }) 0 0 1 5 ≡ 102)
-    × (elements_of 5 ≡ record usual { delay = Stamp; step = Uncapped }) × (elements_of 10 ≡ record usual { picking = Random; size = Scaled })
+    × (elements_of 5 ≡ record usual { delay = Stamp; step = Uncapped }) × (elements_of 26 ≡ record usual { picking = Random; size = Scaled; decay = Half })
 unfolding state_of packet_refusal elements_of choices_of
 stamped = (refl, refl, refl, refl, refl, refl, refl, refl)
 
@@ -81,8 +82,8 @@ unfolding arrival_refusal
 refusals = (refl, refl, refl, refl, refl)
 
 -- a profile is looked at last
-openings : (opening_refusal (record defaults { target = 1 }) (2 ^ 60) 3 16 ≡ 107) × (opening_refusal defaults (2 ^ 60) 3 16 ≡ 101)
-    × (opening_refusal defaults 0 3 16 ≡ 113) × (opening_refusal defaults 0 0 16 ≡ 113) × (opening_refusal defaults 0 2 16 ≡ 117) × (opening_refusal defaults 0 2 15 ≡ 0)
+openings : (opening_refusal (record defaults { target = 1 }) (2 ^ 60) 3 32 ≡ 107) × (opening_refusal defaults (2 ^ 60) 3 32 ≡ 101)
+    × (opening_refusal defaults 0 3 32 ≡ 113) × (opening_refusal defaults 0 0 32 ≡ 113) × (opening_refusal defaults 0 2 32 ≡ 117) × (opening_refusal defaults 0 2 31 ≡ 0)
 unfolding opening_refusal are_in_range
 openings = (refl, refl, refl, refl, refl, refl)
 

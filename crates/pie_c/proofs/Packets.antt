@@ -75,18 +75,18 @@ pub record Opens (p : PieParams) (at number flags : ℕ) : Type 0 where
   pub params : are_in_range p ≡ true
   pub moment : at < 2 ^ 60
   pub profile : ((number == 1) || (number == 2)) ≡ true
-  pub choices : flags ≤ 15
+  pub choices : flags ≤ 31
 
 pub opening-taken : (p : PieParams) (moment profile choices : ℕ) → opening_refusal p moment profile choices ≡ 0 → Opens p moment profile choices
 unfolding opening_refusal
 opening-taken p moment profile choices free =
-    by (are_in_range p) (nat_lt last_moment moment) ((profile == 1) || (profile == 2)) (nat_lt 15 choices) refl refl refl refl free
+    by (are_in_range p) (nat_lt last_moment moment) ((profile == 1) || (profile == 2)) (nat_lt 31 choices) refl refl refl refl free
   where
     code : (good late known many : Bool) → ℕ
     code good late known many = if not good then 107 else if late then 101 else if not known then 113 else if many then 117 else 0
 
     by : (good late known many : Bool) → are_in_range p ≡ good → nat_lt last_moment moment ≡ late → ((profile == 1) || (profile == 2)) ≡ known
-        → nat_lt 15 choices ≡ many
+        → nat_lt 31 choices ≡ many
         → code good late known many ≡ 0 → Opens p moment profile choices
     by false late known many g l k m free = cc
     by true true known many g l k m free = cc
@@ -364,7 +364,7 @@ changed-state s params raw h g moment sound held after =
     (ap (λ (t : PieState). with_rate (record t { params = params }) (changed (held_in s) (raw_of params) moment)) (sym (state-held s sound)))
 
 pub opened-state : (s : PieState) (params : PieParams) (raw : RawParams) (g : Held) (moment number profile flags choices : ℕ) (kind : Profile)
-    (elements : Elements) → ((profile == 1) || (profile == 2)) ≡ true → choices ≤ 15
+    (elements : Elements) → ((profile == 1) || (profile == 2)) ≡ true → choices ≤ 31
     → number ≡ profile → kind ≡ profile_of number → raw ≡ raw_of params → flags ≡ choices
     → g ≡ opened kind elements raw moment
     → with_registers (record s { params = params; profile = number; choices = flags }) g

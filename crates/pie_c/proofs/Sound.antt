@@ -83,14 +83,14 @@ parts-of s h = record {
 }
 
 pub record Choice (s : PieState) : Type 0 where
-  pub known : s.choices ≤ 15
+  pub known : s.choices ≤ 31
   pub waited : s.waited ≤ 2 ^ 40
 
 pub choice-from : (s : PieState) → is_choice_sound s ≡ true → Choice s
 unfolding is_choice_sound
 choice-from s h = record { known = grind (arith, nat_tests); waited = grind (arith, nat_tests) }
 
-choice-to : (s : PieState) → s.choices ≤ 15 → s.waited ≤ 2 ^ 40 → is_choice_sound s ≡ true
+choice-to : (s : PieState) → s.choices ≤ 31 → s.waited ≤ 2 ^ 40 → is_choice_sound s ≡ true
 unfolding is_choice_sound
 choice-to s k w = grind (arith, nat_tests)
 

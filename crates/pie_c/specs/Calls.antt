@@ -42,7 +42,7 @@ opening_refusal params moment profile choices =
     if not (are_in_range params) then 107
     else if nat_lt last_moment moment then 101
     else if not ((profile == 1) || (profile == 2)) then 113
-    else if nat_lt 15 choices then 117
+    else if nat_lt 31 choices then 117
     else 0
 
 -- the ECN field of these two bits (RFC 3168, section 5)

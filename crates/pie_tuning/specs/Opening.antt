@@ -1,5 +1,5 @@
 -- The parameters and the elements that `tc`'s options ask for, and the opening of a book with them.
-use Rattle.std.specs.Prelude.{ℕ, ◌*◌, ◌/◌, ◌^◌, Bool, true, false, max, min}
+use Rattle.std.specs.Prelude.{ℕ, ◌*◌, ◌/◌, ◌^◌, ◌==◌, Bool, true, false, not, ◌&&◌, nat_lt, max, min}
 use Rattle.std.specs.Int.{div_ceil}
 use Rattle.pie_params.specs.declared.elements.Delay.{Delay}
 use Rattle.pie_params.specs.declared.elements.Delay.TheVariants.{Rate, Stamp}
@@ -75,7 +75,15 @@ elements_for asked = record {
   picking = picking_for asked.no_derandomization;
   step = step_for asked.no_cap_drop_adjustment;
   size = size_for asked.bytemode;
+  decay = asked.decay;
 }
+
+-- ---- the estimator of the departure rate
+
+-- where it is asked for, at a known rate in bits a second: half of what waits at the target, in bytes, is less than it counts in a cycle
+abbrev pub can_stall : Asked → RawParams → Bool
+can_stall asked params =
+    asked.dq_rate_estimator && not (asked.rate == 0) && nat_lt (asked.rate * params.target) (params.dq_threshold * 16_000_000_000)
 
 -- ---- the opening
 

@@ -1,9 +1,9 @@
 //! The parameters and the choices that a link of some rate is to have.
 ghost use Rattle.std.specs.Prelude.{◌≡◌, ◌≤◌, ◌*◌, nat_lt};
-ghost use Rattle.pie_tuning.specs.Opening.{delay_for, elements_for, gain_of, limit_for, mark_ecnth_for, mean_pkt_for, params_for, picking_for, size_for};
+ghost use Rattle.pie_tuning.specs.Opening.{can_stall, delay_for, elements_for, gain_of, limit_for, mark_ecnth_for, mean_pkt_for, params_for, picking_for, size_for};
 ghost use Rattle.pie_tuning.specs.Opening.{step_for};
 
-use pie_params::{Delay, Elements, Picking, RawParams, Size, Step};
+use pie_params::{Decay, Delay, Elements, Picking, RawParams, Size, Step};
 
 /// What is asked for.
 #[derive(Clone, Copy, Debug, PartialEq, Eq)]
@@ -32,6 +32,8 @@ pub struct Asked {
     pub no_derandomization: bool,
     /// Whether an update raises the probability as far as the control law says (RFC 8033, section 5.5).
     pub no_cap_drop_adjustment: bool,
+    /// At which delays the probability decays.
+    pub decay: Decay,
 }
 
 /// What a gain of `tc`, which counts sixteenths per second, is in thousandths per second, rounded down.
@@ -109,6 +111,7 @@ pub fn elements_for(asked: &Asked) -> Elements
         picking: picking_for(asked.no_derandomization),
         step: step_for(asked.no_cap_drop_adjustment),
         size: size_for(asked.bytemode),
+        decay: asked.decay,
     }
 }
 
@@ -144,4 +147,15 @@ pub fn is_short(rate: u64, params: &RawParams) -> bool
 {
     let wanted = u128::from(rate) * u128::from(params.target);
     u128::from(params.limit_bytes) * 8_000_000_000 < wanted
+}
+
+/// Whether the departure rate's estimator, where it is asked for, can stall at this rate: `dq_threshold` is above half of what waits where the
+/// queue is at the target, so a cycle may not begin for long, and the estimate stands still (RFC 8033, section 5.2).
+pub fn can_stall(asked: &Asked, params: &RawParams) -> bool
+    ensures { result ≡ can_stall asked.now params.now }
+{
+    let wanted = u128::from(asked.rate) * u128::from(params.target);
+    asked.dq_rate_estimator
+        && asked.rate != 0
+        && wanted < u128::from(params.dq_threshold) * 16_000_000_000
 }

@@ -1,6 +1,7 @@
 pub mod Params
 pub mod State
 pub mod Calls
+pub mod Opening
 pub mod Reading
 pub mod Events
 pub mod Resuming

@@ -1,7 +1,7 @@
 //! The calls on a state. Those for each packet read the state's numbers as they are: their rules are total, so nothing of the state
 //! is checked. The others refuse a state that isn't sound. Each refuses what it is handed out of its range, lets the controller
 //! make its step, and writes back what that changed.
-ghost use Rattle.std.specs.Prelude.{◌≡◌, ◌∷◌, [], ◌++◌, List, if◌then◌else◌, max, true};
+ghost use Rattle.std.specs.Prelude.{◌≡◌, ◌+◌, ◌-◌, ◌^◌, ◌∷◌, [], ◌++◌, List, if◌then◌else◌, max, min, true};
 ghost use Rattle.pie_aqm.specs.Calls.{Arrive, Change, Depart, Pass, Restart, Update, after_call, shown_by};
 ghost use Rattle.pie_aqm.specs.Events.{ControllerEvent, Opened};
 ghost use Rattle.pie_aqm.specs.History.{Shows};
@@ -346,6 +346,14 @@ pub(crate) fn update(state: &mut PieState, queued: u64, moment: u64) -> PieUpdat
     let delay = held.update(queued, moment);
     state.keep_updated(&held);
     PieUpdated::made(DONE, delay, &held)
+}
+
+/// The moment from which the next update isn't too soon; of a state that isn't sound, where that is above `2^64 - 1`, this.
+#[unsafe(no_mangle)]
+pub extern "C" fn pie_due(state: &PieState) -> u64
+    ensures { result ≡ min (state.now.last + state.now.params.t_update) (2 ^ 64 - 1) }
+{
+    state.last.saturating_add(state.params.t_update)
 }
 
 /// Sets probability, old delay, accumulated probability and rate estimate to 0 and the burst allowance

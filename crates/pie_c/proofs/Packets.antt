@@ -1,14 +1,16 @@
 -- What the calls for each packet leave of a sound state is what the controller then holds.
 use Rattle.std.proofs.Common.{◌≡◌, ℕ, ◌+◌, ◌≤◌, ◌<◌, ◌^◌, ◌==◌, ◌&&◌, ◌||◌, not, max, min, if◌then◌else◌, nat_lt, Bool, true, false, List, [], ◌∷◌, Option, Some, None, is_none, Ok, Err}
 use Rattle.std.proofs.Common.{◌++◌, arith, refl, sym, ap, ◌∙◌}
+use Rattle.std.specs.Prelude.{IsTrue}
 use Rattle.std.proofs.lemmas.Bool.{eqb-true}
 use Rattle.std.proofs.lemmas.Bool.Decides.{nat_tests}
 use Rattle.pie_aqm.specs.declared.verdict.Arrival.{Arrival}
 use Rattle.pie_event.specs.declared.verdict.Verdict.{Verdict}
 use Rattle.pie_c.proofs.Choices.{choices-back}
-use Rattle.pie_aqm.specs.Calls.{Arrive, Call, Depart, IsTaken, after_call, shown_by}
+use Rattle.pie_aqm.specs.Calls.{Call, Depart, IsTaken, after_call, shown_by}
 use Rattle.pie_aqm.specs.Events.{ControllerEvent, Opened}
 use Rattle.pie_params.specs.declared.raw.RawParams.{RawParams}
+use Rattle.pie_params.specs.Range.{first_bad, is_dq_threshold}
 use Rattle.pie_event.specs.declared.profile.Profile.TheVariants.{One, Two}
 use Rattle.pie_aqm.specs.Held.{Held}
 use Rattle.pie_aqm.specs.History.{Shows}
@@ -17,12 +19,10 @@ use Rattle.pie_aqm.specs.Steps.{judged, opened, passed, reset, turns_on, verdict
 use Rattle.pie_aqm.specs.Steps.{measures}
 use Rattle.pie_rate.specs.Estimate.{Begun}
 use Rattle.pie_params.specs.declared.elements.Delay.TheVariants.{Rate, Stamp}
-use Rattle.pie_aqm.proofs.InRange.{threshold-holds}
-use Rattle.pie_aqm.proofs.Laws.{Shows_call, moved}
-use Rattle.pie_aqm.proofs.Sounds.{Sound_call}
 use Rattle.pie_c.specs.declared.params.PieParams.{PieParams}
 use Rattle.pie_c.specs.declared.state.PieState.{PieState}
 use Rattle.pie_c.specs.Calls.{Arrives, Leaves, Makes, arrival_refusal, departure_refusal, if_taken, is_bad_size, kept_if_refused, moment_refusal}
+use Rattle.pie_c.specs.Laws.{KeepsSound, LooksBack}
 use Rattle.pie_c.specs.Calls.{packet_refusal, params_refusal, reset_refusal, unless_refused}
 use Rattle.pie_c.specs.declared.opening.PieOpening.{PieOpening}
 use Rattle.pie_event.specs.Opening as book
@@ -116,8 +116,13 @@ says-why o code is = by (opening_refusal o == 0) refl is
     by true e is = cc
     by false e is = (e, cc)
 
+threshold-in : (params : RawParams) → first_bad params ≡ None → params.dq_threshold ≤ 65536
+threshold-in params good =
+    let power : IsTrue (is_dq_threshold params.dq_threshold) = grind (arith, nat_tests) in
+    grind (arith, nat_tests, power)
+
 threshold-of : (s : PieState) → is_sound s ≡ true → s.params.dq_threshold ≤ 65536
-threshold-of s sound = let parts = parts-of s sound in (threshold-holds (raw_of s.params) (params-from s.params parts.params)).1
+threshold-of s sound = let parts = parts-of s sound in threshold-in (raw_of s.params) (params-from s.params parts.params)
 
 pub threshold-held : (s : PieState) → is_sound s ≡ true → (held_in s).params.dq_threshold ≤ 65536
 unfolding held_in
@@ -141,36 +146,36 @@ departed-moment size left moment rest = by (nat_lt last_moment moment) refl
     by true is free = let none : 101 ≡ 0 = rw is at free in cc
     by false is free = grind (arith, nat_tests)
 
-module _ (s t : PieState) (call : Call) (refusal : ℕ) (sound : is_sound s ≡ true)
+module _ (s t : PieState) (call : Call) (refusal : ℕ) (keeps : KeepsSound) (looks : LooksBack) (sound : is_sound s ≡ true)
     (left : t ≡ kept_if_refused refusal s (after_call (held_in s) call)) where
   pub stays-sound : (refusal ≡ 0 → IsTaken call) → is_sound t ≡ true
   stays-sound taken = rw left (by (refusal == 0) (λ is. taken (eqb-true refusal 0 is)))
     where
       by : (free : Bool) → (free ≡ true → IsTaken call) → is_sound (if free then state_of (after_call (held_in s) call) else s) ≡ true
-      by true taken = state-sound _ (Sound_call (held_in s) (held-sound s sound) call (taken refl))
+      by true taken = state-sound _ (keeps (held_in s) (held-sound s sound) call (taken refl))
       by false taken = sound
 
   pub shows-call : (o : Opened) (events : List ControllerEvent) → refusal ≡ 0 → Shows o events (held_in s)
       → Shows o (events ++ shown_by (held_in s) call ∷ []) (held_in t)
   shows-call o events free shows =
-      rw (left, free) (moved _ _ _ _ (held-state (after_call (held_in s) call)) (Shows_call o events (held_in s) shows (threshold-held s sound) call))
+      rw (left, free, held-state (after_call (held_in s) call)) (looks o events (held_in s) shows (threshold-held s sound) call)
 
 -- all three, of a call that handed in this moment
-pub leaves : (s t : PieState) (call : Call) (refusal : ℕ) → (is_sound s ≡ true → t ≡ kept_if_refused refusal s (after_call (held_in s) call))
-    → (refusal ≡ 0 → IsTaken call) → Leaves s call refusal t
-leaves s t call refusal left taken = record {
+pub leaves : KeepsSound → LooksBack → (s t : PieState) (call : Call) (refusal : ℕ)
+    → (is_sound s ≡ true → t ≡ kept_if_refused refusal s (after_call (held_in s) call)) → (refusal ≡ 0 → IsTaken call) → Leaves s call refusal t
+leaves keeps looks s t call refusal left taken = record {
   after = left;
-  sound = λ sound. stays-sound s t call refusal sound (left sound) taken;
-  shows = λ o events sound. shows-call s t call refusal sound (left sound) o events;
+  sound = λ sound. stays-sound s t call refusal keeps looks sound (left sound) taken;
+  shows = λ o events sound. shows-call s t call refusal keeps looks sound (left sound) o events;
 }
 
 -- .. of a call that checks the state
-pub makes : (s t : PieState) (call : Call) (refusal : ℕ) → is_sound s ≡ true → t ≡ kept_if_refused refusal s (after_call (held_in s) call)
-    → (refusal ≡ 0 → IsTaken call) → Makes s call refusal t
-makes s t call refusal sound left taken = record {
+pub makes : KeepsSound → LooksBack → (s t : PieState) (call : Call) (refusal : ℕ) → is_sound s ≡ true
+    → t ≡ kept_if_refused refusal s (after_call (held_in s) call) → (refusal ≡ 0 → IsTaken call) → Makes s call refusal t
+makes keeps looks s t call refusal sound left taken = record {
   after = left;
-  sound = λ _. stays-sound s t call refusal sound left taken;
-  shows = shows-call s t call refusal sound left;
+  sound = λ _. stays-sound s t call refusal keeps looks sound left taken;
+  shows = shows-call s t call refusal keeps looks sound left;
 }
 
 -- .. and where it is refused
@@ -186,7 +191,11 @@ pub untouched : (s : PieState) (a : Arrival) (refusal moment code : ℕ) → ref
 untouched s a refusal moment code is some = rw is record {
   answer = rw some refl;
   fields = rw some refl;
-  held = leaves s s (Arrive a moment) code (λ sound. rw some refl) (λ free. let none : (code == 0) ≡ true = rw free refl in cc);
+  held = record {
+    after = λ sound. rw some refl;
+    sound = λ sound. sound;
+    shows = λ o events sound free. let none : (code == 0) ≡ true = rw free refl in cc;
+  };
 }
 
 -- ---- the state after it

@@ -1,5 +1,6 @@
 pub mod Params
 pub mod State
+pub mod Laws
 pub mod Calls
 pub mod Opening
 pub mod Reading

@@ -17,6 +17,7 @@ mod calls;
 mod checked;
 mod code;
 mod event;
+mod law;
 mod opening;
 mod params;
 mod reading;

@@ -1,16 +1,14 @@
 use Rattle.std.proofs.Common.{◌≡◌, ◌∙◌, sym, ap}
 use Rattle.pie_aqm.specs.Held.{Held, held_by}
-use Rattle.pie_aqm.proofs.Laws.{Shows_opened}
-use Rattle.pie_aqm.proofs.Sounds.{Sound_opened}
 use Rattle.pie_c.specs.Opening.{held_by_opening, opening_refusal}
 use Rattle.pie_c.specs.Params.{raw_of}
 use Rattle.pie_c.specs.State.{elements_of, profile_of, with_registers}
 use Rattle.pie_c.proofs.Packets.{opened-in, opened-state, opening-taken, says-opening}
 use Rattle.pie_c.proofs.Sound.{held-state, params-from, state-sound}
 use Rattle.pie_c.proofs.opening.pie_open.Goals as goal
-use Rattle.pie_c.proofs.opening.pie_open.Goals.{After-keep_registers}
+use Rattle.pie_c.proofs.opening.pie_open.Goals.{After-calls_look_back}
 
-free : (c : After-keep_registers) → opening_refusal c.args.opening.now ≡ 0
+free : (c : After-calls_look_back) → opening_refusal c.args.opening.now ≡ 0
 free c = (says-opening c.args.opening.now c.in-Ok.it (sym c.checked.ensures ∙ c.in-Ok.is)).0
 
 pub returns-clause-after : goal.returns-clause-after
@@ -28,10 +26,10 @@ returns-clause-sound c taken =
     let o = c.args.opening.now in
     let opens = opening-taken o taken in
     rw (returns-clause-after c, taken)
-    (state-sound _ (Sound_opened (profile_of o.profile) (elements_of o.choices) (raw_of o.params) o.moment (params-from o.params opens.params) opens.moment))
+    (state-sound _ (c.calls_keep_it_sound.ensures.opens (profile_of o.profile) (elements_of o.choices) (raw_of o.params) o.moment (params-from o.params opens.params) opens.moment))
 
 pub returns-clause-shows : goal.returns-clause-shows
 returns-clause-shows c taken =
     let o = c.args.opening.now in
     rw (returns-clause-after c, taken, held-state (held_by_opening o))
-    (Shows_opened (profile_of o.profile) (elements_of o.choices) (raw_of o.params) o.moment)
+    (c.calls_look_back.ensures.opens (profile_of o.profile) (elements_of o.choices) (raw_of o.params) o.moment)

@@ -263,7 +263,7 @@ def tell_short(took):
 
 def tell_same(rows, pairs):
     """The equivalence of pairs: goodput within 5 per cent of the second's, and waits of pings within 2 ms."""
-    print("\n| seconds | pair | of | difference, 90 % interval | margin | verdict | power |\n|---|---|---|---|---|---|---|")
+    lines = []
     for begin, end in dict.fromkeys((row["from"], row["to"]) for row in rows):
         for pair in pairs:
             ours, theirs = ([row for row in rows if (row["queue"], row["from"], row["to"]) == (name, begin, end)] for name in pair.split(":"))
@@ -273,8 +273,10 @@ def tell_same(rows, pairs):
                     continue
                 margin = 0.05 * fmean(other) if field == "goodput" else 2.0
                 difference, least, most, verdict, power = compare(one, other, margin)
-                print(f"| {begin:g} to {end:g} | {pair} | {field}, {unit} | {difference:.2f} ({least:.2f} to {most:.2f}) | {margin:.2f} | {verdict} | "
-                      f"{power:.2f} |")
+                lines.append(f"| {begin:g} to {end:g} | {pair} | {field}, {unit} | {difference:.2f} ({least:.2f} to {most:.2f}) | {margin:.2f} | "
+                             f"{verdict} | {power:.2f} |")
+    if lines:
+        print("\n| seconds | pair | of | difference, 90 % interval | margin | verdict | power |", "|---|---|---|---|---|---|---|", *lines, sep="\n")
 
 
 def options():

@@ -17,7 +17,9 @@ import threading
 import time
 from pathlib import Path
 
-LEAD = 3.0      # seconds from the link's beginning to the traffic's: its rate changes by its own clock
+# Seconds from the bottleneck's beginning to the traffic's: the link's rate changes by its own clock, and the kernel's pie makes its first update half
+# a second after it was made.
+LEAD = 3.0
 PORT, SHORT_PORT = 5201, 5301
 RECEIVER = "10.2.0.1"
 LINK = Path(__file__).resolve().parents[2] / "examples/link/out/link"
@@ -139,8 +141,7 @@ class Run:
 
     def send(self):
         """Begins the traffic, and says when."""
-        if self.queue["kind"] == "ours":
-            time.sleep(max(0.0, self.begun + LEAD - time.monotonic()))
+        time.sleep(max(0.0, self.begun + LEAD - time.monotonic()))
         begun, seconds = time.time(), self.scenario["seconds"]
         first = self.groups[0]["rtt"]
         self.start(["ping", "-n", "-D", "-i", "0.02", "-w", str(seconds), "-I", self.address(first), RECEIVER], "ping", "senders")

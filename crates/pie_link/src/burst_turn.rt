@@ -81,6 +81,7 @@ pub(crate) fn wait_and_arrive_all<R: Wait>(
     let caller = pass.first();
     let held = link.lock.take_for(rt, pass, arrivals.len());
     let pass = arrive_all_and_put(link, held, caller, arrivals, &mut replies);
+    link.lock.wake();
     (pass, replies)
 }
 
@@ -133,5 +134,6 @@ pub(crate) fn wait_and_depart_all<R: Wait>(
     let caller = pass.first();
     let held = link.lock.take_for(rt, pass, most);
     let pass = depart_all_and_put(link, held, caller, moment, most, &mut replies);
+    link.lock.wake();
     (pass, replies)
 }

@@ -23,10 +23,10 @@ fn has_room(answers: &Replies, more: usize) -> bool
 }
 
 impl Link {
-    /// The commands of a burst, one after another, as so many calls of their own with nothing of another caller between, until a reply after which
-    /// the burst doesn't go on. A refused command changes nothing. A burst of no commands takes no lock. The call waits while another caller
-    /// has the book, and takes no memory.
-    pub fn answer_all<R: Wait, B: Burst>(&self, rt: &R, caller: &mut Caller, burst: B) -> B
+    // The commands of a burst, one after another, as so many calls of their own with nothing of another caller between, until a reply after which
+    // the burst doesn't go on. A refused command changes nothing. A burst of no commands takes no lock. The call waits while another caller
+    // has the book, and takes no memory.
+    fn answer_all<R: Wait, B: Burst>(&self, rt: &R, caller: &mut Caller, burst: B) -> B
         requires own { caller.old.lock ≡ self.now }
         requires room { B.has_room burst 0 }
         ensures answered { (earlier : List Reply) → B.shows burst earlier → (replies : List Reply) × B.shows result replies
@@ -41,12 +41,9 @@ impl Link {
         )
     }
 
-    /// The same as `answer_all`, where no other caller has the book. It never blocks.
-    ///
-    /// # Errors
-    ///
-    /// The burst as it was, where another caller has the book, which doesn't come for a burst of no commands.
-    pub fn try_answer_all<B: Burst>(&self, caller: &mut Caller, burst: B) -> Result<B, B>
+    // The same as `answer_all`, where no other caller has the book. It never blocks. It answers the burst as it was where another caller has
+    // the book, which doesn't come for a burst of no commands.
+    fn try_answer_all<B: Burst>(&self, caller: &mut Caller, burst: B) -> Result<B, B>
         requires own { caller.old.lock ≡ self.now }
         requires room { B.has_room burst 0 }
         ensures answered { IfOk result (λ after. (earlier : List Reply) → B.shows burst earlier → (replies : List Reply) × B.shows after replies

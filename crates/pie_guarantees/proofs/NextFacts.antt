@@ -48,7 +48,7 @@ raw-mono params old delay more le =
     let b = mul-mono params.beta (pos delay -ℤ pos old) (pos more -ℤ pos old) (omega (arith, ints)) in
     omega (arith, ints, a, b)
 
-divisor-some : (prob : ℕ) → 0 < tuning_divisor prob
+pub divisor-some : (prob : ℕ) → 0 < tuning_divisor prob
 unfolding tuning_divisor
 divisor-some prob =
     by (nat_lt prob (10 ^ 6)) (nat_lt prob (10 ^ 7)) (nat_lt prob (10 ^ 8)) (nat_lt prob (10 ^ 9)) (nat_lt prob (10 ^ 10)) (nat_lt prob (10 ^ 11))
@@ -174,13 +174,13 @@ raw-down params delay old below fallen =
     omega (arith, ints, a, b)
 
 -- what decays or not is at most what doesn't
-decayed-less : (decays : Bool) (x : ℤ) → bounded_of (decayed decays x) ≤ bounded_of x
+pub decayed-less : (decays : Bool) (x : ℤ) → bounded_of (decayed decays x) ≤ bounded_of x
 unfolding decayed
 decayed-less true x = decay-less x
 decayed-less false x = omega arith
 
 -- from the target on the probability doesn't decay
-no-decay : (d : Decay) (params : RawParams) (delay old : ℕ) → 0 < params.target → params.target ≤ delay → decays d params delay old ≡ false
+pub no-decay : (d : Decay) (params : RawParams) (delay old : ℕ) → 0 < params.target → params.target ≤ delay → decays d params delay old ≡ false
 no-decay Zero params delay old some above = grind (arith, nat_tests)
 no-decay Half params delay old some above = grind (arith, nat_tests)
 

@@ -1,8 +1,8 @@
 -- How the probability follows the delay, at each event of a lawful history.
-use Rattle.std.proofs.Common.{◌≡◌, ◌≤◌, ◌<◌, ◌+◌, ◌*◌, ◌^◌, ◌⊎◌, inl, inr, ℕ, zero, suc, List, [], ◌∷◌, ◌++◌, Bool, true, false, refl, sym}
+use Rattle.std.proofs.Common.{◌≡◌, ◌≤◌, ◌<◌, ◌+◌, ◌*◌, ◌-◌, ◌^◌, ◌⊎◌, inl, inr, ℕ, zero, suc, List, [], ◌∷◌, ◌++◌, Bool, true, false, refl, sym}
 use Rattle.std.proofs.Common.{ap, ◌∙◌, cond, if◌then◌else◌, arith, subst}
 use Rattle.std.proofs.lemmas.Nat.{mul-le}
-use Rattle.std.proofs.Math.Nat.{pow-suc}
+use Rattle.std.proofs.Math.Nat.{le_of_mul-le-mul_right, pow-suc}
 use Rattle.std.proofs.lemmas.List.{append-nil, append_assoc}
 use Rattle.std.proofs.lemmas.List.Sums.{sum_by-cons}
 use Rattle.pie_params.specs.Elements.{is_capped, usual}
@@ -27,6 +27,7 @@ use Rattle.pie_guarantees.specs.Lawful.{AllAlong, IsLawful}
 use Rattle.pie_guarantees.specs.Probability.{IsActiveUpdate, IsSteady, after_updates, old_delay_after, probability_after}
 use Rattle.pie_guarantees.proofs.LawfulFacts.{IsStep, sound_at, step_at}
 use Rattle.pie_guarantees.proofs.NextFacts.{decays-at_none, next_capped, next_decays, next_down, next_up}
+use Rattle.pie_guarantees.proofs.SteadyFacts.{after_both, stays_down}
 
 pub elements-is : (opening : Opening) (history : List Event) → (held_after opening history).elements ≡ opening.choices.elements
 unfolding held_after held_of
@@ -227,14 +228,14 @@ fades-more x y p a b rest one =
     let second : y * 100 * b ≤ p * 98 * b = mul-le (y * 100) b (p * 98) b one (omega arith) in
     grind arith
 
-faded-after : (n : ℕ) (elements : Elements) (params : RawParams) (prob : ℕ) → 0 < params.target
+faded-after : (n : ℕ) (elements : Elements) (params : RawParams) (prob : ℕ) → decays elements.decay params 0 0 ≡ true
     → after_updates n elements params 0 prob * 100 ^ n ≤ prob * 98 ^ n
 unfolding after_updates
-faded-after zero elements params prob some = omega arith
-faded-after (suc n) elements params prob some =
+faded-after zero elements params prob low = omega arith
+faded-after (suc n) elements params prob low =
     let after = next elements params prob 0 0 in
-    let rest = faded-after n elements params after some in
-    let one = next_decays elements params prob 0 0 (decays-at_none elements.decay params some) (omega arith) in
+    let rest = faded-after n elements params after low in
+    let one = next_decays elements params prob 0 0 low (omega arith) in
     rw (pow-suc 100 n, pow-suc 98 n) (fades-more (after_updates n elements params 0 after) after prob (100 ^ n) (98 ^ n) rest one)
 
 pub fades_away : (opening : Opening) (before : List Event) (between : List Event) (later : List Event)
@@ -245,7 +246,29 @@ fades_away opening before between later lawful steady =
     let is = steadily 0 opening before between later lawful steady in
     let target = (in-range (params_after opening before) (sound_at opening before (between ++ later) (rw (append_assoc before between later) at lawful)).0.params).target in
     rw is (faded-after (updates_in between) opening.choices.elements (params_after opening before) (probability_after opening before)
-    (let least = target.0 in omega arith))
+    (decays-at_none opening.choices.elements.decay (params_after opening before) (let least = target.0 in omega arith)))
+
+-- a hundred and fourteen times 98 hundredths are less than a tenth
+hundred-fourteen : 98 ^ 114 * 10 ≤ 100 ^ 114
+hundred-fourteen = omega arith
+
+pub a_tenth_is_left : (n : ℕ) (elements : Elements) (params : RawParams) (prob : ℕ) → 114 ≤ n → decays elements.decay params 0 0 ≡ true
+    → after_updates n elements params 0 prob * 10 ≤ prob
+a_tenth_is_left n elements params prob many low =
+    let split : 114 + (n - 114) ≡ n = omega (arith, many) in
+    let less : after_updates n elements params 0 prob ≤ after_updates 114 elements params 0 prob =
+    subst (λ (k : ℕ). after_updates k elements params 0 prob ≤ after_updates 114 elements params 0 prob) split
+    (rw (after_both 114 (n - 114) elements params 0 prob)
+    (stays_down elements params 0 (omega arith) (n - 114) (after_updates 114 elements params 0 prob))) in
+    let faded = faded-after 114 elements params prob low in
+    let left = share (after_updates 114 elements params 0 prob) prob (98 ^ 114) (100 ^ 114) (omega arith) faded hundred-fourteen in
+    omega (arith, less, left)
+  where
+    share : (x p a b : ℕ) → 0 < b → x * b ≤ p * a → a * 10 ≤ b → x * 10 ≤ p
+    share x p a b some faded tenth =
+        let one : p * (a * 10) ≤ p * b = mul-le p (a * 10) p b (omega arith) tenth in
+        let both : x * 10 * b ≤ p * b = grind (arith, one, faded) in
+        le_of_mul-le-mul_right both some
 
 -- ---- with the defaults
 

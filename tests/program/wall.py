@@ -75,7 +75,7 @@ def hold_words(name, history, clocks):
         def told(found):
             return f"{found[1]}{utc(wall(clock, int(found[2])))} ({found[2]} ns)"
 
-        wanted.append(line if clock is None else re.sub(r"(^  at |last update at )[0-9.]+ ms \((\d+) ns\)", told, line))
+        wanted.append(line if clock is None else re.sub(r"(^  at |last update at | dropped early before )[0-9.]+ ms \((\d+) ns\)", told, line))
     expect(f"{name}: --wall", pie(history, "--all", "--wall"), (status, "".join(wanted), ""))
 
 

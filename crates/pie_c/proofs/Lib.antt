@@ -3,3 +3,4 @@ mod Sound
 mod Examples
 pub mod Packets
 pub mod Updates
+pub mod WrittenFacts

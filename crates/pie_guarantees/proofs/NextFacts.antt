@@ -45,7 +45,7 @@ raw-mono params old delay more le =
     let b = mul-mono params.beta (pos delay -ℤ pos old) (pos more -ℤ pos old) (omega (arith, ints)) in
     omega (arith, ints, a, b)
 
-divisor-some : (prob : ℕ) → 0 < tuning_divisor prob
+pub divisor-some : (prob : ℕ) → 0 < tuning_divisor prob
 unfolding tuning_divisor
 divisor-some prob =
     by (nat_lt prob (10 ^ 6)) (nat_lt prob (10 ^ 7)) (nat_lt prob (10 ^ 8)) (nat_lt prob (10 ^ 9)) (nat_lt prob (10 ^ 10)) (nat_lt prob (10 ^ 11))
@@ -175,7 +175,7 @@ raw-down params delay old below fallen =
     omega (arith, ints, a, b)
 
 -- what decays or not is at most what doesn't
-decayed-less : (delay old : ℕ) (x : ℤ) → bounded_of (decayed delay old x) ≤ bounded_of x
+pub decayed-less : (delay old : ℕ) (x : ℤ) → bounded_of (decayed delay old x) ≤ bounded_of x
 unfolding decayed
 decayed-less delay old x = by ((delay == 0) && (old == 0))
   where

@@ -1,8 +1,8 @@
 -- How the probability follows the delay, at each event of a lawful history.
-use Rattle.std.proofs.Common.{◌≡◌, ◌≤◌, ◌+◌, ◌*◌, ◌^◌, ◌⊎◌, inl, inr, ℕ, zero, suc, List, [], ◌∷◌, ◌++◌, Bool, true, false, refl, sym}
+use Rattle.std.proofs.Common.{◌≡◌, ◌≤◌, ◌<◌, ◌+◌, ◌*◌, ◌-◌, ◌^◌, ◌⊎◌, inl, inr, ℕ, zero, suc, List, [], ◌∷◌, ◌++◌, Bool, true, false, refl, sym}
 use Rattle.std.proofs.Common.{ap, ◌∙◌, cond, if◌then◌else◌, arith, subst}
 use Rattle.std.proofs.lemmas.Nat.{mul-le}
-use Rattle.std.proofs.Math.Nat.{pow-suc}
+use Rattle.std.proofs.Math.Nat.{le_of_mul-le-mul_right, pow-suc}
 use Rattle.std.proofs.lemmas.List.{append-nil, append_assoc}
 use Rattle.std.proofs.lemmas.List.Sums.{sum_by-cons}
 use Rattle.pie_params.specs.Elements.{is_capped}
@@ -29,6 +29,7 @@ use Rattle.pie_guarantees.specs.Lawful.{AllAlong, IsLawful}
 use Rattle.pie_guarantees.specs.Probability.{IsActiveUpdate, IsSteady, after_updates, old_delay_after, probability_after}
 use Rattle.pie_guarantees.proofs.LawfulFacts.{IsStep, sound_at, step_at}
 use Rattle.pie_guarantees.proofs.NextFacts.{next_capped, next_decays, next_down, next_up}
+use Rattle.pie_guarantees.proofs.SteadyFacts.{after_both, stays_down}
 
 pub elements-is : (opening : Opening) (history : List Event) → (held_after opening history).elements ≡ opening.choices.elements
 unfolding held_after held_of
@@ -243,6 +244,27 @@ fades_away opening before between later lawful steady =
     let n = updates_in between in
     let is = steadily 0 opening before between later lawful steady in
     rw is (faded-after (updates_in between) opening.choices.elements.step (params_after opening before) (probability_after opening before))
+
+-- a hundred and fourteen times 98 hundredths are less than a tenth
+hundred-fourteen : 98 ^ 114 * 10 ≤ 100 ^ 114
+hundred-fourteen = omega arith
+
+pub a_tenth_is_left : (n : ℕ) (step : Step) (params : RawParams) (prob : ℕ) → 114 ≤ n → after_updates n step params 0 prob * 10 ≤ prob
+a_tenth_is_left n choice params prob many =
+    let split : 114 + (n - 114) ≡ n = omega (arith, many) in
+    let less : after_updates n choice params 0 prob ≤ after_updates 114 choice params 0 prob =
+    subst (λ (k : ℕ). after_updates k choice params 0 prob ≤ after_updates 114 choice params 0 prob) split
+    (rw (after_both 114 (n - 114) choice params 0 prob)
+    (stays_down choice params 0 (omega arith) (n - 114) (after_updates 114 choice params 0 prob))) in
+    let faded = faded-after 114 choice params prob in
+    let left = share (after_updates 114 choice params 0 prob) prob (98 ^ 114) (100 ^ 114) (omega arith) faded hundred-fourteen in
+    omega (arith, less, left)
+  where
+    share : (x p a b : ℕ) → 0 < b → x * b ≤ p * a → a * 10 ≤ b → x * 10 ≤ p
+    share x p a b some faded tenth =
+        let one : p * (a * 10) ≤ p * b = mul-le p (a * 10) p b (omega arith) tenth in
+        let both : x * 10 * b ≤ p * b = grind (arith, one, faded) in
+        le_of_mul-le-mul_right both some
 
 -- ---- with the defaults
 

@@ -1,6 +1,6 @@
 //! How the probability follows the delay (RFC 8033, sections 4.2, 5.1 and 5.5).
-ghost use Rattle.std.specs.Prelude.{◌≡◌, ◌≤◌, ◌<◌, ◌+◌, ◌*◌, ◌^◌, ◌⊎◌, ◌++◌, ◌∷◌, [], List, ℕ, true, false};
-ghost use Rattle.pie_control.specs.Next.{next};
+ghost use Rattle.std.specs.Prelude.{◌≡◌, ◌≤◌, ◌<◌, ◌+◌, ◌*◌, ◌/◌, ◌^◌, min, ◌⊎◌, ◌++◌, ◌∷◌, [], List, ℕ, true, false};
+ghost use Rattle.pie_control.specs.Next.{next, tuning_divisor};
 ghost use Rattle.pie_event.specs.Deed.{deed_of, is_update};
 ghost use Rattle.pie_params.specs.Elements.{is_capped};
 ghost use Rattle.pie_params.specs.Profile.{default_profile};
@@ -10,7 +10,8 @@ ghost use Rattle.pie_book.specs.Types.{Event, Opening, RawParams};
 ghost use Rattle.pie_book.specs.Estimates.{active_after, delay_after, params_after};
 ghost use Rattle.pie_guarantees.specs.Bursts.{updates_in};
 ghost use Rattle.pie_guarantees.specs.Lawful.{AllAlong, IsLawful};
-ghost use Rattle.pie_guarantees.specs.Probability.{IsActiveUpdate, IsSteady, after_updates, old_delay_after, probability_after};
+ghost use Rattle.pie_guarantees.specs.Probability.{IsActiveUpdate, IsSteady, after_updates, least_rise, old_delay_after, probability_after};
+ghost use Rattle.pie_guarantees.specs.Probability.{untuned_fall, untuned_rise, updates_to_a_tenth};
 
 /// The probability is always 0 to 1, in units of 10^-12 (`bounded`). An update of an active controller that finds the delay at or above the
 /// target and
@@ -71,4 +72,30 @@ pub fn how_fast_the_probability_changes()
         → probability_after opening (before ++ between) * 100 ^ updates_in between ≤ probability_after opening before * 98 ^ updates_in between }
     ensures faded { after_updates 87 Capped default_profile 0 1_000_000_000_000 ≡ 96_421_179_148 }
     ensures not_yet_faded { after_updates 86 Capped default_profile 0 1_000_000_000_000 ≡ 100_263_958_315 }
+{}
+
+/// What n updates of one delay make of a probability, by the table of auto-tuning (RFC 8033, section 5.1.1), whatever the parameters: from a
+/// probability they raise it by at least n times alpha over the divisor there for each nanosecond above the target, at most 2 points each (`rises`),
+/// and while it has come no further than `most` by no more than that over the divisor at `most` (`rises_no_faster`); below the target they lower it
+/// so (`falls`, `falls_no_faster`). So it is at 10 per cent after the updates that each row of the table takes, one after the other (`to_a_tenth`):
+/// with the defaults at twice the target after 164 (`at_twice_the_target`), where the exact number is 162. With no delay 114 updates leave at most
+/// a tenth (`fades_to_a_tenth`).
+///
+/// It does nothing: its contract is the law.
+pub fn steady_delays_move_the_probability()
+    ensures rises { (step : Step) (params : RawParams) (delay : ℕ) → 0 < params.target → params.target ≤ delay → (n : ℕ) (prob : ℕ)
+        → prob ≤ 10 ^ 12 → min (10 ^ 12) (prob + n * least_rise params delay prob) ≤ after_updates n step params delay prob }
+    ensures rises_no_faster { (step : Step) (params : RawParams) (delay : ℕ) → 0 < params.target → params.target ≤ delay
+        → (n : ℕ) (prob : ℕ) (most : ℕ) → prob ≤ 10 ^ 12 → after_updates n step params delay prob ≤ most
+        → after_updates n step params delay prob ≤ prob + n * (untuned_rise params delay / tuning_divisor most) }
+    ensures falls { (step : Step) (params : RawParams) (delay : ℕ) → delay ≤ params.target → (n : ℕ) (prob : ℕ) (least : ℕ) → 0 < least
+        → least ≤ after_updates n step params delay prob
+        → after_updates n step params delay prob + n * (untuned_fall params delay / tuning_divisor least) ≤ prob }
+    ensures falls_no_faster { (step : Step) (params : RawParams) (delay : ℕ) → delay ≤ params.target → (n : ℕ) (prob : ℕ) → prob ≤ 10 ^ 12
+        → 0 < delay → prob ≤ after_updates n step params delay prob + n * (untuned_fall params delay / tuning_divisor prob) }
+    ensures to_a_tenth { (step : Step) (params : RawParams) (delay : ℕ) → 0 < params.target → params.target ≤ delay
+        → 2048 ≤ untuned_rise params delay → (n : ℕ) (prob : ℕ) → prob ≤ 10 ^ 12 → updates_to_a_tenth params delay ≤ n
+        → 10 ^ 11 ≤ after_updates n step params delay prob }
+    ensures at_twice_the_target { updates_to_a_tenth default_profile 30_000_000 ≡ 164 }
+    ensures fades_to_a_tenth { (n : ℕ) (step : Step) (params : RawParams) (prob : ℕ) → 114 ≤ n → after_updates n step params 0 prob * 10 ≤ prob }
 {}

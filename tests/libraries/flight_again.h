@@ -65,7 +65,7 @@ static void open_queue(struct queue *queue, uint64_t seed) {
     opening->tail = 1024;
     opening->events = UINT64_C(1) << 40;
     queue->moment = opening->moment;
-    expect(pie_open_with(&queue->pie, &opening->params, opening->moment, (uint32_t)opening->profile, (uint32_t)opening->choices) == 0, "opened", 0);
+    expect(pie_open(&queue->pie, opening) == PIE_DONE, "opened", 0);
 }
 
 static uint32_t arrive(struct queue *queue, struct pie_event *event) {

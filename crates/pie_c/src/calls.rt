@@ -340,7 +340,7 @@ pub(crate) fn update(state: &mut PieState, queued: u64, moment: u64) -> PieUpdat
         return PieUpdated::refused(BAD_QUEUE);
     }
     let mut held = raw(state);
-    if held.moment.max(moment) < held.due() {
+    if held.is_too_soon(moment) {
         return PieUpdated::made(TOO_SOON, held.control.old_delay, &held);
     }
     let delay = held.update(queued, moment);

@@ -122,11 +122,11 @@ struct outcome {
 /* The stream through one controller in front of the link. */
 static struct outcome run(enum which which) {
     struct pie_state state;
-    struct pie_params params;
+    struct pie_opening opening;
     struct plain plain = {0, 0, {0, 0, plain_params.max_burst, 0}, {0, 0, 0, 0}};
-    pie_default_params(&params);
-    params.limit_bytes = LIMIT;
-    pie_open(&state, &params, 0);
+    pie_default_opening(&opening, 0);
+    opening.params.limit_bytes = LIMIT;
+    pie_open(&state, &opening);
 #ifdef WITH_DPDK
     struct rte_pie_config config = {15000000, 15000000, 150000000, LIMIT / 782};
     struct rte_pie dpdk;
@@ -297,11 +297,11 @@ static void update(struct pie_state *state, struct plain *plain) {
 
 /* The time of each call, over the same inputs. */
 static void calls(void) {
-    struct pie_params params;
+    struct pie_opening opening;
     struct pie_state state;
-    pie_default_params(&params);
-    params.limit_bytes = LIMIT;
-    pie_open(&state, &params, 0);
+    pie_default_opening(&opening, 0);
+    opening.params.limit_bytes = LIMIT;
+    pie_open(&state, &opening);
     state.prob = 50000000000;
     state.old_delay = 15000000;
     state.burst = 0;

@@ -59,8 +59,10 @@ static uint64_t call(const char *kind, uint64_t i) {
 int main(int count, char **words) {
     if (count != 3)
         return 1;
-    pie_default_params(&params);
-    pie_open(&state, &params, 0);
+    struct pie_opening opening;
+    pie_default_opening(&opening, 0);
+    params = opening.params;
+    pie_open(&state, &opening);
     state.prob = 50000000000;
     state.old_delay = 15000000;
     state.burst = 0;

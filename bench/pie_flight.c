@@ -87,15 +87,11 @@ __attribute__((noinline)) static uint32_t snapshot(void) {
 static void open_queue(struct queue *queue, uint64_t events, uint64_t packets, int is_kept) {
     struct pie_opening *opening = &queue->opening;
     uint64_t i;
-    pie_default_params(&opening->params);
+    pie_default_opening(opening, 0);
     opening->params.limit_bytes = PIE_MAX_BYTES;
     opening->params.mark_ecnth = 0;
-    opening->profile = 1;
-    opening->mode = PIE_ROLLING;
     opening->packets = packets + 1;
-    opening->tail = 1024;
-    opening->events = UINT64_C(1) << 47;
-    pie_open_with(&queue->pie, &opening->params, 0, 1, PIE_USUAL);
+    pie_open(&queue->pie, opening);
     queue->pie.burst = 0;
     if (is_kept && !pie_flight_open(&queue->flight, memory, bytes, events, opening, &queue->pie))
         exit(1);

@@ -69,9 +69,9 @@ static const struct kind {
 } kinds[] = {{"plain", plain}, {"burst", burst}, {"single", single}};
 
 static void open_state(void) {
-    struct pie_params params;
-    pie_default_params(&params);
-    pie_open(&state, &params, 0);
+    struct pie_opening opening;
+    pie_default_opening(&opening, 0);
+    pie_open(&state, &opening);
     state.prob = UINT64_C(50000000000);
     state.old_delay = 15000000;
     state.burst = 0;

@@ -8,8 +8,8 @@
  *
  * Each call checks what it is handed beside the state. Where something is out of its range the call is refused by a code
  * above 100, and the state stays as it was. pie_update, pie_reset and pie_set_params check the whole state too. The calls for
- * each packet, pie_arrive, pie_depart, pie_depart_waited and pie_empty, don't: they take its numbers as they are. A state that pie_open or
- * pie_open_with made and that only these calls changed is sound, and never refused. One that comes from elsewhere is asked of
+ * each packet, pie_arrive, pie_depart, pie_depart_waited and pie_empty, don't: they take its numbers as they are. A state that pie_open made
+ * and that only these calls changed is sound, and never refused. One that comes from elsewhere is asked of
  * pie_check_state first. Without that nothing worse happens than decisions by the numbers that stand there: no bits make a
  * call stop, overflow or touch other memory; a dq_threshold above 65536 counts as 65536, a `measuring` or `active` other
  * than 1 as 0; and pie_update refuses such a state.
@@ -25,7 +25,7 @@
  * - The clock. Take one that never goes back, as CLOCK_MONOTONIC in nanoseconds. Nanoseconds since 1970 are above 2^60 - 1
  *   and refused. A moment before the greatest so far counts as the greatest so far. So after one moment far ahead all later
  *   ones count as that one: one more update is made at it, and from then on each is too soon until the clock gets there.
- *   pie_reset keeps the greatest moment. The way out is to open anew: pie_open(&pie, &pie.params, now).
+ *   pie_reset keeps the greatest moment. The way out is to open anew, at `now`.
  *
  * - The timer. Arm it for pie_due(&pie), or make an update as soon as a packet finds that this moment has passed. A timer that
  *   rings every t_update by a rhythm of its own loses updates where it jitters: of 15000100, 30000050 and 45000020 ns the
@@ -44,9 +44,9 @@
  *   ask for each segment.
  *
  * - limit_bytes has to be well above rate x target. Else the queue is full before it can wait so long, PIE never acts, and all
- *   losses are tail drops. The default of 262144 bytes is 15 ms at 140 Mbit/s. pie_params_for(rate, &params) makes it 200 ms:
+ *   losses are tail drops. The default of 262144 bytes is 15 ms at 140 Mbit/s. pie_default_opening and pie_params_for make it 200 ms:
  *
- *       rate           rate x 15 ms    limit_bytes by pie_params_for
+ *       rate           rate x 15 ms    limit_bytes at that rate
  *       10 Mbit/s          18750            262144 (the default: 210 ms)
  *       100 Mbit/s        187500           2500000
  *       1 Gbit/s         1875000          25000000
@@ -106,7 +106,8 @@ enum {
 
     PIE_BAD_CHOICES = 117, /* a choice that is none of the flags */
     PIE_BAD_ARRIVED = 118, /* a packet that arrived later than the state's moment */
-    PIE_NOT_WAITED = 119   /* pie_depart where delays come from time stamps: pie_depart_waited says when the packet arrived */
+    PIE_NOT_WAITED = 119,  /* pie_depart where delays come from time stamps: pie_depart_waited says when the packet arrived */
+    PIE_BAD_LIMITS = 120   /* the mode, or the packets, tail or events of an opening out of their ranges */
 };
 
 /* The ECN field of an IP header (RFC 3168, section 5). */
@@ -116,13 +117,14 @@ enum { PIE_NOT_ECT = 0, PIE_ECT1 = 1, PIE_ECT0 = 2, PIE_CE = 3 };
  * it does is this project's own). */
 enum { PIE_ALWAYS_ON = 1, PIE_ON_AND_OFF = 2 };
 
-/* RFC 8033's optional elements that are chosen otherwise than usual: flags, OR-ed into the last argument of pie_open_with. */
+/* RFC 8033's optional elements that are chosen otherwise than usual: flags, OR-ed into `choices` of an opening. */
 enum {
-    PIE_USUAL = 0,         /* delays by the departure rate, de-randomized picking, capped steps, all packets picked alike */
+    PIE_USUAL = 0,         /* delays by the departure rate, de-randomized picking, capped steps, all packets picked alike, decay at 0 */
     PIE_DELAY_STAMP = 1,   /* a delay is what the packet that departed last had waited (section 4.3), as Linux has it by default */
     PIE_PICK_RANDOM = 2,   /* packets are picked by the random word alone, not de-randomized (section 5.4) */
     PIE_STEP_UNCAPPED = 4, /* an update raises the probability as far as the control law says (section 5.5) */
-    PIE_SIZE_SCALED = 8    /* a packet below mean_pkt is picked less often, in proportion to its size (Linux's bytemode) */
+    PIE_SIZE_SCALED = 8,   /* a packet below mean_pkt is picked less often, in proportion to its size (Linux's bytemode) */
+    PIE_DECAY_HALF = 16    /* the probability decays where this delay and the one before are below half the target, not where both are 0 */
 };
 
 /* The parameters, in the order in which they are checked; the defaults are in brackets. */
@@ -136,6 +138,25 @@ struct pie_params {
     uint64_t limit_bytes;  /* the queue's limit, 1 to 2^30 bytes (262144) */
     uint64_t mark_ecnth;   /* mark below this probability, 0 to 10^12 (10^11; section 5.1) */
     uint64_t dq_threshold; /* bytes of a cycle of the departure rate, a power of two, 1024 to 65536 (16384; section 5.2) */
+};
+
+/* What the event log of a history does when it is full. */
+enum {
+    PIE_BOUNDED = 0, /* it takes no event more */
+    PIE_ROLLING = 1  /* its oldest event goes */
+};
+
+/* What a controller is opened with. Of the last four the history alone knows, whose first record says them: whoever decides it again holds no
+ * more packets and events than they allow. The defaults of pie_default_opening are in brackets. */
+struct pie_opening {
+    struct pie_params params; /* the parameters */
+    uint64_t moment;          /* of the opening, at most 2^60 - 1 ns (0) */
+    uint64_t profile;         /* PIE_ALWAYS_ON or PIE_ON_AND_OFF (1) */
+    uint64_t choices;         /* the flags of the optional elements, at most 31 (0) */
+    uint64_t mode;            /* PIE_BOUNDED or PIE_ROLLING (1) */
+    uint64_t packets;         /* that the queue holds at most, 1 to 2^20 (2^20) */
+    uint64_t tail;            /* events that the log holds, 1 to 2^20 (1024) */
+    uint64_t events;          /* that there may be in all, 1 to 2^47 (2^47) */
 };
 
 /* The state: the registers may be read at any time between calls. */
@@ -153,7 +174,7 @@ struct pie_state {
     uint64_t cycle_count;     /* the bytes that it counted, below dq_threshold, 0 with none */
     uint64_t profile;         /* 1 or 2 */
     uint64_t active;          /* 1 while the controller is active, and else 0; in profile 1 always 1 (section 5.3) */
-    uint64_t choices;         /* the flags of the optional elements, at most 15 */
+    uint64_t choices;         /* the flags of the optional elements, at most 31 */
     uint64_t waited;          /* what the packet that departed last had waited, at most 2^40 ns, and 0 where it left the queue empty;
                                  also 0 after an opening, a reset and a turning on. With PIE_DELAY_STAMP it is the delay of
                                  the next update; without it plays no part, and stays 0 */
@@ -201,24 +222,6 @@ struct pie_event {
 #define PIE_RECORD_ROOM 256  /* bytes: more than the longest record of a history has, but that which resumes */
 #define PIE_RESUME_ROOM 1280 /* bytes: more than that one has */
 
-/* What the event log of an opening does when it is full. */
-enum {
-    PIE_BOUNDED = 0, /* it takes no event more */
-    PIE_ROLLING = 1  /* its oldest event goes */
-};
-
-/* What a history was opened with, for the record that resumes: what pie_open_with took, and the numbers of pie_write_opening. */
-struct pie_opening {
-    struct pie_params params; /* the parameters of the opening */
-    uint64_t moment;          /* of the opening, at most 2^60 - 1 */
-    uint64_t profile;         /* 1 or 2 */
-    uint64_t choices;         /* the flags of the optional elements, at most 15 */
-    uint64_t mode;            /* PIE_BOUNDED or PIE_ROLLING */
-    uint64_t packets;         /* that the queue holds at most, 1 to 2^20 */
-    uint64_t tail;            /* events that the log holds, 1 to 2^20 */
-    uint64_t events;          /* that there may be in all, 1 to 2^47 */
-};
-
 /* The statistics of a history, in the order of its record `tallied`. */
 struct pie_stats {
     uint64_t arrivals;      /* packets that arrived; by their verdicts: */
@@ -248,18 +251,20 @@ void pie_default_params(struct pie_params *params);
  * 6 mean_pkt, 7 limit_bytes, 8 mark_ecnth, 9 dq_threshold. */
 uint32_t pie_check_params(const struct pie_params *params);
 
-/* Opens a controller of profile 1. What the state held does not matter.
- * Refused, in this order: PIE_BAD_PARAMS, PIE_BAD_MOMENT. */
-uint32_t pie_open(struct pie_state *state, const struct pie_params *params, uint64_t moment);
+/* Fills in the default parameters for a link of this rate, in bits a second: limit_bytes is at least 200 ms at that rate, as far
+ * as its range goes. That is up to 42.9 Gbit/s; at 100 Gbit/s it is 86 ms. Of a link below 8.7 Mbit/s see dq_threshold above. */
+void pie_params_for(uint64_t rate, struct pie_params *params);
 
-/* Opens a controller of a profile. One of profile 2 opens inactive. After any arrival's verdict it becomes active where three
+/* Fills in the default opening for a link of this rate: its parameters, and what struct pie_opening says. It is never refused. */
+void pie_default_opening(struct pie_opening *opening, uint64_t rate);
+
+/* Opens a controller. What the state held does not matter. In profile 2 it opens inactive. After any arrival's verdict it becomes active where three
  * times the bytes in the queue then reach limit_bytes; it starts anew, as by pie_reset. A calm update (probability 0, this
  * delay and the one before below half the target) makes it inactive. While it is inactive, tail drops are as ever and every
  * other packet is enqueued; a departure and an update count by their moments alone, and an update's delay is 0.
- * `choices` are flags, PIE_USUAL or PIE_DELAY_STAMP | PIE_PICK_RANDOM | ..: the optional elements stay as they are opened.
- * Refused, in this order: PIE_BAD_PARAMS, PIE_BAD_MOMENT, PIE_BAD_PROFILE, PIE_BAD_CHOICES. */
-uint32_t pie_open_with(struct pie_state *state, const struct pie_params *params, uint64_t moment, uint32_t profile,
-                       uint32_t choices);
+ * Profile and choices stay as they are opened.
+ * Refused, in this order: PIE_BAD_PARAMS, PIE_BAD_MOMENT, PIE_BAD_PROFILE, PIE_BAD_CHOICES, PIE_BAD_LIMITS. */
+uint32_t pie_open(struct pie_state *state, const struct pie_opening *opening);
 
 /* Decides on an arriving packet (sections 4.1, 5.1 and 5.4), and answers PIE_ENQUEUE, PIE_MARK, PIE_EARLY, PIE_BYTES or
  * PIE_PACKETS.
@@ -288,6 +293,9 @@ uint32_t pie_depart_waited(struct pie_state *state, uint32_t size, uint64_t left
  * fall can leave it out: no decision changes.
  * Refused: PIE_BAD_MOMENT. */
 uint32_t pie_empty(struct pie_state *state, uint64_t moment);
+
+/* The moment from which the next update isn't too soon. Of a state that isn't sound, whose sum may exceed 64 bits, it is UINT64_MAX then. */
+uint64_t pie_due(const struct pie_state *state);
 
 /* Makes an update, with `queued` bytes in the queue (sections 4.2, 4.4 and 5.5). Call it when pie_due has come, or soon after.
  * Refused, in this order: PIE_BAD_STATE, PIE_BAD_MOMENT, PIE_BAD_QUEUE, PIE_TOO_SOON. */
@@ -327,9 +335,7 @@ uint32_t pie_set_params_event(struct pie_state *state, const struct pie_params *
  *
  *   pie_write_event    an event but new parameters; of PIE_EVENT_LOST what pie_write_lost writes
  *   pie_write_params   an event of kind PIE_EVENT_PARAMS, with its parameters
- *   pie_write_opening  the first record, of a controller that pie_open_with opens with these parameters, moment, profile and choices; the
- *                      book that decides again takes at most `packets` packets (1 to 2^20) and `events` events (1 to 2^47), and keeps
- *                      `tail` of them (1 to 2^20)
+ *   pie_write_opening  the first record, of a controller that pie_open opens by this; none where that refuses
  *   pie_write_refused  that the record with this number was refused, counted from 1 for the opening; `code` is PIE_BAD_MOMENT, PIE_BAD_SIZE,
  *                      PIE_TOO_SOON or PIE_BAD_PARAMS, the refusals that histories know
  *   pie_write_clock    the time of day: it was `unix_time` (nanoseconds since 1970-01-01T00:00:00Z, as CLOCK_REALTIME has them) when the caller's
@@ -339,8 +345,7 @@ uint32_t pie_set_params_event(struct pie_state *state, const struct pie_params *
  *   pie_write_lost     that so many events were not kept, one at least. That is no record of a history: an audit ends there with a fault */
 size_t pie_write_event(const struct pie_event *event, unsigned char *out, size_t room);
 size_t pie_write_params(const struct pie_event *event, const struct pie_params *params, unsigned char *out, size_t room);
-size_t pie_write_opening(const struct pie_params *params, uint64_t moment, uint32_t profile, uint32_t choices, uint64_t packets,
-                         uint64_t tail, uint64_t events, unsigned char *out, size_t room);
+size_t pie_write_opening(const struct pie_opening *opening, unsigned char *out, size_t room);
 size_t pie_write_refused(uint64_t record, uint32_t code, unsigned char *out, size_t room);
 size_t pie_write_clock(uint64_t moment, uint64_t unix_time, unsigned char *out, size_t room);
 size_t pie_write_lost(uint64_t count, unsigned char *out, size_t room);
@@ -350,7 +355,7 @@ size_t pie_write_lost(uint64_t count, unsigned char *out, size_t room);
  *
  *   pie_write_resume  what the history stood on after `count` events: the opening, the state, the statistics so far, and the `packets` packets
  *                     of `bytes` bytes that wait. `set_by` is the number of the last event that set the probability, 0 for the
- *                     opening, PIE_UNKNOWN where it is not known. PIE_RESUME_ROOM bytes are enough. It cannot be where the opening is none, the
+ *                     opening, PIE_UNKNOWN where it is not known. PIE_RESUME_ROOM bytes are enough. It cannot be where pie_open refuses the opening, the
  *                     state is not sound or has not the opening's profile and choices, or there are more events, packets or
  *                     bytes than the opening and a queue allow; the statistics are not looked at
  *   pie_write_queued  a packet that waits, oldest first: its tag, size (1 to 65535), ECN field as it will depart (PIE_CE where it was marked), and
@@ -380,20 +385,6 @@ uint32_t pie_read_time(const char *text, size_t length, uint64_t *nanoseconds);
 uint32_t pie_read_rate(const char *text, size_t length, uint64_t *bits);
 uint32_t pie_read_size(const char *text, size_t length, uint64_t *bytes);
 uint32_t pie_read_packets(const char *text, size_t length, uint64_t *packets);
-
-/* The moment from which the next update isn't too soon. */
-static inline uint64_t pie_due(const struct pie_state *state) {
-    return state->last + state->params.t_update;
-}
-
-/* Fills in the default parameters for a link of this rate, in bits a second: limit_bytes is at least 200 ms at that rate, as far
- * as its range goes. That is up to 42.9 Gbit/s; at 100 Gbit/s it is 86 ms. Of a link below 8.7 Mbit/s see dq_threshold above. */
-static inline void pie_params_for(uint64_t rate, struct pie_params *params) {
-    uint64_t bytes = rate / 40 + (rate % 40 == 0 ? 0u : 1u);
-    pie_default_params(params);
-    if (bytes > params->limit_bytes)
-        params->limit_bytes = bytes < PIE_MAX_BYTES ? bytes : PIE_MAX_BYTES;
-}
 
 /* What a code means, in words for a log. */
 static inline const char *pie_text(uint64_t code) {
@@ -438,6 +429,8 @@ static inline const char *pie_text(uint64_t code) {
         return "refused: a packet that arrived later than the state's moment";
     case PIE_NOT_WAITED:
         return "refused: a departure by pie_depart where delays come from time stamps";
+    case PIE_BAD_LIMITS:
+        return "refused: a mode or a limit of an opening out of its range";
     default:
         return "a code that pie.h does not have";
     }

@@ -11,14 +11,16 @@ mount -t devpts devpts /dev/pts
 for name in fd:/proc/self/fd stdin:/proc/self/fd/0 stdout:/proc/self/fd/1 stderr:/proc/self/fd/2; do
     [ -e "/dev/${name%%:*}" ] || ln -s "${name#*:}" "/dev/${name%%:*}"
 done
-# its modules lie in a folder of their own; what the kernel asks for itself comes from there too
-ln -s /usr/lib/uml/modules /run/lib/modules
-printf '#!/bin/sh\nexec modprobe -d /run "$@"\n' > /run/modprobe
-chmod +x /run/modprobe
-echo /run/modprobe > /proc/sys/kernel/modprobe
-for module in tun veth sch_htb sch_pie sch_fq_codel sch_cake sch_netem tcp_bbr; do
-    modprobe -d /run "$module" || echo "bench/uml/boot.sh: no module $module" >&2
-done 2>> "$STATE/err"
+# its modules lie in a folder of their own; what the kernel asks for itself comes from there too (one made by build.sh has all built in)
+if [ -d "/usr/lib/uml/modules/$(uname -r)" ]; then
+    ln -s /usr/lib/uml/modules /run/lib/modules
+    printf '#!/bin/sh\nexec modprobe -d /run "$@"\n' > /run/modprobe
+    chmod +x /run/modprobe
+    echo /run/modprobe > /proc/sys/kernel/modprobe
+    for module in tun veth sch_htb sch_pie sch_fq_codel sch_cake sch_netem tcp_bbr; do
+        modprobe -d /run "$module" || echo "bench/uml/boot.sh: no module $module" >&2
+    done 2>> "$STATE/err"
+fi
 ip link set lo up
 export TMPDIR=/run/tmp
 bash "$STATE/command" > "$STATE/out" 2>> "$STATE/err" < /dev/null

@@ -5,10 +5,11 @@
 #
 # usage: bench/uml/run.sh COMMAND [WORDS..]
 #   UML_MEMORY   its memory, 1024M where it isn't set; UML_SECONDS: it is ended after so many, 3600. Status 125 where it didn't come to an end.
+#   UML_LINUX    another Linux than Debian's: what build.sh made, whose time passes only while all its processes wait
 set -u
 here=$(cd "$(dirname "$0")" && pwd)
 if [ $# = 0 ] || [ "$1" = --help ]; then
-    sed -n '2,7s/^# \{0,1\}//p' "$0"
+    sed -n '2,8s/^# \{0,1\}//p' "$0"
     [ "${1:-}" = --help ]
     exit
 fi
@@ -34,12 +35,16 @@ touch "$state/out" "$state/err"
     printf ' %q' "$@"
     echo
 } > "$state/command"
-# (its memory is all that this process gets of the machine, so that it is woken in time)
-before_others=
-! nice -n -15 true 2> /dev/null || [ "$(id -u)" != 0 ] || before_others='nice -n -15'
+# (Debian's goes before other work of the machine, so that it is woken in time; one whose time is simulated can wait)
+linux_program=linux.uml words=() before_others=
+if [ -n "${UML_LINUX:-}" ]; then
+    linux_program=$UML_LINUX words=(time-travel=inf-cpu)
+elif nice -n -15 true 2> /dev/null && [ "$(id -u)" = 0 ]; then
+    before_others='nice -n -15'
+fi
 # shellcheck disable=SC2086
-$before_others timeout --kill-after=5 "${UML_SECONDS:-3600}" linux.uml "mem=${UML_MEMORY:-1024M}" root=/dev/root rootfstype=hostfs rootflags=/ rw \
-    "init=$here/boot.sh" "STATE=$state" "uml_dir=$state" con=null con0=null,fd:1 quiet > "$state/kernel" 2>&1 < /dev/null &
+$before_others timeout --kill-after=5 "${UML_SECONDS:-3600}" "$linux_program" "${words[@]}" "mem=${UML_MEMORY:-1024M}" \
+    root=/dev/root rootfstype=hostfs rootflags=/ rw "init=$here/boot.sh" "STATE=$state" "uml_dir=$state" con=null con0=null,fd:1 quiet > "$state/kernel" 2>&1 < /dev/null &
 linux=$!
 tail --quiet --bytes=+1 --sleep-interval=0.2 --follow --pid="$linux" "$state/out" &
 tail --quiet --bytes=+1 --sleep-interval=0.2 --follow --pid="$linux" "$state/err" >&2 &

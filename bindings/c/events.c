@@ -193,11 +193,10 @@ static void step(struct pie_state *pie, uint64_t *now, uint64_t tag) {
 }
 
 int main(int count, char **words) {
-    struct pie_params params;
+    struct pie_opening opening, bad;
     struct pie_state pie;
     unsigned char text[PIE_RECORD_ROOM];
     uint64_t now, steps, i;
-    uint32_t profile, choices;
     size_t length;
     if (count < 3)
         return 2;
@@ -206,22 +205,29 @@ int main(int count, char **words) {
     changed = count > 3 ? strtoull(words[3], NULL, 10) : 0;
     try_events();
     try_clocks();
-    pie_default_params(&params);
+    pie_default_opening(&opening, 0);
     if (random_word() % 2)
-        params.limit_bytes = 20000;
-    params.t_update = 1000000;
-    now = random_word() % 1000000000;
-    profile = 1 + random_word() % 2;
-    choices = random_word() % 16;
-    CHECK(pie_open_with(&pie, &params, now, profile, choices) == PIE_DONE);
-    length = pie_write_opening(&params, now, profile, choices, RING, 100, steps + 1, text, sizeof text);
-    CHECK(length > 0);
-    CHECK(pie_write_opening(&params, now, profile, choices, RING, 100, steps + 1, text, length - 1) == 0);
-    CHECK(pie_write_opening(&params, now, profile, choices, 0, 100, steps + 1, text, sizeof text) == 0);
-    CHECK(pie_write_opening(&params, now, profile, choices, RING, 1048577, steps + 1, text, sizeof text) == 0);
+        opening.params.limit_bytes = 20000;
+    opening.params.t_update = 1000000;
+    opening.moment = now = random_word() % 1000000000;
+    opening.profile = 1 + random_word() % 2;
+    opening.choices = random_word() % 16;
+    opening.mode = random_word() % 2;
+    opening.packets = RING;
+    opening.tail = 100;
+    opening.events = steps + 1;
+    CHECK(pie_open(&pie, &opening) == PIE_DONE);
+    length = pie_write_opening(&opening, text, sizeof text);
+    CHECK(length > 0 && pie_write_opening(&opening, text, length - 1) == 0);
+    bad = opening, bad.packets = 0;
+    CHECK(pie_write_opening(&bad, text, sizeof text) == 0);
+    bad = opening, bad.tail = 1048577;
+    CHECK(pie_write_opening(&bad, text, sizeof text) == 0);
+    bad = opening, bad.mode = 2;
+    CHECK(pie_write_opening(&bad, text, sizeof text) == 0);
     fwrite(text, 1, length, stdout);
     records = 1;
-    if (choices != PIE_USUAL) { /* (an opening of version three) */
+    if (opening.choices != PIE_USUAL) { /* (an opening of version three) */
         fwrite(text, 1, pie_write_clock(now, UINT64_C(1795550400000000000), text, sizeof text), stdout);
         records = 2;
     }

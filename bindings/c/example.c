@@ -17,7 +17,6 @@ enum { SENDER = 1, LINK = 2, TIMER = 3 };
 #define END 120000000u  /* nanoseconds */
 #define QUIET 100000000u /* the sender stops here */
 #define UNIX_TIME UINT64_C(1795550400000000000) /* nanoseconds since 1970 at the moment 0: it is 2026-11-24, 20:00:00 UTC */
-#define EVENTS (UINT64_C(1) << 47) /* that the history may have: above 2^40 it is of version three, which tells the time of day */
 
 struct packet {
     uint64_t tag;
@@ -127,24 +126,27 @@ static void show(const struct link *link) {
 int main(int count, char **words) {
     static struct link link;
     is_trace = count == 2 && strcmp(words[1], "trace") == 0;
-    struct pie_params params;
-    pie_default_params(&params);
+    struct pie_opening opening;
+    pie_default_opening(&opening, 0);
     /* a shorter rhythm than the defaults', so that a tenth of a second shows all */
-    params.target = 4000000;
-    params.t_update = 2000000;
-    params.max_burst = 20000000;
-    params.alpha = 5000;
-    params.beta = 50000;
-    params.limit_bytes = 48000;
-    params.mark_ecnth = 600000000000;
-    params.dq_threshold = 4096;
-    if (pie_check_params(&params) != 0 || pie_open(&link.pie, &params, 0) != PIE_DONE)
+    opening.params.target = 4000000;
+    opening.params.t_update = 2000000;
+    opening.params.max_burst = 20000000;
+    opening.params.alpha = 5000;
+    opening.params.beta = 50000;
+    opening.params.limit_bytes = 48000;
+    opening.params.mark_ecnth = 600000000000;
+    opening.params.dq_threshold = 4096;
+    opening.mode = PIE_BOUNDED;
+    opening.packets = RING;
+    opening.tail = 1048576;
+    if (pie_open(&link.pie, &opening) != PIE_DONE)
         return 1;
     unsigned char text[PIE_RECORD_ROOM];
-    fwrite(text, 1, pie_write_opening(&params, 0, PIE_ALWAYS_ON, PIE_USUAL, RING, 1048576, EVENTS, text, sizeof text), stdout);
+    fwrite(text, 1, pie_write_opening(&opening, text, sizeof text), stdout);
     fwrite(text, 1, pie_write_clock(0, UNIX_TIME, text, sizeof text), stdout);
 
-    uint64_t sent = 0, next_packet = 1000, next_free = 2000, next_update = params.t_update;
+    uint64_t sent = 0, next_packet = 1000, next_free = 2000, next_update = pie_due(&link.pie);
     while (next_update < END) {
         if (next_packet <= next_free && next_packet <= next_update) {
             /* of four packets three understand a mark */
@@ -162,10 +164,11 @@ int main(int count, char **words) {
         } else {
             update(&link, next_update - 1); /* a timer that is early: refused, and nothing changes */
             update(&link, next_update);
-            next_update += params.t_update;
+            next_update = pie_due(&link.pie);
         }
     }
     show(&link);
+    struct pie_params params = link.pie.params;
     params.mark_ecnth = 0;
     struct pie_event changed = {.caller = TIMER, .moment = END}, reset = changed;
     if (pie_set_params_event(&link.pie, &params, &changed) != PIE_DONE || pie_reset_event(&link.pie, &reset) != PIE_DONE)

@@ -17,12 +17,27 @@
 #define ONE 1000000000000u
 #define LATEST 1152921504606846975u /* 2^60 - 1 */
 
+/* Opens with these; the rest of the opening is the default. */
+static uint32_t open_with(struct pie_state *state, const struct pie_params *params, uint64_t moment, uint64_t profile, uint64_t choices) {
+    struct pie_opening opening;
+    pie_default_opening(&opening, 0);
+    opening.params = *params;
+    opening.moment = moment;
+    opening.profile = profile;
+    opening.choices = choices;
+    return pie_open(state, &opening);
+}
+
+static uint32_t open_usual(struct pie_state *state, const struct pie_params *params, uint64_t moment) {
+    return open_with(state, params, moment, PIE_ALWAYS_ON, PIE_USUAL);
+}
+
 /* A controller with the defaults, opened at 0. */
 static struct pie_state opened(void) {
-    struct pie_params params;
+    struct pie_opening opening;
     struct pie_state state;
-    pie_default_params(&params);
-    pie_open(&state, &params, 0);
+    pie_default_opening(&opening, 0);
+    pie_open(&state, &opening);
     return state;
 }
 
@@ -90,16 +105,30 @@ static int parameters(void) {
     params.dq_threshold = 16384;
     CHECK(pie_check_params(&params) == 1);
     struct pie_state state = opened(), before = state;
-    CHECK(pie_open(&state, &params, LATEST + 1) == PIE_BAD_PARAMS && same(&state, &before));
+    CHECK(open_usual(&state, &params, LATEST + 1) == PIE_BAD_PARAMS && same(&state, &before));
     params.target = 2;
-    CHECK(pie_open(&state, &params, LATEST + 1) == PIE_BAD_MOMENT && same(&state, &before));
-    CHECK(pie_open_with(&state, &params, LATEST + 1, 3, 16) == PIE_BAD_MOMENT && same(&state, &before));
-    CHECK(pie_open_with(&state, &params, 0, 0, 16) == PIE_BAD_PROFILE && same(&state, &before));
-    CHECK(pie_open_with(&state, &params, 0, 3, 0) == PIE_BAD_PROFILE && same(&state, &before));
-    CHECK(pie_open_with(&state, &params, 0, 1, 16) == PIE_BAD_CHOICES && same(&state, &before));
-    CHECK(pie_open_with(&state, &params, 0, 2, UINT32_MAX) == PIE_BAD_CHOICES && same(&state, &before));
-    CHECK(pie_open(&state, &params, LATEST) == PIE_DONE && state.moment == LATEST && state.last == LATEST);
+    CHECK(open_usual(&state, &params, LATEST + 1) == PIE_BAD_MOMENT && same(&state, &before));
+    CHECK(open_with(&state, &params, LATEST + 1, 3, 16) == PIE_BAD_MOMENT && same(&state, &before));
+    CHECK(open_with(&state, &params, 0, 0, 16) == PIE_BAD_PROFILE && same(&state, &before));
+    CHECK(open_with(&state, &params, 0, 3, 0) == PIE_BAD_PROFILE && same(&state, &before));
+    CHECK(open_with(&state, &params, 0, 1, 16) == PIE_BAD_CHOICES && same(&state, &before));
+    CHECK(open_with(&state, &params, 0, 2, (uint64_t)1 << 32) == PIE_BAD_CHOICES && same(&state, &before));
+    CHECK(open_usual(&state, &params, LATEST) == PIE_DONE && state.moment == LATEST && state.last == LATEST);
     CHECK(state.burst == 150000000 && state.params.target == 2);
+    /* the mode and the limits of the history, last */
+    struct pie_opening opening, bad;
+    pie_default_opening(&opening, 0);
+    before = state;
+    for (int k = 0; k < 8; k++) {
+        bad = opening;
+        *(k < 2 ? &bad.packets : k < 4 ? &bad.tail : k < 6 ? &bad.events : &bad.mode) =
+            k == 1 || k == 3 ? (1u << 20) + 1 : k == 5 ? ((uint64_t)1 << 47) + 1 : k == 6 ? 2 : k == 7 ? ((uint64_t)1 << 32) + 1 : 0;
+        CHECK(pie_open(&state, &bad) == PIE_BAD_LIMITS && same(&state, &before));
+        bad.choices = 16;
+        CHECK(pie_open(&state, &bad) == PIE_BAD_CHOICES && same(&state, &before));
+    }
+    opening.packets = opening.tail = opening.events = 1, opening.mode = PIE_BOUNDED;
+    CHECK(pie_open(&state, &opening) == PIE_DONE);
     return 0;
 }
 
@@ -243,7 +272,7 @@ static int moments(void) {
 static int marks_and_drops(void) {
     struct pie_params params = {2, 1, 0, 850000, 0, 1, 100000, ONE, 1024};
     struct pie_state state;
-    CHECK(pie_open(&state, &params, 0) == PIE_DONE);
+    CHECK(open_usual(&state, &params, 0) == PIE_DONE);
     for (uint32_t k = 0; k < 4; k++)
         CHECK(pie_arrive(&state, 1024 * k, 1024, 8 - k, PIE_NOT_ECT, 0, 0) == PIE_ENQUEUE);
     CHECK(pie_depart(&state, 1024, 3072, 1000) == PIE_DONE);
@@ -287,7 +316,7 @@ static int two_more(struct pie_state *state, uint64_t queued, uint64_t moment) {
 /* Profile two turns on at a third of the limit, and off at a calm update. */
 static int on_and_off(void) {
     struct pie_state state;
-    CHECK(pie_open_with(&state, &small, 0, PIE_ON_AND_OFF, PIE_USUAL) == PIE_DONE && state.profile == 2 && state.active == 0);
+    CHECK(open_with(&state, &small, 0, PIE_ON_AND_OFF, PIE_USUAL) == PIE_DONE && state.profile == 2 && state.active == 0);
     CHECK(two_more(&state, 0, 0) == 0 && state.active == 0);
     CHECK(pie_depart(&state, 1024, 1024, 1) == PIE_DONE && state.active == 0 && state.measuring == 0);
     CHECK(two_more(&state, 1024, 1) == 0 && state.active == 1 && state.burst == 5);
@@ -303,7 +332,7 @@ static int on_and_off(void) {
     made = pie_update(&state, 1024, 1005);
     CHECK(made.code == PIE_TOO_SOON && made.due == 1006);
     /* the same calls in profile one */
-    CHECK(pie_open(&state, &small, 0) == PIE_DONE && state.profile == 1 && state.active == 1);
+    CHECK(open_usual(&state, &small, 0) == PIE_DONE && state.profile == 1 && state.active == 1);
     CHECK(two_more(&state, 0, 0) == 0 && pie_depart(&state, 1024, 1024, 1) == PIE_DONE && state.measuring == 1);
     CHECK(two_more(&state, 1024, 1) == 0 && pie_depart(&state, 1024, 2048, 2) == PIE_DONE);
     CHECK(pie_depart(&state, 1024, 1024, 1002) == PIE_DONE);
@@ -315,7 +344,7 @@ static int on_and_off(void) {
 /* A tail drop turns it on as well, and new parameters leave it as it is. */
 static int on_by_a_tail_drop(void) {
     struct pie_state state;
-    CHECK(pie_open_with(&state, &small, 0, PIE_ON_AND_OFF, PIE_USUAL) == PIE_DONE && two_more(&state, 0, 0) == 0 && state.active == 0);
+    CHECK(open_with(&state, &small, 0, PIE_ON_AND_OFF, PIE_USUAL) == PIE_DONE && two_more(&state, 0, 0) == 0 && state.active == 0);
     CHECK(pie_arrive(&state, 2048, 1024, 6, PIE_NOT_ECT, 0, 0) == PIE_ENQUEUE && state.active == 1);
     struct pie_updated made = pie_update(&state, 3072, 1);
     CHECK(made.code == PIE_DONE && made.delay == 0 && made.prob == 0 && made.burst == 5 && state.active == 0);
@@ -365,7 +394,7 @@ static int refusals(void) {
         case 19: state.profile = 3; break;
         case 20: state.active = 0; break; /* in profile one */
         case 21: state.profile = 2, state.active = 2; break;
-        case 22: state.choices = 16; break;
+        case 22: state.choices = 32; break;
         case 23: state.waited = ((uint64_t)1 << 40) + 1; break;
         }
         before = state;
@@ -429,9 +458,9 @@ static int widths(void) {
     CHECK(pie_arrive(&state, 3000, 1500, 1, 0, (uint64_t)1 << 63, 0) == PIE_ENQUEUE);
     state.accu = 800000000000;
     CHECK(pie_arrive(&state, 3000, 1500, 1, 0, ((uint64_t)1 << 63) - 1, 0) == PIE_EARLY);
-    const uint32_t profiles[] = {0, 3, 256 + 1, 65536 + 1, UINT32_MAX};
-    for (int k = 0; k < 5; k++)
-        CHECK(pie_open_with(&state, &before.params, 0, profiles[k], PIE_USUAL) == PIE_BAD_PROFILE);
+    const uint64_t profiles[] = {0, 3, 256 + 1, 65536 + 1, UINT32_MAX, ((uint64_t)1 << 32) + 1};
+    for (int k = 0; k < 6; k++)
+        CHECK(open_with(&state, &before.params, 0, profiles[k], PIE_USUAL) == PIE_BAD_PROFILE);
     return 0;
 }
 
@@ -443,8 +472,13 @@ static int large_numbers(void) {
     params.max_burst = PIE_ONE;
     params.t_update = 10000000000;
     uint64_t start = ((uint64_t)1 << 59) + 1;
-    CHECK(pie_open(&state, &params, start) == PIE_DONE && state.moment == start && state.last == start && state.burst == PIE_ONE);
+    CHECK(open_usual(&state, &params, start) == PIE_DONE && state.moment == start && state.last == start && state.burst == PIE_ONE);
     CHECK(pie_due(&state) == start + 10000000000);
+    struct pie_state odd = state;
+    odd.last = UINT64_MAX - 10000000000;
+    CHECK(pie_due(&odd) == UINT64_MAX);
+    odd.last++;
+    CHECK(pie_due(&odd) == UINT64_MAX);
     CHECK(pie_depart(&state, 65535, 16384, start + 5) == PIE_DONE && state.cycle_start == start + 5 && state.moment == start + 5);
     CHECK(pie_depart(&state, 65535, 16383, ((uint64_t)1 << 59) + 4000000006) == PIE_DONE && state.average == 4000000000);
     CHECK(pie_empty(&state, start + 5000000000) == PIE_DONE && state.moment == start + 5000000000);
@@ -487,9 +521,9 @@ static int what_stays(void) {
     expected.burst = 150000002;
     CHECK(same(&state, &expected));
     /* the same parameters at the opening */
-    CHECK(pie_open(&state, &params, 7) == PIE_DONE);
+    CHECK(open_usual(&state, &params, 7) == PIE_DONE);
     struct pie_state opening = {params, 7, 0, 0, 150000002, 7, 0, 0, 0, 0, 0, 1, 1, 0, 0};
-    CHECK(same(&state, &opening) && pie_open_with(&state, &params, 7, PIE_ON_AND_OFF, PIE_USUAL) == PIE_DONE);
+    CHECK(same(&state, &opening) && open_with(&state, &params, 7, PIE_ON_AND_OFF, PIE_USUAL) == PIE_DONE);
     opening.profile = 2, opening.active = 0;
     CHECK(same(&state, &opening));
     return 0;
@@ -500,7 +534,7 @@ static int choices(void) {
     struct pie_params params;
     struct pie_state state;
     pie_default_params(&params);
-    CHECK(pie_open_with(&state, &params, 0, PIE_ALWAYS_ON, PIE_DELAY_STAMP) == PIE_DONE && state.choices == 1 && state.waited == 0);
+    CHECK(open_with(&state, &params, 0, PIE_ALWAYS_ON, PIE_DELAY_STAMP) == PIE_DONE && state.choices == 1 && state.waited == 0);
     struct pie_state before = state;
     CHECK(pie_depart(&state, 1500, 3000, 9) == PIE_NOT_WAITED && same(&state, &before));
     CHECK(pie_depart(&state, 0, 3000, LATEST + 1) == PIE_BAD_MOMENT && pie_depart(&state, 0, 3000, 9) == PIE_BAD_SIZE);
@@ -523,7 +557,7 @@ static int choices(void) {
     CHECK(pie_check_state(&state) == PIE_DONE);
     state.waited++;
     CHECK(pie_check_state(&state) == PIE_BAD_STATE);
-    state.waited = 7, state.choices = 16;
+    state.waited = 7, state.choices = 32;
     CHECK(pie_check_state(&state) == PIE_BAD_STATE);
     /* a reset forgets the wait, new parameters keep it */
     state.choices = PIE_DELAY_STAMP;
@@ -547,6 +581,13 @@ static int choices(void) {
     state = at(TENTH, 15000000);
     state.choices = PIE_SIZE_SCALED;
     CHECK(pie_arrive(&state, 3000, 512, 1, PIE_NOT_ECT, UINT64_MAX, 0) == PIE_ENQUEUE && state.accu == TENTH / 2);
+    /* half: after the step it decays where the delays are below half the target, and not at half of it */
+    state = at(TENTH, 7000000);
+    state.choices = PIE_DECAY_HALF;
+    CHECK(pie_update(&state, 0, 15000000).prob == 87587500000 && next(TENTH, 7000000, 0) == 89375000000);
+    state = at(TENTH, 7500000);
+    state.choices = PIE_DECAY_HALF;
+    CHECK(pie_update(&state, 0, 15000000).prob == 88750000000);
     return 0;
 }
 

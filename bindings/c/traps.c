@@ -13,12 +13,21 @@
         }                                                                      \
     } while (0)
 
+/* Opens with these; the rest of the opening is the default. */
+static uint32_t open_with(struct pie_state *state, const struct pie_params *params, uint64_t moment) {
+    struct pie_opening opening;
+    pie_default_opening(&opening, 0);
+    opening.params = *params;
+    opening.moment = moment;
+    return pie_open(state, &opening);
+}
+
 /* A controller with the defaults, opened at a moment. */
 static struct pie_state opened(uint64_t moment) {
     struct pie_params params;
     struct pie_state state;
     pie_default_params(&params);
-    pie_open(&state, &params, moment);
+    open_with(&state, &params, moment);
     return state;
 }
 
@@ -35,7 +44,7 @@ static int clock_far_ahead(void) {
         CHECK(pie_update(&pie, 0, 15001000 * k).code == PIE_TOO_SOON);
     CHECK(pie_reset(&pie, 20000000000) == PIE_DONE && pie_update(&pie, 0, 20000000000).code == PIE_TOO_SOON);
     CHECK(pie_due(&pie) == far + 15000000 && pie_update(&pie, 0, pie_due(&pie)).code == PIE_DONE);
-    CHECK(pie_open(&pie, &pie.params, 20000000000) == PIE_DONE && pie_due(&pie) == 20015000000);
+    CHECK(open_with(&pie, &pie.params, 20000000000) == PIE_DONE && pie_due(&pie) == 20015000000);
     CHECK(pie_update(&pie, 0, 20015000000).code == PIE_DONE);
     /* nanoseconds since 1970: of the first day of 2007 and of a day in 2026 */
     CHECK(pie_empty(&pie, 1167609600000000000) == PIE_BAD_MOMENT && pie_empty(&pie, 1795417200000000000) == PIE_BAD_MOMENT);
@@ -88,7 +97,7 @@ static int answers_and_sizes(void) {
     CHECK(pie_depart(&pie, PIE_MAX_SIZE, PIE_MAX_BYTES + 1, 0) == PIE_BAD_QUEUE && same(&pie, &before));
     CHECK(pie_depart(&pie, PIE_MAX_SIZE, PIE_MAX_BYTES, 0) == PIE_DONE);
     /* each code has words of its own, and no other number has */
-    const uint64_t codes[] = {0, 1, 2, 3, 4, 5, 101, 102, 103, 107, 110, 111, 112, 113, 114, 115, 116, 117, 118, 119};
+    const uint64_t codes[] = {0, 1, 2, 3, 4, 5, 101, 102, 103, 107, 110, 111, 112, 113, 114, 115, 116, 117, 118, 119, 120};
     for (uint64_t code = 0; code < 300; code++) {
         int is_code = 0;
         for (size_t k = 0; k < sizeof codes / sizeof *codes; k++) {
@@ -109,12 +118,19 @@ static int limits_by_rate(void) {
         {42949672960, 0, 1073741824},     {42949672961, 0, 1073741824},         {42949672920, 0, 1073741823},
     };
     struct pie_params defaults, params;
+    struct pie_opening opening;
+    struct pie_state pie;
     pie_default_params(&defaults);
     for (size_t k = 0; k < sizeof table / sizeof *table; k++) {
         memset(&params, 255, sizeof params);
         pie_params_for(table[k].rate, &params);
         CHECK(params.limit_bytes == table[k].limit && pie_check_params(&params) == 0);
         CHECK(table[k].wanted == 0 || table[k].rate / 8000 * 15 == table[k].wanted);
+        memset(&opening, 255, sizeof opening);
+        pie_default_opening(&opening, table[k].rate);
+        CHECK(memcmp(&params, &opening.params, sizeof params) == 0 && pie_open(&pie, &opening) == PIE_DONE);
+        CHECK(opening.moment == 0 && opening.profile == PIE_ALWAYS_ON && opening.choices == PIE_USUAL && opening.mode == PIE_ROLLING);
+        CHECK(opening.packets == 1 << 20 && opening.tail == 1024 && opening.events == (uint64_t)1 << 47);
         params.limit_bytes = defaults.limit_bytes;
         CHECK(memcmp(&params, &defaults, sizeof params) == 0);
     }
@@ -136,14 +152,7 @@ static int own_params(void) {
     CHECK(pie_set_params(&own, &own.params, 21) == PIE_DONE && pie_set_params(&other, &copy, 21) == PIE_DONE && same(&own, &other));
     CHECK(memcmp(&own.params, &copy, sizeof copy) == 0 && own.average == 0 && own.measuring == 0 && own.prob == 5);
     CHECK(pie_set_params(&own, &own.params, PIE_MAX_MOMENT + 1) == PIE_BAD_MOMENT && same(&own, &other));
-    for (uint32_t profile = PIE_ALWAYS_ON; profile <= PIE_ON_AND_OFF; profile++) {
-        CHECK(pie_open_with(&own, &own.params, 22, profile, PIE_USUAL) == PIE_DONE);
-        CHECK(pie_open_with(&other, &copy, 22, profile, PIE_USUAL) == PIE_DONE && same(&own, &other));
-    }
-    own.prob = other.prob = 5;
-    CHECK(pie_open(&own, &own.params, 23) == PIE_DONE && pie_open(&other, &copy, 23) == PIE_DONE && same(&own, &other));
-    own.params.beta = other.params.beta = copy.beta = 1000001;
-    CHECK(pie_open(&own, &own.params, 24) == PIE_BAD_PARAMS && pie_open(&other, &copy, 24) == PIE_BAD_PARAMS && same(&own, &other));
+    own.params.beta = other.params.beta = 1000001;
     CHECK(pie_set_params(&own, &own.params, 24) == PIE_BAD_STATE && same(&own, &other));
     return 0;
 }
@@ -157,7 +166,7 @@ static int overload(struct pie_params params, uint64_t byte_picos, uint64_t pack
     struct pie_state pie;
     uint64_t queued = 0, free_at = 0, word = 1;
     memset(outcome, 0, sizeof *outcome);
-    CHECK(pie_open(&pie, &params, 0) == PIE_DONE);
+    CHECK(open_with(&pie, &params, 0) == PIE_DONE);
     for (uint64_t k = 0; k < packets; k++) {
         uint64_t now = k * byte_picos * 5 / 6; /* a packet's time on the link is 1000 * byte_picos / 1000 ns */
         while (queued != 0 && free_at <= now) {

@@ -8,7 +8,8 @@
 #define EVENTS (1u << 17) /* that may wait for the history: 8 megabytes */
 #define LEAST_SEGMENT 65536 /* bytes of a segment */
 #define MOST_RATE UINT64_C(1000000000000)
-#define RECORDED_PACKETS (1u << 20) /* the most that a recorded queue has room for */
+#define MOST_QUEUED (1u << 20) /* packets that a queue has room for */
+#define MOST_MBUFS (1u << 24)
 
 static const char help[] =
     "pie-fwd [EAL OPTIONS] -- [OPTIONS]\n"
@@ -51,15 +52,14 @@ static const char *fault_of(const struct fwd_options *options, uint64_t flight) 
         return "--rate";
     if (options->received != 0 && !is_rate(options->received))
         return "--receive";
-    if (options->mbufs < 1024 || options->mbufs > PIE_STAGE_MAX_PACKETS)
+    if (options->mbufs < 1024 || options->mbufs > MOST_MBUFS)
         return "--total-num-mbufs";
-    if (flight > PIE_STAGE_MAX_FLIGHT)
+    if (flight > PIE_STAGE_MAX_EVENTS)
         return "--flight-events";
     if (options->rotate != 0 && options->rotate < LEAST_SEGMENT)
         return "--rotate";
     // a queue that takes all mbufs leaves the card none to receive with, and then the card drops, and not PIE
-    bool is_recorded = options->history != NULL || flight != 0;
-    return options->stage.packets > options->mbufs / 2 || (is_recorded && options->stage.packets > RECORDED_PACKETS) ? "--limit" : NULL;
+    return options->stage.opening.packets > options->mbufs / 2 ? "--limit" : NULL;
 }
 
 int fwd_read_options(int count, char **words, struct fwd_options *options) {
@@ -72,7 +72,7 @@ int fwd_read_options(int count, char **words, struct fwd_options *options) {
         {"--history", option_text, &options->history},   {"--metrics", option_text, &options->metrics},
         {"--json", option_text, &options->json},         {"--one-way", NULL, &options->is_one_way},
     };
-    const struct command command = {"pie-fwd", {help, more_help}, own, sizeof own / sizeof own[0], PIE_STAGE_MAX_PACKETS};
+    const struct command command = {"pie-fwd", {help, more_help}, own, sizeof own / sizeof own[0], MOST_QUEUED};
     struct control control;
     *options = (struct fwd_options){.mbufs = 8192, .flight = "pie-fwd.flight"};
     int place = read_words(&command, count, words, &control);
@@ -85,10 +85,7 @@ int fwd_read_options(int count, char **words, struct fwd_options *options) {
     uint64_t wait = options->stage.flight_wait;
     options->rate = control.rate;
     options->stage = (struct pie_stage_params){
-        .pie = control.params,
-        .profile = (uint32_t)control.profile,
-        .choices = control.choices,
-        .packets = (uint32_t)control.packets,
+        .opening = control.opening,
         .ecn = control.use_ecn,
         .flight = (uint32_t)flight,
         .flight_wait = wait,

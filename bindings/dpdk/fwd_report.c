@@ -79,12 +79,12 @@ static void write_metrics(FILE *file, const struct fwd_options *options, const c
 
 /* alpha and beta are in sixteenths, times in microseconds, and limit in packets, as tc has them. */
 static void write_json(FILE *file, const struct fwd_options *options, const char *port, const struct pie_stage_stats *stats) {
-    const struct pie_stage_params *stage = &options->stage;
-    fprintf(file, "[{\"kind\":\"pie\",\"dev\":\"%s\",\"root\":true,\"options\":{\"limit\":%" PRIu32, port, stage->packets);
-    fprintf(file, ",\"target\":%" PRIu64 ",\"tupdate\":%" PRIu64, stage->pie.target / 1000, stage->pie.t_update / 1000);
-    fprintf(file, ",\"alpha\":%g,\"beta\":%g", (double)stage->pie.alpha * 0.016, (double)stage->pie.beta * 0.016);
-    fprintf(file, "%s%s%s}", stage->ecn ? ",\"ecn\":true" : "", (stage->choices & PIE_SIZE_SCALED) != 0 ? ",\"bytemode\":true" : "",
-            (stage->choices & PIE_DELAY_STAMP) == 0 ? ",\"dq_rate_estimator\":true" : "");
+    const struct pie_opening *pie = &options->stage.opening;
+    fprintf(file, "[{\"kind\":\"pie\",\"dev\":\"%s\",\"root\":true,\"options\":{\"limit\":%" PRIu64, port, pie->packets);
+    fprintf(file, ",\"target\":%" PRIu64 ",\"tupdate\":%" PRIu64, pie->params.target / 1000, pie->params.t_update / 1000);
+    fprintf(file, ",\"alpha\":%g,\"beta\":%g", (double)pie->params.alpha * 0.016, (double)pie->params.beta * 0.016);
+    fprintf(file, "%s%s%s}", options->stage.ecn ? ",\"ecn\":true" : "", (pie->choices & PIE_SIZE_SCALED) != 0 ? ",\"bytemode\":true" : "",
+            (pie->choices & PIE_DELAY_STAMP) == 0 ? ",\"dq_rate_estimator\":true" : "");
     fprintf(file, ",\"bytes\":%" PRIu64 ",\"packets\":%" PRIu64 ",\"drops\":%" PRIu64 ",\"overlimits\":0,\"requeues\":0", stats->departed_bytes,
             stats->departed, drops_of(stats));
     fprintf(file, ",\"backlog\":%" PRIu64 ",\"qlen\":%" PRIu64 ",\"prob\":%.12g,\"delay\":%" PRIu64, stats->waiting_bytes, stats->waiting,

@@ -1,7 +1,6 @@
 #include "pie_stage.h"
 
 #include "pie_ring.h"
-#include "rolling.h"
 #include "stage_packet.h"
 #include "stage_words.h"
 
@@ -24,9 +23,6 @@
 #define LEAST_EVENTS 16u
 #define AHEAD 12u /* events ahead whose slots are fetched */
 #define HANDED_OVER 256u /* packets that wait of which a text is told in one turn at the lock */
-#define RECORDED_PACKETS (1u << 20) /* the most that a history's queue has room for */
-#define RECORDED_EVENTS (UINT64_C(1) << 47)
-#define TAIL 1024 /* events that the book which decides again keeps */
 
 /* A packet that waits, in 24 bytes of the ring. */
 struct waiting {
@@ -90,11 +86,9 @@ struct pie_stage {
     uint32_t room;
     bool ecn, hands_back;
 
-    struct pie_ring_history text __rte_cache_aligned; /* of who writes the history, and its first line */
-    bool is_timed;                            /* the text has told the time of day */
-    unsigned char first[PIE_RECORD_ROOM];
-    size_t first_size;
-    struct pie_opening opening; /* (of the flight recorder too) */
+    struct pie_ring_history text __rte_cache_aligned; /* of who writes the history */
+    bool is_timed;                                    /* the text has told the time of day */
+    struct pie_opening opening;
     struct cut cut;
 
     rte_spinlock_t lock __rte_cache_aligned; /* of all that follows; `due`, `packets` and `picks` are read without it too */
@@ -135,35 +129,22 @@ static uint64_t unix_time(void) {
 
 void pie_stage_default_params(struct pie_stage_params *params, uint64_t rate) {
     memset(params, 0, sizeof *params);
-    pie_params_for(rate, &params->pie);
-    params->profile = PIE_ALWAYS_ON;
-    params->choices = PIE_USUAL;
-    params->packets = (uint32_t)RTE_MIN(params->pie.limit_bytes / SMALLEST, UINT64_C(65536));
+    pie_default_opening(&params->opening, rate);
+    params->opening.packets = RTE_MIN(params->opening.params.limit_bytes / SMALLEST, UINT64_C(65536));
     params->ecn = true;
     params->flight = PIE_STAGE_FLIGHT;
 }
 
 /* Opens the controller and takes a key; 0, or what rte_errno becomes. */
 static int open_stage(struct pie_stage *stage, const struct pie_stage_params *params) {
-    bool is_recorded = params->events != 0 || params->flight != 0;
-    if (params->packets < 1 || params->packets > (is_recorded ? RECORDED_PACKETS : PIE_STAGE_MAX_PACKETS))
-        return EINVAL;
-    if (pie_open_with(&stage->pie, &params->pie, 0, params->profile, params->choices) != PIE_DONE)
+    if (pie_open(&stage->pie, &params->opening) != PIE_DONE)
         return EINVAL;
     if (!stage_words_seed(&stage->words))
         return EIO;
-    stage->room = params->packets;
+    stage->opening = params->opening;
+    stage->room = (uint32_t)params->opening.packets;
     stage->ecn = params->ecn;
     stage->hands_back = params->hands_back;
-    stage->opening = (struct pie_opening){
-        .params = params->pie,
-        .profile = params->profile,
-        .choices = params->choices,
-        .mode = PIE_ROLLING,
-        .packets = params->packets,
-        .tail = TAIL,
-        .events = RECORDED_EVENTS,
-    };
     stage->record = params->events != 0 ? WHOLE : params->flight != 0 ? FLIGHT : NOTHING;
     stage->longest = params->flight_wait != 0 ? params->flight_wait : UINT64_MAX;
     stage->due = pie_due(&stage->pie);
@@ -178,27 +159,25 @@ static int open_events(struct pie_stage *stage, const struct pie_stage_params *p
     uint32_t events = params->events;
     if (events == 0)
         return 0;
-    if (events < LEAST_EVENTS || events > PIE_STAGE_MAX_PACKETS || (events & (events - 1)) != 0)
+    if (events < LEAST_EVENTS || events > PIE_STAGE_MAX_EVENTS || (events & (events - 1)) != 0)
         return EINVAL;
     stage->slots = rte_malloc_socket("pie_stage", events * sizeof *stage->slots, RTE_CACHE_LINE_SIZE, socket);
     if (stage->slots == NULL)
         return ENOMEM;
-    stage->cut.queue = rte_malloc_socket("pie_stage", params->packets * sizeof *stage->cut.queue, RTE_CACHE_LINE_SIZE, socket);
+    stage->cut.queue = rte_malloc_socket("pie_stage", stage->room * sizeof *stage->cut.queue, RTE_CACHE_LINE_SIZE, socket);
     if (stage->cut.queue == NULL)
         return ENOMEM;
     pie_ring_open(&stage->events, stage->slots, events);
-    stage->first_size =
-        write_rolling_opening(&params->pie, 0, params->profile, params->choices, params->packets, TAIL, RECORDED_EVENTS, stage->first);
-    return stage->first_size != 0 ? 0 : EINVAL;
+    return 0;
 }
 
 /* Opens the flight recorder; 0, or what rte_errno becomes. The memory for a copy is taken here, so that a text can be written when memory is out. */
 static int open_flight(struct pie_stage *stage, const struct pie_stage_params *params, int socket) {
     if (params->flight == 0)
         return 0;
-    if (params->flight > PIE_STAGE_MAX_FLIGHT)
+    if (params->flight > PIE_STAGE_MAX_EVENTS)
         return EINVAL;
-    stage->memory_bytes = pie_flight_bulk_bytes(params->flight, params->packets, BURST);
+    stage->memory_bytes = pie_flight_bulk_bytes(params->flight, stage->room, BURST);
     stage->memory = rte_malloc_socket("pie_stage", stage->memory_bytes, RTE_CACHE_LINE_SIZE, socket);
     stage->scratch = rte_malloc_socket("pie_stage", stage->memory_bytes, RTE_CACHE_LINE_SIZE, socket);
     if (stage->memory == NULL || stage->scratch == NULL)
@@ -227,7 +206,7 @@ struct pie_stage *pie_stage_create(const char *name, const struct pie_stage_para
         fault = open_flight(stage, params, socket);
     if (fault == 0) {
         // (rte_ring_create_elem sets rte_errno)
-        stage->ring = rte_ring_create_elem(name, sizeof(struct waiting), params->packets, socket,
+        stage->ring = rte_ring_create_elem(name, sizeof(struct waiting), stage->room, socket,
                                            RING_F_SP_ENQ | RING_F_SC_DEQ | RING_F_EXACT_SZ);
         fault = stage->ring == NULL ? rte_errno : 0;
     }
@@ -634,10 +613,8 @@ size_t pie_stage_history(struct pie_stage *stage, unsigned char *text, size_t ro
         return 0;
     if (cut->state > AHEAD_OF_US)
         return begin_text(stage, text, room);
-    if (stage->text.records == 0) {
-        size = pie_text_opening(&stage->text, stage->first_size);
-        memcpy(text, stage->first, size);
-    }
+    if (stage->text.records == 0)
+        size = pie_text_opening(&stage->text, &stage->opening, text, room);
     if (!stage->is_timed && room - size >= PIE_RECORD_ROOM) {
         size += pie_text_clock(&stage->text, moment_of(stage, rte_rdtsc()), unix_time(), text + size, room - size);
         stage->is_timed = true;

@@ -19,8 +19,9 @@
  * Packets are Ethernet frames, and a packet's size is its pkt_len, without the frame check sequence. One whose size is outside 1 to 65535
  * bytes, as segmentation offload makes them, is dropped (`oversized`). Marks are set in the outermost IP header, behind up to four VLAN tags.
  *
- * All calls but create, free and those for the history may be made by any number of threads at once; they take one spin lock, a burst at a time,
- * and nothing that waits or takes memory stands under it. A dequeue with nothing to take, and an update that is not due, take no lock.
+ * All calls but create, free and those for the history may be made by any number of threads at once; they take one spin lock, and nothing that
+ * waits or takes memory stands under it. An enqueue gives it up after each 32 packets; a dequeue holds it for all that it takes. A dequeue with
+ * nothing to take, and an update that is not due, take no lock.
  *
  * A flight recorder (pie_flight.h) keeps the last `flight` arrivals, departures and updates. pie_stage_flight writes them, from any lcore while the
  * others go on, as a text that resumes (docs/FORMATS.md), which `pie audit` decides again:
@@ -52,9 +53,8 @@ extern "C" {
 struct rte_mbuf;
 struct pie_stage;
 
-#define PIE_STAGE_MAX_PACKETS (1u << 24) /* the greatest room */
-#define PIE_STAGE_MAX_FLIGHT (1u << 24)  /* the most events of the flight recorder */
-#define PIE_STAGE_FLIGHT (1u << 14)      /* .. and those of the default parameters */
+#define PIE_STAGE_MAX_EVENTS (1u << 24) /* the most events of the history's ring, and of the flight recorder */
+#define PIE_STAGE_FLIGHT (1u << 14)     /* those of the flight recorder by default */
 
 #define PIE_STAGE_WAITS 13 /* how many sorts of waits are counted */
 
@@ -64,17 +64,14 @@ static inline uint64_t pie_stage_wait_bound(uint32_t sort) {
 }
 
 struct pie_stage_params {
-    struct pie_params pie; /* the controller's parameters */
-    uint32_t profile;      /* PIE_ALWAYS_ON or PIE_ON_AND_OFF */
-    uint32_t choices;      /* PIE_USUAL, or flags as PIE_DELAY_STAMP */
-    uint32_t packets;      /* how many packets the queue has room for, 1 to 2^24 */
-    bool ecn;              /* mark packets whose ECN field allows it; else they are dropped, as others */
-    bool hands_back;       /* dropped mbufs are handed back to whoever enqueued them; else the stage frees them */
-    uint32_t flight;       /* how many of the last events the flight recorder keeps at the least, up to 2^24, each of some 100 bytes with the memory
-                              for a copy; 0: it keeps none */
-    uint64_t flight_wait;  /* a packet that waited longer than so many nanoseconds asks for the flight recorder's text; 0: none does */
-    uint32_t events;       /* how many events may wait for who writes the whole history, a power of two from 16 to 2^24, each of 64 bytes; 0: it is
-                              not recorded. With a history or a flight recorder `packets` is at most 2^20 */
+    struct pie_opening opening; /* of the controller, by the stage's clock, which begins at 0; its `packets` are what the queue has room for */
+    bool ecn;                   /* mark packets whose ECN field allows it; else they are dropped, as others */
+    bool hands_back;            /* dropped mbufs are handed back to whoever enqueued them; else the stage frees them */
+    uint32_t flight;            /* how many of the last events the flight recorder keeps at the least, up to 2^24, each of some 100 bytes with the
+                                   memory for a copy; 0: it keeps none */
+    uint64_t flight_wait;       /* a packet that waited longer than so many nanoseconds asks for the flight recorder's text; 0: none does */
+    uint32_t events;            /* how many events may wait for who writes the whole history, a power of two from 16 to 2^24, each of 64 bytes;
+                                   0: it is not recorded */
 };
 
 /* What a stage counted since it was made, and what it holds now. Each packet that was enqueued is counted once as queued (of these some are
@@ -109,8 +106,8 @@ struct pie_stage_stats {
     uint64_t burst;          /* the burst allowance, in ns */
 };
 
-/* Default parameters for a link of this rate, in bits a second: pie_params_for, always on, usual choices, a queue with room for
- * limit_bytes of packets of 64 bytes up to 65536 packets, marks, dropped mbufs freed, and a flight recorder of PIE_STAGE_FLIGHT events. */
+/* Default parameters for a link of this rate, in bits a second: pie_default_opening, but a queue with room for limit_bytes of packets of
+ * 64 bytes up to 65536 packets; marks, dropped mbufs freed, and a flight recorder of PIE_STAGE_FLIGHT events. */
 void pie_stage_default_params(struct pie_stage_params *params, uint64_t rate);
 
 /* Makes a stage. Its memory is DPDK's, on this socket or SOCKET_ID_ANY; the name is that of its rte_ring, and no other ring has it.

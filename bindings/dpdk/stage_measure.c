@@ -159,9 +159,9 @@ static int measure_slow(const char *folder) {
     struct pie_stage_params params;
     struct pie_stage_stats stats;
     pie_stage_default_params(&params, 20000000);
-    params.packets = ROOM;
+    params.opening.packets = ROOM;
     params.events = EVENTS;
-    if (!peer_open(&peer, (uint32_t)(params.pie.limit_bytes / 782)))
+    if (!peer_open(&peer, (uint32_t)(params.opening.params.limit_bytes / 782)))
         die("rte_pie");
     run_slow(PEER, NULL);
     peer_close(&peer);
@@ -291,7 +291,7 @@ static double run_rate(enum which which, double seconds, FILE *nowhere, const ch
     struct pie_stage_params params;
     uint64_t hz = rte_get_tsc_hz();
     pie_stage_default_params(&params, UINT64_C(10000000000));
-    params.packets = ROOM;
+    params.opening.packets = ROOM;
     params.ecn = which != DROPPING;
     params.flight = which == LAST ? PIE_STAGE_FLIGHT : 0;
     params.events = which == RECORDED ? EVENTS : 0;

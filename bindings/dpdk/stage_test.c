@@ -4,177 +4,21 @@
  *
  * usage: stage_test [EAL options] -- FOLDER [threads]     FOLDER: histories come to it, for pie audit; threads: the threads alone, for a sanitizer
  */
+#include "stage_test.h"
+
 #include "fwd_pace.h"
-#include "pie_stage.h"
 #include "stage_packet.h"
 #include "stage_words.h"
 
 #include <inttypes.h>
-#include <pthread.h>
 #include <rte_cycles.h>
 #include <rte_eal.h>
 #include <rte_errno.h>
 #include <rte_ip.h>
-#include <rte_mbuf.h>
-#include <rte_memory.h>
-#include <rte_spinlock.h>
-#include <sched.h>
-#include <stdio.h>
-#include <stdlib.h>
-#include <time.h>
+#include <string.h>
 
-#define MBUFS 8191u
-#define EXPECT(what)                                                              \
-    do {                                                                          \
-        if (!(what)) {                                                            \
-            fprintf(stderr, "stage_test: %s:%d: not so: %s\n", __FILE__, __LINE__, #what); \
-            exit(1);                                                              \
-        }                                                                         \
-    } while (0)
-
-static struct rte_mempool *pool;
-static const char *folder;
-static int are_done; /* of a test with threads */
-
-static struct rte_mbuf *alloc(void) {
-    struct rte_mbuf *mbuf = rte_pktmbuf_alloc(pool);
-    EXPECT(mbuf != NULL);
-    return mbuf;
-}
-
-static void expect_all_back(void) {
-    EXPECT(rte_mempool_avail_count(pool) == MBUFS);
-}
-
-/* A frame with this many VLAN tags, an IP header of this version and this ECN field; answers its size. */
-static uint32_t write_frame(uint8_t *bytes, int tags, int version, uint8_t ecn) {
-    uint32_t at = 12;
-    memset(bytes, 0, 256);
-    for (int i = 0; i < tags; i++, at += 4) {
-        bytes[at] = i + 1 < tags ? 0x88 : 0x81;
-        bytes[at + 1] = i + 1 < tags ? 0xa8 : 0x00;
-    }
-    bytes[at++] = version == 4 ? 0x08 : 0x86;
-    bytes[at++] = version == 4 ? 0x00 : 0xdd;
-    if (version == 4) {
-        struct rte_ipv4_hdr header = {.version_ihl = 0x46, .type_of_service = 0xb8 | ecn, .time_to_live = 64, .next_proto_id = 17};
-        header.total_length = rte_cpu_to_be_16(64);
-        header.src_addr = rte_cpu_to_be_32(0x0a000001 + (uint32_t)tags);
-        header.dst_addr = rte_cpu_to_be_32(0xffffff00);
-        memcpy(bytes + at, &header, sizeof header);
-        ((struct rte_ipv4_hdr *)(bytes + at))->hdr_checksum = rte_ipv4_cksum((struct rte_ipv4_hdr *)(bytes + at));
-        return at + 64;
-    }
-    bytes[at] = 0x6b;
-    bytes[at + 1] = (uint8_t)(0x85 | ecn << 4);
-    return at + 80;
-}
-
-/* These bytes in mbufs of `first` bytes, `second` bytes and the rest. */
-static struct rte_mbuf *segments(const uint8_t *bytes, uint32_t size, uint32_t first, uint32_t second) {
-    uint32_t lengths[3] = {first, second, size - first - second};
-    struct rte_mbuf *head = NULL;
-    for (int i = 0; i < 3; i++) {
-        struct rte_mbuf *segment = alloc();
-        memcpy(rte_pktmbuf_append(segment, (uint16_t)lengths[i]), bytes, lengths[i]);
-        bytes += lengths[i];
-        if (head == NULL)
-            head = segment;
-        else
-            EXPECT(rte_pktmbuf_chain(head, segment) == 0);
-    }
-    return head;
-}
-
-static struct rte_mbuf *frame(int tags, int version, uint8_t ecn) {
-    uint8_t bytes[256];
-    return segments(bytes, write_frame(bytes, tags, version, ecn), 14, 0);
-}
-
-/* A frame of this size whose ECN field is this, in one segment. */
-static struct rte_mbuf *plain(uint16_t size, uint8_t ecn) {
-    uint8_t bytes[256];
-    struct rte_mbuf *mbuf = alloc();
-    uint32_t head = write_frame(bytes, 0, 4, ecn);
-    memset(rte_pktmbuf_append(mbuf, size), 0, size);
-    memcpy(rte_pktmbuf_mtod(mbuf, void *), bytes, RTE_MIN(head, (uint32_t)size));
-    return mbuf;
-}
-
-/* However it is cut into segments, a mark changes the ECN field and the checksum alone, and the checksum is right. */
-static void expect_marked(int tags, int version, uint8_t ecn, uint32_t first, uint32_t second) {
-    uint8_t bytes[256], wanted[256], copy[256];
-    uint32_t size = write_frame(bytes, tags, version, ecn);
-    EXPECT(write_frame(wanted, tags, version, PIE_CE) == size);
-    struct rte_mbuf *mbuf = segments(bytes, size, first, second);
-    struct stage_packet packet = stage_packet_look(mbuf);
-    EXPECT(packet.version == version && packet.ecn == ecn && packet.header == 14 + 4 * tags);
-    EXPECT(!stage_packet_is_shared(mbuf, &packet));
-    stage_packet_mark(mbuf, &packet);
-    EXPECT(memcmp(rte_pktmbuf_read(mbuf, 0, size, copy), wanted, size) == 0);
-    rte_pktmbuf_free(mbuf);
-}
-
-static void test_marks(void) {
-    for (int version = 4; version <= 6; version += 2)
-        for (int tags = 0; tags <= 4; tags++)
-            for (uint8_t ecn = PIE_ECT1; ecn <= PIE_CE; ecn++)
-                for (uint32_t first = 1; first < 50; first++)
-                    for (uint32_t second = 0; second < 12; second += 3)
-                        expect_marked(tags, version, ecn, first, second);
-    // the card computes the checksum: it is left alone
-    struct rte_mbuf *mbuf = frame(0, 4, PIE_ECT0);
-    struct stage_packet packet = stage_packet_look(mbuf);
-    uint8_t before[64], after[64];
-    memcpy(before, rte_pktmbuf_read(mbuf, 0, 34, before), 34);
-    mbuf->ol_flags |= RTE_MBUF_F_TX_IP_CKSUM;
-    stage_packet_mark(mbuf, &packet);
-    const uint8_t *now = rte_pktmbuf_read(mbuf, 0, 34, after);
-    EXPECT(now[15] == (before[15] | PIE_CE) && now[24] == before[24] && now[25] == before[25]);
-    rte_pktmbuf_free(mbuf);
-    expect_all_back();
-    printf("stage_test: marks in IPv4 and IPv6, behind VLAN tags, across segments\n");
-}
-
-/* What is no IP header, or is cut short, has no ECN field. */
-static void test_no_ip(void) {
-    uint8_t bytes[256];
-    for (int version = 4; version <= 6; version += 2) {
-        uint32_t size = write_frame(bytes, 5, version, PIE_ECT0);
-        struct rte_mbuf *mbuf = segments(bytes, size, 20, 0);
-        EXPECT(stage_packet_look(mbuf).version == 0); // five tags
-        rte_pktmbuf_free(mbuf);
-        write_frame(bytes, 1, version, PIE_ECT0);
-        for (uint32_t cut = 0; cut < 18u + (version == 4 ? 24 : 40); cut++) {
-            mbuf = segments(bytes, cut, cut / 2, 0);
-            EXPECT(stage_packet_look(mbuf).version == 0 && stage_packet_look(mbuf).ecn == PIE_NOT_ECT);
-            rte_pktmbuf_free(mbuf);
-        }
-    }
-    write_frame(bytes, 0, 4, PIE_ECT0);
-    bytes[14] = 0x44; // a header of 16 bytes
-    struct rte_mbuf *mbuf = segments(bytes, 78, 30, 0);
-    EXPECT(stage_packet_look(mbuf).version == 0);
-    rte_pktmbuf_free(mbuf);
-    expect_all_back();
-    printf("stage_test: no IP, and headers cut short\n");
-}
-
-/* A header that others hold is not marked. */
-static void test_shared(void) {
-    struct rte_mbuf *mbuf = plain(100, PIE_ECT0);
-    struct stage_packet packet = stage_packet_look(mbuf);
-    struct rte_mbuf *clone = rte_pktmbuf_clone(mbuf, pool);
-    EXPECT(stage_packet_is_shared(mbuf, &packet) && stage_packet_is_shared(clone, &packet));
-    rte_pktmbuf_free(mbuf);
-    EXPECT(!stage_packet_is_shared(clone, &packet)); // the last holder
-    rte_mbuf_refcnt_update(clone, 1);
-    EXPECT(stage_packet_is_shared(clone, &packet));
-    rte_mbuf_refcnt_update(clone, -1);
-    rte_pktmbuf_free(clone);
-    expect_all_back();
-    printf("stage_test: shared headers\n");
-}
+struct rte_mempool *pool;
+const char *folder;
 
 /* The key stream is ChaCha's: the block of RFC 8439, section 2.3.2. */
 static void test_words(void) {
@@ -200,117 +44,6 @@ static void test_words(void) {
     for (int bit = 0; bit < 64; bit++)
         EXPECT(set[bit] > 19000 && set[bit] < 21000); // ten standard deviations
     printf("stage_test: random words\n");
-}
-
-/* The default parameters for 100 Mbit/s, without a flight recorder. */
-static void unrecorded(struct pie_stage_params *params) {
-    pie_stage_default_params(params, 100000000);
-    EXPECT(params->flight == PIE_STAGE_FLIGHT);
-    params->flight = 0;
-}
-
-static struct pie_stage *stage_of(struct pie_stage_params *params) {
-    struct pie_stage *stage = pie_stage_create("test", params, SOCKET_ID_ANY);
-    EXPECT(stage != NULL);
-    return stage;
-}
-
-/* What a history has. */
-struct told {
-    uint64_t lines, lost, gaps; /* lines but that of the time of day; events that its lines `lost` tell, and these lines */
-    uint64_t clocks;            /* lines of the time of day */
-};
-
-/* Takes out what the history has now, or to its end, into a file. */
-static void take_history(struct pie_stage *stage, FILE *file, bool is_end, struct told *told) {
-    unsigned char text[4096];
-    size_t size;
-    while ((size = (is_end ? pie_stage_history_end : pie_stage_history)(stage, text, sizeof text)) != 0) {
-        EXPECT(size <= sizeof text && text[size - 1] == '\n' && fwrite(text, 1, size, file) == size);
-        for (unsigned char *line = text; line < text + size; line = (unsigned char *)memchr(line, '\n', size) + 1) {
-            bool is_clock = memcmp(line, "clock,", 6) == 0;
-            told->lines += !is_clock;
-            told->clocks += is_clock;
-            if (memcmp(line, "lost,", 5) == 0) {
-                told->gaps++;
-                told->lost += strtoull((const char *)line + 5, NULL, 10);
-            }
-        }
-    }
-}
-
-static FILE *open_history(const char *name) {
-    char path[4096];
-    snprintf(path, sizeof path, "%s/%s.history", folder, name);
-    FILE *file = fopen(path, "w");
-    EXPECT(file != NULL);
-    return file;
-}
-
-/* What a stage counted is so many events. */
-static uint64_t events_of(const struct pie_stage_stats *stats) {
-    return stats->queued + stats->early + stats->bytes + stats->full + stats->departed + stats->updates;
-}
-
-static int write_to(void *user, const unsigned char *bytes, size_t count) {
-    return fwrite(bytes, 1, count, user) == count ? 0 : 1;
-}
-
-/* Of a text that resumes: the events before it, the packets that wait then, its lines of the time of day, and its events. */
-struct resumed {
-    uint64_t before, queued, clocks, events;
-};
-
-/* Whether a line `clock,<moment>,<unix>` was written in the last minutes. */
-static bool is_now(const char *line) {
-    const char *time_of_day = strchr(strchr(line, ',') + 1, ',') + 1;
-    uint64_t seconds = strtoull(time_of_day, NULL, 10) / 1000000000u, now = (uint64_t)time(NULL);
-    return seconds <= now + 1 && now < seconds + 300; // (`time` may be some milliseconds late)
-}
-
-static struct resumed read_resumed(const char *name) {
-    struct resumed resumed = {0};
-    char path[4096], line[2048];
-    snprintf(path, sizeof path, "%s/%s.history", folder, name);
-    FILE *file = fopen(path, "r");
-    EXPECT(file != NULL && fgets(line, sizeof line, file) != NULL && strncmp(line, "resume,", 7) == 0);
-    char *at = line;
-    for (int field = 0; field < 29; field++)
-        at = strchr(at, ',') + 1;
-    resumed.before = strtoull(at, NULL, 10);
-    while (fgets(line, sizeof line, file) != NULL) {
-        bool is_queued = strncmp(line, "queued,", 7) == 0, is_clock = strncmp(line, "clock,", 6) == 0;
-        EXPECT(!is_queued || resumed.clocks == 0);
-        EXPECT(is_clock == (!is_queued && resumed.clocks == 0)); // (once, behind the packets that wait)
-        EXPECT(!is_clock || is_now(line));
-        resumed.queued += is_queued;
-        resumed.clocks += is_clock;
-        resumed.events += !is_queued && !is_clock;
-    }
-    EXPECT(resumed.clocks == 1);
-    fclose(file);
-    return resumed;
-}
-
-/* Writes what the flight recorder holds, of a stage that stands still: all events, or at least so many, to the last. */
-static struct resumed expect_flight(struct pie_stage *stage, const char *name, uint64_t least) {
-    struct pie_stage_stats stats;
-    FILE *file = open_history(name);
-    EXPECT(pie_stage_flight(stage, write_to, file) == PIE_FLIGHT_DONE && fclose(file) == 0);
-    struct resumed resumed = read_resumed(name);
-    pie_stage_read(stage, &stats);
-    EXPECT(resumed.before + resumed.events == events_of(&stats) && (resumed.before == 0 || resumed.events >= least));
-    EXPECT(resumed.events <= least + 2 * (least / 8 + 32));
-    return resumed;
-}
-
-/* Each decision of a recorded stage stands in its history, or is told as lost. */
-static void expect_told(struct pie_stage *stage, const struct told *told) {
-    struct pie_stage_stats stats;
-    pie_stage_read(stage, &stats);
-    uint64_t events = events_of(&stats);
-    EXPECT(stats.refused == 0 && told->lost == stats.lost && (told->lost == 0) == (told->gaps == 0));
-    EXPECT(told->lines == 1 + events - told->lost + told->gaps && told->clocks == 1);
 }
 
 static void test_clock(void) {
@@ -349,18 +82,16 @@ static void test_create(void) {
     unrecorded(&params);
     struct pie_stage *stage = stage_of(&params);
     EXPECT(pie_stage_create("test", &params, SOCKET_ID_ANY) == NULL && rte_errno == EEXIST);
-    bad = params, bad.packets = 0;
+    bad = params, bad.opening.packets = 0;
     EXPECT(pie_stage_create("other", &bad, SOCKET_ID_ANY) == NULL && rte_errno == EINVAL);
-    bad = params, bad.packets = PIE_STAGE_MAX_PACKETS + 1;
+    bad = params, bad.opening.packets = (1 << 20) + 1;
     EXPECT(pie_stage_create("other", &bad, SOCKET_ID_ANY) == NULL && rte_errno == EINVAL);
-    bad = params, bad.profile = 3;
+    bad = params, bad.opening.profile = 3;
     EXPECT(pie_stage_create("other", &bad, SOCKET_ID_ANY) == NULL && rte_errno == EINVAL);
-    bad = params, bad.pie.target = 1;
+    bad = params, bad.opening.params.target = 1;
     EXPECT(pie_stage_create("other", &bad, SOCKET_ID_ANY) == NULL && rte_errno == EINVAL);
-    bad = params, bad.choices = 16;
+    bad = params, bad.opening.choices = 32;
     EXPECT(pie_stage_create("other", &bad, SOCKET_ID_ANY) == NULL && rte_errno == EINVAL);
-    bad = params, bad.packets = PIE_STAGE_MAX_PACKETS; // 512 megabytes, more than there are
-    EXPECT(pie_stage_create("other", &bad, SOCKET_ID_ANY) == NULL && rte_errno == ENOMEM);
     char name[256];
     memset(name, 'x', sizeof name - 1);
     name[sizeof name - 1] = '\0';
@@ -371,16 +102,12 @@ static void test_create(void) {
         bad = params, bad.events = wrong[i];
         EXPECT(pie_stage_create("other", &bad, SOCKET_ID_ANY) == NULL && rte_errno == EINVAL);
     }
-    bad = params, bad.events = 16, bad.packets = (1 << 20) + 1;
-    EXPECT(pie_stage_create("other", &bad, SOCKET_ID_ANY) == NULL && rte_errno == EINVAL);
     bad = params, bad.events = 1 << 24; // a gigabyte
     EXPECT(pie_stage_create("other", &bad, SOCKET_ID_ANY) == NULL && rte_errno == ENOMEM);
     // .. and of a flight recorder
-    bad = params, bad.flight = PIE_STAGE_MAX_FLIGHT + 1;
+    bad = params, bad.flight = PIE_STAGE_MAX_EVENTS + 1;
     EXPECT(pie_stage_create("other", &bad, SOCKET_ID_ANY) == NULL && rte_errno == EINVAL);
-    bad = params, bad.flight = 1, bad.packets = (1 << 20) + 1;
-    EXPECT(pie_stage_create("other", &bad, SOCKET_ID_ANY) == NULL && rte_errno == EINVAL);
-    bad = params, bad.flight = PIE_STAGE_MAX_FLIGHT;
+    bad = params, bad.flight = PIE_STAGE_MAX_EVENTS;
     EXPECT(pie_stage_create("other", &bad, SOCKET_ID_ANY) == NULL && rte_errno == ENOMEM);
     unsigned char text[PIE_RECORD_ROOM];
     EXPECT(pie_stage_history(stage, text, sizeof text) == 0 && pie_stage_history_end(stage, text, sizeof text) == 0); // nothing is recorded
@@ -399,7 +126,7 @@ static void test_full(void) {
         struct pie_stage_stats stats;
         struct rte_mbuf *mbufs[6], *kept[6], *out[8];
         unrecorded(&params);
-        params.packets = 4;
+        params.opening.packets = 4;
         params.hands_back = hands_back == 1;
         params.events = hands_back == 1 ? 16 : 0;
         struct pie_stage *stage = stage_of(&params);
@@ -422,7 +149,7 @@ static void test_full(void) {
     struct pie_stage_params params;
     struct pie_stage_stats stats;
     unrecorded(&params);
-    params.pie.limit_bytes = 1000;
+    params.opening.params.limit_bytes = 1000;
     params.hands_back = true;
     struct pie_stage *stage = stage_of(&params);
     struct rte_mbuf *mbufs[5] = {plain(600, 0), plain(600, 0), plain(300, 0), alloc(), NULL}, *kept[5];
@@ -451,10 +178,10 @@ static void test_decisions(uint32_t events, uint32_t flight) {
     struct pie_stage_params params;
     struct pie_stage_stats stats;
     unrecorded(&params);
-    params.pie.mark_ecnth = PIE_ONE;
-    params.pie.max_burst = 0;
-    params.pie.target = 1000000;
-    params.pie.t_update = 1000000;
+    params.opening.params.mark_ecnth = PIE_ONE;
+    params.opening.params.max_burst = 0;
+    params.opening.params.target = 1000000;
+    params.opening.params.t_update = 1000000;
     params.events = events;
     params.flight = flight;
     struct pie_stage *stage = stage_of(&params);
@@ -512,11 +239,11 @@ static void test_first_marks(void) {
     struct pie_stage_stats stats;
     struct rte_mbuf *mbufs[32];
     unrecorded(&params);
-    params.choices = PIE_DELAY_STAMP | PIE_PICK_RANDOM | PIE_STEP_UNCAPPED;
-    params.pie.mark_ecnth = PIE_ONE;
-    params.pie.max_burst = 0;
-    params.pie.alpha = 0;
-    params.pie.beta = 1000000;
+    params.opening.choices = PIE_DELAY_STAMP | PIE_PICK_RANDOM | PIE_STEP_UNCAPPED;
+    params.opening.params.mark_ecnth = PIE_ONE;
+    params.opening.params.max_burst = 0;
+    params.opening.params.alpha = 0;
+    params.opening.params.beta = 1000000;
     struct pie_stage *stage = stage_of(&params);
     uint64_t hz = rte_get_tsc_hz(), now = rte_rdtsc();
     for (int i = 0; i < 32; i++)
@@ -542,7 +269,7 @@ static void test_record(void) {
     struct pie_stage_stats stats;
     struct told told = {0};
     unrecorded(&params);
-    params.packets = 4;
+    params.opening.packets = 4;
     params.events = 16;
     struct pie_stage *stage = stage_of(&params);
     uint64_t hz = rte_get_tsc_hz(), now = rte_rdtsc() + hz;
@@ -593,7 +320,7 @@ static void test_flight(uint32_t flight) {
     struct rte_mbuf *mbufs[100], *out[100];
     char name[64];
     unrecorded(&params);
-    params.packets = 90;
+    params.opening.packets = 90;
     params.flight = flight;
     params.flight_wait = 20000000;
     struct pie_stage *stage = stage_of(&params);
@@ -635,10 +362,10 @@ static void test_cut(void) {
     char name[64];
     uint64_t last = 0;
     unrecorded(&params);
-    params.pie.target = 1000000;
-    params.pie.t_update = 1000000;
-    params.pie.max_burst = 0;
-    params.packets = 100;
+    params.opening.params.target = 1000000;
+    params.opening.params.t_update = 1000000;
+    params.opening.params.max_burst = 0;
+    params.opening.packets = 100;
     params.events = 1024;
     struct pie_stage *stage = stage_of(&params);
     struct told told = {0};
@@ -683,63 +410,6 @@ static void test_cut(void) {
     printf("stage_test: a history that is cut\n");
 }
 
-/* Keeps some 3000 packets waiting. */
-static void *churn(void *argument) {
-    struct rte_mbuf *mbufs[8], *out[16];
-    struct pie_stage_stats stats;
-    for (uint32_t round = 0; !__atomic_load_n(&are_done, __ATOMIC_SEQ_CST); round++) {
-        for (int i = 0; i < 8; i++)
-            mbufs[i] = plain((uint16_t)(100 + round % 900), i % 2 == 0 ? PIE_ECT0 : PIE_NOT_ECT);
-        pie_stage_enqueue(argument, mbufs, 8, rte_rdtsc());
-        pie_stage_read(argument, &stats);
-        rte_pktmbuf_free_bulk(out, pie_stage_dequeue(argument, out, stats.waiting > 3000 ? 16 : 4, rte_rdtsc()));
-        if (round % 64 == 0)
-            sched_yield();
-    }
-    return NULL;
-}
-
-/* A history that is cut while packets come and go, of a queue that is copied in many turns: each text stands alone, and begins where the one before
- * ends. */
-static void test_cut_beside(int cuts) {
-    struct pie_stage_params params;
-    struct told told = {0};
-    pthread_t other;
-    char name[64] = "turns-0";
-    uint64_t last = 0;
-    unrecorded(&params);
-    params.packets = 4000;
-    params.events = 1 << 16;
-    params.pie.limit_bytes = 1 << 24;
-    params.pie.target = UINT64_C(10000000000); // (so that none is dropped early)
-    struct pie_stage *stage = stage_of(&params);
-    are_done = 0;
-    EXPECT(pthread_create(&other, NULL, churn, stage) == 0);
-    for (int cut = 0; cut < cuts; cut++) {
-        FILE *file = open_history(name);
-        while (told.lines < 5000) // (so that the queue is long, and what waits at one cut is gone at the next)
-            take_history(stage, file, false, &told);
-        EXPECT(pie_stage_history_cut(stage) && !pie_stage_history_cut(stage));
-        take_history(stage, file, false, &told);
-        EXPECT(fclose(file) == 0);
-        struct resumed resumed = {.before = 0, .events = told.lines - 1};
-        if (cut > 0)
-            resumed = read_resumed(name);
-        EXPECT(last == 0 || resumed.before == last);
-        last = told.gaps != 0 ? 0 : resumed.before + resumed.events;
-        told = (struct told){0};
-        snprintf(name, sizeof name, "turns-%d", cut + 1);
-    }
-    __atomic_store_n(&are_done, 1, __ATOMIC_SEQ_CST);
-    EXPECT(pthread_join(other, NULL) == 0);
-    FILE *file = open_history(name);
-    take_history(stage, file, true, &told);
-    EXPECT(fclose(file) == 0);
-    pie_stage_free(stage);
-    expect_all_back();
-    printf("stage_test: a history that is cut while packets come and go\n");
-}
-
 /* The pace of pie-fwd: right on the average, and of a pause of a second it makes up for 10 ms. */
 static void test_pace(void) {
     uint64_t now = 1000, bytes = 0;
@@ -765,7 +435,7 @@ static void test_waits(void) {
     struct pie_stage_params params;
     struct pie_stage_stats before = {0}, after;
     unrecorded(&params);
-    params.pie.target = UINT64_C(10000000000);
+    params.opening.params.target = UINT64_C(10000000000);
     struct pie_stage *stage = stage_of(&params);
     uint64_t hz = rte_get_tsc_hz(), now = rte_rdtsc(), found = 0;
     for (int i = 0; i < 3000; i++) {
@@ -809,161 +479,6 @@ static void test_updates(void) {
     pie_stage_free(stage);
     expect_all_back();
     printf("stage_test: updates\n");
-}
-
-/* Three threads enqueue what they own, one dequeues and gives each packet back to its owner, one updates and reads. */
-#define SENDERS 3
-#define OWNED 64
-
-struct sender {
-    pthread_t thread;
-    struct pie_stage *stage;
-    uint32_t number, rounds;
-    uint64_t handed_back;
-    rte_spinlock_t lock; /* of what comes back */
-    struct rte_mbuf *back[OWNED];
-    uint32_t count;
-};
-
-static struct sender senders[SENDERS];
-
-static void *send_bursts(void *argument) {
-    struct sender *sender = argument;
-    struct rte_mbuf *mbufs[OWNED];
-    for (uint32_t round = 0; round < sender->rounds; round++) {
-        rte_spinlock_lock(&sender->lock);
-        uint32_t count = RTE_MIN(sender->count, 1 + round % 40);
-        sender->count -= count;
-        memcpy(mbufs, sender->back + sender->count, count * sizeof *mbufs);
-        rte_spinlock_unlock(&sender->lock);
-        uint32_t queued = pie_stage_enqueue(sender->stage, mbufs, count, rte_rdtsc());
-        rte_spinlock_lock(&sender->lock);
-        memcpy(sender->back + sender->count, mbufs + queued, (count - queued) * sizeof *mbufs);
-        sender->count += count - queued;
-        sender->handed_back += count - queued;
-        rte_spinlock_unlock(&sender->lock);
-        if (round % 16 == 0)
-            sched_yield(); // (so that the others get their turns where processors are few)
-    }
-    return NULL;
-}
-
-static void *take_bursts(void *argument) {
-    struct pie_stage *stage = argument;
-    struct rte_mbuf *mbufs[16];
-    bool is_last = false;
-    for (;;) {
-        uint32_t count = pie_stage_dequeue(stage, mbufs, 16, rte_rdtsc());
-        for (uint32_t i = 0; i < count; i++) {
-            struct sender *sender = &senders[mbufs[i]->port];
-            rte_spinlock_lock(&sender->lock);
-            sender->back[sender->count++] = mbufs[i];
-            rte_spinlock_unlock(&sender->lock);
-        }
-        if (count == 0 && is_last)
-            return NULL;
-        is_last = __atomic_load_n(&are_done, __ATOMIC_SEQ_CST);
-    }
-}
-
-static void *update_and_read(void *argument) {
-    struct pie_stage_stats stats;
-    while (!__atomic_load_n(&are_done, __ATOMIC_SEQ_CST)) {
-        pie_stage_update(argument, rte_rdtsc());
-        pie_stage_read(argument, &stats);
-        EXPECT(stats.queued == stats.departed + stats.waiting);
-    }
-    return NULL;
-}
-
-struct writer {
-    struct pie_stage *stage;
-    FILE *file;
-    struct told told;
-};
-
-/* Writes the flight recorder's text again and again, while the others go on; each is of later events. */
-static void *write_flights(void *argument) {
-    char name[64];
-    uint64_t last = 0;
-    for (int i = 0; i < 8 || !__atomic_load_n(&are_done, __ATOMIC_SEQ_CST); i++) {
-        snprintf(name, sizeof name, "flight-threads-%d", i % 8);
-        int answer;
-        do { // (until a copy isn't overwritten, so that no file stays empty: when the others have ended, none is)
-            FILE *file = open_history(name);
-            answer = pie_stage_flight(argument, write_to, file);
-            EXPECT(fclose(file) == 0);
-        } while (answer == PIE_FLIGHT_GONE);
-        EXPECT(answer == PIE_FLIGHT_DONE);
-        struct resumed resumed = read_resumed(name);
-        EXPECT(resumed.before + resumed.events >= last);
-        last = resumed.before + resumed.events;
-    }
-    return NULL;
-}
-
-static void *write_history(void *argument) {
-    struct writer *writer = argument;
-    while (!__atomic_load_n(&are_done, __ATOMIC_SEQ_CST))
-        take_history(writer->stage, writer->file, false, &writer->told);
-    return NULL;
-}
-
-/* With `events` above 0 one more thread writes the history, and with `flight` one writes what the flight recorder holds. */
-static void test_threads(uint32_t rounds, uint32_t events, uint32_t flight) {
-    struct pie_stage_params params;
-    struct pie_stage_stats stats;
-    pthread_t taker, updater, recorder, flights;
-    unrecorded(&params);
-    params.packets = 60;
-    params.hands_back = true;
-    params.pie.target = 2000;
-    params.pie.t_update = 10000;
-    params.pie.max_burst = 0;
-    params.pie.dq_threshold = 1024;
-    params.events = events;
-    params.flight = flight;
-    struct pie_stage *stage = stage_of(&params);
-    struct writer writer = {.stage = stage, .file = events != 0 ? open_history("threads") : NULL};
-    are_done = 0;
-    EXPECT(events == 0 || pthread_create(&recorder, NULL, write_history, &writer) == 0);
-    EXPECT(flight == 0 || pthread_create(&flights, NULL, write_flights, stage) == 0);
-    for (uint32_t i = 0; i < SENDERS; i++) {
-        senders[i] = (struct sender){.stage = stage, .number = i, .rounds = rounds, .count = OWNED};
-        for (uint32_t k = 0; k < OWNED; k++) {
-            senders[i].back[k] = plain(200, k % 2 ? PIE_ECT0 : PIE_NOT_ECT);
-            senders[i].back[k]->port = (uint16_t)i;
-        }
-        EXPECT(pthread_create(&senders[i].thread, NULL, send_bursts, &senders[i]) == 0);
-    }
-    EXPECT(pthread_create(&taker, NULL, take_bursts, stage) == 0 && pthread_create(&updater, NULL, update_and_read, stage) == 0);
-    uint64_t handed_back = 0;
-    for (uint32_t i = 0; i < SENDERS; i++)
-        EXPECT(pthread_join(senders[i].thread, NULL) == 0);
-    __atomic_store_n(&are_done, 1, __ATOMIC_SEQ_CST);
-    EXPECT(pthread_join(taker, NULL) == 0 && pthread_join(updater, NULL) == 0);
-    if (events != 0) {
-        EXPECT(pthread_join(recorder, NULL) == 0);
-        take_history(stage, writer.file, true, &writer.told);
-        EXPECT(fclose(writer.file) == 0);
-        expect_told(stage, &writer.told);
-    }
-    if (flight != 0) {
-        EXPECT(pthread_join(flights, NULL) == 0);
-        expect_flight(stage, "flight-threads", flight);
-    }
-    pie_stage_read(stage, &stats);
-    for (uint32_t i = 0; i < SENDERS; i++) {
-        EXPECT(senders[i].count == OWNED);
-        handed_back += senders[i].handed_back;
-        rte_pktmbuf_free_bulk(senders[i].back, OWNED);
-    }
-    EXPECT(stats.queued > 0 && stats.queued == stats.departed && stats.waiting == 0 && stats.waiting_bytes == 0);
-    EXPECT(stats.early + stats.full + stats.bytes == handed_back && stats.refused == 0);
-    pie_stage_free(stage);
-    expect_all_back();
-    printf("stage_test: threads%s%s (%" PRIu64 " queued, %" PRIu64 " dropped)\n", events != 0 ? ", recorded" : "",
-           flight != 0 ? ", with a flight recorder" : "", stats.queued, handed_back);
 }
 
 int main(int count, char **words) {

@@ -23,11 +23,12 @@ opens() {
     "$here/out/dumbbell" --queue="recorded$1" --seconds=0.001 --warm-up=0 --history="$work/opening" > /dev/null || exit 1
     grep -q "^$2,0,65536," "$work/opening" || { echo "bindings/ns3/check.sh: recorded$1 opens with $(cat "$work/opening")"; exit 1; }
 }
-opens '' open2,1,rolling
+opens '' open3,1,rate,derandomized,capped,unscaled,rolling
 opens -stamp open3,1,stamp,derandomized,capped,unscaled,rolling
 opens -random open3,1,rate,random,capped,unscaled,rolling
 opens -uncapped open3,1,rate,derandomized,uncapped,unscaled,rolling
 opens -scaled open3,1,rate,derandomized,capped,scaled,rolling
+opens -half open3,1,rate,derandomized,capped,unscaled,half,rolling
 
 # the history of a run is clean, and ns-3 counted the same marks and drops as it has
 runs() {

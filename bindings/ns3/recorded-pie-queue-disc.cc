@@ -9,8 +9,6 @@
 #include "ns3/string.h"
 #include "ns3/uinteger.h"
 
-#include "rolling.h"
-
 #include <cmath>
 
 namespace ns3
@@ -150,6 +148,11 @@ RecordedPieQueueDisc::GetTypeId()
                           BooleanValue(false),
                           MakeBooleanAccessor(&RecordedPieQueueDisc::m_isScaled),
                           MakeBooleanChecker())
+            .AddAttribute("DecayBelowHalf",
+                          "Whether the probability decays at delays below half the target (appendix B), and else at delays of 0 (section 4.2)",
+                          BooleanValue(false),
+                          MakeBooleanAccessor(&RecordedPieQueueDisc::m_decaysBelowHalf),
+                          MakeBooleanChecker())
             .AddAttribute("History",
                           "The file for the history; none where empty",
                           StringValue(""),
@@ -200,10 +203,12 @@ RecordedPieQueueDisc::GetState() const
     return m_pie;
 }
 
-pie_params
-RecordedPieQueueDisc::Params() const
+pie_opening
+RecordedPieQueueDisc::Opening() const
 {
-    pie_params params;
+    pie_opening opening;
+    pie_default_opening(&opening, 0);
+    pie_params& params = opening.params;
     params.target = static_cast<uint64_t>(m_target.GetNanoSeconds());
     params.t_update = static_cast<uint64_t>(m_tUpdate.GetNanoSeconds());
     params.max_burst = static_cast<uint64_t>(m_maxBurst.GetNanoSeconds());
@@ -213,14 +218,13 @@ RecordedPieQueueDisc::Params() const
     params.limit_bytes = m_limitBytes;
     params.mark_ecnth = static_cast<uint64_t>(std::llround(m_markEcnth * 1e12));
     params.dq_threshold = m_dqThreshold;
-    return params;
-}
-
-uint32_t
-RecordedPieQueueDisc::Choices() const
-{
-    return (m_useRate ? PIE_USUAL : PIE_DELAY_STAMP) | (m_useDerandomization ? PIE_USUAL : PIE_PICK_RANDOM) |
-           (m_useCap ? PIE_USUAL : PIE_STEP_UNCAPPED) | (m_isScaled ? PIE_SIZE_SCALED : PIE_USUAL);
+    opening.moment = Moment();
+    opening.profile = m_profile;
+    opening.choices = (m_useRate ? PIE_USUAL : PIE_DELAY_STAMP) | (m_useDerandomization ? PIE_USUAL : PIE_PICK_RANDOM) |
+                      (m_useCap ? PIE_USUAL : PIE_STEP_UNCAPPED) | (m_isScaled ? PIE_SIZE_SCALED : PIE_USUAL) |
+                      (m_decaysBelowHalf ? PIE_DECAY_HALF : PIE_USUAL);
+    opening.packets = m_packets;
+    return opening;
 }
 
 bool
@@ -231,7 +235,7 @@ RecordedPieQueueDisc::CheckConfig()
         NS_LOG_ERROR("RecordedPieQueueDisc has no classes and no filters, and makes its queue itself");
         return false;
     }
-    pie_params params = Params();
+    pie_params params = Opening().params;
     uint32_t bad = pie_check_params(&params);
     if (bad != 0)
     {
@@ -248,14 +252,14 @@ RecordedPieQueueDisc::CheckConfig()
 void
 RecordedPieQueueDisc::InitializeParams()
 {
-    pie_params params = Params();
-    Expect(pie_open_with(&m_pie, &params, Moment(), m_profile, Choices()), "pie_open_with");
-    RecordOpening(params, Moment());
+    pie_opening opening = Opening();
+    Expect(pie_open(&m_pie, &opening), "pie_open");
+    RecordOpening(opening);
     m_updateEvent = Simulator::Schedule(m_tUpdate, &RecordedPieQueueDisc::Update, this);
 }
 
 void
-RecordedPieQueueDisc::RecordOpening(const pie_params& p, uint64_t moment)
+RecordedPieQueueDisc::RecordOpening(const pie_opening& opening)
 {
     if (m_historyName.empty())
     {
@@ -264,8 +268,7 @@ RecordedPieQueueDisc::RecordOpening(const pie_params& p, uint64_t moment)
     m_history.open(m_historyName);
     NS_ABORT_MSG_UNLESS(m_history, "cannot write " << m_historyName);
     unsigned char text[PIE_RECORD_ROOM];
-    size_t count = write_rolling_opening(&p, moment, m_profile, Choices(), m_packets, 1024, uint64_t(1) << 40, text);
-    Write(text, count);
+    Write(text, pie_write_opening(&opening, text, sizeof text));
 }
 
 void

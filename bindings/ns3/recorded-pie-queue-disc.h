@@ -49,12 +49,11 @@ class RecordedPieQueueDisc : public QueueDisc
     bool CheckConfig() override;
     void InitializeParams() override;
 
-    pie_params Params() const;
-    uint32_t Choices() const;
+    pie_opening Opening() const;
     void Update();
     uint64_t Word();
     bool Drop(Ptr<QueueDiscItem> item, const char* reason);
-    void RecordOpening(const pie_params& params, uint64_t moment);
+    void RecordOpening(const pie_opening& opening);
     void Record(const pie_event& event);
     void Write(const unsigned char* text, size_t count);
 
@@ -75,6 +74,7 @@ class RecordedPieQueueDisc : public QueueDisc
     bool m_useDerandomization;
     bool m_useCap;
     bool m_isScaled;
+    bool m_decaysBelowHalf;
     std::string m_historyName;
 
     pie_state m_pie;

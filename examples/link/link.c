@@ -132,7 +132,7 @@ static void release(struct bottleneck *link, struct packets *packets, int device
 /* An arrival: the library says whether the packet waits, is marked or is dropped. */
 static void arrive(struct bottleneck *link, struct packet *packet, uint64_t now) {
     struct pie_event *event = next_event(&link->history, SENDER, now);
-    uint32_t room = (uint32_t)link->options->control.packets - link->queue.count;
+    uint32_t room = (uint32_t)link->options->control.opening.packets - link->queue.count;
     packet->tag = ++link->counts.arrivals;
     packet->moment = now;
     packet->ecn = ecn_of(packet->bytes, packet->size);
@@ -245,7 +245,7 @@ static void update(struct bottleneck *link, uint64_t now) {
     keep_event(&link->flight, &link->pie, event);
     if (code == PIE_DONE) {
         link->counts.updates++;
-        link->counts.late += now - link->next_update > link->options->control.params.t_update;
+        link->counts.late += now - link->next_update > link->pie.params.t_update;
     } else if (code != PIE_TOO_SOON) {
         die_refused("pie_update_event", code);
     }
@@ -325,15 +325,15 @@ static void open_link(struct bottleneck *link, const struct options *options) {
     link->from = open_device(options->from);
     link->to = open_device(options->to);
     link->start = clock_now(CLOCK_MONOTONIC);
-    link->next_update = options->control.params.t_update;
-    const struct control *control = &options->control;
-    uint32_t code = pie_open_with(&link->pie, &control->params, 0, (uint32_t)control->profile, control->choices);
+    const struct pie_opening *opening = &options->control.opening;
+    uint32_t code = pie_open(&link->pie, opening);
     if (code != PIE_DONE)
-        die_refused("pie_open_with", code);
+        die_refused("pie_open", code);
+    link->next_update = pie_due(&link->pie);
     uint64_t moment = moment_of(link), unix_time = clock_now(CLOCK_REALTIME);
-    if (!open_history(&link->history, options->history, control, 0) || !write_time(&link->history, moment, unix_time))
+    if (!open_history(&link->history, options->history, opening) || !write_time(&link->history, moment, unix_time))
         die(options->history);
-    if (!open_flight(&link->flight, options->flight, control, 0, &link->pie))
+    if (!open_flight(&link->flight, options->flight, opening, &link->pie))
         die(options->flight);
     tell_flight(&link->flight, moment, unix_time);
     if (pthread_create(&link->writer, NULL, write_history, link) != 0)

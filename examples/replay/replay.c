@@ -121,7 +121,7 @@ static uint32_t arrive(struct replay *replay, const struct ip_packet *packet, ui
     event->size = size;
     event->ecn = (uint8_t)packet->ecn;
     event->word = random_word(&replay->word);
-    uint32_t room = (uint32_t)(replay->options.control.packets - replay->packets);
+    uint32_t room = (uint32_t)(replay->options.control.opening.packets - replay->packets);
     uint32_t verdict = pie_arrive_event(&replay->pie, replay->bytes, room, event);
     keep(replay);
     if (verdict > PIE_PACKETS) {
@@ -275,12 +275,12 @@ int main(int count, char **words) {
     int answer = read_options(count, words, &replay.options);
     if (answer != OPTIONS_READ)
         return answer == OPTIONS_HELP ? 0 : 2;
-    const struct control *control = &replay.options.control;
+    const struct pie_opening *opening = &replay.options.control.opening;
     open_capture(&capture, &replay.options);
-    uint32_t code = pie_open_with(&replay.pie, &control->params, 0, (uint32_t)control->profile, control->choices);
+    uint32_t code = pie_open(&replay.pie, opening);
     if (code != PIE_DONE)
         die_refused("the opening", code);
-    if (!open_history(&replay.history, replay.options.history, control, 0))
+    if (!open_history(&replay.history, replay.options.history, opening))
         die(replay.options.history, strerror(errno));
     replay.word = replay.options.seed;
     bool is_whole = read_capture(&replay, &capture);

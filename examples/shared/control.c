@@ -17,6 +17,7 @@ const char control_help[] =
     "  --bytemode           pick a packet below the MTU less often, in proportion to its size; --mtu 1514b\n"
     "  --no_derandomization, --no_cap_drop_adjustment\n"
     "                       packets picked by the random word alone, steps without a cap\n"
+    "  --decay zero         the probability decays at delays of 0 (zero), or below half the target (half)\n"
     "  --profile 1          1: always active; 2: turns itself on and off\n"
     "  --queue pie          pie, or tail: only the limit drops (PIE with gains of 0, so that its history can be audited too)\n"
     "  --max_burst 150ms, --mean_pkt 1024b, --mark_ecnth 10%, --dq_threshold 16kb\n"
@@ -25,7 +26,7 @@ const char control_help[] =
 /* What was said, beside what is in the control already. */
 struct said {
     uint64_t alpha, beta, mtu, mean_pkt, packets, bytes, mark_ecnth;
-    bool is_rate, bytemode, no_derandomization, no_cap, is_tail;
+    bool is_rate, bytemode, no_derandomization, no_cap, is_half, is_tail;
 };
 
 static const char *fault_of(uint32_t code) {
@@ -98,6 +99,10 @@ static const char *read_delay(const char *text, void *to) {
     return one_of(text, to, "stamp", "rate");
 }
 
+static const char *read_decay(const char *text, void *to) {
+    return one_of(text, to, "zero", "half");
+}
+
 static const char *read_queue(const char *text, void *to) {
     return one_of(text, to, "pie", "tail");
 }
@@ -111,15 +116,17 @@ int refuse_word(const struct command *command, const char *name, const char *tex
 static const char *finish(const struct command *command, struct control *control, const struct said *said) {
     static const char *const names[] = {"--target", "--tupdate", "--max_burst", "--alpha", "--beta", "--mean_pkt or --mtu", "--limit",
                                         "--mark_ecnth", "--dq_threshold"};
-    struct pie_params usual, *params = &control->params;
+    struct pie_opening *opening = &control->opening;
+    struct pie_params usual, *params = &opening->params;
     if (control->rate < 1000)
         return "--rate";
-    if (control->profile != PIE_ALWAYS_ON && control->profile != PIE_ON_AND_OFF)
+    if (opening->profile != PIE_ALWAYS_ON && opening->profile != PIE_ON_AND_OFF)
         return "--profile";
     pie_params_for(control->rate, &usual);
-    control->packets = said->packets != 0 ? said->packets : command->most_packets < 1000 ? command->most_packets : 1000;
-    control->choices = (said->is_rate ? 0u : PIE_DELAY_STAMP) | (said->no_derandomization ? PIE_PICK_RANDOM : 0u) |
-                       (said->no_cap ? PIE_STEP_UNCAPPED : 0u) | (said->bytemode ? PIE_SIZE_SCALED : 0u);
+    opening->packets = said->packets != 0 ? said->packets : command->most_packets < 1000 ? command->most_packets : 1000;
+    opening->choices = (said->is_rate ? 0u : PIE_DELAY_STAMP) | (said->no_derandomization ? PIE_PICK_RANDOM : 0u) |
+                       (said->no_cap ? PIE_STEP_UNCAPPED : 0u) | (said->bytemode ? PIE_SIZE_SCALED : 0u) |
+                       (said->is_half ? PIE_DECAY_HALF : 0u);
     params->limit_bytes = said->bytes != 0 ? said->bytes : usual.limit_bytes;
     params->alpha = said->is_tail ? 0 : said->alpha * 1000 / 16;
     params->beta = said->is_tail ? 0 : said->beta * 1000 / 16;
@@ -128,18 +135,19 @@ static const char *finish(const struct command *command, struct control *control
     uint32_t bad = pie_check_params(params);
     if (bad != 0)
         return names[bad - 1];
-    return control->packets > command->most_packets ? "--limit" : NULL;
+    return opening->packets > command->most_packets ? "--limit" : NULL;
 }
 
 /* A limit that is reached before the target is. */
 static void warn(const struct command *command, const struct control *control) {
-    double wanted = (double)control->rate / 8e9 * (double)control->params.target;
-    if ((double)control->params.limit_bytes < wanted)
+    const struct pie_opening *opening = &control->opening;
+    double wanted = (double)control->rate / 8e9 * (double)opening->params.target;
+    if ((double)opening->params.limit_bytes < wanted)
         fprintf(stderr, "%s: limit_bytes, %llu, is under rate x target: the queue is full before it waits so long, and all losses are tail drops\n",
-                command->program, (unsigned long long)control->params.limit_bytes);
-    else if ((double)control->packets * 1500 < wanted)
+                command->program, (unsigned long long)opening->params.limit_bytes);
+    else if ((double)opening->packets * 1500 < wanted)
         fprintf(stderr, "%s: %llu packets are under rate x target: the queue is full before it waits so long, and all losses are tail drops\n",
-                command->program, (unsigned long long)control->packets);
+                command->program, (unsigned long long)opening->packets);
 }
 
 static const struct option *named(const char *word, size_t length, const struct option *options, size_t count) {
@@ -166,7 +174,7 @@ static bool read_option(const struct command *command, const struct option *opti
 
 int read_words(const struct command *command, int count, char **words, struct control *control) {
     struct said said = {.alpha = 2, .beta = 20, .mtu = 1514, .mark_ecnth = PIE_ONE / 10};
-    struct pie_params *params = &control->params;
+    struct pie_params *params = &control->opening.params;
     const struct option shared[] = {
         {"--rate", option_rate, &control->rate},
         {"--target", option_time, &params->target},
@@ -181,15 +189,16 @@ int read_words(const struct command *command, int count, char **words, struct co
         {"--mtu", option_size, &said.mtu},
         {"--no_derandomization", NULL, &said.no_derandomization},
         {"--no_cap_drop_adjustment", NULL, &said.no_cap},
-        {"--profile", option_number, &control->profile},
+        {"--decay", read_decay, &said.is_half},
+        {"--profile", option_number, &control->opening.profile},
         {"--queue", read_queue, &said.is_tail},
         {"--max_burst", option_time, &params->max_burst},
         {"--mean_pkt", option_size, &said.mean_pkt},
         {"--mark_ecnth", read_probability, &said.mark_ecnth},
         {"--dq_threshold", option_size, &params->dq_threshold},
     };
-    *control = (struct control){.rate = 10000000, .profile = PIE_ALWAYS_ON};
-    pie_default_params(params);
+    *control = (struct control){.rate = 10000000};
+    pie_default_opening(&control->opening, control->rate);
     int place = 1;
     for (; place < count && words[place][0] == '-' && words[place][1] != '\0'; place++) {
         size_t length = strcspn(words[place], "=");

@@ -13,12 +13,9 @@
 #define MOST_PACKETS 65536 /* that a queue of the examples may have room for */
 
 struct control {
-    uint64_t rate;            /* bits a second of the link */
-    uint64_t packets;         /* how many the queue has room for */
-    uint64_t profile;         /* PIE_ALWAYS_ON or PIE_ON_AND_OFF */
-    uint32_t choices;         /* the flags of the optional elements */
-    bool use_ecn;             /* whether packets are marked */
-    struct pie_params params; /* as pie_open_with takes them */
+    uint64_t rate;              /* bits a second of the link */
+    bool use_ecn;               /* whether packets are marked */
+    struct pie_opening opening; /* of its controller, at the moment 0 */
 };
 
 /* Reads an option's text, which isn't empty, into what `to` points to; what is wrong with it, NULL where nothing is. */

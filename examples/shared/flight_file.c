@@ -27,25 +27,15 @@ static void *new_file(const char *name, size_t bytes) {
     return memory != MAP_FAILED ? memory : NULL;
 }
 
-bool open_flight(struct flight_file *file, const char *name, const struct control *control, uint64_t moment, const struct pie_state *state) {
-    const struct pie_opening opening = {
-        .params = control->params,
-        .moment = moment,
-        .profile = control->profile,
-        .choices = control->choices,
-        .mode = PIE_ROLLING,
-        .packets = control->packets,
-        .tail = LOG_EVENTS,
-        .events = MOST_EVENTS,
-    };
+bool open_flight(struct flight_file *file, const char *name, const struct pie_opening *opening, const struct pie_state *state) {
     file->name = NULL;
     if (name == NULL)
         return true;
-    file->bytes = pie_flight_bytes(FLIGHT_EVENTS, control->packets);
+    file->bytes = pie_flight_bytes(FLIGHT_EVENTS, opening->packets);
     file->memory = new_file(name, file->bytes);
     file->scratch = aligned_alloc(64, (file->bytes + 63) / 64 * 64);
     if (file->memory == NULL || file->scratch == NULL ||
-        !pie_flight_open(&file->flight, file->memory, file->bytes, FLIGHT_EVENTS, &opening, state))
+        !pie_flight_open(&file->flight, file->memory, file->bytes, FLIGHT_EVENTS, opening, state))
         return false;
     file->name = name;
     return true;

@@ -2,11 +2,10 @@
 #ifndef SHARED_FLIGHT_FILE_H
 #define SHARED_FLIGHT_FILE_H
 
-#include "control.h"
-#include "history.h"
 #include "pie_flight.h"
 
 #include <stdbool.h>
+#include <stdio.h>
 
 #define FLIGHT_EVENTS 100000 /* that it keeps at the least */
 
@@ -18,9 +17,9 @@ struct flight_file {
     size_t bytes;
 };
 
-/* Opens a recorder in a file of this name (NULL: none), right after the state was opened at this moment. A file that is there already is what
+/* Opens a recorder in a file of this name (NULL: none), right after the state was opened by this. A file that is there already is what
  * an earlier run left: it goes to NAME.before. False where that cannot be done. */
-bool open_flight(struct flight_file *file, const char *name, const struct control *control, uint64_t moment, const struct pie_state *state);
+bool open_flight(struct flight_file *file, const char *name, const struct pie_opening *opening, const struct pie_state *state);
 
 /* Keeps an event, after its call. */
 static inline void keep_event(struct flight_file *file, const struct pie_state *state, const struct pie_event *event) {

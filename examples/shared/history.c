@@ -1,10 +1,8 @@
 #include "history.h"
 
-#include "rolling.h"
-
 #include <string.h>
 
-bool open_history(struct history *history, const char *name, const struct control *control, uint64_t moment) {
+bool open_history(struct history *history, const char *name, const struct pie_opening *opening) {
     unsigned char line[PIE_RECORD_ROOM];
     history->file = NULL;
     if (name == NULL)
@@ -14,9 +12,8 @@ bool open_history(struct history *history, const char *name, const struct contro
         return false;
     history->text = (struct pie_ring_history){0};
     pie_ring_open(&history->ring, history->slots, HISTORY_SLOTS);
-    size_t count = write_rolling_opening(&control->params, moment, (uint32_t)control->profile, control->choices, control->packets,
-                                         LOG_EVENTS, MOST_EVENTS, line);
-    return fwrite(line, 1, pie_text_opening(&history->text, count), history->file) == count && count != 0;
+    size_t count = pie_text_opening(&history->text, opening, line, sizeof line);
+    return count != 0 && fwrite(line, 1, count, history->file) == count;
 }
 
 bool write_time(struct history *history, uint64_t moment, uint64_t unix_time) {

@@ -3,7 +3,6 @@
 #ifndef SHARED_HISTORY_H
 #define SHARED_HISTORY_H
 
-#include "control.h"
 #include "pie_ring.h"
 
 #include <stdbool.h>
@@ -12,11 +11,6 @@
 enum { SENDER = 1, LINK = 2, TIMER = 3 };
 
 #define HISTORY_SLOTS 65536 /* events that may wait for their text */
-
-/* What an opening says of the event log: this many events lie in it at a time, and so many are allowed. Above 2^40 the history is of version three,
- * which tells the time of day. */
-#define LOG_EVENTS 1024
-#define MOST_EVENTS (UINT64_C(1) << 47)
 
 struct history {
     FILE *file;             /* NULL where none is written */
@@ -27,7 +21,7 @@ struct history {
 };
 
 /* Opens the file (NULL: none, "-": standard output), and writes the opening; false where that cannot be done. */
-bool open_history(struct history *history, const char *name, const struct control *control, uint64_t moment);
+bool open_history(struct history *history, const char *name, const struct pie_opening *opening);
 
 /* Writes that it was `unix_time` (nanoseconds since 1970) at this moment; false where that cannot be done. By the thread that writes. */
 bool write_time(struct history *history, uint64_t moment, uint64_t unix_time);

@@ -1,6 +1,6 @@
 #!/usr/bin/env python3
 """Holds the wrong bodies to the code: what each mutation and each must-fail edit replaces (`old:`, by `new:`, one after another) stands in its file
-once. So none is passed over when the code has changed: whether the prover refuses it, tests/mutations.sh and the gate try. Exit status 1
+once. So none is passed over when the code has changed: whether the prover refuses it, tests/mutations.py and the gate try. Exit status 1
 where a text isn't there, or more than once.
 
 usage: tests/documents/mutations.py

@@ -1,7 +1,7 @@
 #!/usr/bin/env python3
 """Drives traces of the records' version three through the library for C, event by event, beside a queue of this script's own, and compares
-each answer and each look with the stored history: all sixteen choices of the optional elements, in both profiles. Those whose opening is
-refused are passed over: the library's caller owns the queue, so it has no such limits.
+each answer and each look with the stored history: choices of the optional elements, in both profiles. Those whose opening is
+refused are passed over.
 
 usage: tests/libraries/choices.py [FOLDER..]      FOLDER: has NAME.trace with NAME.history, or NAME.in with NAME.out; else tests/rows/choices
 needs: library"""
@@ -17,7 +17,8 @@ ROOT = Path(__file__).resolve().parent.parent.parent
 PARAMS = "target t_update max_burst alpha beta mean_pkt limit_bytes mark_ecnth dq_threshold".split()
 REST = "moment prob old_delay burst last accu average measuring cycle_start cycle_count profile active choices waited".split()
 ECN, VERDICTS = ["not", "ect1", "ect0", "ce"], ["enqueue", "mark", "early", "bytes", "packets"]
-FLAGS = {"stamp": 1, "random": 2, "uncapped": 4, "scaled": 8}
+MODES = ["bounded", "rolling"]
+FLAGS = {"stamp": 1, "random": 2, "uncapped": 4, "scaled": 8, "half": 16}
 U64, U32 = ctypes.c_uint64, ctypes.c_uint32
 
 
@@ -27,6 +28,10 @@ class Params(ctypes.Structure):
 
 class State(ctypes.Structure):
     _fields_ = [("params", Params), *((name, U64) for name in REST)]
+
+
+class Opening(ctypes.Structure):
+    _fields_ = [("params", Params), *((name, U64) for name in "moment profile choices mode packets tail events".split())]
 
 
 class Event(ctypes.Structure):
@@ -51,15 +56,16 @@ class Queue:
     """The caller's queue, with the library in front of it."""
 
     def __init__(self, pie, opening):
-        profile, *choices, _, moment, packets, _, _ = opening[1:11]
+        at = 7 if opening[6] in ("zero", "half") else 6  # the place of the mode: the decay stands in front of it where it is told
+        profile, choices, (mode, moment, packets, tail, events) = opening[1], opening[2:at], opening[at : at + 5]
         self.pie, self.state, self.packets, self.bytes = pie, State(), int(packets), 0
-        self.waiting, self.stamps = deque(), choices[0] == "stamp"
+        self.waiting = deque()
         params = Params()
         pie.pie_default_params(ctypes.byref(params))
-        if len(opening) > 11:
-            params = Params(*map(int, opening[11:]))
-        flags = sum(FLAGS.get(word, 0) for word in choices)
-        assert self.call("open_with", ctypes.byref(params), U64(int(moment)), U32(int(profile)), U32(flags)) == 0
+        if len(opening) > at + 5:
+            params = Params(*map(int, opening[at + 5 :]))
+        numbers = int(moment), int(profile), sum(FLAGS.get(word, 0) for word in choices), MODES.index(mode), *map(int, (packets, tail, events))
+        assert self.call("open", ctypes.byref(Opening(params, *numbers))) == 0
 
     def call(self, name, *given):
         return getattr(self.pie, "pie_" + name)(ctypes.byref(self.state), *given)

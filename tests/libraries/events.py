@@ -19,7 +19,7 @@ ROOT = Path(__file__).resolve().parent.parent.parent
 sys.path[:0] = [str(ROOT / "tests/shared"), str(ROOT / "tests/libraries")]
 import choices  # noqa: E402
 import reference  # noqa: E402
-from choices import ECN, U32, U64, Event, Params, State  # noqa: E402
+from choices import ECN, U32, U64, Event, Opening, Params, State  # noqa: E402
 
 ME = "tests/libraries/events.py"
 PIE = sys.argv[1] if len(sys.argv) > 1 else ROOT / "crates/pie/out/pie"
@@ -37,8 +37,9 @@ class Queue:
     def __init__(self, pie, profile, flags):
         self.pie, self.state, self.waiting, self.bytes, self.events = pie, State(), deque(), 0, []
         self.params = Params(*reference.PROFILES[0])
-        assert pie.pie_open_with(self.ref(self.state), self.ref(self.params), U64(START), U32(profile), U32(flags)) == 0
-        self.opening = self.text("opening", self.ref(self.params), U64(START), U32(profile), U32(flags), U64(PACKETS), U64(1024), U64(2**20))
+        opening = Opening(self.params, START, profile, flags, 0, PACKETS, 1024, 2**20)
+        assert pie.pie_open(self.ref(self.state), self.ref(opening)) == 0
+        self.opening = self.text("opening", self.ref(opening))
 
     def ref(self, it):
         return ctypes.byref(it)
@@ -149,11 +150,11 @@ def main():
         for name in "event params opening refused lost".split():
             getattr(pie, "pie_write_" + name).restype = ctypes.c_size_t
         for number, (profile, elements) in enumerate(product((1, 2), product(*reference.ELEMENTS.values()))):
-            queue, records, count = run_beside(pie, profile, elements, SEED * 32 + number)
+            queue, records, count = run_beside(pie, profile, elements, SEED * 64 + number)
             found = audit(queue.opening + "".join(records), work)
             if found != f"clean,{count}":
                 fail(f"profile {profile}, {elements}: {found} of {count} events")
-            words = random.Random(SEED * 32 + number)
+            words = random.Random(SEED * 64 + number)
             judged = [i for i, (event, _) in enumerate(queue.events) if event.answer <= 100]
             for chosen in words.sample(judged, CHANGES):
                 found = is_found(queue, records, chosen, words, count, work)

@@ -25,7 +25,7 @@ SLICES = {"&[u8]": ("&char", "length"), "&mut [u8]": ("&mut unsigned char", "roo
 CODES = {"DONE": ["PIE_DONE", "PIE_ENQUEUE"], "OVER_BYTES": ["PIE_BYTES"], "OVER_PACKETS": ["PIE_PACKETS"]}
 ECN = {"NotEct": "PIE_NOT_ECT", "Ect1": "PIE_ECT1", "Ect0": "PIE_ECT0", "Ce": "PIE_CE"}
 REFUSALS = {"Moment": "PIE_BAD_MOMENT", "Size": "PIE_BAD_SIZE", "TooSoon": "PIE_TOO_SOON", "Params": "PIE_BAD_PARAMS",
-            "State": "PIE_BAD_STATE", "Queue": "PIE_BAD_QUEUE", "Arrived": "PIE_BAD_ARRIVED", "NotWaited": "PIE_NOT_WAITED"}
+            "State": "PIE_BAD_STATE", "Queue": "PIE_BAD_QUEUE", "Arrived": "PIE_BAD_ARRIVED", "NotWaited": "PIE_NOT_WAITED", "Limits": "PIE_BAD_LIMITS"}
 VERDICTS = {"Enqueue": "PIE_ENQUEUE", "Mark": "PIE_MARK", "Early": "PIE_EARLY", "Bytes": "PIE_BYTES", "Packets": "PIE_PACKETS"}
 PROFILES = {"One": "PIE_ALWAYS_ON", "Two": "PIE_ON_AND_OFF"}
 MODES = {"Bounded": "PIE_BOUNDED", "Rolling": "PIE_ROLLING"}
@@ -175,7 +175,7 @@ def compare_constants(header, source):
         yield "crates/pie_c/src: no ECN fields were found"
     named |= {"PIE_EVENT_" + kind: int(number) for kind, number in re.findall(r"const ([A-Z]+): u8 = (\d+);", source.text)}
     own = {"PIE_ALWAYS_ON": 1, "PIE_ON_AND_OFF": 2, "PIE_USUAL": 0, "PIE_BOUNDED": 0, "PIE_ROLLING": 1}
-    own |= {"PIE_DELAY_STAMP": 1, "PIE_PICK_RANDOM": 2, "PIE_STEP_UNCAPPED": 4, "PIE_SIZE_SCALED": 8}
+    own |= {"PIE_DELAY_STAMP": 1, "PIE_PICK_RANDOM": 2, "PIE_STEP_UNCAPPED": 4, "PIE_SIZE_SCALED": 8, "PIE_DECAY_HALF": 16}
     yield from same("include/pie.h: constants", header.constants, {**named, **ecn, **own})
 
 
@@ -200,7 +200,7 @@ def compare_methods(rust, source):
             if not name.endswith("_event"):  # (these are handed a packet, a caller and a moment, and make the event)
                 yield from same(f"bindings/rust: State::{name[4:]}", found, wanted)
         for handed in re.findall(rf"unsafe \{{ {name}\((?:self|&mut \w+), ([^)]*)\)", rust):
-            found = ["state", *(it.replace(" as u32", "").replace("&mut event.0", "event") for it in handed.split(", "))]
+            found = [*wanted[:1], *(it.replace(" as u32", "").replace("&mut event.0", "event").lstrip("&") for it in handed.split(", "))]
             yield from same(f"bindings/rust: what {name} is handed", found, wanted)
 
 
@@ -238,15 +238,13 @@ def compare_limits(header):
 
 
 def refusals_in(source):
-    """Of each call the codes that it refuses by, in the order of its body: pie_arrive's stand in `arrive`, an opening's in `refusal`."""
+    """Of each call the codes that it refuses by, in the order of its body: pie_arrive's stand in `arrive`, an opening's in `checked`."""
     codes = {}
     for name, body in re.findall(r"^(?:pub extern \"C\" |pub\(crate\) )?fn (\w+)\(.*?^\{\n(.*?)^\}", source.text, re.S | re.M):
         codes[name] = ["PIE_" + code for code in dict.fromkeys(re.findall(r"\b(BAD_\w+|TOO_SOON|NOT_WAITED)\b", body))]
     orders = {name: codes[name] or codes.get(name[4:], []) for name in codes if name.startswith("pie_")}
-    opening = codes.get("refusal", [])
-    apart = {"pie_depart": codes.get("depart", []), "pie_depart_waited": codes.get("depart_stamped", [])}
-    return {**orders, **apart, "pie_open_with": opening,
-            "pie_open": [code for code in opening if code not in ("PIE_BAD_PROFILE", "PIE_BAD_CHOICES")]}
+    apart = {"pie_open": "checked", "pie_depart": "depart", "pie_depart_waited": "depart_stamped"}
+    return {**orders, **{name: codes.get(it, []) for name, it in apart.items()}}
 
 
 def compare_refusals(header, rust, source):
@@ -378,14 +376,24 @@ static uint32_t state(uint64_t *field, struct pie_state *pie, uint64_t number) {
     *field = before;
     return code;
 }
+static uint32_t opening(uint64_t *field, struct pie_opening *o, uint64_t number) {
+    struct pie_state pie;
+    uint64_t before = *field;
+    *field = number;
+    uint32_t code = pie_open(&pie, o);
+    *field = before;
+    return code;
+}
 static struct pie_state pie;
 static uint32_t arrive(uint32_t size, uint32_t ecn, uint64_t queued) { return pie_arrive(&pie, queued, size, 1, ecn, 0, 0); }
 static uint32_t read(const char *text) { uint64_t time; return pie_read_time(text, strlen(text), &time); }
 int main(void) {
     int failed = 0;
     struct pie_params p;
+    struct pie_opening o;
     pie_default_params(&p);
-    CHECK(pie_open(&pie, &p, 0) == PIE_DONE);
+    pie_default_opening(&o, 0);
+    CHECK(pie_open(&pie, &o) == PIE_DONE);
 %s
     return failed;
 }
@@ -401,6 +409,13 @@ def probes(header):
         lines += [f"param(&p.{name}, &p, {it}u) == {number}" for it in (least - 1, most + 1) if it >= 0]
         if "power of two" in text:
             lines += [f"param(&p.{name}, &p, {3 * least}u) == {number}", f"param(&p.{name}, &p, {2 * least}u) == 0"]
+    for name, text in header.comments["pie_opening"].items():
+        if default(text) is not None:
+            lines.append(f"o.{name} == {int(default(text))}u")
+        if bound(text):
+            least, most = (int(it) for it in bound(text))
+            lines += [f"opening(&o.{name}, &o, {it}u) == PIE_DONE" for it in (least, most)]
+            lines += [f"opening(&o.{name}, &o, {it}u) != PIE_DONE" for it in (least - 1, most + 1) if it >= 0]
     for name, text in header.comments["pie_state"].items():
         if bound(text):
             most = int(bound(text)[1])
@@ -414,7 +429,7 @@ def probes(header):
     lines += [f"arrive(1, 0, {queued}u) < 100", f"arrive(1, 0, {queued + 1}u) == PIE_BAD_QUEUE"]
     lines += [f"pie_depart(&pie, 1, {queued}u, 0) == PIE_DONE", f"pie_depart(&pie, 1, {queued + 1}u, 0) == PIE_BAD_QUEUE"]
     for profile in (0, 1, 2, 3):
-        lines.append(f"pie_open_with(&pie, &p, 0, {profile}, 0) == {'PIE_DONE' if profile in told['PIE_BAD_PROFILE'] else 'PIE_BAD_PROFILE'}")
+        lines.append(f"opening(&o.profile, &o, {profile}) == {'PIE_DONE' if profile in told['PIE_BAD_PROFILE'] else 'PIE_BAD_PROFILE'}")
     decimals, most = told["PIE_TOO_PRECISE"][-1], told["PIE_TOO_GREAT"][-1]
     lines += [f"read(\"0.{'0' * more}s\") == {code}" for more, code in ((decimals, "PIE_DONE"), (decimals + 1, "PIE_TOO_PRECISE"))]
     lines += [f"read(\"{it}ns\") == {code}" for it, code in ((most, "PIE_DONE"), (most + 1, "PIE_TOO_GREAT"))]

@@ -89,11 +89,15 @@ static void text(void) {
     static struct pie_event few[4];
     unsigned char bytes[1024];
     struct pie_ring_history text = {0, 0, 0};
+    struct pie_opening opening;
     static const uint32_t codes[] = {PIE_TOO_SOON, PIE_BAD_QUEUE, 55, PIE_BAD_MOMENT};
     size_t count;
     uint64_t number;
     pie_ring_open(&ring, few, 4);
-    pie_text_opening(&text, 1);
+    pie_default_opening(&opening, 0);
+    expect(pie_text_opening(&text, &opening, bytes, 20) == 0 && text.records == 0, "an opening without room", text.records);
+    count = pie_text_opening(&text, &opening, bytes, sizeof bytes);
+    expect(count > 20 && memcmp(bytes, "open3,", 6) == 0 && bytes[count - 1] == '\n', "another opening", count);
     for (number = 0; number < 7; number++) {
         struct pie_event *event = pie_ring_slot(&ring);
         fill(event, number);

@@ -60,10 +60,27 @@ expect 'a reset and no update' 0 'event 2: no packet was there to leave
   before it: 0 packets, 0 bytes, a delay of 0.000000 ms (0 ns)
   probability 0.0000 %% (0), set by event 1; no update so far; burst allowance 150.000000 ms (150000000 ns)
 ' '' 'open,0,4,16,100\nreset,1,1,done\ndepart,1,2,empty\n' explain --event 2
+# A packet that is let in, and how long that goes on at least: since a burst is allowed, and since little is accumulated.
+expect 'a burst that is allowed' 0 'event 1: packet 7, 1000 bytes, Not-ECT: queued
+  at 0.000002 ms (2 ns), by caller 1
+  a burst is allowed: 150.000000 ms (150000000 ns) are left of it
+  with unchanged parameters nothing is marked or dropped early before 150.000001 ms (150000001 ns)
+  before it: 0 packets, 0 bytes, a delay of 0.000000 ms (0 ns)
+  probability 0.0000 %% (0), as at the opening; no update so far; burst allowance 150.000000 ms (150000000 ns)
+' '' 'open,1,4,16,100\narrive,1,2,7,1000,not,0,enqueue\n' explain --event 1
 # The probability is 0.903954174169: not below a threshold of 0.9 for marks; and with nine packets let through by their words it makes
 # a sum above 8.5 with the tenth.
 begun='arrive,1,0,1,1024,not,0\narrive,1,0,2,1024,not,0\narrive,1,0,3,1024,not,0\narrive,1,0,4,1024,not,0\n'
 begun="${begun}depart,3,1000\ndepart,3,1001000\nupdate,4,1001000\nupdate,4,1001001\nupdate,4,1001002\n"
+# Without the last of these updates it is 0.053955024169, of which sixteen are 0.85.
+printf "open,0,32,64,100,2,1,0,850000,0,1,100000,900000000000,1024\n${begun%update*}arrive,1,1001003,5,500,ect0,0\n" | "$program" run > "$work/little"
+expect 'little that is accumulated' 0 'event 9: packet 5, 500 bytes, ECT(0): queued
+  at 1.001003 ms (1001003 ns), by caller 1
+  the accumulated probability, with this one, is 5.3955 %% (53955024169), below 85 %%
+  where each counts as this one, at most one of 16 considered packets in a row is picked
+  before it: 2 packets, 2048 bytes, a delay of 2.000000 ms (2000000 ns)
+  probability 5.3955 %% (53955024169), set by event 8; last update at 1.001001 ms (1001001 ns); burst allowance 0.000000 ms (0 ns)
+' '' "$(cat "$work/little")" explain --event 9
 printf "open,0,32,64,100,2,1,0,850000,0,1,100000,900000000000,1024\n${begun}arrive,1,1001003,5,500,ect0,0\n" | "$program" run > "$work/below"
 below='10,arrive,1,1001003,1001003,5,500,'
 below="${below}early,picked_by_word_not_below,2048,2,2000000,903954174169,0,0,ect0,0,,1,9,2048,2,2000000,903954174169,0,0,1\n"

@@ -20,7 +20,7 @@ use std::sync::atomic::AtomicU64;
 use std::thread;
 use std::time::Duration;
 
-use juniperbowls::{Choices, DumpFault, Ecn, Flight, Limits, Mode, Opening, Packet, Params, Profile, State, Verdict, flight};
+use juniperbowls::{DumpFault, Ecn, Flight, Opening, Packet, Params, State, Verdict, flight};
 
 const KEPT: u64 = 20_000; // events
 const BYTE: u64 = 800; // nanoseconds on the link
@@ -41,13 +41,12 @@ fn main() -> Result<(), Box<dyn Error>> {
 /// Works until it is killed.
 fn keep(file: &str) -> Result<Infallible, Box<dyn Error>> {
     let params = Params { max_burst: 50_000_000, mark_ecnth: 300_000_000_000, ..Params::default() };
-    let limits = Limits { packets: u64::from(RING), tail: 1024, events: 1 << 47 };
-    let opening = Opening { params, moment: 0, profile: Profile::One, choices: Choices::default(), mode: Mode::Rolling, limits };
-    let mut pie = State::open_with(&params, 0, opening.profile, opening.choices)?;
+    let opening = Opening { params, packets: u64::from(RING), ..Opening::for_rate(0) };
+    let mut pie = State::open(&opening)?;
     if Path::new(file).exists() {
         fs::rename(file, format!("{file}.before"))?;
     }
-    let memory = mapped::new_file(Path::new(file), flight::words(KEPT, limits.packets).ok_or("out of range")?)?;
+    let memory = mapped::new_file(Path::new(file), flight::words(KEPT, opening.packets).ok_or("out of range")?)?;
     let mut recorder = Flight::open(memory, KEPT, &opening, &pie)?;
     assert!(flight::clock(memory, 0, UNIX_TIME));
     let history = format!("{file}.history");

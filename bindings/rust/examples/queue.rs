@@ -5,7 +5,7 @@
 
 use std::collections::VecDeque;
 
-use juniperbowls::{Ecn, Params, Refusal, State};
+use juniperbowls::{Ecn, Opening, Refusal, State};
 
 const RATE: u64 = 8_000_000; // bits a second of the link
 const BYTE: u64 = 1000; // nanoseconds
@@ -18,7 +18,7 @@ fn random_word(last: &mut u64) -> u64 {
 }
 
 fn main() -> Result<(), Refusal> {
-    let mut pie = State::open(&Params::for_rate(RATE), 0)?;
+    let mut pie = State::open(&Opening::for_rate(RATE))?;
     let (mut ring, mut queued, mut free_at, mut word) = (VecDeque::new(), 0_u64, 0, 1);
     let (mut sent, mut dropped, mut updates) = (0, 0, 0);
     for now in (0..10_000_000_000_u64).step_by(800_000) {

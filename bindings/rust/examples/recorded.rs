@@ -9,7 +9,7 @@ use std::collections::VecDeque;
 use std::error::Error;
 use std::io;
 
-use juniperbowls::{Choices, Ecn, Limits, Packet, Params, Profile, Recorder, State};
+use juniperbowls::{Choices, Ecn, Opening, Packet, Params, Profile, Recorder, State};
 
 const BYTE: u64 = 800; // nanoseconds on the link
 const RING: u32 = 200; // packets
@@ -20,9 +20,9 @@ const UNIX_TIME: u64 = 1_795_550_400_000_000_000; // of the moment 0: 2026-11-24
 fn main() -> Result<(), Box<dyn Error>> {
     let params = Params { max_burst: 50_000_000, mark_ecnth: 300_000_000_000, ..Params::default() };
     let choices = Choices { delay_stamp: true, ..Choices::default() };
-    let mut pie = State::open_with(&params, 0, Profile::Two, choices)?;
-    let limits = Limits { packets: u64::from(RING), tail: 1024, events: 1 << 47 };
-    let mut history = Recorder::open(io::stdout().lock(), &params, 0, Profile::Two, choices, limits)?;
+    let opening = Opening { params, profile: Profile::Two, choices, packets: u64::from(RING), ..Opening::for_rate(0) };
+    let mut pie = State::open(&opening)?;
+    let mut history = Recorder::open(io::stdout().lock(), &opening)?;
     history.clock(0, UNIX_TIME)?;
     let [sender, link, timer] = CALLERS;
     let (mut ring, mut free_at, mut word) = (VecDeque::<(Packet, u64)>::new(), 0, 1_u64);

@@ -6,10 +6,10 @@
 //! as `std::time::Instant`), probabilities are whole numbers of 10^-12. `include/pie.h` names what else goes wrong unseen.
 //!
 //! ```
-//! use juniperbowls::{Ecn, Params, State, Verdict};
+//! use juniperbowls::{Ecn, Opening, State, Verdict};
 //!
 //! # fn main() -> Result<(), juniperbowls::Refusal> {
-//! let mut pie = State::open(&Params::for_rate(100_000_000), 0)?;
+//! let mut pie = State::open(&Opening::for_rate(100_000_000))?;
 //! // 1500 bytes arrive at 10 ns while 3000 wait, and the ring has room for 7 packets
 //! let verdict = pie.arrive(3000, 1500, 7, Ecn::Ect0, 0x9e37_79b9_7f4a_7c15, 10)?;
 //! assert_eq!(verdict, Verdict::Enqueue);
@@ -53,7 +53,7 @@ pub use event::{Event, Packet, ParamsEvent};
 #[cfg(feature = "std")]
 pub use flight::DumpFault;
 pub use flight::{Flight, FlightRefusal};
-pub use opening::{Limits, Mode, Opening};
+pub use opening::{Mode, Opening};
 pub use params::{Parameter, Params};
 #[cfg(feature = "std")]
 pub use recorder::Recorder;

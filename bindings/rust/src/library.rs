@@ -32,34 +32,41 @@ pub(crate) struct RawEvent {
     pub(crate) reserved: u32,
 }
 
-/// What a history was opened with, as the record that resumes has it.
+/// What a controller is opened with.
 #[repr(C)]
 #[derive(Clone, Copy, Debug, PartialEq, Eq)]
 pub(crate) struct RawOpening {
-    /// The parameters of the opening.
+    /// The parameters.
     pub(crate) params: Params,
-    /// Its moment, at most 2^60 - 1.
+    /// The moment of the opening, at most 2^60 - 1 ns (0).
     pub(crate) moment: u64,
     /// The number of the profile.
     pub(crate) profile: u64,
-    /// The flags of the optional elements, at most 15.
+    /// The flags of the optional elements, at most 31 (0).
     pub(crate) choices: u64,
     /// The number of the mode.
     pub(crate) mode: u64,
-    /// The packets that the queue holds, 1 to 2^20.
+    /// The packets that the queue holds, 1 to 2^20 (2^20).
     pub(crate) packets: u64,
-    /// The events that the log holds, 1 to 2^20.
+    /// The events that the log holds, 1 to 2^20 (1024).
     pub(crate) tail: u64,
-    /// The events in all, 1 to 2^47.
+    /// The events in all, 1 to 2^47 (2^47).
     pub(crate) events: u64,
+}
+
+impl RawOpening {
+    /// All fields 0, which the library then writes over.
+    pub(crate) const UNSET: RawOpening =
+        RawOpening { params: Params::UNSET, moment: 0, profile: 0, choices: 0, mode: 0, packets: 0, tail: 0, events: 0 };
 }
 
 // SAFETY, of each call of these: the declarations are the library's, the references live for the call, and none overlaps another.
 unsafe extern "C" {
     pub(crate) fn pie_default_params(params: &mut Params);
     pub(crate) fn pie_check_params(params: &Params) -> u32;
-    pub(crate) fn pie_open(state: &mut State, params: &Params, moment: u64) -> u32;
-    pub(crate) fn pie_open_with(state: &mut State, params: &Params, moment: u64, profile: u32, choices: u32) -> u32;
+    pub(crate) fn pie_params_for(rate: u64, params: &mut Params);
+    pub(crate) fn pie_default_opening(opening: &mut RawOpening, rate: u64);
+    pub(crate) fn pie_open(state: &mut State, opening: &RawOpening) -> u32;
     pub(crate) fn pie_arrive(
         state: &mut State,
         queued: u64,
@@ -72,6 +79,7 @@ unsafe extern "C" {
     pub(crate) fn pie_depart(state: &mut State, size: u32, left: u64, moment: u64) -> u32;
     pub(crate) fn pie_depart_waited(state: &mut State, size: u32, left: u64, arrived: u64, moment: u64) -> u32;
     pub(crate) fn pie_empty(state: &mut State, moment: u64) -> u32;
+    pub(crate) fn pie_due(state: &State) -> u64;
     pub(crate) fn pie_update(state: &mut State, queued: u64, moment: u64) -> RawUpdated;
     pub(crate) fn pie_reset(state: &mut State, moment: u64) -> u32;
     pub(crate) fn pie_set_params(state: &mut State, params: &Params, moment: u64) -> u32;
@@ -84,17 +92,7 @@ unsafe extern "C" {
     pub(crate) fn pie_write_event(event: &RawEvent, out: *mut u8, room: usize) -> usize;
     pub(crate) fn pie_write_params(event: &RawEvent, params: &Params, out: *mut u8, room: usize) -> usize;
     #[cfg(feature = "std")]
-    pub(crate) fn pie_write_opening(
-        params: &Params,
-        moment: u64,
-        profile: u32,
-        choices: u32,
-        packets: u64,
-        tail: u64,
-        events: u64,
-        out: *mut u8,
-        room: usize,
-    ) -> usize;
+    pub(crate) fn pie_write_opening(opening: &RawOpening, out: *mut u8, room: usize) -> usize;
     #[cfg(feature = "std")]
     pub(crate) fn pie_write_refused(record: u64, code: u32, out: *mut u8, room: usize) -> usize;
     #[cfg(feature = "std")]

@@ -1,18 +1,7 @@
-//! What a history was opened with.
+//! What a controller and its history are opened with.
 
-use crate::library::RawOpening;
+use crate::library::{RawOpening, pie_default_opening};
 use crate::{Choices, Params, Profile};
-
-/// What the opening of a history allows to whoever decides it again, beside the parameters.
-#[derive(Clone, Copy, Debug, PartialEq, Eq, Hash)]
-pub struct Limits {
-    /// How many packets the queue has room for, 1 to 2^20.
-    pub packets: u64,
-    /// How many events lie in the event log at a time, 1 to 2^20.
-    pub tail: u64,
-    /// How many events there may be, 1 to 2^47.
-    pub events: u64,
-}
 
 /// What the event log of whoever decides a history again does when it is full.
 #[derive(Clone, Copy, Debug, PartialEq, Eq, Hash)]
@@ -23,27 +12,56 @@ pub enum Mode {
     Rolling = 1,
 }
 
-/// What a history was opened with: what [`State::open_with`](crate::State::open_with) took, and what the opening allows.
+/// What a controller is opened with. Of the last four the history alone knows, whose first record says them: whoever decides it again holds
+/// no more packets and events than they allow. The defaults, of [`Opening::for_rate`], are in brackets.
+///
+/// ```
+/// use juniperbowls::{Choices, Opening, Profile, State};
+///
+/// # fn main() -> Result<(), juniperbowls::Refusal> {
+/// let choices = Choices { delay_stamp: true, ..Choices::default() };
+/// let pie = State::open(&Opening { profile: Profile::Two, choices, ..Opening::for_rate(100_000_000) })?;
+/// assert_eq!((pie.params.limit_bytes, pie.active), (2_500_000, 0));
+/// # Ok(())
+/// # }
+/// ```
 #[derive(Clone, Copy, Debug, PartialEq, Eq, Hash)]
 pub struct Opening {
-    /// The parameters of the opening.
+    /// The parameters.
     pub params: Params,
-    /// Its moment, at most 2^60 - 1 ns.
+    /// The moment of the opening, at most 2^60 - 1 ns (0).
     pub moment: u64,
-    /// The controller's profile.
+    /// The controller's profile (One).
     pub profile: Profile,
-    /// The optional elements.
+    /// The optional elements (the usual ones).
     pub choices: Choices,
-    /// What the event log does when it is full.
+    /// What the event log does when it is full (Rolling).
     pub mode: Mode,
-    /// What it allows.
-    pub limits: Limits,
+    /// How many packets the queue holds at most, 1 to 2^20 (2^20).
+    pub packets: u64,
+    /// How many events the log holds, 1 to 2^20 (1024).
+    pub tail: u64,
+    /// How many events there may be in all, 1 to 2^47 (2^47).
+    pub events: u64,
 }
 
 impl Opening {
+    /// The default opening for a link of this rate, in bits a second, with the parameters of [`Params::for_rate`]. It is never refused.
+    #[must_use]
+    pub fn for_rate(rate: u64) -> Opening {
+        let mut raw = RawOpening::UNSET;
+        // SAFETY: as `library` says.
+        unsafe { pie_default_opening(&mut raw, rate) };
+        let RawOpening { params, moment, packets, tail, events, .. } = raw;
+        let (profile, choices, mode) = (Profile::One, Choices::default(), Mode::Rolling);
+        let opening = Opening { params, moment, profile, choices, mode, packets, tail, events };
+        debug_assert_eq!(opening.raw(), raw);
+        opening
+    }
+
     /// As the library has it.
     pub(crate) fn raw(&self) -> RawOpening {
-        let Opening { params, moment, profile, choices, mode, limits: Limits { packets, tail, events } } = *self;
-        RawOpening { params, moment, profile: profile as u64, choices: u64::from(choices.flags()), mode: mode as u64, packets, tail, events }
+        let Opening { params, moment, profile, choices, mode, packets, tail, events } = *self;
+        RawOpening { params, moment, profile: profile as u64, choices: choices.flags(), mode: mode as u64, packets, tail, events }
     }
 }

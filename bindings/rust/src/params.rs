@@ -2,8 +2,7 @@
 
 use core::fmt;
 
-use crate::MAX_BYTES;
-use crate::library::{pie_check_params, pie_default_params};
+use crate::library::{pie_check_params, pie_default_params, pie_params_for};
 
 /// The parameters, in the order in which they are checked. The defaults, in brackets, are those of RFC 8033 where it has them.
 #[repr(C)]
@@ -110,8 +109,10 @@ impl Params {
     /// range goes. That is up to 42.9 Gbit/s; at 100 Gbit/s it is 86 ms.
     #[must_use]
     pub fn for_rate(rate: u64) -> Params {
-        let defaults = Params::default();
-        Params { limit_bytes: rate.div_ceil(40).clamp(defaults.limit_bytes, MAX_BYTES), ..defaults }
+        let mut params = Params::UNSET;
+        // SAFETY: as `library` says.
+        unsafe { pie_params_for(rate, &mut params) };
+        params
     }
 
     /// The first parameter out of its range, `None` where each is in its range.

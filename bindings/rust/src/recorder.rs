@@ -4,16 +4,14 @@ use std::io::{self, Write};
 
 use crate::event::Text;
 use crate::library::{pie_write_clock, pie_write_lost, pie_write_opening, pie_write_refused};
-use crate::{Choices, Event, Limits, Params, ParamsEvent, Profile};
+use crate::{Event, Opening, ParamsEvent};
 
 impl Text {
     /// The opening of a history.
-    fn opening(params: &Params, moment: u64, profile: Profile, choices: Choices, limits: Limits) -> Option<Text> {
-        let Limits { packets, tail, events } = limits;
+    fn opening(opening: &Opening) -> Option<Text> {
+        let opening = opening.raw();
         // SAFETY: as `library` says, and `out` has `room` bytes.
-        Text::of(|out, room| unsafe {
-            pie_write_opening(params, moment, profile as u32, choices.flags(), packets, tail, events, out, room)
-        })
+        Text::of(|out, room| unsafe { pie_write_opening(&opening, out, room) })
     }
 
     /// That the record with this number was refused by this code; none where histories don't know it.
@@ -38,13 +36,12 @@ impl Text {
 /// Writes a history, which `pie audit` decides again and `pie explain` explains: the opening, and then each event in its order.
 ///
 /// ```
-/// use juniperbowls::{Choices, Ecn, Limits, Packet, Params, Profile, Recorder, State};
+/// use juniperbowls::{Ecn, Opening, Packet, Recorder, State};
 ///
 /// # fn main() -> Result<(), Box<dyn std::error::Error>> {
-/// let params = Params { target: 20_000_000, ..Params::default() };
-/// let limits = Limits { packets: 1000, tail: 1024, events: 1 << 40 };
-/// let mut pie = State::open(&params, 0)?;
-/// let mut history = Recorder::open(Vec::new(), &params, 0, Profile::One, Choices::default(), limits)?;
+/// let opening = Opening { packets: 1000, ..Opening::for_rate(100_000_000) };
+/// let mut pie = State::open(&opening)?;
+/// let mut history = Recorder::open(Vec::new(), &opening)?;
 ///
 /// let packet = Packet { tag: 7, size: 1500, ecn: Ecn::Ect0 };
 /// let (event, verdict) = pie.arrive_event(0, 1000, packet, 0x9e37_79b9_7f4a_7c15, 1, 10);
@@ -53,7 +50,7 @@ impl Text {
 /// assert_eq!(event.to_string(), "arrive,1,10,7,1500,ect0,11400714819323198485,enqueue");
 ///
 /// let text = String::from_utf8(history.into_inner())?;
-/// assert!(text.starts_with("open,0,1000,1024,1099511627776,20000000,15000000,"));
+/// assert!(text.starts_with("open3,1,rate,derandomized,capped,unscaled,rolling,0,1000,1024,140737488355328,15000000,"));
 /// assert_eq!(text.lines().count(), 2);
 /// # Ok(())
 /// # }
@@ -68,12 +65,12 @@ pub struct Recorder<W: Write> {
 }
 
 impl<W: Write> Recorder<W> {
-    /// Writes the opening of a controller that was opened with these parameters, moment, profile and choices.
+    /// Writes the opening of a controller that [`State::open`](crate::State::open) opens by this.
     ///
     /// # Errors
-    /// `InvalidInput` where a parameter, the moment or a limit is out of its range; and what the writer answers.
-    pub fn open(mut out: W, params: &Params, moment: u64, profile: Profile, choices: Choices, limits: Limits) -> io::Result<Recorder<W>> {
-        match Text::opening(params, moment, profile, choices, limits) {
+    /// `InvalidInput` where that refuses it; and what the writer answers.
+    pub fn open(mut out: W, opening: &Opening) -> io::Result<Recorder<W>> {
+        match Text::opening(opening) {
             None => Err(io::Error::new(io::ErrorKind::InvalidInput, "an opening that no history has")),
             Some(text) => {
                 out.write_all(text.bytes())?;
@@ -103,11 +100,10 @@ impl<W: Write> Recorder<W> {
     /// nothing; by the last one before an event `pie explain --wall` tells that event's time of day.
     ///
     /// ```
-    /// # use juniperbowls::{Choices, Limits, Params, Profile, Recorder};
+    /// # use juniperbowls::{Opening, Recorder};
     /// # use std::time::{SystemTime, UNIX_EPOCH};
     /// # fn main() -> Result<(), Box<dyn std::error::Error>> {
-    /// let limits = Limits { packets: 1000, tail: 1024, events: 1 << 47 };
-    /// let mut history = Recorder::open(Vec::new(), &Params::default(), 0, Profile::One, Choices::default(), limits)?;
+    /// let mut history = Recorder::open(Vec::new(), &Opening::for_rate(100_000_000))?;
     /// history.clock(0, u64::try_from(SystemTime::now().duration_since(UNIX_EPOCH)?.as_nanos())?)?;
     /// # Ok(())
     /// # }
@@ -115,7 +111,7 @@ impl<W: Write> Recorder<W> {
     ///
     /// # Errors
     /// `InvalidInput`, with nothing written, where the moment is above 2^60 - 1, or the history is of a version before the third, which has no
-    /// such record: with `events` above 2^40 in its [`Limits`] it is of the third. Else as of [`Recorder::record`].
+    /// such record: with `events` above 2^40 in its [`Opening`] it is of the third. Else as of [`Recorder::record`].
     pub fn clock(&mut self, moment: u64, unix_time: u64) -> io::Result<()> {
         match Text::clock(moment, unix_time) {
             Some(text) if self.has_clock => self.put(None, || Some(text)),

@@ -28,6 +28,8 @@ pub enum Refusal {
     Arrived,
     /// A departure by `depart` where delays come from time stamps: `depart_waited` says when the packet arrived.
     NotWaited,
+    /// The `packets`, `tail` or `events` of an opening out of their ranges.
+    Limits,
     /// A code that this crate doesn't know.
     Unknown(u64),
 }
@@ -43,6 +45,7 @@ impl fmt::Display for Refusal {
             Refusal::Queue => f.write_str("more than 2^30 bytes in the queue"),
             Refusal::Arrived => f.write_str("a packet that arrived later than the state's moment"),
             Refusal::NotWaited => f.write_str("a departure without its arrival where delays come from time stamps"),
+            Refusal::Limits => f.write_str("a limit of an opening out of its range"),
             Refusal::Unknown(code) => write!(f, "refused by the code {code}"),
         }
     }
@@ -60,6 +63,7 @@ pub(crate) fn refusal(code: u64, due: u64) -> Refusal {
         112 => Refusal::Queue,
         118 => Refusal::Arrived,
         119 => Refusal::NotWaited,
+        120 => Refusal::Limits,
         _ => Refusal::Unknown(code),
     }
 }

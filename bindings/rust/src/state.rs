@@ -1,11 +1,11 @@
 //! The controller's state, and the calls on it.
 
 use crate::library::{
-    RawUpdated, pie_arrive, pie_check_state, pie_depart, pie_depart_waited, pie_empty, pie_open, pie_open_with, pie_reset, pie_set_params,
+    RawUpdated, pie_arrive, pie_check_state, pie_depart, pie_depart_waited, pie_due, pie_empty, pie_open, pie_reset, pie_set_params,
     pie_update,
 };
 use crate::refusal::{done, done_with, refusal};
-use crate::{Params, Refusal};
+use crate::{Opening, Params, Refusal};
 
 /// The controller's state. Its fields are there to be read; one that was written to may be refused, as [`State::check`] says.
 #[repr(C)]
@@ -37,7 +37,7 @@ pub struct State {
     pub profile: u64,
     /// 1 while the controller is active, and else 0; in profile one always 1 (section 5.3).
     pub active: u64,
-    /// The flags of the [`Choices`], at most 15.
+    /// The flags of the [`Choices`], at most 31.
     pub choices: u64,
     /// What the packet that departed last had waited, at most 2^40 ns; 0 where delays don't come from time stamps.
     pub waited: u64,
@@ -54,12 +54,15 @@ pub struct Choices {
     pub step_uncapped: bool,
     /// A packet below `mean_pkt` is picked less often, in proportion to its size.
     pub size_scaled: bool,
+    /// The probability decays where this delay and the one before are below half the target, not where both are 0 (section 4.2).
+    pub decay_half: bool,
 }
 
 impl Choices {
     /// As the library has them.
-    pub(crate) fn flags(self) -> u32 {
-        u32::from(self.delay_stamp) | u32::from(self.pick_random) << 1 | u32::from(self.step_uncapped) << 2 | u32::from(self.size_scaled) << 3
+    pub(crate) fn flags(self) -> u64 {
+        let flags = [self.delay_stamp, self.pick_random, self.step_uncapped, self.size_scaled, self.decay_half];
+        flags.iter().rev().fold(0, |sum, &flag| 2 * sum + u64::from(flag))
     }
 }
 
@@ -153,26 +156,15 @@ impl State {
         waited: 0,
     };
 
-    /// Opens a controller of profile one at a moment.
+    /// Opens a controller.
     ///
     /// # Errors
-    /// In this order: `Params`, `Moment`.
-    pub fn open(params: &Params, moment: u64) -> Result<State, Refusal> {
+    /// In this order: `Params`, `Moment`, `Limits`.
+    pub fn open(opening: &Opening) -> Result<State, Refusal> {
         let mut state = State::UNSET;
+        let opening = opening.raw();
         // SAFETY: as `library` says.
-        done_with(unsafe { pie_open(&mut state, params, moment) }, params)?;
-        Ok(state)
-    }
-
-    /// Opens a controller of this profile, with these choices, at a moment.
-    ///
-    /// # Errors
-    /// In this order: `Params`, `Moment`.
-    pub fn open_with(params: &Params, moment: u64, profile: Profile, choices: Choices) -> Result<State, Refusal> {
-        let mut state = State::UNSET;
-        let choices = choices.flags();
-        // SAFETY: as `library` says.
-        done_with(unsafe { pie_open_with(&mut state, params, moment, profile as u32, choices) }, params)?;
+        done_with(unsafe { pie_open(&mut state, &opening) }, &opening.params)?;
         Ok(state)
     }
 
@@ -238,7 +230,8 @@ impl State {
     /// The moment from which the next update isn't too soon: a timer is armed for it.
     #[must_use]
     pub fn due(&self) -> u64 {
-        self.last.wrapping_add(self.params.t_update)
+        // SAFETY: as `library` says.
+        unsafe { pie_due(self) }
     }
 
     /// Sets probability, old delay, accumulated probability and the rate estimate to 0, and the burst allowance to `max_burst`. Keeps

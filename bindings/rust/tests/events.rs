@@ -2,14 +2,16 @@
 
 use std::io::{self, ErrorKind, Write};
 
-use juniperbowls::{Choices, Ecn, Limits, MAX_MOMENT, Packet, Params, Profile, Recorder, Refusal, State, Updated, Verdict};
+use juniperbowls::{Choices, Ecn, MAX_MOMENT, Mode, Opening, Packet, Params, Profile, Recorder, Refusal, State, Updated, Verdict};
 
-const LIMITS: Limits = Limits { packets: 64, tail: 1024, events: 100 };
 const PACKET: Packet = Packet { tag: u64::MAX, size: 65_535, ecn: Ecn::Ect1 };
 
+fn opening() -> Opening {
+    Opening { mode: Mode::Bounded, packets: 64, events: 100, ..Opening::for_rate(0) }
+}
+
 fn opened() -> (State, Params) {
-    let params = Params::default();
-    (State::open(&params, 0).unwrap(), params)
+    (State::open(&opening()).unwrap(), opening().params)
 }
 
 #[test]
@@ -63,7 +65,7 @@ fn the_same_decisions() {
 #[test]
 fn refusals_and_gaps() {
     let (mut pie, params) = opened();
-    let mut history = Recorder::open(Vec::new(), &params, 0, Profile::One, Choices::default(), LIMITS).unwrap();
+    let mut history = Recorder::open(Vec::new(), &opening()).unwrap();
     history.record(&pie.update_event(0, 3, 1).0).unwrap();
     history.record(&pie.update_event(u64::MAX, 3, 1).0).unwrap();
     history.record(&pie.empty_event(1, MAX_MOMENT + 1).0).unwrap();
@@ -77,9 +79,8 @@ fn refusals_and_gaps() {
 
 #[test]
 fn the_time_of_day() {
-    let (mut pie, params) = opened();
-    let limits = Limits { events: (1 << 40) + 1, ..LIMITS };
-    let mut history = Recorder::open(Vec::new(), &params, 0, Profile::One, Choices::default(), limits).unwrap();
+    let mut pie = opened().0;
+    let mut history = Recorder::open(Vec::new(), &Opening { events: (1 << 40) + 1, ..opening() }).unwrap();
     for (moment, unix_time) in [(0, 0), (0, u64::MAX), (MAX_MOMENT, 0), (MAX_MOMENT, u64::MAX), (1, 1_795_550_400_000_000_000)] {
         history.clock(moment, unix_time).unwrap();
     }
@@ -89,14 +90,13 @@ fn the_time_of_day() {
     history.record(&pie.update_event(0, 3, 1).0).unwrap();
     assert_eq!((history.records(), history.untold()), (7, 0));
     let text = String::from_utf8(history.into_inner()).unwrap();
-    let (opening, rest) = text.split_once('\n').unwrap();
-    assert_eq!(opening, "open3,1,rate,derandomized,capped,unscaled,bounded,0,64,1024,1099511627777");
+    let (first, rest) = text.split_once('\n').unwrap();
+    assert_eq!(first, "open3,1,rate,derandomized,capped,unscaled,bounded,0,64,1024,1099511627777");
     let most = format!("clock,{MAX_MOMENT},0\nclock,{MAX_MOMENT},{}\n", u64::MAX);
     assert_eq!(rest, format!("clock,0,0\nclock,0,{}\n{most}clock,1,1795550400000000000\nrefused,7,3\n", u64::MAX));
     // histories of earlier versions have none
     for profile in [Profile::One, Profile::Two] {
-        let limits = Limits { events: 1 << 40, ..LIMITS };
-        let mut history = Recorder::open(Vec::new(), &params, 0, profile, Choices::default(), limits).unwrap();
+        let mut history = Recorder::open(Vec::new(), &Opening { profile, events: 1 << 40, ..opening() }).unwrap();
         assert_eq!(history.clock(1, 7).unwrap_err().kind(), ErrorKind::InvalidInput);
         assert_eq!((history.records(), history.into_inner().split(|it| *it == b'\n').count()), (1, 2));
     }
@@ -118,22 +118,22 @@ impl Write for Full {
 
 #[test]
 fn openings() {
-    let (_, params) = opened();
-    let open = |params: &Params, profile, choices, limits| {
-        Recorder::open(Vec::new(), params, 9, profile, choices, limits).map(|it| String::from_utf8(it.into_inner()).unwrap())
-    };
-    let usual = Choices::default();
-    let other = Params { target: 5_000_000, ..params };
+    let open = |it: Opening| Recorder::open(Vec::new(), &it).map(|it| String::from_utf8(it.into_inner()).unwrap());
+    let params = Params { target: 5_000_000, ..Params::default() };
     let nine = "5000000,15000000,150000000,125,1250,1024,262144,100000000000,16384";
-    assert_eq!(open(&other, Profile::One, usual, LIMITS).unwrap(), format!("open,9,64,1024,100,{nine}\n"));
-    assert_eq!(open(&other, Profile::Two, usual, LIMITS).unwrap(), format!("open2,2,bounded,9,64,1024,100,{nine}\n"));
-    let choices = Choices { delay_stamp: true, size_scaled: true, ..usual };
-    let wanted = format!("open3,1,stamp,derandomized,capped,scaled,bounded,9,64,1024,100,{nine}\n");
-    assert_eq!(open(&other, Profile::One, choices, LIMITS).unwrap(), wanted);
-    for limits in [Limits { packets: 0, ..LIMITS }, Limits { tail: (1 << 20) + 1, ..LIMITS }, Limits { events: (1 << 47) + 1, ..LIMITS }] {
-        assert_eq!(open(&params, Profile::One, usual, limits).unwrap_err().kind(), ErrorKind::InvalidInput);
+    let one = Opening { params, moment: 9, ..opening() };
+    assert_eq!(open(one).unwrap(), format!("open,9,64,1024,100,{nine}\n"));
+    assert_eq!(open(Opening { mode: Mode::Rolling, ..one }).unwrap(), format!("rolling,9,64,1024,100,{nine}\n"));
+    let two = Opening { profile: Profile::Two, ..one };
+    assert_eq!(open(two).unwrap(), format!("open2,2,bounded,9,64,1024,100,{nine}\n"));
+    assert_eq!(open(Opening { mode: Mode::Rolling, ..two }).unwrap(), format!("open2,2,rolling,9,64,1024,100,{nine}\n"));
+    let choices = Choices { delay_stamp: true, size_scaled: true, decay_half: true, ..Choices::default() };
+    let wanted = format!("open3,1,stamp,derandomized,capped,scaled,half,bounded,9,64,1024,100,{nine}\n");
+    assert_eq!(open(Opening { choices, ..one }).unwrap(), wanted);
+    let late = Opening { moment: MAX_MOMENT + 1, ..one };
+    let bad = Opening { params: Params { alpha: u64::MAX, ..params }, ..one };
+    for it in [Opening { packets: 0, ..one }, Opening { tail: (1 << 20) + 1, ..one }, Opening { events: (1 << 47) + 1, ..one }, late, bad] {
+        assert_eq!(open(it).unwrap_err().kind(), ErrorKind::InvalidInput);
     }
-    assert_eq!(open(&Params { alpha: u64::MAX, ..params }, Profile::One, usual, LIMITS).unwrap_err().kind(), ErrorKind::InvalidInput);
-    let failed = Recorder::open(Full, &params, 0, Profile::One, usual, LIMITS).unwrap_err();
-    assert_eq!(failed.kind(), ErrorKind::BrokenPipe);
+    assert_eq!(Recorder::open(Full, &one).unwrap_err().kind(), ErrorKind::BrokenPipe);
 }

@@ -2,14 +2,22 @@
 
 use std::error::Error;
 
-use juniperbowls::{Choices, Ecn, MAX_BYTES, MAX_MOMENT, MAX_SIZE, Parameter, Params, Profile, Refusal, State, Verdict};
+use juniperbowls::{Choices, Ecn, MAX_BYTES, MAX_MOMENT, MAX_SIZE, Mode, Opening, Parameter, Params, Profile, Refusal, State, Verdict};
 
 const TENTH: u64 = 100_000_000_000;
 const ONE: u64 = 1_000_000_000_000;
 const LATEST: u64 = (1 << 60) - 1;
 
+fn open_with(params: &Params, moment: u64, profile: Profile, choices: Choices) -> Result<State, Refusal> {
+    State::open(&Opening { params: *params, moment, profile, choices, ..Opening::for_rate(0) })
+}
+
+fn open(params: &Params, moment: u64) -> Result<State, Refusal> {
+    open_with(params, moment, Profile::One, Choices::default())
+}
+
 fn opened() -> State {
-    State::open(&Params::default(), 0).unwrap()
+    open(&Params::default(), 0).unwrap()
 }
 
 fn at(prob: u64, old_delay: u64) -> State {
@@ -30,10 +38,10 @@ fn parameters() {
     assert_eq!(odd.first_bad(), Some(Parameter::DqThreshold));
     let both = Params { target: 1, ..odd };
     assert_eq!(both.first_bad(), Some(Parameter::Target));
-    assert_eq!(State::open(&both, LATEST + 1), Err(Refusal::Params(Parameter::Target)));
-    assert_eq!(State::open_with(&odd, LATEST + 1, Profile::Two, Choices::default()), Err(Refusal::Params(Parameter::DqThreshold)));
-    assert_eq!(State::open(&defaults, LATEST + 1), Err(Refusal::Moment));
-    assert_eq!(State::open(&defaults, LATEST).map(|state| state.burst), Ok(150_000_000));
+    assert_eq!(open(&both, LATEST + 1), Err(Refusal::Params(Parameter::Target)));
+    assert_eq!(open_with(&odd, LATEST + 1, Profile::Two, Choices::default()), Err(Refusal::Params(Parameter::DqThreshold)));
+    assert_eq!(open(&defaults, LATEST + 1), Err(Refusal::Moment));
+    assert_eq!(open(&defaults, LATEST).map(|state| state.burst), Ok(150_000_000));
 }
 
 #[test]
@@ -63,7 +71,7 @@ fn delays_and_probabilities() {
     let mut state = State { average: 14_000_000, ..opened() };
     assert_eq!(state.update(49_152, 15_000_000).unwrap().delay, 42_000_000);
     let params = Params { dq_threshold: 1024, ..Params::default() };
-    let mut state = State { average: 1 << 59, ..State::open(&params, 0).unwrap() };
+    let mut state = State { average: 1 << 59, ..open(&params, 0).unwrap() };
     assert_eq!(state.update(1 << 30, 15_000_000).unwrap().delay, 1 << 40);
     assert_eq!(next(0, 0, 30_000_000), 19_226_074);
     assert_eq!(next(19_226_074, 30_000_000, 30_000_000), 33_874_511);
@@ -160,7 +168,7 @@ fn marks_drops_and_a_lone_enqueue() {
         mark_ecnth: ONE,
         dq_threshold: 1024,
     };
-    let mut state = State::open(&params, 0).unwrap();
+    let mut state = open(&params, 0).unwrap();
     for k in 0..4 {
         assert_eq!(state.arrive(1024 * k, 1024, 8, Ecn::NotEct, 0, 0), Ok(Verdict::Enqueue));
     }
@@ -205,7 +213,7 @@ fn two_more(state: &mut State, queued: u64, moment: u64) {
 #[test]
 fn profile_two_turns_on_and_off() {
     for (profile, first, update) in [(Profile::Two, 0, (1000, 414_208, 4)), (Profile::One, 1, (16, 5810, 4))] {
-        let mut state = State::open_with(&SMALL, 0, profile, Choices::default()).unwrap();
+        let mut state = open_with(&SMALL, 0, profile, Choices::default()).unwrap();
         assert_eq!((state.profile, state.active), (profile as u64, first));
         two_more(&mut state, 0, 0);
         state.depart(1024, 1024, 1).unwrap();
@@ -228,7 +236,7 @@ fn profile_two_turns_on_and_off() {
 
 #[test]
 fn a_tail_drop_turns_on() {
-    let mut state = State::open_with(&SMALL, 0, Profile::Two, Choices::default()).unwrap();
+    let mut state = open_with(&SMALL, 0, Profile::Two, Choices::default()).unwrap();
     two_more(&mut state, 0, 0);
     assert_eq!((state.arrive(2048, 1024, 6, Ecn::NotEct, 0, 0), state.active), (Ok(Verdict::Enqueue), 1));
     let made = state.update(3072, 1).unwrap();
@@ -255,7 +263,7 @@ fn refusals_tell_why() {
     ];
     for (params, parameter, name) in cases {
         assert_eq!(opened().set_params(&params, 0), Err(Refusal::Params(parameter)));
-        let error: Box<dyn Error> = State::open(&params, 0).unwrap_err().into();
+        let error: Box<dyn Error> = open(&params, 0).unwrap_err().into();
         assert_eq!(error.to_string(), format!("the parameter {name} is out of its range"));
     }
     let queued = [Verdict::Enqueue, Verdict::Mark, Verdict::Early, Verdict::Bytes, Verdict::Packets].map(Verdict::is_queued);
@@ -303,7 +311,7 @@ fn widths() {
 fn large_numbers() {
     let params = Params { max_burst: ONE, t_update: 10_000_000_000, ..Params::default() };
     let start = (1 << 59) + 1;
-    let mut state = State::open(&params, start).unwrap();
+    let mut state = open(&params, start).unwrap();
     assert_eq!((state.moment, state.last, state.burst, state.due()), (start, start, ONE, start + 10_000_000_000));
     state.depart(65_535, 16_384, start + 5).unwrap();
     assert_eq!((state.cycle_start, state.moment), (start + 5, start + 5));
@@ -355,9 +363,8 @@ fn what_stays() {
     for (profile, number, active) in [(Profile::One, 1, 1), (Profile::Two, 2, 0)] {
         let cleared = State { moment: 7, last: 7, prob: 0, old_delay: 0, accu: 0, burst: 150_000_002, ..expected };
         let opening = State { profile: number, active, ..cleared };
-        assert_eq!(State::open_with(&params, 7, profile, Choices::default()), Ok(opening));
+        assert_eq!(open_with(&params, 7, profile, Choices::default()), Ok(opening));
     }
-    assert_eq!(State::open(&params, 7), State::open_with(&params, 7, Profile::One, Choices::default()));
 }
 
 /// A limit of 200 ms at a rate, within the range of `limit_bytes`.
@@ -374,6 +381,14 @@ fn limits_by_rate() {
     ] {
         assert_eq!(Params::for_rate(rate), Params { limit_bytes: limit, ..Params::default() });
         assert_eq!(Params::for_rate(rate).first_bad(), None);
+        let opening = Opening::for_rate(rate);
+        assert_eq!((opening.params, opening.moment, opening.mode), (Params::for_rate(rate), 0, Mode::Rolling));
+        assert_eq!((opening.packets, opening.tail, opening.events), (1 << 20, 1024, 1 << 47));
+        assert!(State::open(&opening).is_ok());
+        for bad in [Opening { packets: 0, ..opening }, Opening { tail: (1 << 20) + 1, ..opening }, Opening { events: u64::MAX, ..opening }] {
+            assert_eq!(State::open(&bad), Err(Refusal::Limits));
+            assert_eq!(State::open(&Opening { moment: MAX_MOMENT + 1, ..bad }), Err(Refusal::Moment));
+        }
     }
 }
 
@@ -381,7 +396,7 @@ fn limits_by_rate() {
 #[test]
 fn delays_by_time_stamps() {
     let choices = Choices { delay_stamp: true, ..Choices::default() };
-    let mut state = State::open_with(&Params::default(), 0, Profile::One, choices).unwrap();
+    let mut state = open_with(&Params::default(), 0, Profile::One, choices).unwrap();
     assert_eq!(state.choices, 1);
     let before = state;
     assert_eq!(state.depart(1500, 3000, 9), Err(Refusal::NotWaited));
@@ -393,9 +408,9 @@ fn delays_by_time_stamps() {
     assert_eq!(state.update(0, 20_000_005).unwrap().delay, 20_000_000);
     state.depart_waited(1500, 0, 5, 30_000_000).unwrap();
     assert_eq!(state.waited, 0);
-    let mut rate = State::open(&Params::default(), 0).unwrap();
+    let mut rate = open(&Params::default(), 0).unwrap();
     rate.depart_waited(1500, 40_000, MAX_MOMENT, 1).unwrap();
     assert_eq!((rate.measuring, rate.waited), (1, 0));
-    let choices = Choices { pick_random: true, step_uncapped: true, size_scaled: true, delay_stamp: false };
-    assert_eq!(State::open_with(&Params::default(), 0, Profile::Two, choices).unwrap().choices, 14);
+    let choices = Choices { pick_random: true, step_uncapped: true, size_scaled: true, ..Choices::default() };
+    assert_eq!(open_with(&Params::default(), 0, Profile::Two, choices).unwrap().choices, 14);
 }

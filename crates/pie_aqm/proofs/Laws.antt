@@ -152,7 +152,7 @@ module _ (o : Opened) (events : List ControllerEvent) (h : Held) (shows : Shows 
 
   -- an event that shows a part nothing
   control-same : (event : ControllerEvent)
-      → control_shown event (active_of o events) (turned_on o events event) (params_of o events) o.elements.step (delay_noted o (noted o events))
+      → control_shown event (active_of o events) (turned_on o events event) (params_of o events) o.elements (delay_noted o (noted o events))
       (now_of o (events ++ event ∷ [])) ≡ None
       → Control.Shows o.params o.moment (updates_shown o (events ++ event ∷ [])) h.control
   control-same event none = rw (control-push o events event, none, append-nil (updates_shown o events)) shows.control
@@ -236,8 +236,8 @@ module _ (o : Opened) (events : List ControllerEvent) (h : Held) (shows : Shows 
         waited = waited-same event refl;
         control = rw (control-push o events event, delay-is queued, ← now-is event, ← shows.params, ← shows.active)
             (subst (λ (e : Elements). Control.Shows o.params o.moment (updates_shown o events
-            ++ (if h.active then update_at h.params e.step (delay_in h queued) now else idled now) ∷ [])
-            (if h.active then control_updated h.elements.step h.params h.control (delay_in h queued) now else record h.control { last = now }))
+            ++ (if h.active then update_at h.params e (delay_in h queued) now else idled now) ∷ [])
+            (if h.active then control_updated h.elements h.params h.control (delay_in h queued) now else record h.control { last = now }))
             shows.elements (by h.active));
         early = early-same event refl;
       }
@@ -249,10 +249,10 @@ module _ (o : Opened) (events : List ControllerEvent) (h : Held) (shows : Shows 
       held_always one = shows.active ∙ always (sym shows.profile ∙ one)
 
       by : (active : Bool) → Control.Shows o.params o.moment (updates_shown o events
-          ++ (if active then update_at h.params h.elements.step (delay_in h queued) now else idled now) ∷ [])
-          (if active then control_updated h.elements.step h.params h.control (delay_in h queued) now else record h.control { last = now })
-      by true = Shows-updated o.params o.moment (updates_shown o events) h.params h.elements.step (delay_in h queued) now h.control
-          (control_updated h.elements.step h.params h.control (delay_in h queued) now) shows.control refl refl refl refl
+          ++ (if active then update_at h.params h.elements (delay_in h queued) now else idled now) ∷ [])
+          (if active then control_updated h.elements h.params h.control (delay_in h queued) now else record h.control { last = now })
+      by true = Shows-updated o.params o.moment (updates_shown o events) h.params h.elements (delay_in h queued) now h.control
+          (control_updated h.elements h.params h.control (delay_in h queued) now) shows.control refl refl refl refl
       by false = Shows-idled o.params o.moment (updates_shown o events) now h.control (record h.control { last = now }) shows.control refl
 
   pub Shows-reset-call : (moment : ℕ) → Shows o (events ++ Reset moment ∷ []) (after_call h (Restart moment))

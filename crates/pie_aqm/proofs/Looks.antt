@@ -211,7 +211,7 @@ waited-push opened events event =
 pub control-push : (opened : Opened) (events : List ControllerEvent) (event : ControllerEvent)
     → updates_shown opened (events ++ event ∷ [])
     ≡ updates_shown opened events ++ option_to_list (control_shown event (active_of opened events) (turned_on opened events event)
-    (params_of opened events) opened.elements.step
+    (params_of opened events) opened.elements
     (delay_noted opened (noted opened events)) (now_of opened (events ++ event ∷ [])))
 unfolding updates_shown control_of active_of
 control-push opened events event =
@@ -221,7 +221,7 @@ control-push opened events event =
   where
     shown : control_at opened (last_place opened events event)
         ≡ control_shown event (is_active opened (noted opened events)) (turned_on opened events event) (params_of opened events)
-        opened.elements.step (delay_noted opened (noted opened events)) (now_of opened (events ++ event ∷ []))
+        opened.elements (delay_noted opened (noted opened events)) (now_of opened (events ++ event ∷ []))
     shown = rw (turned_on-is opened events event, events-noted opened events) refl
 
 pub early-push : (opened : Opened) (events : List ControllerEvent) (event : ControllerEvent)

@@ -4,12 +4,12 @@ use Rattle.std.proofs.Common.{if◌then◌else◌}
 use Rattle.std.specs.Prelude.{max, min, nat_lt, Option, Some, None}
 use Rattle.std.proofs.lemmas.Bool.Decides.{nat_tests}
 use Rattle.pie_fixed.specs.Fixed.{bounded_of}
-use Rattle.pie_aqm.specs.Types.{RawParams, Elements, Delay, Rate, Stamp, departure, Begun, Estimate, Parts, Profile, One, Two, Arrival, Step}
+use Rattle.pie_aqm.specs.Types.{RawParams, Elements, Delay, Rate, Stamp, departure, Begun, Estimate, Parts, Profile, One, Two, Arrival}
 use Rattle.pie_params.specs.Range.{first_bad}
 use Rattle.pie_rate.specs.Average.{averaged, with_sample}
 use Rattle.pie_rate.specs.Step.{after_departure, step_from}
 use Rattle.pie_control.specs.Delay.{delay_of}
-use Rattle.pie_control.specs.Next.{decayed, next, raw_step, tuned_step}
+use Rattle.pie_control.specs.Next.{decayed, decays, next, raw_step, tuned_step}
 use Rattle.pie_early.specs.Decision.{accu_after, counted}
 use Rattle.pie_early.proofs.Arrivals.{accu_below}
 use Rattle.pie_aqm.specs.Calls.{Arrive, Call, Change, Depart, IsTaken, Pass, Restart, Update, after_call}
@@ -82,9 +82,10 @@ bounded-hold : (z : ℤ) → bounded_of z ≤ 10 ^ 12
 bounded-hold (pos n) = omega arith
 bounded-hold (negsuc n) = omega arith
 
-pub next-hold : (step : Step) (params : RawParams) (prob delay old : ℕ) → next step params prob delay old ≤ 10 ^ 12
+pub next-hold : (elements : Elements) (params : RawParams) (prob delay old : ℕ) → next elements params prob delay old ≤ 10 ^ 12
 unfolding next
-next-hold step params prob delay old = bounded-hold (decayed delay old (pos prob +ℤ tuned_step step prob (raw_step params delay old)))
+next-hold elements params prob delay old =
+    bounded-hold (decayed (decays elements.decay params delay old) (pos prob +ℤ tuned_step elements.step prob (raw_step params delay old)))
 
 pub delay-hold : (bytes average threshold : ℕ) → delay_of bytes average threshold ≤ 2 ^ 40
 unfolding delay_of
@@ -242,10 +243,10 @@ update-sound h sound queued moment within =
     passed : IsSound (record h { moment = now_at h moment })
     passed = Sound-pass h sound moment within
 
-    by : (active : Bool) → PartsHold (now_at h moment) (if active then control_updated h.elements.step h.params h.control (delay_in h queued)
+    by : (active : Bool) → PartsHold (now_at h moment) (if active then control_updated h.elements h.params h.control (delay_in h queued)
         (now_at h moment) else record h.control { last = now_at h moment })
     by true = record {
-      prob = next-hold h.elements.step h.params h.control.prob (delay_in h queued) h.control.old_delay;
+      prob = next-hold h.elements h.params h.control.prob (delay_in h queued) h.control.old_delay;
       old_delay = delay-by-hold h.elements.delay h.waited (delay_of queued h.rate.average h.params.dq_threshold) sound.waited
           (delay-hold queued h.rate.average h.params.dq_threshold);
       burst = let before = sound.burst in

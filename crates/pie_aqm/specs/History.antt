@@ -4,7 +4,7 @@
 -- looks back over all notes before it.
 use Rattle.std.specs.Prelude.{◌≡◌, ℕ, Bool, true, false, ◌&&◌, List, [], ◌∷◌, ◌++◌, map, Option, option_map, Some, None, if◌then◌else◌}
 use Rattle.std.specs.List.{filter_map, after_last}
-use Rattle.pie_aqm.specs.Types.{RawParams, Elements, Step, Departure, departure, Parts, Enqueue, Mark, Drop, Profile, One, Two, Verdict}
+use Rattle.pie_aqm.specs.Types.{RawParams, Elements, Departure, departure, Parts, Enqueue, Mark, Drop, Profile, One, Two, Verdict}
 use Rattle.pie_aqm.specs.Types.{Picking}
 use Rattle.pie_aqm.specs.Held.{Held}
 use Rattle.pie_rate.specs.Average.{average}
@@ -114,18 +114,18 @@ delay_noted opened noted queued =
 
 -- ---- the control law
 
--- an update or a reset as the control law is shown it: an update with the parameters in force, whether steps are capped, the delay of
--- the bytes in the queue and the effective moment, and while the controller is inactive the moment alone; turning on is a reset
-abbrev pub control_shown : ControllerEvent → Bool → Bool → RawParams → Step → (ℕ → ℕ) → ℕ → Option ControlEvent
-control_shown (Arrived verdict size before after moment) active turned_on params step delay now = if turned_on then Some (reset params) else None
-control_shown (Updated queued moment) active turned_on params step delay now =
-    Some (if active then update_at params step (delay queued) now else idled now)
-control_shown (Reset moment) active turned_on params step delay now = Some (reset params)
-control_shown event active turned_on params step delay now = None
+-- an update or a reset as the control law is shown it: an update with the parameters in force, the elements, the delay of the
+-- bytes in the queue and the effective moment, and while the controller is inactive the moment alone; turning on is a reset
+abbrev pub control_shown : ControllerEvent → Bool → Bool → RawParams → Elements → (ℕ → ℕ) → ℕ → Option ControlEvent
+control_shown (Arrived verdict size before after moment) active turned_on params elements delay now = if turned_on then Some (reset params) else None
+control_shown (Updated queued moment) active turned_on params elements delay now =
+    Some (if active then update_at params elements (delay queued) now else idled now)
+control_shown (Reset moment) active turned_on params elements delay now = Some (reset params)
+control_shown event active turned_on params elements delay now = None
 
 abbrev pub control_at : Opened → Place Noted → Option ControlEvent
 control_at opened place =
-    control_shown place.event.event place.event.active (turns_on_at opened place) (params_at opened place) opened.elements.step
+    control_shown place.event.event place.event.active (turns_on_at opened place) (params_at opened place) opened.elements
     (delay_noted opened place.before) (moment_at opened place)
 
 -- the updates and resets
@@ -184,7 +184,7 @@ change_by event active turned_on calm = None
 -- an update of so many bytes after these notes is calm (section 4.4)
 abbrev pub is_calm_noted : Opened → List Noted → ℕ → Bool
 is_calm_noted opened noted queued =
-    is_calm_after (control_of opened noted) (params_of opened (events_of noted)) opened.elements.step (delay_noted opened noted queued)
+    is_calm_after (control_of opened noted) (params_of opened (events_of noted)) opened.elements (delay_noted opened noted queued)
 
 abbrev pub change_at : Opened → Place Noted → Option Bool
 change_at opened place = change_by place.event.event place.event.active (turns_on_at opened place) (is_calm_noted opened place.before)

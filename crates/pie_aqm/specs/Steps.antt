@@ -2,7 +2,7 @@
 -- to 5.5, and Appendix A for tail drop; when profile two turns on and off is this project's own).
 use Rattle.std.specs.Prelude.{ℕ, ◌+◌, ◌-◌, ◌*◌, ◌^◌, ◌==◌, max, ◌&&◌, not, nat_lt, nat_le, Bool, true, false, Option, Some, None, is_none}
 use Rattle.std.specs.Prelude.{min, option_map, if◌then◌else◌}
-use Rattle.pie_aqm.specs.Types.{RawParams, Elements, Delay, Rate, Stamp, Step, departure, Estimate, Parts, Offered, Choice, Enqueue}
+use Rattle.pie_aqm.specs.Types.{RawParams, Elements, Delay, Rate, Stamp, departure, Estimate, Parts, Offered, Choice, Enqueue}
 use Rattle.pie_aqm.specs.Types.{Profile, One, Two, Arrival, Verdict}
 use Rattle.pie_aqm.specs.Held.{Held}
 use Rattle.pie_rate.specs.Estimate.{Begun}
@@ -212,23 +212,23 @@ abbrev pub delay_answered : Held → ℕ → ℕ
 delay_answered h queued = if h.active then delay_in h queued else 0
 
 -- the control law's registers after an update with this delay at this moment
-abbrev pub control_updated : Step → RawParams → Parts → ℕ → ℕ → Parts
-control_updated step params before delay now = record {
-  prob = next step params before.prob delay before.old_delay;
+abbrev pub control_updated : Elements → RawParams → Parts → ℕ → ℕ → Parts
+control_updated elements params before delay now = record {
+  prob = next elements params before.prob delay before.old_delay;
   old_delay = delay;
-  burst = burst_after step params before delay;
+  burst = burst_after elements params before delay;
   last = now;
 }
 
 -- .. while the controller is inactive it takes in the moment alone
 abbrev pub control_after : Held → ℕ → ℕ → Parts
 control_after h queued now =
-    if h.active then control_updated h.elements.step h.params h.control (delay_in h queued) now else record h.control { last = now }
+    if h.active then control_updated h.elements h.params h.control (delay_in h queued) now else record h.control { last = now }
 
 -- an update with so many bytes in the queue would be calm
 abbrev pub is_calm : Held → ℕ → Bool
 is_calm h queued =
-    ends_calm h.params (next h.elements.step h.params h.control.prob (delay_in h queued) h.control.old_delay) (delay_in h queued)
+    ends_calm h.params (next h.elements h.params h.control.prob (delay_in h queued) h.control.old_delay) (delay_in h queued)
     h.control.old_delay
 
 -- whether an active controller stays so after an update: in profile two not after a calm one

@@ -5,7 +5,6 @@ pub use Rattle.pie_params.specs.declared.elements.Delay.{Delay}
 pub use Rattle.pie_params.specs.declared.elements.Delay.TheVariants.{Rate, Stamp}
 pub use Rattle.pie_params.specs.declared.elements.Picking.{Picking}
 pub use Rattle.pie_params.specs.declared.elements.Picking.TheVariants.{Derandomized, Random}
-pub use Rattle.pie_params.specs.declared.elements.Step.{Step}
 pub use Rattle.pie_params.specs.declared.elements.Step.TheVariants.{Capped, Uncapped}
 pub use Rattle.pie_params.specs.declared.elements.Size.{Size}
 pub use Rattle.pie_params.specs.declared.elements.Size.TheVariants.{Unscaled, Scaled}

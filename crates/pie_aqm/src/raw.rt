@@ -311,7 +311,7 @@ impl RawController {
         let delay = self.delay(queued);
         let is_calm = self
             .control
-            .update(&self.params, self.elements.step, delay, self.moment);
+            .update(&self.params, self.elements, delay, self.moment);
         self.active = match self.profile {
             Profile::One => true,
             Profile::Two => !is_calm,

@@ -69,6 +69,7 @@ fn add_many<R: Wait>(
         let caller = mine.first();
         let held = lock.take(rt, mine);
         mine = add(lock, held, caller, 1);
+        lock.wake();
     }
     mine
 }

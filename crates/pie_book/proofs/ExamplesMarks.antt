@@ -6,7 +6,7 @@ use Rattle.pie_book.specs.Types.{Bounded, Opening, Stats, Registers}
 use Rattle.pie_queue.specs.declared.ecn.Ecn.TheVariants.{Ce}
 use Rattle.pie_rate.specs.Departures.{departure}
 use Rattle.pie_rate.specs.Average.{average}
-use Rattle.pie_params.specs.declared.elements.Step.TheVariants.{Capped}
+use Rattle.pie_params.specs.Elements.{usual}
 use Rattle.pie_params.specs.declared.elements.Picking.TheVariants.{Derandomized}
 use Rattle.pie_control.specs.Events.{reset, update_at}
 use Rattle.pie_control.specs.Parts.{Parts}
@@ -88,7 +88,7 @@ the_delays = refl
 
 -- each update has the parameters in force and its own delay, and a reset its parameters
 the_control_events : control_events opening fourteen
-    ≡ update_at no_burst Capped 2000000 1001000 ∷ update_at no_burst Capped 2000000 1001001 ∷ update_at no_burst Capped 2000000 1001002 ∷ reset some_burst ∷ []
+    ≡ update_at no_burst usual 2000000 1001000 ∷ update_at no_burst usual 2000000 1001001 ∷ update_at no_burst usual 2000000 1001002 ∷ reset some_burst ∷ []
 unfolding worked
 the_control_events = refl
 

@@ -1,16 +1,16 @@
 -- What the calls for each packet leave of a sound state is what the controller then holds.
-use Rattle.std.proofs.Common.{◌≡◌, ℕ, ◌+◌, ◌≤◌, ◌<◌, ◌^◌, ◌==◌, ◌&&◌, ◌||◌, not, max, min, if◌then◌else◌, nat_lt, Bool, true, false, List, [], ◌∷◌, Option, Some, None, is_none}
+use Rattle.std.proofs.Common.{◌≡◌, ℕ, ◌+◌, ◌≤◌, ◌<◌, ◌^◌, ◌==◌, ◌&&◌, ◌||◌, not, max, min, if◌then◌else◌, nat_lt, Bool, true, false, List, [], ◌∷◌, Option, Some, None, is_none, Ok, Err}
 use Rattle.std.proofs.Common.{◌++◌, arith, refl, sym, ap, ◌∙◌}
+use Rattle.std.specs.Prelude.{IsTrue}
 use Rattle.std.proofs.lemmas.Bool.{eqb-true}
 use Rattle.std.proofs.lemmas.Bool.Decides.{nat_tests}
 use Rattle.pie_aqm.specs.declared.verdict.Arrival.{Arrival}
 use Rattle.pie_event.specs.declared.verdict.Verdict.{Verdict}
-use Rattle.pie_params.specs.declared.elements.Elements.{Elements}
 use Rattle.pie_c.proofs.Choices.{choices-back}
-use Rattle.pie_aqm.specs.Calls.{Arrive, Call, Depart, IsTaken, after_call, shown_by}
+use Rattle.pie_aqm.specs.Calls.{Call, Depart, IsTaken, after_call, shown_by}
 use Rattle.pie_aqm.specs.Events.{ControllerEvent, Opened}
 use Rattle.pie_params.specs.declared.raw.RawParams.{RawParams}
-use Rattle.pie_event.specs.declared.profile.Profile.{Profile}
+use Rattle.pie_params.specs.Range.{first_bad, is_dq_threshold}
 use Rattle.pie_event.specs.declared.profile.Profile.TheVariants.{One, Two}
 use Rattle.pie_aqm.specs.Held.{Held}
 use Rattle.pie_aqm.specs.History.{Shows}
@@ -19,17 +19,19 @@ use Rattle.pie_aqm.specs.Steps.{judged, opened, passed, reset, turns_on, verdict
 use Rattle.pie_aqm.specs.Steps.{measures}
 use Rattle.pie_rate.specs.Estimate.{Begun}
 use Rattle.pie_params.specs.declared.elements.Delay.TheVariants.{Rate, Stamp}
-use Rattle.pie_aqm.proofs.InRange.{threshold-holds}
-use Rattle.pie_aqm.proofs.Laws.{Shows_call, moved}
-use Rattle.pie_aqm.proofs.Sounds.{Sound_call}
 use Rattle.pie_c.specs.declared.params.PieParams.{PieParams}
 use Rattle.pie_c.specs.declared.state.PieState.{PieState}
 use Rattle.pie_c.specs.Calls.{Arrives, Leaves, Makes, arrival_refusal, departure_refusal, if_taken, is_bad_size, kept_if_refused, moment_refusal}
-use Rattle.pie_c.specs.Calls.{opening_refusal, packet_refusal, params_refusal, reset_refusal, unless_refused}
+use Rattle.pie_c.specs.Laws.{KeepsSound, LooksBack}
+use Rattle.pie_c.specs.Calls.{packet_refusal, params_refusal, reset_refusal, unless_refused}
+use Rattle.pie_c.specs.declared.opening.PieOpening.{PieOpening}
+use Rattle.pie_event.specs.Opening as book
+use Rattle.pie_event.specs.declared.opening.Opening.{Opening}
+use Rattle.pie_c.specs.Opening.{held_by_opening, limits_of, opening_in, opening_of, opening_refusal}
 use Rattle.pie_c.specs.Params.{params_of, raw_of}
 use Rattle.pie_c.specs.State.{choices_of, elements_of, held_in, is_sound, last_moment, profile_number, profile_of, state_of, takes_stamps}
 use Rattle.pie_c.specs.State.{are_in_range, with_arrival, with_departure, with_rate, with_registers}
-use Rattle.pie_c.proofs.Sound.{choice-from, held-sound, held-state, kept-arrived, kept-departed, kept-moment, kept-waited, params-from, parts-of, profile-back, state-held}
+use Rattle.pie_c.proofs.Sound.{choice-from, held-sound, held-state, kept-by, params-from, parts-of, profile-back, state-held}
 use Rattle.pie_c.proofs.Sound.{state-sound}
 
 -- ---- a call that nothing refuses
@@ -71,32 +73,48 @@ params-taken s p moment sound good m =
     rw (sound, good, early) refl
 
 -- .. and of an opening what that says
-pub record Opens (p : PieParams) (at number flags : ℕ) : Type 0 where
-  pub params : are_in_range p ≡ true
-  pub moment : at < 2 ^ 60
-  pub profile : ((number == 1) || (number == 2)) ≡ true
-  pub choices : flags ≤ 15
+pub record Opens (o : PieOpening) : Type 0 where
+  pub params : are_in_range o.params ≡ true
+  pub moment : o.moment < 2 ^ 60
+  pub profile : ((o.profile == 1) || (o.profile == 2)) ≡ true
+  pub choices : o.choices ≤ 31
 
-pub opening-taken : (p : PieParams) (moment profile choices : ℕ) → opening_refusal p moment profile choices ≡ 0 → Opens p moment profile choices
+pub opening-taken : (o : PieOpening) → opening_refusal o ≡ 0 → Opens o
 unfolding opening_refusal
-opening-taken p moment profile choices free =
-    by (are_in_range p) (nat_lt last_moment moment) ((profile == 1) || (profile == 2)) (nat_lt 15 choices) refl refl refl refl free
+opening-taken o free =
+    by (are_in_range o.params) (nat_lt last_moment o.moment) ((o.profile == 1) || (o.profile == 2)) (nat_lt 31 o.choices)
+    (nat_lt 1 o.mode || not (book.are_in_range (limits_of o))) refl refl refl refl free
   where
-    code : (good late known many : Bool) → ℕ
-    code good late known many = if not good then 107 else if late then 101 else if not known then 113 else if many then 117 else 0
+    code : (good late known many odd : Bool) → ℕ
+    code good late known many odd =
+        if not good then 107 else if late then 101 else if not known then 113 else if many then 117 else if odd then 120 else 0
 
-    by : (good late known many : Bool) → are_in_range p ≡ good → nat_lt last_moment moment ≡ late → ((profile == 1) || (profile == 2)) ≡ known
-        → nat_lt 15 choices ≡ many
-        → code good late known many ≡ 0 → Opens p moment profile choices
-    by false late known many g l k m free = cc
-    by true true known many g l k m free = cc
-    by true false false many g l k m free = cc
-    by true false true true g l k m free = cc
-    by true false true false g l k m free =
+    by : (good late known many odd : Bool) → are_in_range o.params ≡ good → nat_lt last_moment o.moment ≡ late
+        → ((o.profile == 1) || (o.profile == 2)) ≡ known → nat_lt 31 o.choices ≡ many
+        → code good late known many odd ≡ 0 → Opens o
+    by false late known many odd g l k m free = cc
+    by true true known many odd g l k m free = cc
+    by true false false many odd g l k m free = cc
+    by true false true true odd g l k m free = cc
+    by true false true false odd g l k m free =
         record { params = g; moment = grind (arith, nat_tests); profile = k; choices = grind (arith, nat_tests) }
 
+-- what an opening says, and why it is refused
+pub says-opening : (o : PieOpening) (it : Opening) → opening_of o ≡ Ok it → (opening_refusal o ≡ 0) × (it ≡ opening_in o)
+says-opening o it is = by (opening_refusal o == 0) refl is
+  where
+    by : (free : Bool) → (opening_refusal o == 0) ≡ free → (if free then Ok (opening_in o) else Err (opening_refusal o)) ≡ Ok it
+        → (opening_refusal o ≡ 0) × (it ≡ opening_in o)
+    by true e is = (eqb-true (opening_refusal o) 0 e, cc)
+    by false e is = cc
+
+threshold-in : (params : RawParams) → first_bad params ≡ None → params.dq_threshold ≤ 65536
+threshold-in params good =
+    let power : IsTrue (is_dq_threshold params.dq_threshold) = grind (arith, nat_tests) in
+    grind (arith, nat_tests, power)
+
 threshold-of : (s : PieState) → is_sound s ≡ true → s.params.dq_threshold ≤ 65536
-threshold-of s sound = let parts = parts-of s sound in (threshold-holds (raw_of s.params) (params-from s.params parts.params)).1
+threshold-of s sound = let parts = parts-of s sound in threshold-in (raw_of s.params) (params-from s.params parts.params)
 
 pub threshold-held : (s : PieState) → is_sound s ≡ true → (held_in s).params.dq_threshold ≤ 65536
 unfolding held_in
@@ -120,36 +138,36 @@ departed-moment size left moment rest = by (nat_lt last_moment moment) refl
     by true is free = let none : 101 ≡ 0 = rw is at free in cc
     by false is free = grind (arith, nat_tests)
 
-module _ (s t : PieState) (call : Call) (refusal : ℕ) (sound : is_sound s ≡ true)
+module _ (s t : PieState) (call : Call) (refusal : ℕ) (keeps : KeepsSound) (looks : LooksBack) (sound : is_sound s ≡ true)
     (left : t ≡ kept_if_refused refusal s (after_call (held_in s) call)) where
   pub stays-sound : (refusal ≡ 0 → IsTaken call) → is_sound t ≡ true
   stays-sound taken = rw left (by (refusal == 0) (λ is. taken (eqb-true refusal 0 is)))
     where
       by : (free : Bool) → (free ≡ true → IsTaken call) → is_sound (if free then state_of (after_call (held_in s) call) else s) ≡ true
-      by true taken = state-sound _ (Sound_call (held_in s) (held-sound s sound) call (taken refl))
+      by true taken = state-sound _ (keeps (held_in s) (held-sound s sound) call (taken refl))
       by false taken = sound
 
   pub shows-call : (o : Opened) (events : List ControllerEvent) → refusal ≡ 0 → Shows o events (held_in s)
       → Shows o (events ++ shown_by (held_in s) call ∷ []) (held_in t)
   shows-call o events free shows =
-      rw (left, free) (moved _ _ _ _ (held-state (after_call (held_in s) call)) (Shows_call o events (held_in s) shows (threshold-held s sound) call))
+      rw (left, free, held-state (after_call (held_in s) call)) (looks o events (held_in s) shows (threshold-held s sound) call)
 
 -- all three, of a call that handed in this moment
-pub leaves : (s t : PieState) (call : Call) (refusal : ℕ) → (is_sound s ≡ true → t ≡ kept_if_refused refusal s (after_call (held_in s) call))
-    → (refusal ≡ 0 → IsTaken call) → Leaves s call refusal t
-leaves s t call refusal left taken = record {
+pub leaves : KeepsSound → LooksBack → (s t : PieState) (call : Call) (refusal : ℕ)
+    → (is_sound s ≡ true → t ≡ kept_if_refused refusal s (after_call (held_in s) call)) → (refusal ≡ 0 → IsTaken call) → Leaves s call refusal t
+leaves keeps looks s t call refusal left taken = record {
   after = left;
-  sound = λ sound. stays-sound s t call refusal sound (left sound) taken;
-  shows = λ o events sound. shows-call s t call refusal sound (left sound) o events;
+  sound = λ sound. stays-sound s t call refusal keeps looks sound (left sound) taken;
+  shows = λ o events sound. shows-call s t call refusal keeps looks sound (left sound) o events;
 }
 
 -- .. of a call that checks the state
-pub makes : (s t : PieState) (call : Call) (refusal : ℕ) → is_sound s ≡ true → t ≡ kept_if_refused refusal s (after_call (held_in s) call)
-    → (refusal ≡ 0 → IsTaken call) → Makes s call refusal t
-makes s t call refusal sound left taken = record {
+pub makes : KeepsSound → LooksBack → (s t : PieState) (call : Call) (refusal : ℕ) → is_sound s ≡ true
+    → t ≡ kept_if_refused refusal s (after_call (held_in s) call) → (refusal ≡ 0 → IsTaken call) → Makes s call refusal t
+makes keeps looks s t call refusal sound left taken = record {
   after = left;
-  sound = λ _. stays-sound s t call refusal sound left taken;
-  shows = shows-call s t call refusal sound left;
+  sound = λ _. stays-sound s t call refusal keeps looks sound left taken;
+  shows = shows-call s t call refusal keeps looks sound left;
 }
 
 -- .. and where it is refused
@@ -165,7 +183,11 @@ pub untouched : (s : PieState) (a : Arrival) (refusal moment code : ℕ) → ref
 untouched s a refusal moment code is some = rw is record {
   answer = rw some refl;
   fields = rw some refl;
-  held = leaves s s (Arrive a moment) code (λ sound. rw some refl) (λ free. let none : (code == 0) ≡ true = rw free refl in cc);
+  held = record {
+    after = λ sound. rw some refl;
+    sound = λ sound. sound;
+    shows = λ o events sound free. let none : (code == 0) ≡ true = rw free refl in cc;
+  };
 }
 
 -- ---- the state after it
@@ -182,9 +204,7 @@ pub registers-state : (s : PieState) (h : Held) → h.params ≡ raw_of s.params
     → with_registers s h ≡ state_of h
 unfolding state_of
 registers-state s h same kind chosen =
-    ap (λ (p : PieParams). record (with_registers s h) { params = p }) (sym (ap params_of same))
-    ∙ ap (λ (n : ℕ). record (with_registers s h) { params = params_of h.params; profile = n }) (sym kind)
-    ∙ ap (λ (n : ℕ). record (with_registers s h) { params = params_of h.params; profile = profile_number h.profile; choices = n }) (sym chosen)
+    λ i. record (with_registers s h) { params = params_of ((sym same) i); profile = (sym kind) i; choices = (sym chosen) i }
 
 kind-back : (s : PieState) → is_sound s ≡ true → profile_number (profile_of s.profile) ≡ s.profile
 kind-back s sound = let parts = parts-of s sound in profile-back (s.profile == 2) s refl parts.activity
@@ -194,7 +214,7 @@ chosen-back s sound = let parts = parts-of s sound in choices-back s.choices (ch
 
 pub arrived-state : (s : PieState) (a : Arrival) (moment : ℕ) → is_sound s ≡ true
     → with_arrival s (arrived (held_in s) a moment) ≡ state_of (arrived (held_in s) a moment)
-unfolding held_in
+unfolding held_in state_of
 arrived-state s a moment sound = by (turns_on (held_in s) (bytes_with (verdict (held_in s) a) a.queued a.size)) refl
   where
     by : (on : Bool) → turns_on (held_in s) (bytes_with (verdict (held_in s) a) a.queued a.size) ≡ on
@@ -202,7 +222,8 @@ arrived-state s a moment sound = by (turns_on (held_in s) (bytes_with (verdict (
         ≡ state_of (if on then record (anew (judged (held_in s) a moment)) { active = true } else judged (held_in s) a moment)
     by true e =
         rw (on-alone (s.active == 1) _ e) (registers-state s (record (anew (judged (held_in s) a moment)) { active = true }) refl (kind-back s sound) (chosen-back s sound))
-    by false e = rw (not-both (s.active == 1)) (kept-arrived s (judged (held_in s) a moment) sound refl)
+    by false e = rw (not-both (s.active == 1)) (kept-by s (judged (held_in s) a moment)
+        (λ (t : PieState). record t { moment = (judged (held_in s) a moment).moment; accu = (judged (held_in s) a moment).accu }) sound refl)
 
 capped-is : (h : Held) → h.params.dq_threshold ≤ 65536 → capped h ≡ h
 capped-is h t = ap (λ (n : ℕ). record h { params = record h.params { dq_threshold = n } }) (grind arith)
@@ -210,7 +231,7 @@ capped-is h t = ap (λ (n : ℕ). record h { params = record h.params { dq_thres
 -- a departure of a state that takes delays by the rate, and of one that takes them from time stamps
 pub departed-state : (s : PieState) (size left since moment : ℕ) → is_sound s ≡ true
     → with_departure s (departed (capped (held_in s)) size left since moment) ≡ state_of (departed (held_in s) size left since moment)
-unfolding held_in elements_of
+unfolding held_in state_of elements_of
 departed-state s size left since moment sound =
     ap (λ (h : Held). with_departure s (departed h size left since moment)) (capped-is (held_in s) (threshold-of s sound)) ∙ by (takes_stamps s) refl
   where
@@ -221,10 +242,13 @@ departed-state s size left since moment sound =
         → with_departure s (departed (held_in s) size left since moment) ≡ state_of (departed (held_in s) size left since moment)
     by true is =
         ap (λ (b : Bool). two b (departed (held_in s) size left since moment)) is
-        ∙ kept-waited s (departed (held_in s) size left since moment) sound (rw is refl)
+        ∙ kept-by s (departed (held_in s) size left since moment)
+        (λ (t : PieState). record t { moment = (departed (held_in s) size left since moment).moment; waited = (departed (held_in s) size left since moment).waited })
+        sound (rw is refl)
     by false is =
         ap (λ (b : Bool). two b (departed (held_in s) size left since moment)) is
-        ∙ kept-departed s (departed (held_in s) size left since moment) sound (rw is refl)
+        ∙ kept-by s (departed (held_in s) size left since moment) (λ (t : PieState). with_rate t (departed (held_in s) size left since moment)) sound
+        (rw is refl)
 
 -- where delays come from the rate it doesn't matter since when a packet waited
 pub by-rate : (s : PieState) (size left since moment : ℕ) → takes_stamps s ≡ false
@@ -309,8 +333,8 @@ unfolding held_in
 unmeasured-state s h moment closed is = rw (is, closed) refl
 
 pub passed-state : (s : PieState) (moment : ℕ) → is_sound s ≡ true → record s { moment = max s.moment moment } ≡ state_of (passed (held_in s) moment)
-unfolding held_in
-passed-state s moment sound = kept-moment s (passed (held_in s) moment) sound refl
+unfolding held_in state_of
+passed-state s moment sound = kept-by s (passed (held_in s) moment) (λ (t : PieState). record t { moment = max s.moment moment }) sound refl
 
 -- an arrival at a state that has its moment already
 abbrev pub at_later : PieState → ℕ → PieState
@@ -363,18 +387,16 @@ changed-state s params raw h g moment sound held after =
     rw (after, held)
     (ap (λ (t : PieState). with_rate (record t { params = params }) (changed (held_in s) (raw_of params) moment)) (sym (state-held s sound)))
 
-pub opened-state : (s : PieState) (params : PieParams) (raw : RawParams) (g : Held) (moment number profile flags choices : ℕ) (kind : Profile)
-    (elements : Elements) → ((profile == 1) || (profile == 2)) ≡ true → choices ≤ 15
-    → number ≡ profile → kind ≡ profile_of number → raw ≡ raw_of params → flags ≡ choices
-    → g ≡ opened kind elements raw moment
-    → with_registers (record s { params = params; profile = number; choices = flags }) g
-    ≡ state_of (opened (profile_of profile) (elements_of choices) (raw_of params) moment)
-opened-state s params raw g moment number profile flags choices kind elements known few same of is flagged after =
-    rw (after, of, is, same, flagged)
-    (registers-state (record s { params = params; profile = profile; choices = choices })
-    (opened (profile_of profile) (elements_of choices) (raw_of params) moment) refl
-    (by (profile == 2) refl) (choices-back choices few))
+pub opened-in : (o : PieOpening) (it : Opening) (raw : RawParams) → it ≡ opening_in o → raw ≡ it.params
+    → opened it.choices.profile it.choices.elements raw it.moment ≡ held_by_opening o
+opened-in o it raw is same = rw same (ap (λ (i : Opening). opened i.choices.profile i.choices.elements i.params i.moment) is)
+
+pub opened-state : (s : PieState) (o : PieOpening) → Opens o
+    → with_registers (record s { params = o.params; profile = o.profile; choices = o.choices }) (held_by_opening o) ≡ state_of (held_by_opening o)
+opened-state s o opens =
+    registers-state (record s { params = o.params; profile = o.profile; choices = o.choices }) (held_by_opening o) refl
+    (by (o.profile == 2) refl opens.profile) (choices-back o.choices opens.choices)
   where
-    by : (two : Bool) → (profile == 2) ≡ two → profile_number (if two then Two else One) ≡ profile
-    by true is = grind (arith, nat_tests)
-    by false is = grind (arith, nat_tests)
+    by : (two : Bool) → (o.profile == 2) ≡ two → ((o.profile == 1) || (o.profile == 2)) ≡ true → profile_number (if two then Two else One) ≡ o.profile
+    by true is known = grind (arith, nat_tests)
+    by false is known = grind (arith, nat_tests)

@@ -36,15 +36,6 @@ pub record Takes (before : PieState) (refusal : ℕ) (after : PieState) (code : 
 abbrev pub is_bad_size : ℕ → Bool
 is_bad_size size = (size == 0) || nat_lt 65535 size
 
--- why an opening is refused, and 0 where it isn't
-unfoldable pub opening_refusal : PieParams → ℕ → ℕ → ℕ → ℕ
-opening_refusal params moment profile choices =
-    if not (are_in_range params) then 107
-    else if nat_lt last_moment moment then 101
-    else if not ((profile == 1) || (profile == 2)) then 113
-    else if nat_lt 15 choices then 117
-    else 0
-
 -- the ECN field of these two bits (RFC 3168, section 5)
 abbrev pub ecn_at : ℕ → Ecn
 ecn_at bits = if bits == 0 then NotEct else if bits == 1 then Ect1 else if bits == 2 then Ect0 else Ce

@@ -1,6 +1,8 @@
 pub mod Params
 pub mod State
+pub mod Laws
 pub mod Calls
+pub mod Opening
 pub mod Reading
 pub mod Events
 pub mod Resuming

@@ -1,13 +1,14 @@
 //! The calls on a state. Those for each packet read the state's numbers as they are: their rules are total, so nothing of the state
 //! is checked. The others refuse a state that isn't sound. Each refuses what it is handed out of its range, lets the controller
 //! make its step, and writes back what that changed.
-ghost use Rattle.std.specs.Prelude.{◌≡◌, ◌∷◌, [], ◌++◌, List, if◌then◌else◌, max, true};
+ghost use Rattle.std.specs.Prelude.{◌≡◌, ◌<◌, ◌+◌, ◌-◌, ◌^◌, ◌∷◌, [], ◌++◌, List, if◌then◌else◌, max, min, true};
 ghost use Rattle.pie_aqm.specs.Calls.{Arrive, Change, Depart, Pass, Restart, Update, after_call, shown_by};
 ghost use Rattle.pie_aqm.specs.Events.{ControllerEvent, Opened};
 ghost use Rattle.pie_aqm.specs.History.{Shows};
 ghost use Rattle.pie_aqm.specs.Steps.{arrived, capped, departed, verdict};
 ghost use Rattle.pie_c.specs.Params.{raw_of};
 ghost use Rattle.pie_c.specs.State.{elements_of, held_in, is_sound, takes_stamps, with_departure, with_rate};
+ghost use Rattle.pie_c.specs.Laws.{KeepsSound, LooksBack};
 ghost use Rattle.pie_c.specs.Calls.{Arrives, Leaves, Makes, Takes, arrival_of, arrival_refusal, departure_refusal, if_taken, kept_if_refused};
 ghost use Rattle.pie_c.specs.Calls.{moment_refusal, params_refusal, reset_refusal, state_refusal, unless_refused, update_refusal, updated_by, waited_refusal};
 
@@ -22,12 +23,22 @@ use crate::code::{
 use crate::params::PieParams;
 use crate::state::PieState;
 use crate::updated::PieUpdated;
-use pie_aqm::Arrival;
+use pie_aqm::{Arrival, calls_keep_it_sound, calls_look_back};
 use pie_fixed::MAX_NANOS;
 use pie_params::Elements;
 
 /// The most bytes that a queue holds: the greatest byte limit.
 const MAX_QUEUED: u64 = 1 << 30;
+
+/// What is held stays sound and shows each call. It does nothing.
+#[inline(always)]
+fn laws()
+    ensures keeps { KeepsSound }
+    ensures looks { LooksBack }
+{
+    calls_keep_it_sound();
+    calls_look_back();
+}
 
 /// Decides on an arriving packet, which the caller then queues, marks and queues, or drops: `queued`
 /// bytes are in the queue without it, `room` is how many more packets the caller's ring has room for,
@@ -114,6 +125,7 @@ fn arrive(
     let mut held = raw_with(state, elements);
     let verdict = held.arrive(arrival, state.moment);
     state.keep_arrived(&held);
+    laws();
     of_verdict(verdict)
 }
 
@@ -143,6 +155,7 @@ pub extern "C" fn pie_depart(state: &mut PieState, size: u32, left: u64, moment:
         (with_rate state.old (departed (capped (held_in state.old)) size left 0 moment)) }
     ensures held { Leaves state.old (Depart size left 0 moment) (departure_refusal state.old size left moment) state.new }
 {
+    laws();
     if depart_counted(state, size, left, moment) {
         return DONE;
     }
@@ -247,6 +260,7 @@ pub(crate) fn depart_waited(
         (with_departure state.old (departed (capped (held_in state.old)) size left arrived moment)) }
     ensures held { Leaves state.old (Depart size left arrived moment) (waited_refusal state.old size left arrived moment) state.new }
 {
+    laws();
     if takes_stamps(state) {
         depart_stamped(state, size, left, arrived, moment)
     } else {
@@ -302,6 +316,7 @@ pub(crate) fn empty(state: &mut PieState, moment: u64) -> u32
         return BAD_MOMENT;
     }
     state.moment = state.moment.max(moment);
+    laws();
     DONE
 }
 
@@ -313,12 +328,7 @@ pub(crate) fn empty(state: &mut PieState, moment: u64) -> u32
 #[unsafe(no_mangle)]
 pub extern "C" fn pie_update(state: &mut PieState, queued: u64, moment: u64) -> PieUpdated
     ensures answer { result ≡ updated_by state.old queued moment }
-    ensures after { state.new ≡ kept_if_refused (update_refusal state.old queued moment) state.old
-        (after_call (held_in state.old) (Update queued moment)) }
-    ensures sound { is_sound state.old ≡ true → is_sound state.new ≡ true }
-    ensures shows { (opened : Opened) (events : List ControllerEvent) → update_refusal state.old queued moment ≡ 0
-        → Shows opened events (held_in state.old)
-        → Shows opened (events ++ shown_by (held_in state.old) (Update queued moment) ∷ []) (held_in state.new) }
+    ensures made { Makes state.old (Update queued moment) (update_refusal state.old queued moment) state.new }
 {
     update(state, queued, moment)
 }
@@ -328,6 +338,7 @@ pub extern "C" fn pie_update(state: &mut PieState, queued: u64, moment: u64) -> 
 #[tactic(auto, unfolding(crate::specs::Calls::update_refusal))]
 pub(crate) fn update(state: &mut PieState, queued: u64, moment: u64) -> PieUpdated
     ensures answer { result ≡ updated_by state.old queued moment }
+    ensures small { result.code < 2 ^ 32 }
     ensures made { Makes state.old (Update queued moment) (update_refusal state.old queued moment) state.new }
 {
     if !is_sound(state) {
@@ -339,6 +350,7 @@ pub(crate) fn update(state: &mut PieState, queued: u64, moment: u64) -> PieUpdat
     if queued > MAX_QUEUED {
         return PieUpdated::refused(BAD_QUEUE);
     }
+    laws();
     let mut held = raw(state);
     if held.is_too_soon(moment) {
         return PieUpdated::made(TOO_SOON, held.control.old_delay, &held);
@@ -348,15 +360,20 @@ pub(crate) fn update(state: &mut PieState, queued: u64, moment: u64) -> PieUpdat
     PieUpdated::made(DONE, delay, &held)
 }
 
+/// The moment from which the next update isn't too soon; of a state that isn't sound, where that is above `2^64 - 1`, this.
+#[unsafe(no_mangle)]
+pub extern "C" fn pie_due(state: &PieState) -> u64
+    ensures { result ≡ min (state.now.last + state.now.params.t_update) (2 ^ 64 - 1) }
+{
+    state.last.saturating_add(state.params.t_update)
+}
+
 /// Sets probability, old delay, accumulated probability and rate estimate to 0 and the burst allowance
 /// to `max_burst`, and keeps parameters, last update, and whether the controller is active.
 #[unsafe(no_mangle)]
 pub extern "C" fn pie_reset(state: &mut PieState, moment: u64) -> u32
     ensures answer { result ≡ reset_refusal state.old moment }
-    ensures after { state.new ≡ kept_if_refused (reset_refusal state.old moment) state.old (after_call (held_in state.old) (Restart moment)) }
-    ensures sound { is_sound state.old ≡ true → is_sound state.new ≡ true }
-    ensures shows { (opened : Opened) (events : List ControllerEvent) → reset_refusal state.old moment ≡ 0 → Shows opened events (held_in state.old)
-        → Shows opened (events ++ shown_by (held_in state.old) (Restart moment) ∷ []) (held_in state.new) }
+    ensures made { Makes state.old (Restart moment) (reset_refusal state.old moment) state.new }
 {
     reset(state, moment)
 }
@@ -377,6 +394,7 @@ pub(crate) fn reset(state: &mut PieState, moment: u64) -> u32
     let mut held = raw(state);
     held.reset(moment);
     state.keep_registers(&held);
+    laws();
     DONE
 }
 
@@ -386,12 +404,7 @@ pub(crate) fn reset(state: &mut PieState, moment: u64) -> u32
 #[unsafe(no_mangle)]
 pub extern "C" fn pie_set_params(state: &mut PieState, params: &PieParams, moment: u64) -> u32
     ensures answer { result ≡ params_refusal state.old params.now moment }
-    ensures after { state.new ≡ kept_if_refused (params_refusal state.old params.now moment) state.old
-        (after_call (held_in state.old) (Change (raw_of params.now) moment)) }
-    ensures sound { is_sound state.old ≡ true → is_sound state.new ≡ true }
-    ensures shows { (opened : Opened) (events : List ControllerEvent) → params_refusal state.old params.now moment ≡ 0
-        → Shows opened events (held_in state.old)
-        → Shows opened (events ++ shown_by (held_in state.old) (Change (raw_of params.now) moment) ∷ []) (held_in state.new) }
+    ensures made { Makes state.old (Change (raw_of params.now) moment) (params_refusal state.old params.now moment) state.new }
 {
     set_params(state, params, moment)
 }
@@ -416,6 +429,7 @@ pub(crate) fn set_params(state: &mut PieState, params: &PieParams, moment: u64) 
     held.set_params(params.raw(), moment);
     state.params = *params;
     state.keep_departed(&held);
+    laws();
     DONE
 }
 

@@ -64,6 +64,9 @@ pub(crate) const BAD_ARRIVED: u32 = 118;
 /// Refused: a departure that doesn't say when the packet arrived, at a state that takes delays from time stamps.
 pub(crate) const NOT_WAITED: u32 = 119;
 
+/// Refused: a mode or a limit of an opening out of its range.
+pub(crate) const BAD_LIMITS: u32 = 120;
+
 /// The number of a verdict.
 pub(crate) fn of_verdict(verdict: Verdict) -> u32
     ensures { result ≡ verdict_number verdict }

@@ -7,7 +7,7 @@
 //! For each call, whatever is handed in: what it answers (clause `answer`), with the refusals in their order. What a call for each
 //! packet leaves of any state is the clause `fields`; `after` says it of a sound one, and of every state for the other calls. All of
 //! it is pie_aqm's, of whose rules there is none here: a call reads the numbers into a `RawController`, lets it decide, and
-//! writes back what that changed. A sound state stays sound (`sound`), so a state that `pie_open` or `pie_open_with` made
+//! writes back what that changed. A sound state stays sound (`sound`), so a state that `pie_open` made
 //! is never refused. If a state summarizes what the controller was shown since the opening, it does so with this call added (`shows`).
 //!
 //! The calls that read a text with a unit are pie_units's, and touch no state.
@@ -17,6 +17,7 @@ mod calls;
 mod checked;
 mod code;
 mod event;
+mod law;
 mod opening;
 mod params;
 mod reading;

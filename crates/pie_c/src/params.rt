@@ -1,7 +1,7 @@
 ghost use Rattle.std.specs.Prelude.{◌≡◌};
-ghost use Rattle.pie_params.specs.Profile.{default_profile};
+ghost use Rattle.pie_params.specs.Profile.{default_profile, profile_for};
 ghost use Rattle.pie_params.specs.Range.{first_bad};
-ghost use Rattle.pie_c.specs.Params.{bad_number, field_number, raw_of};
+ghost use Rattle.pie_c.specs.Params.{bad_number, field_number, params_of, raw_of};
 
 use pie_params::{BadParam, Field, Params, RawParams};
 
@@ -51,7 +51,7 @@ impl PieParams {
 
     /// The same fields as a C caller holds them.
     pub(crate) fn from_raw(raw: RawParams) -> PieParams
-        ensures { raw_of result ≡ raw }
+        ensures { result ≡ params_of raw }
     {
         PieParams {
             target: raw.target,
@@ -90,6 +90,15 @@ pub extern "C" fn pie_default_params(params: &mut PieParams)
     ensures { raw_of params.new ≡ default_profile }
 {
     *params = PieParams::from_raw(Params::default_profile().raw());
+}
+
+/// Fills in the default parameters for a link of this rate, in bits a second: `limit_bytes` is 200 ms at it, but no less than the default and
+/// no more than its range allows.
+#[unsafe(no_mangle)]
+pub extern "C" fn pie_params_for(rate: u64, params: &mut PieParams)
+    ensures { raw_of params.new ≡ profile_for rate }
+{
+    *params = PieParams::from_raw(Params::for_rate(rate).raw());
 }
 
 /// The number of the first parameter that is out of its range, counted from 1 in the order of the

@@ -5,7 +5,10 @@ use Rattle.pie_fixed.specs.declared.TheConstants.{ONE}
 use Rattle.pie_control.specs.declared.update.TheConstants.{CAPPED_FROM, LARGEST_STEP, MAX_DELAY}
 use Rattle.pie_params.specs.declared.raw.RawParams.{RawParams}
 use Rattle.pie_params.specs.Profile.{default_profile}
-use Rattle.pie_params.specs.declared.elements.Step.TheVariants.{Capped, Uncapped}
+use Rattle.pie_params.specs.Elements.{usual}
+use Rattle.pie_params.specs.declared.elements.Decay.TheVariants.{Half}
+use Rattle.pie_params.specs.declared.elements.Elements.{Elements}
+use Rattle.pie_params.specs.declared.elements.Step.TheVariants.{Uncapped}
 use Rattle.pie_control.specs.Delay.{delay_of}
 use Rattle.pie_control.specs.Events.{ControlEvent, idled, reset, update_at}
 use Rattle.pie_control.specs.History.{probability, last_delay, last_moment, granted_burst, burst_allowance, is_calm_after}
@@ -39,7 +42,7 @@ unfolding delay_of
 delays = (refl, refl, refl)
 
 next_of : ℕ → ℕ → ℕ → ℕ
-next_of prob delay old = next Capped default_profile prob delay old
+next_of prob delay old = next usual default_profile prob delay old
 
 rises : (next_of 0 30_000_000 0 ≡ 19_226_074) × (next_of 19_226_074 30_000_000 30_000_000 ≡ 33_874_511)
 unfolding next_of next raw_step tuning_divisor tuned_step decayed
@@ -51,23 +54,36 @@ unfolding next_of next raw_step tuning_divisor tuned_step decayed
 capped_from_a_tenth = (refl, refl)
 
 -- the same where steps are not capped: the whole step, tuned by 1 and by 2
-uncapped : (next Uncapped default_profile 100_000_000_000 60_000_000 15_000_000 ≡ 161_875_000_000)
-    × (next Uncapped default_profile 99_999_999_999 60_000_000 15_000_000 ≡ 130_937_499_999)
-    × (next Uncapped default_profile 990_000_000_000 60_000_000 15_000_000 ≡ 10 ^ 12)
-unfolding next raw_step tuning_divisor tuned_step decayed
+uncapped_elements : Elements
+uncapped_elements = record usual { step = Uncapped }
+
+uncapped : (next uncapped_elements default_profile 100_000_000_000 60_000_000 15_000_000 ≡ 161_875_000_000)
+    × (next uncapped_elements default_profile 99_999_999_999 60_000_000 15_000_000 ≡ 130_937_499_999)
+    × (next uncapped_elements default_profile 990_000_000_000 60_000_000 15_000_000 ≡ 10 ^ 12)
+unfolding uncapped_elements next raw_step tuning_divisor tuned_step decayed
 uncapped = (refl, refl, refl)
 
 decays : (next_of (10 ^ 12) 0 0 ≡ 978_162_500_000) × (next_of 50 0 0 ≡ 0)
 unfolding next_of next raw_step tuning_divisor tuned_step decayed
 decays = (refl, refl)
 
+-- .. and with the decay below half the target: by the step downward, 1.9 per cent of a probability of 1, and then by a fiftieth, to the last
+-- nanosecond below half the target, and where either delay is there only by the step
+half_of : ℕ → ℕ → ℕ → ℕ
+half_of prob delay old = next (record usual { decay = Half }) default_profile prob delay old
+
+decays_below_half : (half_of (10 ^ 12) 7_499_999 7_499_999 ≡ 979_081_249_877) × (half_of (10 ^ 12) 7_500_000 7_499_999 ≡ 999_062_501_250)
+    × (half_of (10 ^ 12) 7_499_999 7_500_000 ≡ 999_062_498_625) × (half_of (10 ^ 12) 0 0 ≡ next_of (10 ^ 12) 0 0)
+unfolding half_of next_of next raw_step tuning_divisor tuned_step decayed
+decays_below_half = (refl, refl, refl, refl)
+
 -- two updates, a reset, and one more
 some_events : List ControlEvent
 some_events =
-    update_at default_profile Capped 30_000_000 5 ∷ update_at default_profile Capped 30_000_000 6 ∷ reset default_profile ∷ update_at default_profile Capped 40_000_000 7
+    update_at default_profile usual 30_000_000 5 ∷ update_at default_profile usual 30_000_000 6 ∷ reset default_profile ∷ update_at default_profile usual 40_000_000 7
     ∷ []
 
-after_two : (probability (update_at default_profile Capped 30_000_000 5 ∷ update_at default_profile Capped 30_000_000 6 ∷ [])
+after_two : (probability (update_at default_profile usual 30_000_000 5 ∷ update_at default_profile usual 30_000_000 6 ∷ [])
     ≡ next_of (next_of 0 30_000_000 0) 30_000_000 30_000_000)
 unfolding probability next_of
 after_two = refl
@@ -82,7 +98,7 @@ no_update_yet = (refl, refl, refl, refl)
 
 -- each update under load takes 15 milliseconds off, and there is nothing below 0
 load : ℕ → ControlEvent
-load moment = update_at default_profile Capped 30_000_000 moment
+load moment = update_at default_profile usual 30_000_000 moment
 
 ten_updates : List ControlEvent
 ten_updates = load 1 ∷ load 2 ∷ load 3 ∷ load 4 ∷ load 5 ∷ load 6 ∷ load 7 ∷ load 8 ∷ load 9 ∷ load 10 ∷ []
@@ -98,7 +114,7 @@ smaller : RawParams
 smaller = record default_profile { max_burst = 40_000_000 }
 
 calm : ControlEvent
-calm = update_at smaller Capped 1_000_000 3
+calm = update_at smaller usual 1_000_000 3
 
 refills : (burst_allowance default_profile (load 1 ∷ reset default_profile ∷ load 2 ∷ []) ≡ 135_000_000)
     × (burst_allowance default_profile (reset default_profile ∷ calm ∷ []) ≡ 40_000_000)
@@ -125,9 +141,9 @@ idle = (refl, refl, refl, refl, refl)
 by_level : RawParams
 by_level = record default_profile { beta = 0 }
 
-calm_after : (is_calm_after [] by_level Capped 7_499_999 ≡ true) × (is_calm_after [] by_level Capped 7_500_000 ≡ false)
-    × (is_calm_after (update_at by_level Capped 7_500_000 1 ∷ []) by_level Capped 0 ≡ false)
-    × (is_calm_after (update_at by_level Capped 7_499_999 1 ∷ idled 2 ∷ []) by_level Capped 7_499_999 ≡ true)
-    × (is_calm_after [] default_profile Capped 7_499_999 ≡ false)
+calm_after : (is_calm_after [] by_level usual 7_499_999 ≡ true) × (is_calm_after [] by_level usual 7_500_000 ≡ false)
+    × (is_calm_after (update_at by_level usual 7_500_000 1 ∷ []) by_level usual 0 ≡ false)
+    × (is_calm_after (update_at by_level usual 7_499_999 1 ∷ idled 2 ∷ []) by_level usual 7_499_999 ≡ true)
+    × (is_calm_after [] default_profile usual 7_499_999 ≡ false)
 unfolding by_level probability last_delay next raw_step tuning_divisor tuned_step decayed
 calm_after = (refl, refl, refl, refl, refl)

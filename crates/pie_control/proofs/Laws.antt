@@ -3,7 +3,7 @@ use Rattle.std.proofs.Common.{◌≡◌, refl, ℕ, ◌-◌, ◌≤◌, Bool, tr
 use Rattle.std.proofs.lemmas.List.{reverse-append}
 use Rattle.std.proofs.lemmas.List.Sums.{sum_by-cons}
 use Rattle.pie_params.specs.declared.raw.RawParams.{RawParams}
-use Rattle.pie_params.specs.declared.elements.Step.{Step}
+use Rattle.pie_params.specs.declared.elements.Elements.{Elements}
 use Rattle.pie_control.specs.Events.{ControlEvent, updated, idled, reset, Update, update_at, updates_after_reset}
 use Rattle.pie_control.specs.History.{probability, last_delay, last_moment, granted_burst, burst_allowance, burst_after, ends_calm, is_calm}
 use Rattle.pie_control.specs.History.{updates_after_refill, burst_after_refill, Shows}
@@ -14,28 +14,28 @@ use Rattle.pie_control.specs.Parts.{Parts}
 reversed : (events : List ControlEvent) (e : ControlEvent) → reverse (events ++ e ∷ []) ≡ e ∷ reverse events
 reversed events e = reverse-append events (e ∷ [])
 
-pub probability-updated : (events : List ControlEvent) (params : RawParams) (choice : Step) (delay moment : ℕ)
-    → probability (events ++ update_at params choice delay moment ∷ []) ≡ next choice params (probability events) delay (last_delay events)
+pub probability-updated : (events : List ControlEvent) (params : RawParams) (elements : Elements) (delay moment : ℕ)
+    → probability (events ++ update_at params elements delay moment ∷ []) ≡ next elements params (probability events) delay (last_delay events)
 unfolding probability last_delay
-probability-updated events params choice delay moment = rw (reversed events (update_at params choice delay moment))
+probability-updated events params elements delay moment = rw (reversed events (update_at params elements delay moment))
 
 pub probability-reset : (events : List ControlEvent) (params : RawParams) → probability (events ++ reset params ∷ []) ≡ 0
 unfolding probability
 probability-reset events params = rw (reversed events (reset params))
 
-pub last_delay-updated : (events : List ControlEvent) (params : RawParams) (choice : Step) (delay moment : ℕ)
-    → last_delay (events ++ update_at params choice delay moment ∷ []) ≡ delay
+pub last_delay-updated : (events : List ControlEvent) (params : RawParams) (elements : Elements) (delay moment : ℕ)
+    → last_delay (events ++ update_at params elements delay moment ∷ []) ≡ delay
 unfolding last_delay
-last_delay-updated events params choice delay moment = rw (reversed events (update_at params choice delay moment))
+last_delay-updated events params elements delay moment = rw (reversed events (update_at params elements delay moment))
 
 pub last_delay-reset : (events : List ControlEvent) (params : RawParams) → last_delay (events ++ reset params ∷ []) ≡ 0
 unfolding last_delay
 last_delay-reset events params = rw (reversed events (reset params))
 
-pub last_moment-updated : (start : ℕ) (events : List ControlEvent) (params : RawParams) (choice : Step) (delay moment : ℕ)
-    → last_moment start (events ++ update_at params choice delay moment ∷ []) ≡ moment
+pub last_moment-updated : (start : ℕ) (events : List ControlEvent) (params : RawParams) (elements : Elements) (delay moment : ℕ)
+    → last_moment start (events ++ update_at params elements delay moment ∷ []) ≡ moment
 unfolding last_moment
-last_moment-updated start events params choice delay moment = rw (reversed events (update_at params choice delay moment))
+last_moment-updated start events params elements delay moment = rw (reversed events (update_at params elements delay moment))
 
 -- an idle update leaves all but the last moment
 pub probability-idled : (events : List ControlEvent) (moment : ℕ) → probability (events ++ idled moment ∷ []) ≡ probability events
@@ -74,13 +74,13 @@ refilled false whole granted u spent =
     let e : granted - sum_by interval (u ∷ spent) ≡ granted - sum_by interval spent - interval u = omega arith in
     e
 
-pub burst_allowance-updated : (opening : RawParams) (events : List ControlEvent) (params : RawParams) (choice : Step) (delay moment : ℕ)
-    → burst_allowance opening (events ++ update_at params choice delay moment ∷ [])
-    ≡ (if ends_calm params (next choice params (probability events) delay (last_delay events)) delay (last_delay events)
+pub burst_allowance-updated : (opening : RawParams) (events : List ControlEvent) (params : RawParams) (elements : Elements) (delay moment : ℕ)
+    → burst_allowance opening (events ++ update_at params elements delay moment ∷ [])
+    ≡ (if ends_calm params (next elements params (probability events) delay (last_delay events)) delay (last_delay events)
     then params.max_burst else (burst_allowance opening events - params.t_update))
 unfolding burst_allowance granted_burst probability last_delay
-burst_allowance-updated opening events params choice delay moment =
-    let u : Update = record { params = params; choice = choice; delay = delay; moment = moment } in
+burst_allowance-updated opening events params elements delay moment =
+    let u : Update = record { params = params; elements = elements; delay = delay; moment = moment } in
     let earlier = reverse events in
     let calm = is_calm u (updates_after_reset earlier) in
     rw (reversed events (updated u))
@@ -96,18 +96,18 @@ pub burst_allowance-granted : (opening : RawParams) (events : List ControlEvent)
 unfolding burst_allowance
 burst_allowance-granted opening events = omega arith
 
-pub Shows-updated : (opening : RawParams) (start : ℕ) (events : List ControlEvent) (params : RawParams) (choice : Step) (delay moment : ℕ) (before after : Parts)
+pub Shows-updated : (opening : RawParams) (start : ℕ) (events : List ControlEvent) (params : RawParams) (elements : Elements) (delay moment : ℕ) (before after : Parts)
     → Shows opening start events before
-    → after.prob ≡ next choice params before.prob delay before.old_delay
+    → after.prob ≡ next elements params before.prob delay before.old_delay
     → after.old_delay ≡ delay
-    → after.burst ≡ burst_after choice params before delay
+    → after.burst ≡ burst_after elements params before delay
     → after.last ≡ moment
-    → Shows opening start (events ++ update_at params choice delay moment ∷ []) after
-Shows-updated opening start events params choice delay moment before after shows p d b l = record {
-  prob = rw (p, probability-updated events params choice delay moment, shows.prob, shows.old_delay);
-  old_delay = rw (d, last_delay-updated events params choice delay moment);
-  burst = rw (b, burst_allowance-updated opening events params choice delay moment, shows.burst, shows.prob, shows.old_delay);
-  last = rw (l, last_moment-updated start events params choice delay moment);
+    → Shows opening start (events ++ update_at params elements delay moment ∷ []) after
+Shows-updated opening start events params elements delay moment before after shows p d b l = record {
+  prob = rw (p, probability-updated events params elements delay moment, shows.prob, shows.old_delay);
+  old_delay = rw (d, last_delay-updated events params elements delay moment);
+  burst = rw (b, burst_allowance-updated opening events params elements delay moment, shows.burst, shows.prob, shows.old_delay);
+  last = rw (l, last_moment-updated start events params elements delay moment);
 }
 
 pub Shows-idled : (opening : RawParams) (start : ℕ) (events : List ControlEvent) (moment : ℕ) (before after : Parts)

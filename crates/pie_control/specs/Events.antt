@@ -1,12 +1,12 @@
 -- What a `Control` is shown: updates, idle updates and resets, in the order in which they came.
 use Rattle.std.specs.Prelude.{ℕ, List, [], ◌∷◌}
 use Rattle.pie_params.specs.declared.raw.RawParams.{RawParams}
-use Rattle.pie_params.specs.declared.elements.Step.{Step}
+use Rattle.pie_params.specs.declared.elements.Elements.{Elements}
 
--- an update: the parameters in force, whether its rise is capped, its delay and its moment
+-- an update: the parameters in force, the optional elements, its delay and its moment
 pub record Update : Type 0 where
   pub params : RawParams
-  pub choice : Step
+  pub elements : Elements
   pub delay : ℕ
   pub moment : ℕ
 
@@ -16,8 +16,8 @@ pub data ControlEvent : Type 0 where
   idled : ℕ → ControlEvent
   reset : RawParams → ControlEvent
 
-abbrev pub update_at : RawParams → Step → ℕ → ℕ → ControlEvent
-update_at params choice delay moment = updated (record { params = params; choice = choice; delay = delay; moment = moment })
+abbrev pub update_at : RawParams → Elements → ℕ → ℕ → ControlEvent
+update_at params elements delay moment = updated (record { params = params; elements = elements; delay = delay; moment = moment })
 
 -- of events with the newest first, the moments of the updates and of the idle updates
 abbrev pub all_moments : List ControlEvent → List ℕ

@@ -1,10 +1,10 @@
 -- The controller's registers, looking back over all that it was shown (RFC 8033, sections 4.2 and
 -- 4.4). Every list of updates here has the newest first.
-use Rattle.std.specs.Prelude.{◌≡◌, ℕ, ◌-◌, ◌*◌, Bool, ◌&&◌, ◌==◌, nat_lt, if◌then◌else◌, List, [], ◌∷◌, reverse, sum_by}
+use Rattle.std.specs.Prelude.{◌≡◌, ℕ, ◌-◌, Bool, ◌&&◌, ◌==◌, if◌then◌else◌, List, [], ◌∷◌, reverse, sum_by}
 use Rattle.pie_params.specs.declared.raw.RawParams.{RawParams}
-use Rattle.pie_params.specs.declared.elements.Step.{Step}
+use Rattle.pie_params.specs.declared.elements.Elements.{Elements}
 use Rattle.pie_control.specs.Events.{ControlEvent, updated, idled, reset, Update, all_moments, updates_after_reset}
-use Rattle.pie_control.specs.Next.{next}
+use Rattle.pie_control.specs.Next.{are_below_half, next}
 use Rattle.pie_control.specs.Parts.{Parts}
 
 -- the delay of the newest update, 0 with none
@@ -20,13 +20,12 @@ newest_moment start (moment ∷ _) = moment
 -- from 0, the next probability along the updates, each with its own delay and that of the one before
 abbrev pub probability_along : List Update → ℕ
 probability_along [] = 0
-probability_along (u ∷ earlier) = next u.choice u.params (probability_along earlier) u.delay (newest_delay earlier)
+probability_along (u ∷ earlier) = next u.elements u.params (probability_along earlier) u.delay (newest_delay earlier)
 
 -- an update is calm: the probability after it is 0, and its delay and the old one are each below
 -- half the target
 abbrev pub ends_calm : RawParams → ℕ → ℕ → ℕ → Bool
-ends_calm params prob delay old =
-    (prob == 0) && nat_lt (2 * delay) params.target && nat_lt (2 * old) params.target
+ends_calm params prob delay old = (prob == 0) && are_below_half params delay old
 
 -- an update after these earlier ones is calm
 abbrev pub is_calm : Update → List Update → Bool
@@ -71,10 +70,10 @@ unfoldable pub burst_allowance : RawParams → List ControlEvent → ℕ
 burst_allowance opening events =
     granted_burst opening events - sum_by (λ u. u.params.t_update) (updates_after_refill (reverse events))
 
--- an update with these parameters, this choice of its step and this delay, after these events, is calm
-abbrev pub is_calm_after : List ControlEvent → RawParams → Step → ℕ → Bool
-is_calm_after events params choice delay =
-    ends_calm params (next choice params (probability events) delay (last_delay events)) delay (last_delay events)
+-- an update with these parameters, elements and delay, after these events, is calm
+abbrev pub is_calm_after : List ControlEvent → RawParams → Elements → ℕ → Bool
+is_calm_after events params elements delay =
+    ends_calm params (next elements params (probability events) delay (last_delay events)) delay (last_delay events)
 
 -- opened with these parameters at the moment `start`, a controller that was then shown these events
 -- holds these parts
@@ -85,8 +84,8 @@ pub record Shows (opening : RawParams) (start : ℕ) (events : List ControlEvent
   pub last : parts.last ≡ last_moment start events
 
 -- the burst allowance after an update, from the parts before it
-abbrev pub burst_after : Step → RawParams → Parts → ℕ → ℕ
-burst_after choice params before delay =
-    if ends_calm params (next choice params before.prob delay before.old_delay) delay before.old_delay
+abbrev pub burst_after : Elements → RawParams → Parts → ℕ → ℕ
+burst_after elements params before delay =
+    if ends_calm params (next elements params before.prob delay before.old_delay) delay before.old_delay
     then params.max_burst
     else (before.burst - params.t_update)

@@ -1,8 +1,11 @@
 -- The probability after an update (RFC 8033, sections 4.2 and 5.5).
-use Rattle.std.specs.Prelude.{ℕ, ℤ, pos, ◌+ℤ◌, ◌-ℤ◌, ◌*ℤ◌, ◌^◌, ◌&&◌, ◌==◌, nat_le, nat_lt, int_div, if◌then◌else◌}
+use Rattle.std.specs.Prelude.{ℕ, ◌*◌, ℤ, pos, ◌+ℤ◌, ◌-ℤ◌, ◌*ℤ◌, ◌^◌, Bool, ◌&&◌, ◌==◌, nat_le, nat_lt, int_div, if◌then◌else◌}
 use Rattle.std.specs.Int.{int_min}
 use Rattle.pie_fixed.specs.Fixed.{bounded_of}
 use Rattle.pie_params.specs.declared.raw.RawParams.{RawParams}
+use Rattle.pie_params.specs.declared.elements.Decay.{Decay}
+use Rattle.pie_params.specs.declared.elements.Decay.TheVariants.{Half, Zero}
+use Rattle.pie_params.specs.declared.elements.Elements.{Elements}
 use Rattle.pie_params.specs.declared.elements.Step.{Step}
 use Rattle.pie_params.specs.Elements.{is_capped}
 
@@ -28,10 +31,21 @@ tuned_step choice prob step =
     let tuned = int_div step (pos (tuning_divisor prob)) in
     if is_capped choice && nat_le (10 ^ 11) prob then int_min tuned (pos 20_000_000_000) else tuned
 
--- the sum after the decay: 98 hundredths, toward zero, while both delays are 0
-unfoldable pub decayed : ℕ → ℕ → ℤ → ℤ
-decayed delay old sum = if (delay == 0) && (old == 0) then int_div (sum *ℤ pos 98) (pos 100) else sum
+-- the delay and the old delay are both below half the target
+abbrev pub are_below_half : RawParams → ℕ → ℕ → Bool
+are_below_half params delay old = nat_lt (2 * delay) params.target && nat_lt (2 * old) params.target
 
--- the probability after an update with this delay, its rise capped or not, the one before it and the old delay given
-unfoldable pub next : Step → RawParams → ℕ → ℕ → ℕ → ℕ
-next choice params prob delay old = bounded_of (decayed delay old (pos prob +ℤ tuned_step choice prob (raw_step params delay old)))
+-- the probability decays at these delays: at 0 both, or below half the target both
+abbrev pub decays : Decay → RawParams → ℕ → ℕ → Bool
+decays Zero params delay old = (delay == 0) && (old == 0)
+decays Half params delay old = are_below_half params delay old
+
+-- the sum after the decay: 98 hundredths, toward zero
+unfoldable pub decayed : Bool → ℤ → ℤ
+decayed decays sum = if decays then int_div (sum *ℤ pos 98) (pos 100) else sum
+
+-- the probability after an update with this delay, the elements, the probability before it and the old delay given
+unfoldable pub next : Elements → RawParams → ℕ → ℕ → ℕ → ℕ
+next elements params prob delay old =
+    let step = tuned_step elements.step prob (raw_step params delay old) in
+    bounded_of (decayed (decays elements.decay params delay old) (pos prob +ℤ step))

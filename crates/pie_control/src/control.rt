@@ -8,7 +8,7 @@ ghost use Rattle.pie_control.specs.Parts.{IsWithin, parts_of};
 
 use crate::raw::RawControl;
 use pie_fixed::{Nanos, Prob};
-use pie_params::{Params, Step};
+use pie_params::{Elements, Params};
 use std::marker::Model;
 
 /// The controller's registers: the probability, the old delay, the burst allowance and the moment of
@@ -74,28 +74,28 @@ impl Control {
         Control { raw }
     }
 
-    /// Makes an update: the next probability from the given delay and the old one, its rise capped or
-    /// not, and the burst allowance less `t_update`, or whole again after a calm update. The delay, at most
+    /// Makes an update: the next probability from the given delay and the old one, by the elements' step
+    /// and decay, and the burst allowance less `t_update`, or whole again after a calm update. The delay, at most
     /// [`MAX_DELAY`](crate::MAX_DELAY) nanoseconds, becomes the old delay, and the moment that of the
     /// last update (RFC 8033, sections 4.2, 4.4 and 5.5).
     ///
     /// The answer is whether the update was calm: the probability after it is 0, and its delay and the
     /// old one are each below half the target (RFC 8033, section 4.4).
-    pub fn update(&mut self, params: &Params, choice: Step, delay: u64, moment: Nanos) -> bool
+    pub fn update(&mut self, params: &Params, elements: Elements, delay: u64, moment: Nanos) -> bool
         requires { delay ≤ MAX_DELAY }
         ensures calm { result ≡ ends_calm params.now self.new.prob delay self.old.old_delay }
-        ensures prob { self.new.prob ≡ next choice params.now self.old.prob delay self.old.old_delay }
+        ensures prob { self.new.prob ≡ next elements params.now self.old.prob delay self.old.old_delay }
         ensures old { self.new.old_delay ≡ delay }
-        ensures burst { self.new.burst ≡ burst_after choice params.now self.old delay }
+        ensures burst { self.new.burst ≡ burst_after elements params.now self.old delay }
         ensures last { self.new.last ≡ moment }
         ensures shows { (opening : RawParams) (start : ℕ) (events : List ControlEvent) →
             Shows opening start events self.old →
-            Shows opening start (events ++ update_at params.now choice delay moment ∷ []) self.new }
+            Shows opening start (events ++ update_at params.now elements delay moment ∷ []) self.new }
         ensures look_back { (opening : RawParams) (start : ℕ) (events : List ControlEvent) →
-            Shows opening start events self.old → result ≡ is_calm_after events params.now choice delay }
+            Shows opening start events self.old → result ≡ is_calm_after events params.now elements delay }
     {
         self.raw
-            .update(&params.raw(), choice, delay, moment.units())
+            .update(&params.raw(), elements, delay, moment.units())
     }
 
     /// Makes an idle update: the moment becomes that of the last update, and all else is kept (this

@@ -6,8 +6,8 @@ ghost use Rattle.pie_control.specs.History.{burst_after, ends_calm};
 ghost use Rattle.pie_control.specs.Next.{next};
 ghost use Rattle.pie_control.specs.Parts.{parts_of};
 
-use crate::update::next;
-use pie_params::{RawParams, Step};
+use crate::update::{are_below_half, next};
+use pie_params::{Elements, RawParams};
 
 /// The control law's registers as plain numbers, each in its range or not: their rules are [`Control`](crate::Control)'s.
 #[derive(Clone, Copy, Debug, PartialEq, Eq)]
@@ -53,22 +53,28 @@ impl RawControl {
     }
 
     /// Makes an update, as [`Control::update`](crate::Control::update) does, where probability and old delay are in their ranges.
-    pub fn update(&mut self, params: &RawParams, choice: Step, delay: u64, moment: u64) -> bool
+    pub fn update(
+        &mut self,
+        params: &RawParams,
+        elements: Elements,
+        delay: u64,
+        moment: u64,
+    ) -> bool
         requires params { IsInRange params.now }
         requires prob { self.old.prob ≤ 10 ^ 12 }
         requires old { self.old.old_delay ≤ MAX_DELAY }
         requires delay { delay ≤ MAX_DELAY }
         ensures calm { result ≡ ends_calm params.now self.new.prob delay self.old.old_delay }
         ensures after { parts_of self.new ≡ record {
-          prob = next choice params.now self.old.prob delay self.old.old_delay;
+          prob = next elements params.now self.old.prob delay self.old.old_delay;
           old_delay = delay;
-          burst = burst_after choice params.now (parts_of self.old) delay;
+          burst = burst_after elements params.now (parts_of self.old) delay;
           last = moment;
         } }
         ensures within { self.new.prob ≤ 10 ^ 12 }
     {
-        let prob = next(params, choice, self.prob, delay, self.old_delay).units();
-        let calm = is_calm(params, prob, delay, self.old_delay);
+        let prob = next(params, elements, self.prob, delay, self.old_delay).units();
+        let calm = prob == 0 && are_below_half(params, delay, self.old_delay);
         let reduced = self.burst.saturating_sub(params.t_update);
         *self = RawControl {
             prob,
@@ -78,14 +84,4 @@ impl RawControl {
         };
         calm
     }
-}
-
-/// Whether an update is calm: the probability after it is 0, and its delay and the old one are each
-/// below half the target (RFC 8033, section 4.4).
-fn is_calm(params: &RawParams, prob: u64, delay: u64, old: u64) -> bool
-    requires delay { delay ≤ MAX_DELAY }
-    requires old { old ≤ MAX_DELAY }
-    ensures { result ≡ ends_calm params.now prob delay old }
-{
-    prob == 0 && 2 * delay < params.target && 2 * old < params.target
 }

@@ -3,12 +3,12 @@ ghost use Rattle.std.specs.Int.{int_min};
 ghost use Rattle.pie_fixed.specs.declared.TheConstants.{ONE};
 ghost use Rattle.pie_params.specs.Range.{IsInRange};
 ghost use Rattle.pie_control.specs.Delay.{delay_of};
-ghost use Rattle.pie_control.specs.Next.{decayed, next, raw_step, tuned_step, tuning_divisor};
-ghost use Rattle.pie_params.specs.Elements.{is_capped};
+ghost use Rattle.pie_control.specs.Next.{are_below_half, decayed, decays, next, raw_step, tuned_step, tuning_divisor};
+ghost use Rattle.pie_params.specs.Elements.{is_capped, usual};
 ghost use Rattle.pie_params.specs.declared.elements.Step.TheVariants.{Capped};
 
 use pie_fixed::{Prob, bounded};
-use pie_params::{Params, RawParams, Step};
+use pie_params::{Decay, Elements, Params, RawParams, Step};
 
 /// The greatest delay, `2^40` nanoseconds, at which an estimate is cut off (this project's own).
 pub const MAX_DELAY: u64 = 1 << 40;
@@ -119,45 +119,68 @@ fn capped(choice: Step, prob: u64, tuned: i64) -> i64
     }
 }
 
-/// The sum of probability and step, after the decay while both delays are 0.
-#[tactic(auto, using(crate::proofs::Quotients::quotients), unfolding(crate::specs::Next::decayed))]
-fn decayed(delay: u64, old: u64, sum: i128) -> i128
-    requires above { negsuc (2 ^ 63) ≤ℤ sum }
-    requires below { sum ≤ℤ pos (2 ^ 63) }
-    ensures value { result ≡ decayed delay old sum }
-    ensures shrinks { (n : ℕ) → sum ≤ℤ pos n → result ≤ℤ pos n }
+/// Whether the delay and the old delay are both below half the target.
+#[inline(always)]
+pub(crate) fn are_below_half(params: &RawParams, delay: u64, old: u64) -> bool
+    requires delay { delay ≤ MAX_DELAY }
+    requires old { old ≤ MAX_DELAY }
+    ensures { result ≡ are_below_half params.now delay old }
 {
-    if delay == 0 && old == 0 {
-        sum * 98 / 100
-    } else {
-        sum
+    2 * delay < params.target && 2 * old < params.target
+}
+
+/// Whether the probability decays at these delays.
+#[inline(always)]
+fn decays(decay: Decay, params: &RawParams, delay: u64, old: u64) -> bool
+    requires delay { delay ≤ MAX_DELAY }
+    requires old { old ≤ MAX_DELAY }
+    ensures { result ≡ decays decay params.now delay old }
+{
+    match decay {
+        Decay::Zero => delay == 0 && old == 0,
+        Decay::Half => are_below_half(params, delay, old),
     }
 }
 
+/// The sum of probability and step, after the decay where there is one.
+#[tactic(auto, using(crate::proofs::Quotients::quotients), unfolding(crate::specs::Next::decayed))]
+fn decayed(decays: bool, sum: i128) -> i128
+    requires above { negsuc (2 ^ 63) ≤ℤ sum }
+    requires below { sum ≤ℤ pos (2 ^ 63) }
+    ensures value { result ≡ decayed decays sum }
+    ensures shrinks { (n : ℕ) → sum ≤ℤ pos n → result ≤ℤ pos n }
+{
+    if decays { sum * 98 / 100 } else { sum }
+}
+
 /// The probability after an update with the given delay, from that before it and the old delay (RFC
-/// 8033, sections 4.2 and 5.5), with its rise capped or not. Delays are in nanoseconds, at most [`MAX_DELAY`].
+/// 8033, sections 4.2 and 5.5), with its rise capped or not, and the decay where both delays are 0. Delays are in nanoseconds, at most
+/// [`MAX_DELAY`].
 #[inline(always)]
 pub fn next_probability(params: &Params, choice: Step, prob: Prob, delay: u64, old: u64) -> Prob
     requires delay { delay ≤ MAX_DELAY }
     requires old { old ≤ MAX_DELAY }
-    ensures value { result ≡ next choice params.now prob delay old }
+    ensures value { result ≡ next (record usual { step = choice }) params.now prob delay old }
     ensures within { result ≤ ONE }
     ensures cap { choice ≡ Capped → 10 ^ 11 ≤ prob → result ≤ prob + 20_000_000_000 }
 {
-    next(&params.raw(), choice, prob.units(), delay, old)
+    let mut elements = Elements::usual();
+    elements.step = choice;
+    next(&params.raw(), elements, prob.units(), delay, old)
 }
 
-/// The same over plain numbers that are in their ranges.
+/// The probability after an update by these elements, over plain numbers that are in their ranges.
 #[tactic(auto, unfolding(crate::specs::Next::next))]
-pub(crate) fn next(params: &RawParams, choice: Step, prob: u64, delay: u64, old: u64) -> Prob
+pub(crate) fn next(params: &RawParams, elements: Elements, prob: u64, delay: u64, old: u64) -> Prob
     requires params { IsInRange params.now }
     requires prob { prob ≤ 10 ^ 12 }
     requires delay { delay ≤ MAX_DELAY }
     requires old { old ≤ MAX_DELAY }
-    ensures value { result ≡ next choice params.now prob delay old }
+    ensures value { result ≡ next elements params.now prob delay old }
     ensures within { result ≤ ONE }
-    ensures cap { choice ≡ Capped → 10 ^ 11 ≤ prob → result ≤ prob + 20_000_000_000 }
+    ensures cap { elements.step ≡ Capped → 10 ^ 11 ≤ prob → result ≤ prob + 20_000_000_000 }
 {
-    let step = tuned_step(choice, prob, raw_step(params, delay, old));
-    bounded(decayed(delay, old, i128::from(prob) + i128::from(step)))
+    let step = tuned_step(elements.step, prob, raw_step(params, delay, old));
+    let decays = decays(elements.decay, params, delay, old);
+    bounded(decayed(decays, i128::from(prob) + i128::from(step)))
 }

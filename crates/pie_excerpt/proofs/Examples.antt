@@ -4,6 +4,7 @@ use Rattle.std.specs.Prelude.{Some, None, codes, true}
 use Rattle.std.specs.Fmt.{digits}
 use Rattle.csv.specs.Writing.{fields_text, is_blank}
 use Rattle.pie_queue.specs.declared.ecn.Ecn.TheVariants.{Ect0}
+use Rattle.pie_params.specs.declared.elements.Decay.TheVariants.{Half, Zero}
 use Rattle.pie_params.specs.declared.elements.Delay.TheVariants.{Stamp}
 use Rattle.pie_params.specs.declared.elements.Picking.TheVariants.{Random}
 use Rattle.pie_params.specs.declared.elements.Size.TheVariants.{Scaled}
@@ -34,7 +35,7 @@ worked = record {
     count = 14;
     controller = record {
       profile = Two;
-      elements = record { delay = Stamp; picking = Random; step = Uncapped; size = Scaled };
+      elements = record { delay = Stamp; picking = Random; step = Uncapped; size = Scaled; decay = Half };
       params = record {
         target = 5;
         t_update = 6;
@@ -77,13 +78,22 @@ worked = record {
 }
 
 resume-text : text_of (resume_row worked)
-    ≡ codes "resume,2,stamp,random,uncapped,scaled,rolling,1,2,3,4,65,66,67,68,69,70,71,72,73,5,6,7,8,9,10,11,12,13,14,15,16,17,18,19,20,21,22,23,24,1,25,26,27,1,"
+    ≡ codes "resume,2,stamp,random,uncapped,scaled,half,rolling,1,2,3,4,65,66,67,68,69,70,71,72,73,5,6,7,8,9,10,11,12,13,14,15,16,17,18,19,20,21,22,23,24,1,25,26,27,1,"
     ++ (codes "28,29,30,31,32,33,34,35,36,37,38,39,40,41,42" ++ (10 ∷ []))
 unfolding resume_row digits fields_text is_blank
 resume-text = refl
 
--- .. and where the event that set the probability is not known
-unknown-text : text_of (resume_row (record worked { set_by = None }))
+-- .. where the decay is the usual one, which isn't told, and the event that set the probability is not known
+abbrev usual_decay : Resume
+usual_decay = record worked {
+  standing = record worked.standing {
+    controller = record worked.standing.controller {
+      elements = record worked.standing.controller.elements { decay = Zero };
+    };
+  };
+}
+
+unknown-text : text_of (resume_row (record usual_decay { set_by = None }))
     ≡ codes "resume,2,stamp,random,uncapped,scaled,rolling,1,2,3,4,65,66,67,68,69,70,71,72,73,5,6,7,8,9,10,11,12,13,14,,16,17,18,19,20,21,22,"
     ++ (codes "23,24,1,25,26,27,1,28,29,30,31,32,33,34,35,36,37,38,39,40,41,42" ++ (10 ∷ []))
 unfolding resume_row digits fields_text is_blank

@@ -174,6 +174,25 @@ unfoldable pub reason_words : ℕ → Option Cause → List ℕ
 reason_words prob None = codes ""
 reason_words prob (Some cause) = cause_words prob cause
 
+-- ---- how long what decided it goes on, by the laws of docs/GUARANTEES.md
+
+-- while a burst is allowed: what is left of it is used up by updates after the last one (`bursts_are_let_in_so_long`)
+unfoldable pub not_before_words : Option Clock → ℕ → ℕ → List ℕ
+not_before_words clock last burst =
+    joined (codes "  with unchanged parameters nothing is marked or dropped early before " ∷ moment_words clock (min (last + burst) (2 ^ 64 - 1))
+    ∷ codes "\n" ∷ [])
+
+-- while little is accumulated: how many considered packets come to 0.85 (`picks_are_far_apart`)
+unfoldable pub seldom_words : ℕ → List ℕ
+seldom_words counted =
+    joined (codes "  where each counts as this one, at most one of " ∷ decimal (849_999_999_999 / max counted 1 + 1)
+    ∷ codes " considered packets in a row is picked\n" ∷ [])
+
+unfoldable pub lasting_words : Option Clock → ℕ → Option Cause → List ℕ
+lasting_words clock last (Some (BurstAllowed burst)) = not_before_words clock last burst
+lasting_words clock last (Some (LittleAccumulated accu counted)) = seldom_words counted
+lasting_words clock last _ = codes ""
+
 -- ---- whether the event turned the controller on or off
 
 -- .. where it was active before it or not, and is active after it or not
@@ -216,7 +235,8 @@ before_words clock told =
 unfoldable pub words_by : Option Clock → Explained → List ℕ
 words_by clock all =
     joined (deed_words all.told.number all.told.before.active all.told.event.command all.told.event.answer all.told.waited
-    ∷ when_words clock all.told.moment all.told.event.caller ∷ reason_words all.told.before.prob all.told.cause ∷ turned_words all.told.before.active all.after.active
+    ∷ when_words clock all.told.moment all.told.event.caller ∷ reason_words all.told.before.prob all.told.cause
+    ∷ lasting_words clock all.told.before.last all.told.cause ∷ turned_words all.told.before.active all.after.active
     ∷ before_words clock all.told ∷ [])
 
 -- .. by the trace's clock

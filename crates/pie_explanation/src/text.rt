@@ -5,6 +5,7 @@ ghost use Rattle.pie_event.specs.declared.cause.Cause.TheVariants.{BurstAllowed,
 ghost use Rattle.pie_event.specs.declared.command.Answer.TheVariants.{Updated};
 ghost use Rattle.pie_explanation.specs.Words.{before_words, burst_words, cause_words, compared_words, considered_words, counted_name, deed_words};
 ghost use Rattle.pie_explanation.specs.Words.{departure_words, joined, never_words, per_cent, scaled_words, total_words};
+ghost use Rattle.pie_explanation.specs.Words.{lasting_words, not_before_words, seldom_words};
 ghost use Rattle.pie_explanation.specs.Words.{ecn_name, last_words, packet_words, picked_words, queue_words, reason_words, setter_words};
 ghost use Rattle.pie_explanation.specs.Words.{sum_words, turned_words, update_words, verdict_text, when_words, words_by};
 
@@ -426,6 +427,55 @@ fn push_reason(page: &mut String, prob: u64, cause: Option<Cause>) -> Result<(),
     }
 }
 
+/// Until when nothing is marked or dropped early, by what is left of a burst after the last update.
+#[tactic(auto, unfolding(crate::specs::Words::not_before_words))]
+fn push_not_before(
+    page: &mut String,
+    clock: Option<Clock>,
+    last: u64,
+    burst: u64,
+) -> Result<(), AllocError>
+    ensures { OnOk result (string_bytes page.new ≡ string_bytes page.old ++ not_before_words clock last burst) }
+{
+    let moment = MomentWords {
+        clock,
+        moment: last.saturating_add(burst),
+    };
+    write!(
+        page,
+        "  with unchanged parameters nothing is marked or dropped early before {moment}\n"
+    )
+}
+
+/// How seldom packets are picked for which the probability counts so.
+#[tactic(auto, unfolding(crate::specs::Words::seldom_words))]
+fn push_seldom(page: &mut String, counted: u64) -> Result<(), AllocError>
+    ensures { OnOk result (string_bytes page.new ≡ string_bytes page.old ++ seldom_words counted) }
+{
+    let many = 849_999_999_999 / counted.max(1) + 1;
+    write!(
+        page,
+        "  where each counts as this one, at most one of {many} considered packets in a row is picked\n"
+    )
+}
+
+/// How long what decided an arrival goes on, where a bound says it, the last update having been at this moment.
+#[tactic(auto, unfolding(crate::specs::Words::lasting_words))]
+fn push_lasting(
+    page: &mut String,
+    clock: Option<Clock>,
+    last: u64,
+    cause: Option<Cause>,
+) -> Result<(), AllocError>
+    ensures { OnOk result (string_bytes page.new ≡ string_bytes page.old ++ lasting_words clock last cause) }
+{
+    match cause {
+        Some(Cause::BurstAllowed { burst }) => push_not_before(page, clock, last, burst),
+        Some(Cause::LittleAccumulated { prob, .. }) => push_seldom(page, prob),
+        _ => Ok(()),
+    }
+}
+
 /// The probability before the event, with these words about what set it.
 fn push_since(page: &mut String, prob: PerCent, since: &str) -> Result<(), AllocError>
     ensures { OnOk result (string_bytes page.new ≡ string_bytes page.old
@@ -544,6 +594,7 @@ pub(crate) fn push_text(
     )?;
     push_when(page, clock, told.moment, event.caller)?;
     push_reason(page, told.before.prob, told.cause)?;
+    push_lasting(page, clock, told.before.last, told.cause)?;
     push_turned(page, was_active, all.after.active)?;
     push_before(page, clock, told)
 }

@@ -18,7 +18,7 @@ use Rattle.pie_book.specs.Estimates.{active_after, held_after, params_after, par
 use Rattle.pie_book.specs.History.{effective_moment, waiting_after}
 use Rattle.pie_book.proofs.CoreFacts.{held-is}
 use Rattle.pie_book.proofs.LegalFacts.{first-shows, first_core}
-use Rattle.pie_guarantees.specs.Bursts.{AllAllow, Allows, IsWhole, KeepsParams, SetsAllow, updates_in}
+use Rattle.pie_guarantees.specs.Bursts.{AllAllow, Allows, IsAllowed, IsWhole, KeepsParams, SetsAllow, burst_left, updates_in}
 use Rattle.pie_guarantees.specs.Lawful.{IsLawful}
 use Rattle.pie_guarantees.specs.Verdicts.{IsEarly}
 use Rattle.pie_guarantees.proofs.LawfulFacts.{IsStep, along, sound_at, step_at}
@@ -129,9 +129,9 @@ module _ (burst least most start last : ℕ) where
       taken false = let whole = old.whole in let far = old.allows.together in omega arith
 
       by : (active : Bool) → Lasts burst least most start last (n + 1) h.params
-          (if active then Steps.control_updated h.elements.step h.params h.control (Steps.delay_in h queued) (max h.moment moment)
+          (if active then Steps.control_updated h.elements h.params h.control (Steps.delay_in h queued) (max h.moment moment)
           else record h.control { last = max h.moment moment }).burst
-          (if active then Steps.control_updated h.elements.step h.params h.control (Steps.delay_in h queued) (max h.moment moment)
+          (if active then Steps.control_updated h.elements h.params h.control (Steps.delay_in h queued) (max h.moment moment)
           else record h.control { last = max h.moment moment }).last
           (max h.moment moment)
       by true = next (if is_calm h queued then h.params.max_burst else (h.control.burst - h.params.t_update)) (taken (is_calm h queued))
@@ -214,17 +214,16 @@ module _ (burst least most : ℕ) (opening : Opening) (before : List Event) wher
       }
 
   since-first : IsSound (held_after opening before) → (held_after opening before).moment ≡ effective_moment opening before
-      → IsWhole opening before → Allows burst least most (params_after opening before) → Since before
-  since-first sound moment whole allows =
+      → burst ≤ burst_left opening before → Allows burst least most (params_after opening before) → Since before
+  since-first sound moment left allows =
       let last = sound.last in
-      let allowance = allows.allowance in
       record {
         n = 0;
         counted = omega arith;
         moment = moment;
         holds = record {
           allows = allows;
-          whole = omega (arith, whole);
+          whole = omega (arith, left);
           apart = omega arith;
           since = omega arith;
           later = omega (arith, moment);
@@ -232,32 +231,32 @@ module _ (burst least most : ℕ) (opening : Opening) (before : List Event) wher
         };
       }
 
-  since-after : (between later : List Event) → IsLawful opening (before ++ between ++ later) → IsWhole opening before
+  since-after : (between later : List Event) → IsLawful opening (before ++ between ++ later) → burst ≤ burst_left opening before
       → AllAllow burst least most opening before between → Since (before ++ between)
-  since-after between later lawful whole allow =
+  since-after between later lawful left allow =
       let it = sound_at opening before (between ++ later) (rw (append_assoc before between later) at lawful) in
       along Since (λ (event : Event). SetsAllow burst least most event.command) opening since-next before between later lawful allow.set
-      (since-first it.0 it.1 whole allow.force)
+      (since-first it.0 it.1 left allow.force)
 
 pub updates_before : (burst : ℕ) (least : ℕ) (most : ℕ) (opening : Opening) (before : List Event) (between : List Event) (event : Event)
-    (later : List Event) → IsLawful opening (before ++ between ++ event ∷ later) → IsWhole opening before
+    (later : List Event) → IsLawful opening (before ++ between ++ event ∷ later) → burst ≤ burst_left opening before
     → AllAllow burst least most opening before between → IsEarly event → burst ≤ updates_in between * most
-updates_before burst least most opening before between event later lawful whole allow early =
-    let s = since-after burst least most opening before between (event ∷ later) lawful whole allow in
+updates_before burst least most opening before between event later lawful left allow early =
+    let s = since-after burst least most opening before between (event ∷ later) lawful left allow in
     let none = (early_at opening (before ++ between) event (step_at opening (before ++ between) event later lawful) early).no_burst in
-    let left = s.holds.whole in
+    let whole = s.holds.whole in
     let count = s.counted in
     let both = counted-append before between in
     let n : s.n ≡ updates_in between = omega (arith, count, both) in
-    let used : burst ≤ s.n * most = omega (arith, left, none) in
+    let used : burst ≤ s.n * most = omega (arith, whole, none) in
     subst (λ (k : ℕ). burst ≤ k * most) n used
 
 pub updates_apart : (burst : ℕ) (least : ℕ) (most : ℕ) (opening : Opening) (before : List Event) (between : List Event)
-    (later : List Event) → IsLawful opening (before ++ between ++ later) → IsWhole opening before
+    (later : List Event) → IsLawful opening (before ++ between ++ later) → burst ≤ burst_left opening before
     → AllAllow burst least most opening before between
     → effective_moment opening before + updates_in between * least ≤ effective_moment opening (before ++ between) + least
-updates_apart burst least most opening before between later lawful whole allow =
-    let s = since-after burst least most opening before between later lawful whole allow in
+updates_apart burst least most opening before between later lawful left allow =
+    let s = since-after burst least most opening before between later lawful left allow in
     let count = s.counted in
     let both = counted-append before between in
     let n : s.n ≡ updates_in between = omega (arith, count, both) in
@@ -268,11 +267,11 @@ updates_apart burst least most opening before between later lawful whole allow =
     subst (λ (k : ℕ). effective_moment opening before + k * least ≤ effective_moment opening (before ++ between) + least) n (omega arith)
 
 updates-since : (burst : ℕ) (least : ℕ) (most : ℕ) (opening : Opening) (before : List Event) (between : List Event)
-    (later : List Event) → IsLawful opening (before ++ between ++ later) → IsWhole opening before
+    (later : List Event) → IsLawful opening (before ++ between ++ later) → burst ≤ burst_left opening before
     → AllAllow burst least most opening before between
     → (held_after opening before).control.last + updates_in between * least ≤ effective_moment opening (before ++ between)
-updates-since burst least most opening before between later lawful whole allow =
-    let s = since-after burst least most opening before between later lawful whole allow in
+updates-since burst least most opening before between later lawful left allow =
+    let s = since-after burst least most opening before between later lawful left allow in
     let count = s.counted in
     let both = counted-append before between in
     let n : s.n ≡ updates_in between = omega (arith, count, both) in
@@ -296,35 +295,81 @@ all-allow burst least most (event ∷ events) all =
     (keeps-allows burst least most event.command (All-head (λ (e : Event). KeepsParams e.command) event events all))
     (all-allow burst least most events (All-tail (λ (e : Event). KeepsParams e.command) event events all))
 
-allow-own : (opening : Opening) (before between : List Event) → All (λ event. KeepsParams event.command) between
-    → AllAllow (params_after opening before).max_burst (params_after opening before).t_update (params_after opening before).t_update opening before
-    between
-allow-own opening before between keep = record {
-  force = record { allowance = omega arith; apart = omega arith; together = omega arith };
-  set = all-allow (params_after opening before).max_burst (params_after opening before).t_update (params_after opening before).t_update between keep;
+allow-own : (opening : Opening) (before between : List Event) → IsAllowed opening before → All (λ event. KeepsParams event.command) between
+    → AllAllow (burst_left opening before) (params_after opening before).t_update (params_after opening before).t_update opening before between
+allow-own opening before between allowed keep = record {
+  force = record { allowance = allowed; apart = omega arith; together = omega arith };
+  set = all-allow (burst_left opening before) (params_after opening before).t_update (params_after opening before).t_update between keep;
 }
 
 module _ (opening : Opening) (before : List Event) (between : List Event) (event : Event) (later : List Event)
-    (lawful : IsLawful opening (before ++ between ++ event ∷ later)) (whole : IsWhole opening before)
+    (lawful : IsLawful opening (before ++ between ++ event ∷ later)) (allowed : IsAllowed opening before)
     (keep : All (λ event. KeepsParams event.command) between) (early : IsEarly event) where
-  used : (params_after opening before).max_burst ≤ updates_in between * (params_after opening before).t_update
-  used = updates_before (params_after opening before).max_burst (params_after opening before).t_update (params_after opening before).t_update
-      opening before between event later lawful whole (allow-own opening before between keep) early
+  used : burst_left opening before ≤ updates_in between * (params_after opening before).t_update
+  used = updates_before (burst_left opening before) (params_after opening before).t_update (params_after opening before).t_update
+      opening before between event later lawful (omega arith) (allow-own opening before between allowed keep) early
 
-  pub earliest_drop : effective_moment opening before + (params_after opening before).max_burst
+  pub earliest_drop : effective_moment opening before + burst_left opening before
       ≤ effective_moment opening (before ++ between) + (params_after opening before).t_update
   earliest_drop =
-      let apart = updates_apart (params_after opening before).max_burst (params_after opening before).t_update
-      (params_after opening before).t_update opening before between (event ∷ later) lawful whole (allow-own opening before between keep) in
+      let apart = updates_apart (burst_left opening before) (params_after opening before).t_update (params_after opening before).t_update
+      opening before between (event ∷ later) lawful (omega arith) (allow-own opening before between allowed keep) in
       let used = used in
       omega (arith, apart, used)
 
-  pub earliest_since : (parts_after opening before).last + (params_after opening before).max_burst ≤ effective_moment opening (before ++ between)
+  pub earliest_since : (parts_after opening before).last + burst_left opening before ≤ effective_moment opening (before ++ between)
   earliest_since =
-      let since = updates-since (params_after opening before).max_burst (params_after opening before).t_update
-      (params_after opening before).t_update opening before between (event ∷ later) lawful whole (allow-own opening before between keep) in
+      let since = updates-since (burst_left opening before) (params_after opening before).t_update (params_after opening before).t_update
+      opening before between (event ∷ later) lawful (omega arith) (allow-own opening before between allowed keep) in
       let used = used in
       omega (arith, since, used)
+
+-- ---- where parameters never change
+
+-- no more is left than the parameters allow
+Within : Held → Type 0
+Within h = h.control.burst ≤ h.params.max_burst
+
+within-next : (h : Held) (waiting : List Waiting) (packets : ℕ) (command : Command) → Within h → KeepsParams command
+    → Within (after_call h (call_of waiting packets command))
+unfolding Within
+within-next h waiting packets (Arrive moment packet word) old keep =
+    by (Steps.turns_on h (bytes_with (Steps.verdict h (arrival_of waiting packets packet word)) (bytes_of waiting) packet.size))
+  where
+    a : Arrival
+    a = arrival_of waiting packets packet word
+
+    by : (on : Bool) → (if on then record (anew (judged h a moment)) { active = true } else judged h a moment).control.burst
+        ≤ (if on then record (anew (judged h a moment)) { active = true } else judged h a moment).params.max_burst
+    by true = omega arith
+    by false = old
+within-next h [] packets (Depart moment) old keep = old
+within-next h (oldest ∷ others) packets (Depart moment) old keep = old
+within-next h waiting packets (Update moment) old keep = by h.active
+  where
+    d : ℕ
+    d = Steps.delay_in h (bytes_of waiting)
+
+    less : (calm : Bool) → (if calm then h.params.max_burst else (h.control.burst - h.params.t_update)) ≤ h.params.max_burst
+    less true = omega arith
+    less false = omega (arith, old)
+
+    by : (active : Bool) → (if active then Steps.control_updated h.elements h.params h.control (Steps.delay_in h (bytes_of waiting))
+        (max h.moment moment) else record h.control { last = max h.moment moment }).burst ≤ h.params.max_burst
+    by true = less (is_calm h (bytes_of waiting))
+    by false = old
+within-next h waiting packets (Reset moment) old keep = omega arith
+within-next h waiting packets (SetParams moment params) old keep = absurd keep
+
+pub allowed_where_kept : (opening : Opening) (before : List Event) (later : List Event) → IsLawful opening (before ++ later)
+    → All (λ event. KeepsParams event.command) before → IsAllowed opening before
+unfolding Within
+allowed_where_kept opening before later lawful keep =
+    let h : (first_core opening).held ≡ held_after opening [] = held-is opening (first_core opening) [] (first-shows opening) in
+    along (λ history. Within (held_after opening history)) (λ (event : Event). KeepsParams event.command) opening
+    (λ earlier event step kept old. subst Within (sym step.held)
+    (within-next (held_after opening earlier) (waiting_after opening earlier) opening.limits.packets event.command old kept)) [] before later
+    lawful keep (subst Within h (omega arith))
 
 -- ---- where the allowance is whole
 

@@ -3,6 +3,7 @@ pub mod EarlyFacts
 pub mod BurstFacts
 pub mod CountFacts
 pub mod NextFacts
+pub mod SteadyFacts
 pub mod ProbabilityFacts
 pub mod SpacingFacts
 pub mod TextFacts

@@ -9,6 +9,14 @@ use Rattle.pie_book.specs.Statistics.{count_of}
 abbrev pub IsWhole : Opening → List Event → Type 0
 IsWhole opening before = (parts_after opening before).burst ≡ (params_after opening before).max_burst
 
+-- so much of the burst allowance is left after these events
+abbrev pub burst_left : Opening → List Event → ℕ
+burst_left opening before = (parts_after opening before).burst
+
+-- no more is left than the parameters in force allow, as it is unless they were lowered
+abbrev pub IsAllowed : Opening → List Event → Type 0
+IsAllowed opening before = burst_left opening before ≤ (params_after opening before).max_burst
+
 -- parameters that allow a burst of at least so many nanoseconds, with updates at least `least` and at most `most` nanoseconds apart
 pub record Allows (burst least most : ℕ) (params : RawParams) : Type 0 where
   pub allowance : burst ≤ params.max_burst

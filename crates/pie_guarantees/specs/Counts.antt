@@ -1,7 +1,8 @@
 -- What becomes of every packet that arrives, and how much waits.
 use Rattle.std.specs.Prelude.{◌≤◌, ◌*◌, ◌-◌, ◌^◌, ◌++◌, ℕ, Bool, true, false, List, map, Option, Some, None, count_by, sum_by, ⊤}
 use Rattle.std.specs.List.{filter_map}
-use Rattle.pie_event.specs.Deed.{Deed, deed_of, departure, marked, queued, with_ce}
+use Rattle.pie_event.specs.Deed.{Deed, deed_of, departure, marked, queued}
+use Rattle.pie_queue.specs.declared.ecn.Ecn.TheVariants.{Ce}
 use Rattle.pie_book.specs.Types.{Packet, Waiting, Command, Arrive, Depart, Update, Reset, SetParams, Event, Opening}
 use Rattle.pie_book.specs.History.{effective_moment, waiting_after}
 
@@ -17,7 +18,7 @@ packets_handed_in history = count_by (λ event. hands_in event.command) history
 -- the packet that an event put into the queue: as it arrived, and with CE where it was marked
 abbrev pub packet_queued : Deed → Option Packet
 packet_queued (queued packet) = Some packet
-packet_queued (marked packet) = Some (with_ce packet)
+packet_queued (marked packet) = Some (record packet { ecn = Ce })
 packet_queued _ = None
 
 -- the packets that were queued or marked, those that departed, and those that wait, in order

@@ -3,7 +3,7 @@ ghost use Rattle.std.specs.Prelude.{◌≡◌, ◌≤◌, ◌+◌, ◌*◌, ◌+
 ghost use Rattle.pie_book.specs.Types.{Event, Opening, Reset};
 ghost use Rattle.pie_book.specs.Estimates.{active_after, params_after, parts_after};
 ghost use Rattle.pie_book.specs.History.{effective_moment};
-ghost use Rattle.pie_guarantees.specs.Bursts.{AllAllow, IsWhole, KeepsParams, updates_in};
+ghost use Rattle.pie_guarantees.specs.Bursts.{AllAllow, IsAllowed, IsWhole, KeepsParams, burst_left, updates_in};
 ghost use Rattle.pie_guarantees.specs.Lawful.{IsLawful};
 ghost use Rattle.pie_guarantees.specs.Verdicts.{IsEarly};
 
@@ -19,29 +19,31 @@ pub fn allowances_begin_whole()
         → active_after opening (before ++ event ∷ []) ≡ true → IsWhole opening (before ++ event ∷ []) }
 {}
 
-/// From any moment at which the burst allowance is whole: before the first packet is marked or dropped early there are as many updates as it
-/// takes to use up the allowance, `max_burst` over `t_update`, rounded up (`updates`, RFC 8033, section 4.4); and since updates are
-/// `t_update` apart, it comes no sooner than `max_burst` less one `t_update` after that moment (`earliest`), and no sooner than `max_burst`
-/// after the last update before it, or the opening (`since_last_update`). With the defaults these are 10 updates, 135 and 150 milliseconds.
+/// From any moment on, by what is left then of the burst allowance: before the first packet is marked or dropped early there are as many updates
+/// as it takes to use that up, what is left over `t_update`, rounded up (`updates`, RFC 8033, section 4.4); and since updates are `t_update`
+/// apart, it comes no sooner than what is left, less one `t_update`, after that moment (`earliest`), and no sooner than what is left after the last
+/// update before it, or the opening (`since_last_update`). From a whole allowance these are, with the defaults, 10 updates, 135 and 150 milliseconds.
 ///
-/// Parameters may change between: then the least allowance and the longest and shortest distances of all count (`apart` for the time).
+/// Parameters may change between: then the least allowance and the longest and shortest distances of all count (`apart` for the time). What is left
+/// is no more than `max_burst` where parameters never changed (`allowed`).
 ///
 /// It does nothing: its contract is the law.
 pub fn bursts_are_let_in_so_long()
     ensures updates { (burst : ℕ) (least : ℕ) (most : ℕ) (opening : Opening) (before : List Event) (between : List Event) (event : Event)
-        (later : List Event) → IsLawful opening (before ++ between ++ event ∷ later) → IsWhole opening before
+        (later : List Event) → IsLawful opening (before ++ between ++ event ∷ later) → burst ≤ burst_left opening before
         → AllAllow burst least most opening before between → IsEarly event → burst ≤ updates_in between * most }
     ensures apart { (burst : ℕ) (least : ℕ) (most : ℕ) (opening : Opening) (before : List Event) (between : List Event)
-        (later : List Event) → IsLawful opening (before ++ between ++ later) → IsWhole opening before
+        (later : List Event) → IsLawful opening (before ++ between ++ later) → burst ≤ burst_left opening before
         → AllAllow burst least most opening before between
         → effective_moment opening before + updates_in between * least ≤ effective_moment opening (before ++ between) + least }
     ensures earliest { (opening : Opening) (before : List Event) (between : List Event) (event : Event) (later : List Event)
-        → IsLawful opening (before ++ between ++ event ∷ later) → IsWhole opening before → All (λ event. KeepsParams event.command) between
+        → IsLawful opening (before ++ between ++ event ∷ later) → IsAllowed opening before → All (λ event. KeepsParams event.command) between
         → IsEarly event
-        → effective_moment opening before + (params_after opening before).max_burst
+        → effective_moment opening before + burst_left opening before
         ≤ effective_moment opening (before ++ between) + (params_after opening before).t_update }
     ensures since_last_update { (opening : Opening) (before : List Event) (between : List Event) (event : Event) (later : List Event)
-        → IsLawful opening (before ++ between ++ event ∷ later) → IsWhole opening before → All (λ event. KeepsParams event.command) between
-        → IsEarly event
-        → (parts_after opening before).last + (params_after opening before).max_burst ≤ effective_moment opening (before ++ between) }
+        → IsLawful opening (before ++ between ++ event ∷ later) → IsAllowed opening before → All (λ event. KeepsParams event.command) between
+        → IsEarly event → (parts_after opening before).last + burst_left opening before ≤ effective_moment opening (before ++ between) }
+    ensures allowed { (opening : Opening) (before : List Event) (later : List Event) → IsLawful opening (before ++ later)
+        → All (λ event. KeepsParams event.command) before → IsAllowed opening before }
 {}

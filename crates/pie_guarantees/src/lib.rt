@@ -24,8 +24,8 @@ pub use peace::{
     short_queues_are_left_alone,
 };
 pub use probability::{
-    how_fast_the_probability_changes, the_probability_follows_the_delay,
-    what_gives_a_higher_probability,
+    how_fast_the_probability_changes, steady_delays_move_the_probability,
+    the_probability_follows_the_delay, what_gives_a_higher_probability,
 };
 pub use rates::the_rate_lies_between_its_samples;
 pub use spacing::{picks_are_far_apart, picks_are_not_too_far_apart, picks_start_anew};

@@ -7,23 +7,27 @@
 //!
 //! - `apply` has the decision there (`decided`), or the refusal there (`because`), and at Ok tells the history with the event (`recorded`).
 //! - `fold` hands out the oldest events of the tail (`folded`), or says why not (`because`), and at Ok tells the history with the fold.
-//! - `arrive_all` and `depart_all` make a burst of such commands, one after another (`replies`, `made`, `kept`).
+//! - `answer_all` makes a burst of such commands, one after another (`replies`, `made`, `kept`), for whatever is a `Burst`: `Arrivals` and
+//!   `Departures` push their replies to a vector.
 //! - `registers` and `stats` are the look-back over its events, and an `excerpt` is its end, with what that stands on.
 //!
 //! A refusal changes nothing. There is no thread here and no lock: pie_link puts these turns under the ruled lock of pie_lock.
 #![tactic(auto)]
 
 pub mod arrival;
+pub mod burst;
 pub mod entry;
 mod fold_count;
 mod kept_book;
 mod kept_bursts;
 mod law;
 mod told;
+mod vectors;
 
 pub use arrival::Arrival;
+pub use burst::{Burst, Replies, Reply};
 pub use entry::Entry;
 pub use kept_book::KeptBook;
-pub use kept_bursts::Replies;
 pub use law::entries_look_back;
 pub use told::Told;
+pub use vectors::{Arrivals, Departures};

@@ -1,29 +1,61 @@
 //! Bursts: several commands of one caller in one turn at the lock, with nothing of another caller between.
 //!
-//! The answers are pushed to a vector of the caller's, which has room for them: no burst takes memory.
-ghost use Rattle.std.specs.Prelude.{◌≡◌, ◌≢◌, ◌+◌, ◌≤◌, ◌<◌, ◌↔◌, IsTrue, Err, IsOk, OnOk, OnErr, length, map, vec_len, vec_capacity};
-ghost use Rattle.pie_kept.specs.Bursts.{always, arrive, departures, has_left};
+//! No burst takes memory: what takes its replies is the caller's, such as a vector that has room for them.
+ghost use Rattle.std.specs.Prelude.{◌≡◌, ◌≢◌, ◌+◌, ◌≤◌, ◌<◌, ◌↔◌, IsTrue, Err, IfErr, IfOk, IsOk, List, OnOk, OnErr, length, map, vec_len, vec_capacity};
+ghost use Rattle.pie_kept.specs.Bursts.{Reply, always, arrive, departures, has_left};
 ghost use Rattle.pie_link.specs.Bursts.{AnswersAll, TriesToAnswerAll, WasNotDone, WasRefused};
-ghost use Rattle.pie_link.specs.Views.{StaysOne};
+ghost use Rattle.pie_link.specs.Views.{StaysOne, WasBusy};
 ghost use Rattle.pie_link.specs.declared.told.Tried.TheVariants.{Busy};
 
 use crate::burst_turn;
 use crate::caller::Caller;
 use crate::link::Link;
-use crate::told::{NoRoom, Told, Tried};
+use crate::told::{NoRoom, Tried};
 use core::mem::{replace, replace_with};
-use pie_book::{Answer, Refusal};
-use pie_kept::Arrival;
+use pie_kept::{Arrival, Arrivals, Burst, Departures, Replies};
 use std::sync::Wait;
 
 // Whether a vector has room for so many more.
-fn has_room(answers: &Vec<Result<Told<Answer>, Refusal>>, more: usize) -> bool
+fn has_room(answers: &Replies, more: usize) -> bool
     ensures { IsTrue result ↔ (vec_len answers.now + more ≤ vec_capacity answers.now) }
 {
     more <= answers.capacity() - answers.len()
 }
 
 impl Link {
+    // The commands of a burst, one after another, as so many calls of their own with nothing of another caller between, until a reply after which
+    // the burst doesn't go on. A refused command changes nothing. A burst of no commands takes no lock. The call waits while another caller
+    // has the book, and takes no memory.
+    fn answer_all<R: Wait, B: Burst>(&self, rt: &R, caller: &mut Caller, burst: B) -> B
+        requires own { caller.old.lock ≡ self.now }
+        requires room { B.has_room burst 0 }
+        ensures answered { (earlier : List Reply) → B.shows burst earlier → (replies : List Reply) × B.shows result replies
+            × AnswersAll (B.goes_on burst) self.now caller.old (B.commands burst) earlier replies caller.new }
+        ensures room { B.room result ≡ B.room burst }
+        ensures stays { StaysOne caller.old caller.new }
+    {
+        replace_with(
+            &mut caller.pass,
+            (self, rt, burst),
+            burst_turn::wait_and_answer_all,
+        )
+    }
+
+    // The same as `answer_all`, where no other caller has the book. It never blocks. It answers the burst as it was where another caller has
+    // the book, which doesn't come for a burst of no commands.
+    fn try_answer_all<B: Burst>(&self, caller: &mut Caller, burst: B) -> Result<B, B>
+        requires own { caller.old.lock ≡ self.now }
+        requires room { B.has_room burst 0 }
+        ensures answered { IfOk result (λ after. (earlier : List Reply) → B.shows burst earlier → (replies : List Reply) × B.shows after replies
+            × AnswersAll (B.goes_on burst) self.now caller.old (B.commands burst) earlier replies caller.new) }
+        ensures busy { IfErr result (λ back. (back ≡ burst) × WasBusy caller.old caller.new) }
+        ensures none { length (B.commands burst) ≡ 0 → IsOk result }
+        ensures room { IfOk result (λ after. B.room after ≡ B.room burst) }
+        ensures stays { StaysOne caller.old caller.new }
+    {
+        replace_with(&mut caller.pass, (self, burst), burst_turn::try_answer_all)
+    }
+
     /// The packets arrive one after another, in the order of the slice, as so many calls of `arrive` with nothing of another caller
     /// between; what each would be answered is pushed to `answers`. A refused packet changes nothing, and the next ones are handed in all
     /// the same. A burst of no packets takes no lock. The call waits while another caller has the book, and takes no memory.
@@ -36,7 +68,7 @@ impl Link {
         rt: &R,
         caller: &mut Caller,
         arrivals: &[Arrival],
-        answers: &mut Vec<Result<Told<Answer>, Refusal>>,
+        answers: &mut Replies,
     ) -> Result<(), NoRoom>
         requires own { caller.old.lock ≡ self.now }
         ensures room { IsOk result ↔ (vec_len answers.old + length arrivals.now ≤ vec_capacity answers.old) }
@@ -49,9 +81,9 @@ impl Link {
         if !has_room(answers, arrivals.len()) {
             return Err(NoRoom);
         }
-        let mine = replace(answers, Vec::new(self.alloc));
-        let asked = (self, rt, arrivals, mine);
-        *answers = replace_with(&mut caller.pass, asked, burst_turn::wait_and_arrive_all);
+        let replies = replace(answers, Vec::new(self.alloc));
+        let burst = Arrivals { arrivals, replies };
+        *answers = self.answer_all(rt, caller, burst).replies;
         Ok(())
     }
 
@@ -66,7 +98,7 @@ impl Link {
         &self,
         caller: &mut Caller,
         arrivals: &[Arrival],
-        answers: &mut Vec<Result<Told<Answer>, Refusal>>,
+        answers: &mut Replies,
     ) -> Result<(), Tried<NoRoom>>
         requires own { caller.old.lock ≡ self.now }
         ensures room { WasRefused result ↔ (vec_capacity answers.old < vec_len answers.old + length arrivals.now) }
@@ -79,11 +111,18 @@ impl Link {
         if !has_room(answers, arrivals.len()) {
             return Err(Tried::Refused(NoRoom));
         }
-        let mine = replace(answers, Vec::new(self.alloc));
-        let asked = (self, arrivals, mine);
-        let (mine, result) = replace_with(&mut caller.pass, asked, burst_turn::try_arrive_all);
-        *answers = mine;
-        result
+        let replies = replace(answers, Vec::new(self.alloc));
+        let burst = Arrivals { arrivals, replies };
+        match self.try_answer_all(caller, burst) {
+            Ok(after) => {
+                *answers = after.replies;
+                Ok(())
+            }
+            Err(back) => {
+                *answers = back.replies;
+                Err(Tried::Busy)
+            }
+        }
     }
 
     /// Packets leave one after another, as by so many calls of `depart` with this moment and nothing of another caller between; what each
@@ -100,7 +139,7 @@ impl Link {
         caller: &mut Caller,
         moment: u64,
         most: usize,
-        answers: &mut Vec<Result<Told<Answer>, Refusal>>,
+        answers: &mut Replies,
     ) -> Result<(), NoRoom>
         requires own { caller.old.lock ≡ self.now }
         ensures room { IsOk result ↔ (vec_len answers.old + most ≤ vec_capacity answers.old) }
@@ -113,9 +152,13 @@ impl Link {
         if !has_room(answers, most) {
             return Err(NoRoom);
         }
-        let mine = replace(answers, Vec::new(self.alloc));
-        let asked = (self, rt, moment, most, mine);
-        *answers = replace_with(&mut caller.pass, asked, burst_turn::wait_and_depart_all);
+        let replies = replace(answers, Vec::new(self.alloc));
+        let burst = Departures {
+            moment,
+            most,
+            replies,
+        };
+        *answers = self.answer_all(rt, caller, burst).replies;
         Ok(())
     }
 }

@@ -45,6 +45,7 @@ pub(crate) fn wait_and_fill<R: Wait>(
     let (link, rt, mut excerpt) = asked;
     let held = link.lock.take(rt, pass);
     let (pass, result) = fill_and_put(link, held, &mut excerpt);
+    link.lock.wake();
     (pass, (excerpt, result))
 }
 

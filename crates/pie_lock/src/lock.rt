@@ -15,6 +15,7 @@ use std::marker::{Brand, Model};
 use std::snapshot::Snapshot;
 use std::sync::Wait;
 use std::sync::atomic::{AtomicU64, Ordering};
+use std::time::Duration;
 
 // The lock's one word and one slot.
 const WORD: usize = 0;
@@ -32,6 +33,9 @@ const NOT_AWAITED: u64 = 0;
 
 // A pass may sleep until a put.
 const AWAITED: u64 = 1;
+
+// How many milliseconds who sleeps until a put sleeps at most: a put of a call that never waits wakes nobody.
+const SLEEP: u64 = 1;
 
 // A turn of so many calls or more is a long one.
 const LONG: usize = 16;
@@ -232,7 +236,8 @@ impl<S: Kept> RuledLock<S> {
                 Err(pass) => pass,
             };
             if backoff.is_completed() {
-                self.awaited.park(rt, AWAITED as u32);
+                self.awaited
+                    .park_timeout(rt, AWAITED as u32, Duration::from_millis(SLEEP));
             } else if !self.seen_free(looks) {
                 backoff.snooze();
             }
@@ -252,7 +257,8 @@ impl<S: Kept> RuledLock<S> {
         false
     }
 
-    /// Gives the state back, with the entries that this turn adds to the history, in their order. It never blocks.
+    /// Gives the state back, with the entries that this turn adds to the history, in their order. It never blocks, and wakes nobody: who puts
+    /// after a turn that it waited for, or that others wait for, calls [`RuledLock::wake`] then.
     pub fn put(&self, held: Held<S>, added: Snapshot<Entries<S::Entry>>) -> Pass<S>
         requires own { held.lock ≡ self.now }
         requires number { All (λ e. S.number_of e ≡ held.first) added.value }
@@ -268,11 +274,16 @@ impl<S: Kept> RuledLock<S> {
         } = held;
         self.put_into_slot(&mut seat, state);
         self.free::<Brand>(&mut seat, &added);
+        Pass { first, limit, seat }
+    }
+
+    /// Wakes one pass that sleeps until the state is put back, if there is one. It is a call of its own, since what links it can't be a static
+    /// library: a program whose callers never wait has no need of it. A sleeper that nobody wakes looks again after a millisecond.
+    pub fn wake(&self) {
         if self.awaited.load(Ordering::SeqCst) == AWAITED {
             self.awaited.store(NOT_AWAITED, Ordering::SeqCst);
             self.awaited.wake_one();
         }
-        Pass { first, limit, seat }
     }
 
     /// A new pass with the highest number of `pass` alone and the same front.

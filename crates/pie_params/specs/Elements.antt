@@ -1,6 +1,7 @@
 -- RFC 8033's optional elements, as choices (section 5).
 use Rattle.std.specs.Prelude.{Bool, true, false}
 use Rattle.pie_params.specs.declared.elements.Elements.{Elements}
+use Rattle.pie_params.specs.declared.elements.Decay.TheVariants.{Zero}
 use Rattle.pie_params.specs.declared.elements.Delay.TheVariants.{Rate}
 use Rattle.pie_params.specs.declared.elements.Picking.{Picking}
 use Rattle.pie_params.specs.declared.elements.Picking.TheVariants.{Derandomized, Random}
@@ -10,7 +11,7 @@ use Rattle.pie_params.specs.declared.elements.Size.TheVariants.{Unscaled}
 
 -- the usual choices
 abbrev pub usual : Elements
-usual = record { delay = Rate; picking = Derandomized; step = Capped; size = Unscaled }
+usual = record { delay = Rate; picking = Derandomized; step = Capped; size = Unscaled; decay = Zero }
 
 -- probabilities accumulate
 abbrev pub accumulates : Picking → Bool

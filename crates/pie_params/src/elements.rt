@@ -52,6 +52,15 @@ pub enum Size {
     Scaled,
 }
 
+/// At which delays an update lets the probability decay, by a fiftieth, once the step is added.
+#[derive(Clone, Copy, Debug, PartialEq, Eq)]
+pub enum Decay {
+    /// Where the delay and the old delay are both 0 (RFC 8033, section 4.2).
+    Zero,
+    /// Where both are below half the target (RFC 8033, Appendix B; DPDK's `rte_pie`).
+    Half,
+}
+
 /// RFC 8033's optional elements (section 5), each as a choice that is made when a controller is opened.
 #[derive(Clone, Copy, Debug, PartialEq, Eq)]
 pub struct Elements {
@@ -63,12 +72,15 @@ pub struct Elements {
     pub step: Step,
     /// Whether a packet's size counts when it is picked.
     pub size: Size,
+    /// At which delays an update lets the probability decay.
+    pub decay: Decay,
 }
 
 impl Elements {
     ghost use Rattle.pie_params.specs.Elements.{usual};
 
-    /// The usual choices: the delay from the departure rate, de-randomized picking, capped steps, and no scaling by size.
+    /// The usual choices: the delay from the departure rate, de-randomized picking, capped steps, no scaling by size, and the decay at
+    /// delays of 0.
     #[inline(always)]
     pub fn usual() -> Self
         ensures { result ≡ usual }
@@ -78,6 +90,7 @@ impl Elements {
             picking: Picking::Derandomized,
             step: Step::Capped,
             size: Size::Unscaled,
+            decay: Decay::Zero,
         }
     }
 }

@@ -9,5 +9,5 @@ mod elements;
 mod raw;
 
 pub use checked::Params;
-pub use elements::{Delay, Elements, Picking, Size, Step};
+pub use elements::{Decay, Delay, Elements, Picking, Size, Step};
 pub use raw::{BadParam, Field, RawParams};

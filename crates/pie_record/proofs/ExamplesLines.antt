@@ -8,6 +8,7 @@ use Rattle.csv.specs.Writing.{fields_text, is_blank}
 use Rattle.pie_params.specs.Elements.{usual}
 use Rattle.pie_params.specs.Profile.{default_profile}
 use Rattle.pie_params.specs.declared.elements.Elements.{Elements}
+use Rattle.pie_params.specs.declared.elements.Decay.TheVariants.{Half}
 use Rattle.pie_params.specs.declared.elements.Delay.TheVariants.{Stamp}
 use Rattle.pie_params.specs.declared.elements.Picking.TheVariants.{Random}
 use Rattle.pie_params.specs.declared.elements.Size.TheVariants.{Scaled}
@@ -35,7 +36,7 @@ use Rattle.pie_record.specs.declared.history_record.Line.TheVariants.{Clock, Mad
 use Rattle.pie_record.specs.declared.version.Version.TheVariants as version
 use Rattle.pie_record.specs.Clock.{clock_at, clock_in}
 use Rattle.pie_record.specs.Number.{number}
-use Rattle.pie_record.specs.FirstRecord.{draft_at, elements_at, first_kind, limits_at, profile_of, version_of, version_one_fields}
+use Rattle.pie_record.specs.FirstRecord.{chosen_at, draft_at, elements_at, first_kind, limits_at, profile_of, version_of, version_one_fields}
 use Rattle.pie_record.specs.FirstRecord.{version_three_fields, version_two_fields, which_of}
 use Rattle.pie_record.specs.Field.{ecn_of, packet_at, params_at}
 use Rattle.pie_record.specs.Command.{arrival_at, change_at, command_at, command_kind}
@@ -179,7 +180,7 @@ unfolding records_from next_record strip_bom field_at digits fields_text is_blan
     which_of limits_at draft_at version_one_fields version_two_fields opening_of rows_text answer_fields verdict_of command_at packet_at
     command_kind arrival_at event_line answer_at departure_at update_at change_at numbers_at registers_at note_line shown_line clock_in
     clock_at line_of told_by lines_from fault_from history_opening history_version after_opening opening_row command_fields latest_clock
-    version_three_fields elements_at
+    version_three_fields chosen_at elements_at
 clock-lines = (refl, refl, refl)
 
 -- ---- writing
@@ -274,6 +275,7 @@ third-written : map (λ opening. rows_text (opening_row opening ∷ [])) (
     ∷ opened_by (record usual { picking = Random }) 4 100 default_profile
     ∷ opened_by (record usual { step = Uncapped }) 4 100 default_profile
     ∷ opened_by (record usual { size = Scaled }) 4 100 (with_beta 0)
+    ∷ opened_by (record usual { decay = Half }) 4 100 default_profile
     ∷ [])
     ≡ codes "open,0,65536,16,1099511627776\n"
     ∷ codes "open3,1,rate,derandomized,capped,unscaled,bounded,0,65537,16,100\n"
@@ -282,6 +284,7 @@ third-written : map (λ opening. rows_text (opening_row opening ∷ [])) (
     ∷ codes "open3,1,rate,random,capped,unscaled,bounded,0,4,16,100\n"
     ∷ codes "open3,1,rate,derandomized,uncapped,unscaled,bounded,0,4,16,100\n"
     ∷ codes "open3,1,rate,derandomized,capped,scaled,bounded,0,4,16,100,15000000,15000000,150000000,125,0,1024,262144,100000000000,16384\n"
+    ∷ codes "open3,1,rate,derandomized,capped,unscaled,half,bounded,0,4,16,100\n"
     ∷ []
 unfolding records_from next_record strip_bom field_at digits fields_text is_blank number ecn_of params_at first_kind version_of profile_of
     which_of limits_at draft_at version_one_fields version_two_fields opening_of rows_text answer_fields verdict_of command_at packet_at
@@ -314,8 +317,25 @@ unfolding records_from next_record strip_bom field_at digits fields_text is_blan
     which_of limits_at draft_at version_one_fields version_two_fields opening_of rows_text answer_fields verdict_of command_at packet_at
     command_kind arrival_at event_line answer_at departure_at update_at change_at numbers_at registers_at note_line shown_line line_of
     told_by lines_from fault_from history_opening history_version after_opening opening_row command_fields elements_at
-    version_three_fields
+    version_three_fields chosen_at
 third-limits = refl
+
+-- a decay that is told stands behind the size: `zero` in words is what no word means
+third-decays : map opened_in_text (
+    codes "open3,1,rate,derandomized,capped,unscaled,half,bounded,0,4,16,100\n"
+    ∷ codes "open3,1,rate,derandomized,capped,unscaled,half,bounded,0,4,16,100,15000000,15000000,150000000,125,0,1024,262144,100000000000,16384\n"
+    ∷ codes "open3,1,rate,derandomized,capped,unscaled,zero,bounded,0,4,16,100\n"
+    ∷ codes "open3,1,rate,derandomized,capped,unscaled,quarter,bounded,0,4,16,100\n"
+    ∷ codes "open3,1,rate,derandomized,capped,unscaled,bounded,0,4,16,100,100\n"
+    ∷ [])
+    ≡ Ok (opened_by (record usual { decay = Half }) 4 100 default_profile) ∷ Ok (opened_by (record usual { decay = Half }) 4 100 (with_beta 0))
+    ∷ Ok (opened_by usual 4 100 default_profile) ∷ Err (fault.Word 1) ∷ Err (fault.Word 1) ∷ []
+unfolding records_from next_record strip_bom field_at digits fields_text is_blank number ecn_of params_at first_kind version_of profile_of
+    which_of limits_at draft_at version_one_fields version_two_fields opening_of rows_text answer_fields verdict_of command_at packet_at
+    command_kind arrival_at event_line answer_at departure_at update_at change_at numbers_at registers_at note_line shown_line line_of
+    told_by lines_from fault_from history_opening history_version after_opening opening_row command_fields elements_at
+    version_three_fields chosen_at
+third-decays = refl
 
 -- its fields from left to right: the profile is a number, the elements and the mode are words
 third-faults : map opened_in_text (
@@ -333,5 +353,5 @@ unfolding records_from next_record strip_bom field_at digits fields_text is_blan
     which_of limits_at draft_at version_one_fields version_two_fields opening_of rows_text answer_fields verdict_of command_at packet_at
     command_kind arrival_at event_line answer_at departure_at update_at change_at numbers_at registers_at note_line shown_line line_of
     told_by lines_from fault_from history_opening history_version after_opening opening_row command_fields elements_at
-    version_three_fields
+    version_three_fields chosen_at
 third-faults = refl

@@ -10,7 +10,7 @@ mod FieldFacts
 mod CommandFacts
 mod FieldsBack
 mod EventBack
-mod OpeningBack
+pub mod OpeningBack
 mod HistoryBack
 mod NotesBack
 mod ClockBack

@@ -1,5 +1,5 @@
 -- The record of an opening is read back as that opening.
-use Rattle.std.proofs.Common.{◌≡◌, ◌≤◌, ◌<◌, ◌^◌, ◌==◌, ◌&&◌, nat_le, ℕ, [], ◌∷◌, ◌++◌, map, Bool, true, false, decimal, refl, sym, ap, ◌∙◌}
+use Rattle.std.proofs.Common.{◌≡◌, ◌≤◌, ◌<◌, ◌+◌, ◌^◌, ◌==◌, ◌&&◌, nat_le, ℕ, [], ◌∷◌, ◌++◌, map, Bool, true, false, decimal, refl, sym, ap, ◌∙◌}
 use Rattle.std.proofs.Common.{arith, if◌then◌else◌}
 use Rattle.std.specs.Prelude.{Some, None, Result, Ok}
 use Rattle.std.proofs.lemmas.Bool.{eqb-true}
@@ -8,6 +8,8 @@ use Rattle.csv.specs.Records.{field_at}
 use Rattle.pie_params.specs.Elements.{accumulates, is_capped, usual}
 use Rattle.pie_params.specs.Profile.{default_profile}
 use Rattle.pie_params.specs.declared.elements.Elements.{Elements}
+use Rattle.pie_params.specs.declared.elements.Decay.{Decay}
+use Rattle.pie_params.specs.declared.elements.Decay.TheVariants.{Half, Zero}
 use Rattle.pie_params.specs.declared.elements.Delay.{Delay}
 use Rattle.pie_params.specs.declared.elements.Delay.TheVariants.{Rate, Stamp}
 use Rattle.pie_params.specs.declared.elements.Picking.{Picking}
@@ -33,13 +35,13 @@ use Rattle.pie_record.specs.declared.fault.TraceFault.{TraceFault}
 use Rattle.pie_record.specs.declared.first_record.Draft.{Draft}
 use Rattle.pie_record.specs.declared.first_record.FirstKind.{FirstKind}
 use Rattle.pie_record.specs.declared.first_record.FirstKind.TheVariants as kinds
-use Rattle.pie_record.specs.FirstRecord.{draft_at, elements_at, first_kind, holds_limits, limits_at, profile_of, version_one_fields}
+use Rattle.pie_record.specs.FirstRecord.{chosen_at, decay_at, draft_at, elements_at, first_kind, holds_limits, limits_at, profile_of, version_one_fields}
 use Rattle.pie_record.specs.FirstRecord.{version_three_fields, version_two_fields, which_of}
 use Rattle.pie_record.specs.Opening.{opening_of, opening_read}
 use Rattle.pie_record.specs.Field.{params_at}
 use Rattle.pie_record.specs.Text.{Row}
 use Rattle.pie_record.specs.Words.{delay_word, mode_word, picking_word, profile_number, size_word, step_word}
-use Rattle.pie_record.specs.Write.{are_default, are_usual, earlier_row, is_earlier, is_usual_delay, is_usual_size, nine_of, opening_row}
+use Rattle.pie_record.specs.Write.{are_default, are_usual, earlier_row, is_earlier, is_usual_decay, is_usual_delay, is_usual_size, nine_of, opening_row}
 use Rattle.pie_record.specs.Write.{version_three_row}
 use Rattle.pie_record.proofs.EventBack.{back_u32, back_u64}
 
@@ -240,46 +242,70 @@ unfolding which_of
 size-back Unscaled = refl
 size-back Scaled = refl
 
-long-three : (c : Choices) (moment : ℕ) (limits : Limits) (params : RawParams) → OpeningFits limits moment → ParamsFit params
-    → opening_of (version_three_row c ++ numbers_row moment limits (map decimal (nine_of params)))
-    ≡ opening_read kinds.Open3 (drafted moment limits params c)
-unfolding opening_of first_kind version_three_fields elements_at draft_at limits_at params_at field_at
-long-three c moment limits params fits set =
-    rw (
-      profile-back c.profile,
-      delay-back c.elements.delay,
-      picking-back c.elements.picking,
-      step-back c.elements.step,
-      size-back c.elements.size,
-      mode-back c.mode,
-    ) (ap (opening_read kinds.Open3) (long-draft c moment limits params fits set))
+-- what is chosen, with this decay
+abbrev decaying : Choices → Decay → Choices
+decaying c decay = record c { elements = record c.elements { decay = decay } }
 
-short-three : (c : Choices) (moment : ℕ) (limits : Limits) → OpeningFits limits moment
-    → opening_of (version_three_row c ++ numbers_row moment limits []) ≡ opening_read kinds.Open3 (drafted moment limits default_profile c)
-unfolding opening_of first_kind version_three_fields elements_at draft_at limits_at field_at
-short-three c moment limits fits =
+-- where these words stand in a record, they are read
+pub chosen-read : (row : Row) (c : Choices) (told : Bool) (place : ℕ) → field_at row 1 ≡ Some (profile_number c.profile)
+    → field_at row 2 ≡ Some (delay_word c.elements.delay) → field_at row 3 ≡ Some (picking_word c.elements.picking)
+    → field_at row 4 ≡ Some (step_word c.elements.step) → field_at row 5 ≡ Some (size_word c.elements.size)
+    → decay_at row 6 told ≡ Ok c.elements.decay → field_at row place ≡ Some (mode_word c.mode) → chosen_at row told place ≡ draft_at row (place + 1) c
+unfolding chosen_at elements_at
+chosen-read row c told place profile delay picking step size decay mode =
     rw (
+      profile,
       profile-back c.profile,
+      delay,
       delay-back c.elements.delay,
+      picking,
       picking-back c.elements.picking,
+      step,
       step-back c.elements.step,
+      size,
       size-back c.elements.size,
+      decay,
+      mode,
       mode-back c.mode,
-    ) (ap (opening_read kinds.Open3) (short-draft c moment limits fits))
+    ) refl
+
+-- with either decay, of which the one makes the record a field longer
+long-three : (c : Choices) (decay : Decay) (moment : ℕ) (limits : Limits) (params : RawParams) → OpeningFits limits moment → ParamsFit params
+    → opening_of (version_three_row (decaying c decay) ++ numbers_row moment limits (map decimal (nine_of params)))
+    ≡ opening_read kinds.Open3 (drafted moment limits params (decaying c decay))
+unfolding opening_of first_kind version_three_fields draft_at limits_at params_at field_at which_of
+long-three c Zero moment limits params fits set =
+    ap (opening_read kinds.Open3) (chosen-read (version_three_row (decaying c Zero) ++ numbers_row moment limits (map decimal (nine_of params)))
+    (decaying c Zero) false 6 refl refl refl refl refl refl refl ∙ long-draft (decaying c Zero) moment limits params fits set)
+long-three c Half moment limits params fits set =
+    ap (opening_read kinds.Open3) (chosen-read (version_three_row (decaying c Half) ++ numbers_row moment limits (map decimal (nine_of params)))
+    (decaying c Half) true 7 refl refl refl refl refl refl refl ∙ long-draft (decaying c Half) moment limits params fits set)
+
+short-three : (c : Choices) (decay : Decay) (moment : ℕ) (limits : Limits) → OpeningFits limits moment
+    → opening_of (version_three_row (decaying c decay) ++ numbers_row moment limits [])
+    ≡ opening_read kinds.Open3 (drafted moment limits default_profile (decaying c decay))
+unfolding opening_of first_kind version_three_fields draft_at limits_at field_at which_of
+short-three c Zero moment limits fits =
+    ap (opening_read kinds.Open3) (chosen-read (version_three_row (decaying c Zero) ++ numbers_row moment limits []) (decaying c Zero) false 6
+    refl refl refl refl refl refl refl ∙ short-draft (decaying c Zero) moment limits fits)
+short-three c Half moment limits fits =
+    ap (opening_read kinds.Open3) (chosen-read (version_three_row (decaying c Half) ++ numbers_row moment limits []) (decaying c Half) true 7
+    refl refl refl refl refl refl refl ∙ short-draft (decaying c Half) moment limits fits)
 
 -- ---- an opening
 
 usual-elements : (e : Elements) → are_usual e ≡ true → e ≡ usual
-usual-elements e = by e.delay e.picking e.step e.size
+usual-elements e = by e.delay e.picking e.step e.size e.decay
   where
-    by : (delay : Delay) (picking : Picking) (step : Step) (size : Size)
-        → is_usual_delay delay && accumulates picking && is_capped step && is_usual_size size ≡ true
-        → (let e : Elements = record { delay = delay; picking = picking; step = step; size = size } in e) ≡ usual
-    by Rate Derandomized Capped Unscaled same = refl
-    by Stamp picking step size same = cc
-    by Rate Random step size same = cc
-    by Rate Derandomized Uncapped size same = cc
-    by Rate Derandomized Capped Scaled same = cc
+    by : (delay : Delay) (picking : Picking) (step : Step) (size : Size) (decay : Decay)
+        → is_usual_delay delay && accumulates picking && is_capped step && is_usual_size size && is_usual_decay decay ≡ true
+        → (let e : Elements = record { delay = delay; picking = picking; step = step; size = size; decay = decay } in e) ≡ usual
+    by Rate Derandomized Capped Unscaled Zero same = refl
+    by Stamp picking step size decay same = cc
+    by Rate Random step size decay same = cc
+    by Rate Derandomized Uncapped size decay same = cc
+    by Rate Derandomized Capped Scaled decay same = cc
+    by Rate Derandomized Capped Unscaled Half same = cc
 
 -- this opening with these choices and these parameters
 abbrev made : Opening → Choices → RawParams → Opening
@@ -301,11 +327,11 @@ in_range-default o set same = let default = are_default-true o.params same in rw
 three-back : (o : Opening) → opening_refusal o.limits o.moment ≡ None → ParamsFit o.params → (b : Bool) → are_default o.params ≡ b
     → opening_of (version_three_row o.choices ++ params_row o b) ≡ Ok o
 three-back o accepted set true same =
-    short-three o.choices o.moment o.limits (accepted_fits o.limits o.moment accepted)
+    short-three o.choices o.choices.elements.decay o.moment o.limits (accepted_fits o.limits o.moment accepted)
     ∙ accepted_draft kinds.Open3 o.moment o.limits default_profile o.choices accepted (in_range-default o set same) refl
     ∙ opened-default o o.choices same
 three-back o accepted set false other =
-    long-three o.choices o.moment o.limits o.params (accepted_fits o.limits o.moment accepted) set
+    long-three o.choices o.choices.elements.decay o.moment o.limits o.params (accepted_fits o.limits o.moment accepted) set
     ∙ accepted_draft kinds.Open3 o.moment o.limits o.params o.choices accepted set.in_range refl
 
 earlier-back : (o : Opening) → opening_refusal o.limits o.moment ≡ None → ParamsFit o.params → is_earlier o ≡ true → (b : Bool)

@@ -16,7 +16,7 @@ use std::sync::atomic::{AtomicBool, AtomicU64, Ordering};
 use std::thread;
 use std::time::Duration;
 
-use juniperbowls::{DumpFault, Ecn, Flight, FlightRefusal, Limits, MAX_MOMENT, Opening, Packet, Params, Profile, Stats, flight};
+use juniperbowls::{DumpFault, Ecn, Flight, FlightRefusal, MAX_MOMENT, Opening, Packet, Params, Profile, Stats, flight};
 
 use crate::peers::{Told, audited, text_of_c};
 use crate::queue::{Queue, Random};
@@ -41,8 +41,9 @@ fn numbers(text: &[u8]) -> (u64, u64) {
     assert!(text.ends_with('\n'));
     let (first, rest) = text.split_once('\n').unwrap();
     let fields: Vec<&str> = first.split(',').collect();
-    assert_eq!((fields[0], fields.len(), fields[30]), ("resume", 60, ""));
-    let number = |at: usize| fields[at].parse::<u64>().unwrap();
+    let decay = usize::from(fields[6] == "half"); // is told in front of the mode
+    assert_eq!((fields[0], fields.len(), fields[30 + decay]), ("resume", 60 + decay, ""));
+    let number = |at: usize| fields[at + decay].parse::<u64>().unwrap();
     let (packets, bytes) = rest.lines().take_while(|it| it.starts_with("queued,")).fold((0, 0), |(packets, bytes), it| {
         (packets + 1, bytes + it.split(',').nth(2).unwrap().parse::<u64>().unwrap())
     });
@@ -72,18 +73,18 @@ fn sizes() {
 #[test]
 fn refused_openings() {
     let Queue { opening, pie, .. } = Queue::open(1);
-    let opening = Opening { limits: Limits { packets: 50, ..opening.limits }, ..opening };
+    let opening = Opening { packets: 50, ..opening };
     let memory = zeros(flight::words(100, 50).unwrap());
     memory.iter().for_each(|it| it.store(7, Ordering::Relaxed));
     let open = |memory, events, opening: &Opening| Flight::open(memory, events, opening, &pie).map(|_: Flight<&[AtomicU64]>| ()).unwrap_err();
-    let none = Opening { limits: Limits { packets: 0, ..opening.limits }, ..opening };
+    let none = Opening { packets: 0, ..opening };
     assert_eq!(open(&memory[1..], 100, &none), FlightRefusal::Sizes);
     assert_eq!(open(&memory, 0, &opening), FlightRefusal::Sizes);
     let late = Opening { moment: MAX_MOMENT + 1, ..opening };
     assert_eq!(open(&memory[1..], 100, &late), FlightRefusal::Memory);
     assert_eq!(open(&memory, 100, &late), FlightRefusal::Opening);
     assert_eq!(open(&memory, 100, &Opening { params: Params { target: 0, ..opening.params }, ..opening }), FlightRefusal::Opening);
-    assert_eq!(open(&memory, 100, &Opening { limits: Limits { events: 0, ..opening.limits }, ..opening }), FlightRefusal::Opening);
+    assert_eq!(open(&memory, 100, &Opening { events: 0, ..opening }), FlightRefusal::Opening);
     let other = if opening.profile == Profile::One { Profile::Two } else { Profile::One };
     assert_eq!(open(&memory, 100, &Opening { profile: other, ..opening }), FlightRefusal::Opening);
     assert!(memory.iter().all(|it| it.load(Ordering::Relaxed) == 7));
@@ -95,7 +96,7 @@ fn refused_openings() {
 #[test]
 fn the_time_of_day() {
     let mut queue = Queue::open(12);
-    let memory = zeros(flight::words(500, queue.opening.limits.packets).unwrap());
+    let memory = zeros(flight::words(500, queue.opening.packets).unwrap());
     assert!(!flight::clock(&memory, 0, 1) && !flight::clock(&memory[..39], 0, 1));
     assert!(memory.iter().all(|it| it.load(Ordering::Relaxed) == 0));
     let mut recorder = Flight::open(&*memory, 500, &queue.opening, &queue.pie).unwrap();
@@ -127,7 +128,7 @@ fn the_time_of_day() {
 #[test]
 fn long_waits() {
     let Queue { opening, mut pie, .. } = Queue::open(2);
-    let opening = Opening { limits: Limits { packets: 50, ..opening.limits }, ..opening };
+    let opening = Opening { packets: 50, ..opening };
     let mut recorder = Flight::open(zeros(flight::words(100, 50).unwrap()), 100, &opening, &pie).unwrap();
     let packet = |tag| Packet { tag, size: 1, ecn: Ecn::NotEct };
     let arrived = pie.moment;
@@ -166,7 +167,7 @@ fn dumps_at_random_places() {
     for round in 0..20 {
         let mut queue = Queue::open(round);
         let wanted = 1 + if random.is_one_of(2) { random.below(40) } else { random.below(3000) };
-        let memory = zeros(flight::words(wanted, queue.opening.limits.packets).unwrap());
+        let memory = zeros(flight::words(wanted, queue.opening.packets).unwrap());
         let mut recorder = Flight::open(Arc::clone(&memory), wanted, &queue.opening, &queue.pie).unwrap();
         let (mut count, mut scratch) = (0, Vec::new());
         for _ in 0..4000 {
@@ -192,7 +193,7 @@ fn dumps_at_random_places() {
 #[test]
 fn writers_that_stop_and_memory_that_is_cut_short() {
     let mut queue = Queue::open(9);
-    let memory = zeros(flight::words(2000, queue.opening.limits.packets).unwrap());
+    let memory = zeros(flight::words(2000, queue.opening.packets).unwrap());
     let mut recorder = Flight::open(&*memory, 2000, &queue.opening, &queue.pie).unwrap();
     let (_, text) = left(&bytes_of(&memory));
     assert_eq!(text.iter().filter(|it| **it == b'\n').count(), 1);
@@ -232,7 +233,7 @@ const UNIX_TIME: u64 = 1_795_550_400_000_000_000;
 /// A small recorder's memory, and what C is told of the same events.
 fn small(seed: u64, wanted: u64, events: u64) -> (Vec<u8>, Told) {
     let mut queue = Queue::open(seed);
-    let memory = zeros(flight::words(wanted, queue.opening.limits.packets).unwrap());
+    let memory = zeros(flight::words(wanted, queue.opening.packets).unwrap());
     let mut recorder = Flight::open(&*memory, wanted, &queue.opening, &queue.pie).unwrap();
     assert!(flight::clock(&memory, seed, seed + UNIX_TIME));
     let mut told = Told::open(&queue.opening, &queue.pie);
@@ -320,7 +321,7 @@ fn dumps_while_it_works_are_clean() {
     const WANTED: u64 = 20_000;
     const DUMPS: u32 = 100;
     let mut queue = Queue::open(6);
-    let memory = zeros(flight::words(WANTED, queue.opening.limits.packets).unwrap());
+    let memory = zeros(flight::words(WANTED, queue.opening.packets).unwrap());
     let is_enough = AtomicBool::new(false);
     let (count, dumps, gone) = thread::scope(|scope| {
         let writer = scope.spawn(|| {
@@ -368,7 +369,7 @@ fn works_until_it_is_killed() {
     };
     let mut queue = Queue::open(u64::from(std::process::id()));
     let wanted = 1 + u64::from(std::process::id()) % 2000;
-    let memory = mapped::new_file(Path::new(&file), flight::words(wanted, queue.opening.limits.packets).unwrap()).unwrap();
+    let memory = mapped::new_file(Path::new(&file), flight::words(wanted, queue.opening.packets).unwrap()).unwrap();
     let mut recorder = Flight::open(memory, wanted, &queue.opening, &queue.pie).unwrap();
     loop {
         queue.step().keep(&mut recorder, &queue.pie);

@@ -69,9 +69,8 @@ fn state_bytes(state: &State) -> Vec<u8> {
 }
 
 fn opening_bytes(opening: &Opening, state: &State) -> Vec<u8> {
-    let limits = opening.limits;
-    let rest = [opening.moment, opening.profile as u64, state.choices, opening.mode as u64, limits.packets, limits.tail, limits.events];
-    bytes_of(&[&params_words(&opening.params)[..], &rest].concat())
+    let Opening { params, moment, profile, mode, packets, tail, events, .. } = *opening;
+    bytes_of(&[&params_words(&params)[..], &[moment, profile as u64, state.choices, mode as u64, packets, tail, events]].concat())
 }
 
 fn event_bytes(made: &Made) -> Vec<u8> {

@@ -4,7 +4,7 @@ use std::collections::VecDeque;
 use std::ops::Deref;
 use std::sync::atomic::AtomicU64;
 
-use juniperbowls::{Choices, Ecn, Event, Flight, Limits, MAX_MOMENT, Mode, ONE, Opening, Packet, Params, ParamsEvent, Profile, State, Verdict};
+use juniperbowls::{Choices, Ecn, Event, Flight, MAX_MOMENT, Mode, ONE, Opening, Packet, Params, ParamsEvent, Profile, State, Verdict};
 
 const MOST_WAITING: u64 = 512;
 
@@ -79,6 +79,7 @@ impl Queue {
             pick_random: random.is_one_of(2),
             step_uncapped: random.is_one_of(2),
             size_scaled: random.is_one_of(2),
+            decay_half: random.is_one_of(2),
         };
         let opening = Opening {
             params,
@@ -86,9 +87,11 @@ impl Queue {
             profile: if random.is_one_of(2) { Profile::One } else { Profile::Two },
             choices,
             mode: if random.is_one_of(2) { Mode::Bounded } else { Mode::Rolling },
-            limits: Limits { packets: 1 + random.below(MOST_WAITING), tail: 1024, events: 1 << 40 },
+            packets: 1 + random.below(MOST_WAITING),
+            tail: 1024,
+            events: 1 << 40,
         };
-        let pie = State::open_with(&params, opening.moment, opening.profile, choices).unwrap();
+        let pie = State::open(&opening).unwrap();
         Queue { opening, pie, packets: VecDeque::new(), bytes: 0, random, moment: opening.moment, tag: 0 }
     }
 
@@ -139,7 +142,7 @@ impl Queue {
         let size = if random.is_one_of(50) { 70_000 * random.below(2) as u32 } else { 40 + random.below(1461) as u32 };
         self.tag += 1;
         let packet = Packet { tag: self.tag, size, ecn };
-        let room = self.opening.limits.packets as u32 - self.packets.len() as u32;
+        let room = self.opening.packets as u32 - self.packets.len() as u32;
         let (event, verdict) = self.pie.arrive_event(self.bytes, room, packet, random.word(), caller, moment);
         if verdict.is_ok_and(Verdict::is_queued) {
             let ecn = if verdict == Ok(Verdict::Mark) { Ecn::Ce } else { ecn };

@@ -68,6 +68,6 @@ unfolding arrival_refusal
 returns c = let a = c.args in record {
   answer = rw (taken c) (c.of_verdict.ensures ∙ ap verdict_number (decided c));
   fields = rw (taken c) (left c);
-  held = leaves a.state.now _ (Arrive (arrival c) a.moment) _ (λ sound. rw (taken c) (left c ∙ arrived-state (state c) (arrival c) a.moment sound))
+  held = leaves c.laws.ensures.keeps c.laws.ensures.looks a.state.now _ (Arrive (arrival c) a.moment) _ (λ sound. rw (taken c) (left c ∙ arrived-state (state c) (arrival c) a.moment sound))
       (handed a.moment _);
 }

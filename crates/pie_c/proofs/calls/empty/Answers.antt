@@ -8,5 +8,5 @@ pub returns-clause-held : goal.returns-clause-held
 unfolding moment_refusal
 returns-clause-held c =
     let a = c.args in
-    leaves a.state.now _ (Pass a.moment) (moment_refusal a.moment)
+    leaves c.laws.ensures.keeps c.laws.ensures.looks a.state.now _ (Pass a.moment) (moment_refusal a.moment)
     (λ sound. rw (moment-taken a.moment (omega arith), c.max-state.ensures) (passed-state a.state.now a.moment sound)) (handed a.moment _)

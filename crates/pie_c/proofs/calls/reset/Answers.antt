@@ -25,7 +25,7 @@ pub returns-clause-made : goal.returns-clause-made
 returns-clause-made c =
     let a = c.args in
     let sound : is_sound a.state.now ≡ true = sym c.is_sound.ensures ∙ c.if-not-is_sound.false in
-    makes a.state.now _ (Restart a.moment) _ sound
+    makes c.laws.ensures.keeps c.laws.ensures.looks a.state.now _ (Restart a.moment) _ sound
     (rw (reset-taken a.state.now a.moment sound (omega arith))
     (c.keep_registers.ensures ∙ reset-state a.state.now _ _ a.moment sound c.raw-held.ensures c.reset.ensures))
     (λ free. omega arith)

@@ -37,7 +37,7 @@ returns-clause-made c =
     let a = c.args in
     let sound : is_sound a.state.now ≡ true = sym c.is_sound.ensures ∙ c.if-not-is_sound.false in
     let good : are_in_range a.params.now ≡ true = sym c.are_in_range.ensures ∙ c.if-not-are_in_range.false in
-    makes a.state.now _ (Change (raw_of a.params.now) a.moment) _ sound
+    makes c.laws.ensures.keeps c.laws.ensures.looks a.state.now _ (Change (raw_of a.params.now) a.moment) _ sound
     (rw (params-taken a.state.now a.params.now a.moment sound good (omega arith))
     (c.keep_departed.ensures ∙ changed-state a.state.now a.params.now _ _ _ a.moment sound c.raw-held.ensures c.set_params.ensures))
     (λ free. (omega arith, params-from a.params.now good))

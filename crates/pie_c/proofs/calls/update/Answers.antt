@@ -1,8 +1,7 @@
-use Rattle.std.proofs.Common.{◌≡◌, ℕ, ◌^◌, ◌∙◌, nat_lt, true, false, ap, arith, refl, rules, sym}
+use Rattle.std.proofs.Common.{◌≡◌, ℕ, ◌^◌, ◌∙◌, nat_lt, true, false, ap, arith, refl, rules, subst, sym}
 use Rattle.std.proofs.lemmas.Bool.Decides.{nat_tests}
-use Rattle.pie_aqm.proofs.Sounds.{Sound_call, stays_sound}
 use Rattle.pie_aqm.specs.Calls.{Update}
-use Rattle.pie_aqm.specs.Held.{Held, held_by}
+use Rattle.pie_aqm.specs.Held.{Held, IsSound, held_by}
 use Rattle.pie_aqm.specs.Steps.{delay_answered, updated}
 use Rattle.pie_c.specs.Calls.{update_refusal, updated_with}
 use Rattle.pie_c.specs.State.{held_in, is_sound, last_moment, state_of}
@@ -61,8 +60,8 @@ update-delay-requires-clause-sound c = rw c.raw-held.ensures (held-sound c.args.
 pub made-requires-2 : goal.made-requires-2
 made-requires-2 c =
     let a = c.args in
-    stays_sound _ _ (c.update-delay.ensures.after ∙ ap (λ (h : Held). updated h a.queued a.moment) c.raw-held.ensures)
-    (Sound_call (held_in a.state.now) (held-sound a.state.now (sym c.is_sound.ensures ∙ c.if-not-is_sound.false)) (Update a.queued a.moment)
+    subst IsSound (sym (c.update-delay.ensures.after ∙ ap (λ (h : Held). updated h a.queued a.moment) c.raw-held.ensures))
+    (c.laws.ensures.keeps (held_in a.state.now) (held-sound a.state.now (sym c.is_sound.ensures ∙ c.if-not-is_sound.false)) (Update a.queued a.moment)
     (omega arith))
 
 taken : (c : After-made-2) → update_refusal c.args.state.now c.args.queued c.args.moment ≡ 0
@@ -84,5 +83,5 @@ pub returns-clause-made : goal.returns-clause-made
 returns-clause-made c =
     let a = c.args in
     let sound : is_sound a.state.now ≡ true = sym c.is_sound.ensures ∙ c.if-not-is_sound.false in
-    makes a.state.now _ (Update a.queued a.moment) (update_refusal a.state.now a.queued a.moment) sound
+    makes c.laws.ensures.keeps c.laws.ensures.looks a.state.now _ (Update a.queued a.moment) (update_refusal a.state.now a.queued a.moment) sound
     (rw (taken c) (c.keep_updated.ensures ∙ ap state_of (after c))) (λ free. omega arith)

@@ -1,0 +1,76 @@
+/* What the parts of the stage's test share: stage_test.c begins, stage_test_frames.c makes frames and tries marks in them, stage_test_texts.c takes
+ * histories and the flight recorder's texts out, and stage_test_threads.c tries many threads at once. */
+#ifndef STAGE_TEST_H
+#define STAGE_TEST_H
+
+#include "pie_stage.h"
+
+#include <rte_mbuf.h>
+#include <stdio.h>
+#include <stdlib.h>
+
+#define MBUFS 8191u
+#define EXPECT(what)                                                              \
+    do {                                                                          \
+        if (!(what)) {                                                            \
+            fprintf(stderr, "stage_test: %s:%d: not so: %s\n", __FILE__, __LINE__, #what); \
+            exit(1);                                                              \
+        }                                                                         \
+    } while (0)
+
+extern struct rte_mempool *pool;
+extern const char *folder; /* histories come to it */
+
+struct rte_mbuf *alloc(void);
+
+void expect_all_back(void);
+
+/* A frame of this size whose ECN field is this, in one segment. */
+struct rte_mbuf *plain(uint16_t size, uint8_t ecn);
+
+/* The default parameters for 100 Mbit/s, without a flight recorder. */
+void unrecorded(struct pie_stage_params *params);
+
+struct pie_stage *stage_of(struct pie_stage_params *params);
+
+/* What a history has. */
+struct told {
+    uint64_t lines, lost, gaps; /* lines but that of the time of day; events that its lines `lost` tell, and these lines */
+    uint64_t clocks;            /* lines of the time of day */
+};
+
+/* Takes out what the history has now, or to its end, into a file. */
+void take_history(struct pie_stage *stage, FILE *file, bool is_end, struct told *told);
+
+FILE *open_history(const char *name);
+
+/* What a stage counted is so many events. */
+uint64_t events_of(const struct pie_stage_stats *stats);
+
+int write_to(void *user, const unsigned char *bytes, size_t count);
+
+/* Of a text that resumes: the events before it, the packets that wait then, its lines of the time of day, and its events. */
+struct resumed {
+    uint64_t before, queued, clocks, events;
+};
+
+struct resumed read_resumed(const char *name);
+
+/* Writes what the flight recorder holds, of a stage that stands still: all events, or at least so many, to the last. */
+struct resumed expect_flight(struct pie_stage *stage, const char *name, uint64_t least);
+
+/* Each decision of a recorded stage stands in its history, or is told as lost. */
+void expect_told(struct pie_stage *stage, const struct told *told);
+
+void test_marks(void);
+void test_no_ip(void);
+void test_shared(void);
+
+/* A history that is cut while packets come and go, of a queue that is copied in many turns: each text stands alone, and begins where the one before
+ * ends. */
+void test_cut_beside(int cuts);
+
+/* With `events` above 0 one more thread writes the history, and with `flight` one writes what the flight recorder holds. */
+void test_threads(uint32_t rounds, uint32_t events, uint32_t flight);
+
+#endif

@@ -1,0 +1,94 @@
+-- What is written of packets that wait and of events is their records.
+use Rattle.std.proofs.Common.{◌≡◌, ℕ, suc, ◌==◌, ◌++◌, List, [], ◌∷◌, Bool, true, false, Some, None, if◌then◌else◌, ap, refl, arith}
+use Rattle.std.specs.Prelude.{All, map, nat_le}
+use Rattle.std.specs.List.{flat_map}
+use Rattle.std.proofs.lemmas.Bool.{eqb-true}
+use Rattle.std.proofs.lemmas.Bool.Decides.{nat_tests}
+use Rattle.std.proofs.lemmas.Grind.{flat_map-append}
+use Rattle.pie_queue.specs.declared.ecn.Ecn.{Ecn}
+use Rattle.pie_queue.specs.declared.ecn.Ecn.TheVariants.{NotEct, Ect1, Ect0, Ce}
+use Rattle.pie_queue.specs.declared.packet.Waiting.{Waiting}
+use Rattle.pie_event.specs.declared.command.Event.{Event}
+use Rattle.pie_book.specs.History.{waiting_after}
+use Rattle.pie_record.specs.Text.{rows_text, text_of}
+use Rattle.pie_record.specs.Write.{event_row, written_rows}
+use Rattle.pie_excerpt.specs.Rows.{queued_row}
+use Rattle.pie_excerpt.specs.Written.{part_rows}
+use Rattle.pie_c.specs.declared.event.PieEvent.{PieEvent}
+use Rattle.pie_c.specs.declared.opening.PieOpening.{PieOpening}
+use Rattle.pie_c.specs.declared.resuming.PieStats.{PieStats}
+use Rattle.pie_c.specs.declared.state.PieState.{PieState}
+use Rattle.pie_c.specs.Calls.{is_bad_size}
+use Rattle.pie_c.specs.Events.{Kept, change_of, event_by, event_of, event_text, is_event, lost_in, opening_text, stands_for, text_in, written_text}
+use Rattle.pie_c.specs.Opening.{opening_in, opening_of, opening_refusal}
+use Rattle.pie_c.specs.Resuming.{CanWait, ecn_number, is_standing, queued_text, resume_of, resume_text, set_by_of, standing_in, waiting_text}
+use Rattle.pie_c.specs.State.{is_sound, last_moment}
+
+-- lost events stand for none
+lost-none : (e : PieEvent) → (e.kind == 6) ≡ true → event_of e ≡ None
+lost-none e is = by (is_event e) (rw (eqb-true e.kind 6 is) refl)
+  where
+    by : (can : Bool) → event_by e ≡ None → (if can then event_by e else None) ≡ None
+    by true none = none
+    by false none = refl
+
+event-written : (k : Kept) (e : Event) → stands_for k ≡ Some e → written_text k ≡ text_of (event_row e)
+event-written k e = by (k.event.kind == 5)
+  where
+    six : (lost : Bool) → (k.event.kind == 6) ≡ lost → event_of k.event ≡ Some e
+        → (if lost then lost_in k.event else event_text (event_of k.event)) ≡ text_of (event_row e)
+    six true s is = let none = lost-none k.event s in cc
+    six false s is = ap event_text is
+
+    by : (five : Bool) → (if five then change_of k.event k.params else event_of k.event) ≡ Some e
+        → (if five then event_text (change_of k.event k.params) else text_in k.event) ≡ text_of (event_row e)
+    by true is = ap event_text is
+    by false is = six (k.event.kind == 6) refl is
+
+events-written : (kept : List Kept) (events : List Event) → map stands_for kept ≡ map Some events
+    → flat_map written_text kept ≡ flat_map text_of (map event_row events)
+events-written [] [] is = refl
+events-written [] (e ∷ events) is = cc
+events-written (k ∷ kept) [] is = cc
+events-written (k ∷ kept) (e ∷ events) is =
+    let first : stands_for k ≡ Some e = cc in
+    let rest : map stands_for kept ≡ map Some events = cc in
+    rw (event-written k e first, events-written kept events rest) refl
+
+packet-written : (tag size since : ℕ) (ecn : Ecn) → is_bad_size size ≡ false → nat_le since last_moment ≡ true
+    → queued_text tag size (ecn_number ecn) since
+    ≡ text_of (queued_row (record { packet = record { tag = tag; size = size; ecn = ecn }; since = since }))
+packet-written tag size since NotEct good early = rw (good, early) refl
+packet-written tag size since Ect1 good early = rw (good, early) refl
+packet-written tag size since Ect0 good early = rw (good, early) refl
+packet-written tag size since Ce good early = rw (good, early) refl
+
+packets-written : (packets : List Waiting) → All CanWait packets → flat_map waiting_text packets ≡ flat_map text_of (map queued_row packets)
+packets-written [] can = refl
+packets-written (w ∷ packets) can =
+    let first : CanWait w = can 0 w (omega arith) in
+    let rest : All CanWait packets = λ k d below. can (suc k) d (omega (arith, below)) in
+    let early : nat_le w.since last_moment ≡ true = let since = first.since in grind (since, arith, nat_tests) in
+    rw (packet-written w.packet.tag w.packet.size w.since w.packet.ecn first.size early, packets-written packets rest) refl
+
+pub whole_written : (o : PieOpening) (events : List Event) (kept : List Kept) → opening_refusal o ≡ 0 → map stands_for kept ≡ map Some events
+    → opening_text (opening_of o) ++ flat_map written_text kept ≡ rows_text (written_rows (opening_in o) events)
+unfolding rows_text
+whole_written o events kept free is = rw (free, events-written kept events is) refl
+
+pub part_written : (o : PieOpening) (s : PieState) (t : PieStats) (count set_by packets bytes : ℕ) (past events : List Event) (kept : List Kept)
+    → opening_refusal o ≡ 0 → is_sound s ≡ true → is_standing o s count packets bytes ≡ true → All CanWait (waiting_after (opening_in o) past)
+    → map stands_for kept ≡ map Some events
+    → resume_text (resume_of o s t count set_by packets bytes)
+    ++ (flat_map waiting_text (waiting_after (opening_in o) past) ++ flat_map written_text kept)
+    ≡ rows_text (part_rows (opening_in o) (standing_in s t count packets bytes) past (set_by_of set_by) (map event_row events))
+unfolding rows_text
+part_written o s t count set_by packets bytes past events kept free sound stands can is =
+    rw (
+      free,
+      sound,
+      stands,
+      events-written kept events is,
+      packets-written (waiting_after (opening_in o) past) can,
+      flat_map-append text_of (map queued_row (waiting_after (opening_in o) past)) (map event_row events),
+    ) refl

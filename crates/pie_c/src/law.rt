@@ -1,0 +1,33 @@
+//! What the calls that write records write one after another is a text that the readers' laws speak of.
+ghost use Rattle.std.specs.Prelude.{◌≡◌, ◌++◌, ℕ, All, List, Some, map, true};
+ghost use Rattle.std.specs.List.{flat_map};
+ghost use Rattle.pie_event.specs.declared.command.Event.{Event};
+ghost use Rattle.pie_book.specs.History.{waiting_after};
+ghost use Rattle.pie_record.specs.Text.{rows_text};
+ghost use Rattle.pie_record.specs.Write.{event_row, written_rows};
+ghost use Rattle.pie_excerpt.specs.Written.{part_rows};
+ghost use Rattle.pie_c.specs.declared.opening.PieOpening.{PieOpening};
+ghost use Rattle.pie_c.specs.declared.resuming.PieStats.{PieStats};
+ghost use Rattle.pie_c.specs.declared.state.PieState.{PieState};
+ghost use Rattle.pie_c.specs.Events.{Kept, opening_text, stands_for, written_text};
+ghost use Rattle.pie_c.specs.Opening.{opening_in, opening_of, opening_refusal};
+ghost use Rattle.pie_c.specs.Resuming.{CanWait, is_standing, resume_of, resume_text, set_by_of, standing_in, waiting_text};
+ghost use Rattle.pie_c.specs.State.{is_sound};
+
+/// What `pie_write_opening` writes, and then `pie_write_event` or `pie_write_params` of each event, one after another, are the records of that
+/// opening and of these events (`whole`). What `pie_write_resume` writes, then `pie_write_queued` of each packet that waits, oldest first, and
+/// then those of each event, are the records of a text that goes on after a history (`part`). Both are the texts that pie_audit's laws find
+/// clean where the events are legal: `recorded_calls_are_clean` and `written_parts_are_told`.
+///
+/// It does nothing: its contract is the law (this project's own).
+#[tactic(auto, using(crate::proofs::WrittenFacts::whole_written, crate::proofs::WrittenFacts::part_written))]
+pub fn written_calls_are_records()
+    ensures whole { (o : PieOpening) (events : List Event) (kept : List Kept) → opening_refusal o ≡ 0 → map stands_for kept ≡ map Some events
+        → opening_text (opening_of o) ++ flat_map written_text kept ≡ rows_text (written_rows (opening_in o) events) }
+    ensures part { (o : PieOpening) (s : PieState) (t : PieStats) (count set_by packets bytes : ℕ) (past events : List Event) (kept : List Kept)
+        → opening_refusal o ≡ 0 → is_sound s ≡ true → is_standing o s count packets bytes ≡ true → All CanWait (waiting_after (opening_in o) past)
+        → map stands_for kept ≡ map Some events
+        → resume_text (resume_of o s t count set_by packets bytes)
+        ++ (flat_map waiting_text (waiting_after (opening_in o) past) ++ flat_map written_text kept)
+        ≡ rows_text (part_rows (opening_in o) (standing_in s t count packets bytes) past (set_by_of set_by) (map event_row events)) }
+{}

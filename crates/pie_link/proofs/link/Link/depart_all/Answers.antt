@@ -1,0 +1,10 @@
+use Rattle.std.proofs.Common.{List, subst, sym}
+use Rattle.pie_kept.specs.Bursts.{Reply, departures, has_left}
+use Rattle.pie_link.specs.Bursts.{AnswersAll}
+use Rattle.pie_link.proofs.link.Link.depart_all.Goals as goal
+
+pub returns-clause-answered : goal.returns-clause-answered
+returns-clause-answered g c =
+    let said = c.answer_all.ensures.answered c.args.answers.now.items (λ i. (c.replace-replies.ensures.value i).items) in
+    subst (λ (replies : List Reply). AnswersAll has_left c.args.self.now c.args.caller.now (departures c.args.most c.args.moment)
+    c.args.answers.now.items replies c.answer_all.new.caller) (sym said.1) said.2

@@ -1,0 +1,42 @@
+#!/usr/bin/env python3
+"""Holds that no crate cites another's proofs: what is wanted above is a clause or a law there. LEFT has how many lines of a crate still do; it may only
+shrink, and no crate may come to it. Exit status 1 where one has more.
+
+usage: tests/documents/citations.py
+needs: nothing
+"""
+import os
+import re
+import sys
+from pathlib import Path
+
+ROOT = Path(__file__).resolve().parent.parent.parent
+NAME = os.path.relpath(__file__, ROOT)
+CITED = re.compile(r"\bRattle\.(\w+)\.proofs\b")
+LEFT = {"pie_aqm": 7, "pie_audit": 6, "pie_book": 15, "pie_commands": 7, "pie_cut": 44, "pie_excerpt": 6, "pie_explain": 14,
+        "pie_guarantees": 23, "pie_storm": 8, "pie_summary": 6, "pie_text": 4, "pie_trace": 24}
+
+
+def citing(crate, own):
+    """The lines of a crate that cite the proofs of another of the repository."""
+    for path in sorted([*crate.rglob("*.antt"), *crate.rglob("*.rt")]):
+        if "out" not in path.relative_to(crate).parts:
+            for number, line in enumerate(path.read_text().splitlines(), 1):
+                if any(name in own and name != crate.name for name in CITED.findall(line)):
+                    yield f"{path.relative_to(ROOT)}:{number}: {line.strip()}"
+
+
+def main():
+    crates = sorted(path for path in (ROOT / "crates").iterdir() if (path / "src").is_dir())
+    own, failed = {crate.name for crate in crates}, False
+    for crate in crates:
+        lines, most = list(citing(crate, own)), LEFT.get(crate.name, 0)
+        if len(lines) > most:
+            failed = True
+            print("\n".join([f"{NAME}: {crate.name} cites others' proofs in {len(lines)} lines, and not in {most}:", *lines]))
+        elif len(lines) < most:
+            print(f"{NAME}: {crate.name} cites others' proofs in {len(lines)} lines: lower its {most} in LEFT")
+    sys.exit(failed)
+
+
+main()

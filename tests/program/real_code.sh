@@ -1,0 +1,27 @@
+#!/usr/bin/env bash
+# Decision by decision beside Linux's sch_pie.c and DPDK's rte_pie.h (bench/steps): where they come to something else, it is by a difference that
+# docs/PARAMETERS.md names. Then Linux's code with a constant changed, which has to be found out: a difference that isn't named. Where Debian's
+# packages are not installed, a line that begins with NOT RUN says so.
+# usage: tests/program/real_code.sh [PROGRAM]      PROGRAM: crates/pie/out/pie where none is given
+# needs: program
+. "$(dirname "$0")/../shared/script.sh"
+steps=$top/bench/steps
+"$steps/run.sh" "$program" > "$work/found" 2>&1
+status=$?
+if [ $status = 3 ]; then
+    echo "NOT RUN: $script: no decision was compared with Linux's and DPDK's code: $(cat "$work/found"); bench/steps/install.sh installs it"
+    exit 0
+fi
+cat "$work/found"
+[ $status = 0 ] || exit 1
+while IFS='|' read -r old new; do
+    cp "$steps/out/linux_pie.h" "$work/"
+    sed "s|$old|$new|" "$steps/out/linux_pie.c" > "$work/linux_pie.c"
+    cmp -s "$steps/out/linux_pie.c" "$work/linux_pie.c" && fail "no $old in Linux's code"
+    LINUX_CODE=$work "$steps/run.sh" "$program" > "$work/wrong" 2>&1 && fail "with $new in the place of $old nothing was found"
+done <<'END'
+vars->prob / 64|vars->prob / 32
+MAX_PROB / 100) \* 85|MAX_PROB / 100) * 80
+power <= 1000000|power <= 100000
+END
+exit $failed

@@ -354,7 +354,7 @@ within-next h waiting packets (Update moment) old keep = by h.active
     less true = omega arith
     less false = omega (arith, old)
 
-    by : (active : Bool) → (if active then Steps.control_updated h.elements.step h.params h.control (Steps.delay_in h (bytes_of waiting))
+    by : (active : Bool) → (if active then Steps.control_updated h.elements h.params h.control (Steps.delay_in h (bytes_of waiting))
         (max h.moment moment) else record h.control { last = max h.moment moment }).burst ≤ h.params.max_burst
     by true = less (is_calm h (bytes_of waiting))
     by false = old

@@ -117,10 +117,11 @@ def function_at(file, text, at):
         if line.startswith("impl") and inside:
             inside = f"{implemented(' '.join(text.split(chr(10))[number : number + 6]).partition('{')[0])}::{inside}"
             break
-    module = file.removeprefix("src/").removesuffix(".rt").replace("/", "::")
     if not inside or not file.startswith("src/"):
         return None
-    return inside if module in ("lib", "main") else f"{module}::{inside}"
+    module = file.removeprefix("src/").removesuffix(".rt").replace("/", "::")
+    # (a method goes by its type, which may stand in another module)
+    return inside if "::" in inside or module in ("lib", "main") else f"{module}::{inside}"
 
 
 def words(kit, crate, functions):
@@ -157,7 +158,8 @@ def checked(kit, mutation, functions):
 def judged(done):
     """Whether the prover refused what it checked, and what to say of it; none where it is still proved."""
     lines = done.stdout.rstrip("\n").split("\n")
-    if done.returncode == 0:
+    # (its name is no function's, or that of several)
+    if done.returncode == 0 or done.returncode == 2 and "has no function" in done.stdout or "fits several" in done.stdout:
         return None
     told = [line for line in lines if re.match(r"(note: )?\S+:\d+:\d+:", line) and (": error" in line or line.startswith("note: "))]
     first = next((line for line in told if not NAMES.match(line)), "")

@@ -197,7 +197,7 @@ def lengths():
     history = "open,0,4,16,100\nreset,1,1500000,done\n"
     for text in ("0", "0ms", "0.000000s"):
         expect(f"--every {text}", pie(history, "--every", text), (1, "", "pie: --every: a period lasts at least 1 ns\n"))
-    form = "pie: --every: a moment is whole nanoseconds, or a number with ns, us, ms or s, such as 1500000, 1.5ms or 2s\n"
+    form = "pie: --every: a moment is whole nanoseconds, or a number with ns, us, ms, s, m or h, such as 1500000, 1.5ms or 2m\n"
     expect("--every soon", pie(history, "--summary", "--every", "soon"), (1, "", form))
 
 

@@ -17,7 +17,7 @@ use Rattle.pie_aqm.specs.Steps.{accu_left, arrived, capped, departed, opened, up
 use Rattle.pie_c.specs.Calls.{arrival_of, arrival_refusal, packet_refusal, waited_refusal, departure_refusal, moment_refusal, reset_refusal, state_refusal}
 use Rattle.pie_c.specs.Calls.{update_refusal, verdict_number}
 use Rattle.pie_c.specs.Opening.{default_opening, opening_refusal}
-use Rattle.pie_c.specs.Params.{params_for, raw_of}
+use Rattle.pie_c.specs.Params.{raw_of}
 use Rattle.pie_c.specs.declared.opening.PieOpening.{PieOpening}
 use Rattle.pie_c.specs.State.{are_in_range, choices_of, elements_of, is_choice_sound, held_in, is_activity_sound, is_control_sound, is_rate_sound, is_sound, state_of, with_arrival, with_rate}
 
@@ -95,11 +95,6 @@ openings : (opening_refusal (record opens { params = record defaults { target = 
     × (opening_refusal (record opens { events = 2 ^ 47 + 1 }) ≡ 120) × (opening_refusal (record opens { profile = 2; choices = 31; mode = 0 }) ≡ 0)
 unfolding opening_refusal are_in_range
 openings = (refl, refl, refl, refl, refl, refl, refl, refl, refl, refl)
-
--- 200 ms at a rate: no less than the default, and no more than 2^30
-rates_of_links : (params_for 0 ≡ defaults) × (params_for 1_000_000_001 ≡ record defaults { limit_bytes = 25_000_001 })
-    × (params_for (10 ^ 11) ≡ record defaults { limit_bytes = 2 ^ 30 })
-rates_of_links = (refl, refl, refl)
 
 too_soon : (update_refusal start 0 14_999_999 ≡ 103) × (update_refusal start 0 15_000_000 ≡ 0)
     × (update_refusal (record start { moment = 15_000_000 }) 0 3 ≡ 0)

@@ -1,5 +1,5 @@
 -- How the next probability follows the delay.
-use Rattle.std.proofs.Common.{◌≡◌, ◌≤◌, ◌<◌, ◌+◌, ◌*◌, ◌/◌, ◌&&◌, ◌^◌, ℕ, suc, Bool, true, false, refl, arith}
+use Rattle.std.proofs.Common.{◌≡◌, ◌≤◌, ◌<◌, ◌+◌, ◌*◌, ◌/◌, ◌&&◌, ◌==◌, ◌^◌, ℕ, suc, Bool, true, false, refl, arith}
 use Rattle.std.proofs.Common.{if◌then◌else◌, nat_lt}
 use Rattle.std.specs.Prelude.{ℤ, pos, negsuc, ◌+ℤ◌, ◌-ℤ◌, ◌*ℤ◌, ◌≤ℤ◌, int_div, nat_le}
 use Rattle.std.specs.Int.{int_min}
@@ -84,18 +84,19 @@ decay-mono x y le = div-mono-int (x *ℤ pos 98) (y *ℤ pos 98) 100 (omega arit
 
 -- ---- the next probability
 
-sum_of : Step → RawParams → ℕ → ℕ → ℕ → ℤ
-sum_of step params prob delay old = pos prob +ℤ tuned_step step prob (raw_step params delay old)
+sum_of : Elements → RawParams → ℕ → ℕ → ℕ → ℤ
+sum_of elements params prob delay old = pos prob +ℤ tuned_step elements.step prob (raw_step params delay old)
 
-sum-mono : (step : Step) (params : RawParams) (prob old delay more : ℕ) → delay ≤ more
-    → sum_of step params prob delay old ≤ℤ sum_of step params prob more old
+sum-mono : (elements : Elements) (params : RawParams) (prob old delay more : ℕ) → delay ≤ more
+    → sum_of elements params prob delay old ≤ℤ sum_of elements params prob more old
 unfolding sum_of
-sum-mono step params prob old delay more le =
-    let t = tuned-mono step prob (raw_step params delay old) (raw_step params more old) (raw-mono params old delay more le) in
+sum-mono elements params prob old delay more le =
+    let t = tuned-mono elements.step prob (raw_step params delay old) (raw_step params more old) (raw-mono params old delay more le) in
     omega (arith, ints, t)
 
--- where the probability decays at a delay it does at a lower one
-decays-below : (d : Decay) (params : RawParams) (old delay more : ℕ) → delay ≤ more → decays d params more old ≡ true → decays d params delay old ≡ true
+-- where it decays at a delay it does so at a lower one
+decays-below : (choice : Decay) (params : RawParams) (old delay more : ℕ) → delay ≤ more → decays choice params more old ≡ true
+    → decays choice params delay old ≡ true
 decays-below Zero params old delay more le is = grind (arith, nat_tests)
 decays-below Half params old delay more le is = grind (arith, nat_tests)
 
@@ -107,16 +108,17 @@ next_mono elements params prob old delay more le =
     by (decays elements.decay params delay old) (decays elements.decay params more old) (decays-below elements.decay params old delay more le)
   where
     x : ℤ
-    x = sum_of elements.step params prob delay old
+    x = sum_of elements params prob delay old
 
     y : ℤ
-    y = sum_of elements.step params prob more old
+    y = sum_of elements params prob more old
 
-    xy : x ≤ℤ y
-    xy = sum-mono elements.step params prob old delay more le
+    xy : sum_of elements params prob delay old ≤ℤ sum_of elements params prob more old
+    xy = sum-mono elements params prob old delay more le
 
     by : (d m : Bool) → (m ≡ true → d ≡ true)
-        → bounded_of (if d then int_div (x *ℤ pos 98) (pos 100) else x) ≤ bounded_of (if m then int_div (y *ℤ pos 98) (pos 100) else y)
+        → bounded_of (if d then int_div (sum_of elements params prob delay old *ℤ pos 98) (pos 100) else sum_of elements params prob delay old)
+        ≤ bounded_of (if m then int_div (sum_of elements params prob more old *ℤ pos 98) (pos 100) else sum_of elements params prob more old)
     by true true both = bounded-mono (int_div (x *ℤ pos 98) (pos 100)) (int_div (y *ℤ pos 98) (pos 100)) (decay-mono x y xy)
     by true false both =
         let less = decay-less x in
@@ -179,25 +181,17 @@ unfolding decayed
 decayed-less true x = decay-less x
 decayed-less false x = omega arith
 
--- from the target on the probability doesn't decay
-pub no-decay : (d : Decay) (params : RawParams) (delay old : ℕ) → 0 < params.target → params.target ≤ delay → decays d params delay old ≡ false
-no-decay Zero params delay old some above = grind (arith, nat_tests)
-no-decay Half params delay old some above = grind (arith, nat_tests)
+-- it does not decay at the target or above it
+pub none_decays : (choice : Decay) (params : RawParams) (delay old : ℕ) → 0 < params.target → params.target ≤ delay
+    → decays choice params delay old ≡ false
+none_decays Zero params delay old some above = grind (arith, nat_tests)
+none_decays Half params delay old some above = grind (arith, nat_tests)
 
--- below it, it does
-decays-low : (d : Decay) (params : RawParams) (delay old : ℕ) → decays d params delay old ≡ true → delay ≤ params.target
-decays-low Zero params delay old is = grind (arith, nat_tests)
-decays-low Half params delay old is = grind (arith, nat_tests)
-
-pub decays-at_none : (d : Decay) (params : RawParams) → 0 < params.target → decays d params 0 0 ≡ true
-decays-at_none Zero params some = refl
-decays-at_none Half params some = grind (arith, nat_tests)
-
-pub next_up : (elements : Elements) (params : RawParams) (prob delay old : ℕ) → prob ≤ 10 ^ 12 → 0 < params.target → params.target ≤ delay → old ≤ delay
-    → prob ≤ next elements params prob delay old
+pub next_up : (elements : Elements) (params : RawParams) (prob delay old : ℕ) → prob ≤ 10 ^ 12 → 0 < params.target → params.target ≤ delay
+    → old ≤ delay → prob ≤ next elements params prob delay old
 unfolding next decayed
 next_up elements params prob delay old within some above risen =
-    rw (no-decay elements.decay params delay old some above) (by (pos prob +ℤ tuned_step elements.step prob (raw_step params delay old))
+    rw (none_decays elements.decay params delay old some above) (by (pos prob +ℤ tuned_step elements.step prob (raw_step params delay old))
     (let t = tuned-up elements.step prob (raw_step params delay old) (raw-up params delay old above risen) in omega (arith, ints, t)))
   where
     by : (x : ℤ) → pos prob ≤ℤ x → prob ≤ bounded_of x
@@ -209,9 +203,8 @@ pub next_down : (elements : Elements) (params : RawParams) (prob delay old : ℕ
 unfolding next
 next_down elements params prob delay old below fallen =
     let t = tuned-down elements.step prob (raw_step params delay old) (raw-down params delay old below fallen) in
-    let x : ℤ = pos prob +ℤ tuned_step elements.step prob (raw_step params delay old) in
-    let less = decayed-less (decays elements.decay params delay old) x in
-    let few = bounded_of-below x prob (omega (arith, ints, t)) in
+    let less = decayed-less (decays elements.decay params delay old) (pos prob +ℤ tuned_step elements.step prob (raw_step params delay old)) in
+    let few = bounded_of-below (pos prob +ℤ tuned_step elements.step prob (raw_step params delay old)) prob (omega (arith, ints, t)) in
     omega (arith, less, few)
 
 tuned-capped : (step : Step) (prob : ℕ) (x : ℤ) → is_capped step ≡ true → 10 ^ 11 ≤ prob → tuned_step step prob x ≤ℤ pos 20_000_000_000
@@ -230,9 +223,9 @@ pub next_capped : (elements : Elements) (params : RawParams) (prob delay old : �
 unfolding next
 next_capped elements params prob delay old capped large =
     let t = tuned-capped elements.step prob (raw_step params delay old) capped large in
-    let x : ℤ = pos prob +ℤ tuned_step elements.step prob (raw_step params delay old) in
-    let less = decayed-less (decays elements.decay params delay old) x in
-    let few = bounded_of-below x (prob + 20_000_000_000) (omega (arith, ints, t)) in
+    let less = decayed-less (decays elements.decay params delay old) (pos prob +ℤ tuned_step elements.step prob (raw_step params delay old)) in
+    let few = bounded_of-below (pos prob +ℤ tuned_step elements.step prob (raw_step params delay old)) (prob + 20_000_000_000)
+    (omega (arith, ints, t)) in
     omega (arith, less, few)
 
 decayed-share : (prob : ℕ) (x : ℤ) → x ≤ℤ pos prob → bounded_of (int_div (x *ℤ pos 98) (pos 100)) * 100 ≤ prob * 98
@@ -242,11 +235,16 @@ decayed-share prob x le =
     let q = div-mul-le_self (prob * 98) 100 in
     omega (arith, ints, b, q)
 
--- where it decays and the delay has not risen, it falls to 98 hundredths at most
+-- where it decays the delay is below the target, or 0
+pub decays_low : (choice : Decay) (params : RawParams) (delay old : ℕ) → decays choice params delay old ≡ true → delay ≤ params.target
+decays_low Zero params delay old is = let none : delay ≡ 0 = grind (arith, nat_tests) in omega (arith, none)
+decays_low Half params delay old is = grind (arith, nat_tests)
+
+-- where it decays, and the delay has not risen, it falls to 98 hundredths at most
 pub next_decays : (elements : Elements) (params : RawParams) (prob delay old : ℕ) → decays elements.decay params delay old ≡ true → delay ≤ old
     → next elements params prob delay old * 100 ≤ prob * 98
 unfolding next decayed
 next_decays elements params prob delay old is fallen =
-    let low = decays-low elements.decay params delay old is in
-    let t = tuned-down elements.step prob (raw_step params delay old) (raw-down params delay old low fallen) in
+    let t = tuned-down elements.step prob (raw_step params delay old)
+    (raw-down params delay old (decays_low elements.decay params delay old is) fallen) in
     rw is (decayed-share prob (pos prob +ℤ tuned_step elements.step prob (raw_step params delay old)) (omega (arith, ints, t)))

@@ -26,7 +26,7 @@ use Rattle.pie_guarantees.specs.Bursts.{KeepsParams, updates_in}
 use Rattle.pie_guarantees.specs.Lawful.{AllAlong, IsLawful}
 use Rattle.pie_guarantees.specs.Probability.{IsActiveUpdate, IsSteady, after_updates, old_delay_after, probability_after}
 use Rattle.pie_guarantees.proofs.LawfulFacts.{IsStep, sound_at, step_at}
-use Rattle.pie_guarantees.proofs.NextFacts.{decays-at_none, next_capped, next_decays, next_down, next_up}
+use Rattle.pie_guarantees.proofs.NextFacts.{decays_low, next_capped, next_decays, next_down, next_up}
 use Rattle.pie_guarantees.proofs.SteadyFacts.{after_both, stays_down}
 
 pub elements-is : (opening : Opening) (history : List Event) → (held_after opening history).elements ≡ opening.choices.elements
@@ -188,12 +188,12 @@ one-update : (updates : Bool) (n : ℕ) (elements : Elements) (params : RawParam
     → after_updates n elements params delay (if updates then next elements params prob delay delay else prob)
     ≡ after_updates (cond updates 1 0 + n) elements params delay prob
 unfolding after_updates
-one-update true n choice params delay prob =
+one-update true n elements params delay prob =
     let one : suc n ≡ 1 + n = omega arith in
-    ap (λ (k : ℕ). after_updates k choice params delay prob) one
-one-update false n choice params delay prob =
+    ap (λ (k : ℕ). after_updates k elements params delay prob) one
+one-update false n elements params delay prob =
     let none : n ≡ 0 + n = omega arith in
-    ap (λ (k : ℕ). after_updates k choice params delay prob) none
+    ap (λ (k : ℕ). after_updates k elements params delay prob) none
 
 pub steadily : (delay : ℕ) (opening : Opening) (before : List Event) (between : List Event) (later : List Event)
     → IsLawful opening (before ++ between ++ later) → AllAlong (IsSteady delay opening) before between
@@ -228,40 +228,40 @@ fades-more x y p a b rest one =
     let second : y * 100 * b ≤ p * 98 * b = mul-le (y * 100) b (p * 98) b one (omega arith) in
     grind arith
 
-faded-after : (n : ℕ) (elements : Elements) (params : RawParams) (prob : ℕ) → decays elements.decay params 0 0 ≡ true
-    → after_updates n elements params 0 prob * 100 ^ n ≤ prob * 98 ^ n
+faded-after : (n : ℕ) (elements : Elements) (params : RawParams) (delay prob : ℕ) → decays elements.decay params delay delay ≡ true
+    → after_updates n elements params delay prob * 100 ^ n ≤ prob * 98 ^ n
 unfolding after_updates
-faded-after zero elements params prob low = omega arith
-faded-after (suc n) elements params prob low =
-    let after = next elements params prob 0 0 in
-    let rest = faded-after n elements params after low in
-    let one = next_decays elements params prob 0 0 low (omega arith) in
-    rw (pow-suc 100 n, pow-suc 98 n) (fades-more (after_updates n elements params 0 after) after prob (100 ^ n) (98 ^ n) rest one)
+faded-after zero elements params delay prob is = omega arith
+faded-after (suc n) elements params delay prob is =
+    let rest = faded-after n elements params delay (next elements params prob delay delay) is in
+    let one = next_decays elements params prob delay delay is (omega arith) in
+    rw (pow-suc 100 n, pow-suc 98 n)
+    (fades-more (after_updates n elements params delay (next elements params prob delay delay)) (next elements params prob delay delay) prob
+    (100 ^ n) (98 ^ n) rest one)
 
-pub fades_away : (opening : Opening) (before : List Event) (between : List Event) (later : List Event)
-    → IsLawful opening (before ++ between ++ later) → AllAlong (IsSteady 0 opening) before between
+pub fades_away : (delay : ℕ) (opening : Opening) (before : List Event) (between : List Event) (later : List Event)
+    → IsLawful opening (before ++ between ++ later) → AllAlong (IsSteady delay opening) before between
+    → decays opening.choices.elements.decay (params_after opening before) delay delay ≡ true
     → probability_after opening (before ++ between) * 100 ^ updates_in between ≤ probability_after opening before * 98 ^ updates_in between
-fades_away opening before between later lawful steady =
-    let n = updates_in between in
-    let is = steadily 0 opening before between later lawful steady in
-    let target = (in-range (params_after opening before) (sound_at opening before (between ++ later) (rw (append_assoc before between later) at lawful)).0.params).target in
-    rw is (faded-after (updates_in between) opening.choices.elements (params_after opening before) (probability_after opening before)
-    (decays-at_none opening.choices.elements.decay (params_after opening before) (let least = target.0 in omega arith)))
+fades_away delay opening before between later lawful steady is =
+    rw (steadily delay opening before between later lawful steady)
+    (faded-after (updates_in between) opening.choices.elements (params_after opening before) delay (probability_after opening before) is)
 
 -- a hundred and fourteen times 98 hundredths are less than a tenth
 hundred-fourteen : 98 ^ 114 * 10 ≤ 100 ^ 114
 hundred-fourteen = omega arith
 
-pub a_tenth_is_left : (n : ℕ) (elements : Elements) (params : RawParams) (prob : ℕ) → 114 ≤ n → decays elements.decay params 0 0 ≡ true
-    → after_updates n elements params 0 prob * 10 ≤ prob
-a_tenth_is_left n elements params prob many low =
+pub a_tenth_is_left : (n : ℕ) (elements : Elements) (params : RawParams) (delay : ℕ) (prob : ℕ)
+    → decays elements.decay params delay delay ≡ true → 114 ≤ n → after_updates n elements params delay prob * 10 ≤ prob
+a_tenth_is_left n elements params delay prob is many =
     let split : 114 + (n - 114) ≡ n = omega (arith, many) in
-    let less : after_updates n elements params 0 prob ≤ after_updates 114 elements params 0 prob =
-    subst (λ (k : ℕ). after_updates k elements params 0 prob ≤ after_updates 114 elements params 0 prob) split
-    (rw (after_both 114 (n - 114) elements params 0 prob)
-    (stays_down elements params 0 (omega arith) (n - 114) (after_updates 114 elements params 0 prob))) in
-    let faded = faded-after 114 elements params prob low in
-    let left = share (after_updates 114 elements params 0 prob) prob (98 ^ 114) (100 ^ 114) (omega arith) faded hundred-fourteen in
+    let low = decays_low elements.decay params delay delay is in
+    let less : after_updates n elements params delay prob ≤ after_updates 114 elements params delay prob =
+    subst (λ (k : ℕ). after_updates k elements params delay prob ≤ after_updates 114 elements params delay prob) split
+    (rw (after_both 114 (n - 114) elements params delay prob)
+    (stays_down elements params delay low (n - 114) (after_updates 114 elements params delay prob))) in
+    let faded = faded-after 114 elements params delay prob is in
+    let left = share (after_updates 114 elements params delay prob) prob (98 ^ 114) (100 ^ 114) (omega arith) faded hundred-fourteen in
     omega (arith, less, left)
   where
     share : (x p a b : ℕ) → 0 < b → x * b ≤ p * a → a * 10 ≤ b → x * 10 ≤ p

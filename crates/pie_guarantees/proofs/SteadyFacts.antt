@@ -10,14 +10,13 @@ use Rattle.std.proofs.Math.Nat.{div-mul-le_self, lt-mul-div-succ}
 use Rattle.pie_fixed.specs.Fixed.{bounded_of}
 use Rattle.pie_params.specs.Profile.{default_profile}
 use Rattle.pie_params.specs.declared.raw.RawParams.{RawParams}
-use Rattle.pie_params.specs.declared.elements.Decay.{Decay}
 use Rattle.pie_params.specs.declared.elements.Elements.{Elements}
 use Rattle.pie_params.specs.declared.elements.Step.{Step}
 use Rattle.pie_params.specs.Elements.{is_capped}
 use Rattle.pie_control.specs.Next.{decayed, decays, next, raw_step, tuned_step, tuning_divisor}
 use Rattle.pie_control.proofs.Quotients.{bounded_of-below}
 use Rattle.pie_guarantees.specs.Probability.{after_updates, least_rise, untuned_fall, untuned_rise, updates_from, updates_to_a_tenth}
-use Rattle.pie_guarantees.proofs.NextFacts.{decayed-less, divisor-some, next_down, next_up, no-decay}
+use Rattle.pie_guarantees.proofs.NextFacts.{decayed-less, divisor-some, next_down, next_up, none_decays}
 
 -- ---- the table of auto-tuning
 
@@ -132,48 +131,44 @@ least-bounded : (prob rise : ℕ) (x : ℤ) → pos rise ≤ℤ x → min (10 ^ 
 least-bounded prob rise (pos a) le = omega (arith, ints, le)
 least-bounded prob rise (negsuc a) le = absurd (omega (arith, ints, le))
 
-none-decays : (d : Decay) (params : RawParams) (delay : ℕ) (x : ℤ) → decays d params delay delay ≡ false
-    → decayed (decays d params delay delay) x ≡ x
-unfolding decayed
-none-decays d params delay x none = rw none refl
-
 one-rise : (elements : Elements) (params : RawParams) (prob delay : ℕ) → 0 < params.target → params.target ≤ delay
     → min (10 ^ 12) (prob + least_rise params delay prob) ≤ next elements params prob delay delay
-unfolding next
+unfolding next decayed
 one-rise elements params prob delay some above =
-    rw (none-decays elements.decay params delay (pos prob +ℤ tuned_step elements.step prob (raw_step params delay delay)) (no-decay elements.decay params delay delay some above), raw-above params delay above)
-    (least-bounded prob (least_rise params delay prob) (tuned_step elements.step prob (pos (untuned_rise params delay))) (least-tuned elements.step params delay prob))
+    rw (none_decays elements.decay params delay delay some above, raw-above params delay above)
+    (least-bounded prob (least_rise params delay prob) (tuned_step elements.step prob (pos (untuned_rise params delay)))
+    (least-tuned elements.step params delay prob))
 
 one-rise-most : (elements : Elements) (params : RawParams) (prob delay : ℕ) → 0 < params.target → params.target ≤ delay
     → next elements params prob delay delay ≤ prob + untuned_rise params delay / tuning_divisor prob
-unfolding next
+unfolding next decayed
 one-rise-most elements params prob delay some above =
-    rw (none-decays elements.decay params delay (pos prob +ℤ tuned_step elements.step prob (raw_step params delay delay)) (no-decay elements.decay params delay delay some above), raw-above params delay above)
+    rw (none_decays elements.decay params delay delay some above, raw-above params delay above)
     (let t = tuned-most elements.step prob (untuned_rise params delay) in
-    bounded_of-below (pos prob +ℤ tuned_step elements.step prob (pos (untuned_rise params delay))) (prob + untuned_rise params delay / tuning_divisor prob)
-    (omega (arith, ints, t)))
+    bounded_of-below (pos prob +ℤ tuned_step elements.step prob (pos (untuned_rise params delay)))
+    (prob + untuned_rise params delay / tuning_divisor prob) (omega (arith, ints, t)))
+
+fallen-step : (elements : Elements) (params : RawParams) (prob delay : ℕ) → delay ≤ params.target
+    → tuned_step elements.step prob (raw_step params delay delay) ≡ pos 0 -ℤ pos (untuned_fall params delay / tuning_divisor prob)
+fallen-step elements params prob delay below =
+    ap (λ (z : ℤ). tuned_step elements.step prob z) (raw-below params delay below) ∙ tuned-below elements.step prob (untuned_fall params delay)
 
 one-fall : (elements : Elements) (params : RawParams) (prob delay : ℕ) → delay ≤ params.target → 0 < next elements params prob delay delay
     → next elements params prob delay delay + untuned_fall params delay / tuning_divisor prob ≤ prob
 unfolding next
 one-fall elements params prob delay below some =
     let fall = untuned_fall params delay / tuning_divisor prob in
-    let is : tuned_step elements.step prob (raw_step params delay delay) ≡ pos 0 -ℤ pos fall =
-    ap (λ (z : ℤ). tuned_step elements.step prob z) (raw-below params delay below) ∙ tuned-below elements.step prob (untuned_fall params delay) in
     let less : next elements params prob delay delay ≤ bounded_of (pos prob +ℤ (pos 0 -ℤ pos fall)) =
-    subst (λ (z : ℤ). next elements params prob delay delay ≤ bounded_of (pos prob +ℤ z)) is
+    subst (λ (z : ℤ). next elements params prob delay delay ≤ bounded_of (pos prob +ℤ z)) (fallen-step elements params prob delay below)
     (decayed-less (decays elements.decay params delay delay) (pos prob +ℤ tuned_step elements.step prob (raw_step params delay delay))) in
     let fallen = bounded-fall prob fall (omega (arith, less, some)) in
     omega (arith, less, fallen)
 
 one-fall-most : (elements : Elements) (params : RawParams) (prob delay : ℕ) → prob ≤ 10 ^ 12 → decays elements.decay params delay delay ≡ false
     → delay ≤ params.target → prob ≤ next elements params prob delay delay + untuned_fall params delay / tuning_divisor prob
-unfolding next
-one-fall-most elements params prob delay within some below =
-    let fall = untuned_fall params delay / tuning_divisor prob in
-    let is : tuned_step elements.step prob (raw_step params delay delay) ≡ pos 0 -ℤ pos fall =
-    ap (λ (z : ℤ). tuned_step elements.step prob z) (raw-below params delay below) ∙ tuned-below elements.step prob (untuned_fall params delay) in
-    rw (none-decays elements.decay params delay (pos prob +ℤ tuned_step elements.step prob (raw_step params delay delay)) some, is) (fall-bounded prob fall within)
+unfolding next decayed
+one-fall-most elements params prob delay within still below =
+    rw (still, fallen-step elements params prob delay below) (fall-bounded prob (untuned_fall params delay / tuning_divisor prob) within)
 
 -- ---- several updates
 
@@ -183,7 +178,8 @@ within-one (negsuc a) = omega arith
 
 next-within : (elements : Elements) (params : RawParams) (prob delay old : ℕ) → next elements params prob delay old ≤ 10 ^ 12
 unfolding next
-next-within elements params prob delay old = within-one (decayed (decays elements.decay params delay old) (pos prob +ℤ tuned_step elements.step prob (raw_step params delay old)))
+next-within elements params prob delay old =
+    within-one (decayed (decays elements.decay params delay old) (pos prob +ℤ tuned_step elements.step prob (raw_step params delay old)))
 
 -- a divisor that falls leaves more
 div-more : (n d e : ℕ) → 0 < e → e ≤ d → n / d ≤ n / e
@@ -217,7 +213,8 @@ module _ (elements : Elements) (params : RawParams) (delay : ℕ) (some : 0 < pa
       let one = one-rise elements params prob delay some above in
       let up = next_up elements params prob delay delay within some above (omega arith) in
       let grows = rise-grows params delay prob (next elements params prob delay delay) up in
-      let rest = rises-by n rise (next elements params prob delay delay) (omega (arith, least, grows)) (next-within elements params prob delay delay) in
+      let rest = rises-by n rise (next elements params prob delay delay) (omega (arith, least, grows))
+      (next-within elements params prob delay delay) in
       let times = more-times n rise in
       omega (arith, one, rest, times, least)
 
@@ -262,22 +259,25 @@ module _ (elements : Elements) (params : RawParams) (delay : ℕ) (below : delay
       let times = more-times n (untuned_fall params delay / tuning_divisor least) in
       omega (arith, one, rest, more, times)
 
-  falls-by : (n prob fall : ℕ) → prob ≤ 10 ^ 12 → decays elements.decay params delay delay ≡ false → untuned_fall params delay / tuning_divisor prob ≤ fall
+  falls-by : (n prob fall : ℕ) → prob ≤ 10 ^ 12 → decays elements.decay params delay delay ≡ false
+      → untuned_fall params delay / tuning_divisor prob ≤ fall
       → prob ≤ after_updates n elements params delay prob + n * fall
   unfolding after_updates
-  falls-by zero prob fall within some most = omega arith
-  falls-by (suc n) prob fall within some most =
-      let one = one-fall-most elements params prob delay within some below in
+  falls-by zero prob fall within still most = omega arith
+  falls-by (suc n) prob fall within still most =
+      let one = one-fall-most elements params prob delay within still below in
       let down = next_down elements params prob delay delay below (omega arith) in
-      let less = div-more (untuned_fall params delay) (tuning_divisor (next elements params prob delay delay)) (tuning_divisor prob) (divisor-some prob)
+      let less = div-more (untuned_fall params delay) (tuning_divisor (next elements params prob delay delay)) (tuning_divisor prob)
+      (divisor-some prob)
       (divisor-falls (next elements params prob delay delay) prob down) in
-      let rest = falls-by n (next elements params prob delay delay) fall (next-within elements params prob delay delay) some (omega (arith, less, most)) in
+      let rest = falls-by n (next elements params prob delay delay) fall (next-within elements params prob delay delay) still
+      (omega (arith, less, most)) in
       let times = more-times n fall in
       omega (arith, one, rest, most, times)
 
   pub falls_at_most : (n prob : ℕ) → prob ≤ 10 ^ 12 → decays elements.decay params delay delay ≡ false
       → prob ≤ after_updates n elements params delay prob + n * (untuned_fall params delay / tuning_divisor prob)
-  falls_at_most n prob within some = falls-by n prob (untuned_fall params delay / tuning_divisor prob) within some (omega arith)
+  falls_at_most n prob within still = falls-by n prob (untuned_fall params delay / tuning_divisor prob) within still (omega arith)
 
 -- ---- to a tenth
 
@@ -290,7 +290,8 @@ after_both (suc m) n elements params delay prob =
     let one : suc m + n ≡ suc (m + n) = omega arith in
     ap (λ (k : ℕ). after_updates k elements params delay prob) one ∙ after_both m n elements params delay (next elements params prob delay delay)
 
-after-within : (n : ℕ) (elements : Elements) (params : RawParams) (delay prob : ℕ) → prob ≤ 10 ^ 12 → after_updates n elements params delay prob ≤ 10 ^ 12
+after-within : (n : ℕ) (elements : Elements) (params : RawParams) (delay prob : ℕ) → prob ≤ 10 ^ 12
+    → after_updates n elements params delay prob ≤ 10 ^ 12
 unfolding after_updates
 after-within zero elements params delay prob within = within
 after-within (suc n) elements params delay prob within =

@@ -136,9 +136,13 @@ is_joined options = flag_given (codes "joined") options
 abbrev pub is_forced : List Row → Bool
 is_forced options = flag_given (codes "force") options
 
--- the file that is to be made, where the options name one
+-- the file that is to be made, where the options name one: `-` is the name of none, but standard output
+abbrev pub file_made : Option Text → Option Text
+file_made None = None
+file_made (Some name) = if bytes_eq name (codes "-") then None else Some name
+
 abbrev pub output_in : List Row → Option Text
-output_in options = first_of (codes "output") options
+output_in options = file_made (first_of (codes "output") options)
 
 -- the eight numbers of `pie storm`
 abbrev pub senders_in : List Row → ℕ

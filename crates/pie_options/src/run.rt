@@ -71,9 +71,14 @@ record ends with status 0, however many were refused: with --count a line on sta
 pie: 11 events, 2 refused records.
 
 With -o FILE the history is written to FILE.partial, in the same folder (FILE.partial.2 and so on where there is one), and is
-moved to FILE when all of it was written. After a fault, a full disk or Ctrl-C what was written until then stays under that name,
-which standard error tells but after Ctrl-C, and FILE is as it was. A FILE that is there is replaced only with --force, and never
-where it is what is read, by this name or another. /dev/stdout, pipes and devices are written to as they are.
+moved to FILE when all of it was written and synced to its disk. The folder isn't synced: after a power failure FILE is whole or
+as it was (or empty, where the folder can hold no hard links). After a fault, a full disk or Ctrl-C what was written until then
+stays under that other name, which standard error tells but after Ctrl-C, and FILE is as it was. A FILE that is there, or came
+meanwhile, is replaced only with --force, and never where it is what is read, by this name or another. /dev/stdout, pipes and
+devices are written to as they are, and -o - is standard output.
+
+Where nobody reads standard output any more, as behind head, pie ends without a word, and with status 141, as a shell has it of a
+program that SIGPIPE ended.
 
 Example, in which three updates raise the probability until one packet is marked and one is dropped early:
 

@@ -26,7 +26,7 @@ def opened(fields):
     """The book that a first record opens."""
     kind, *rest = fields
     profile = int(rest.pop(0)) if kind in ("open2", "open3") else 1
-    words = USUAL if len(rest) in (11, 20) else USUAL[:-1]  # the decay may be told or not
+    words = USUAL if len(fields) in (12, 21) else USUAL[:-1]  # the decay may be told or not
     elements = (*(rest.pop(0) for _ in words), *USUAL[len(words) :]) if kind == "open3" else USUAL
     mode = rest.pop(0) if kind in ("open2", "open3") else kind
     moment, packets, tail, most, *params = map(int, rest)

@@ -102,7 +102,8 @@ class Crate:
             for other, (kind, name) in places.items():
                 old = f"Rattle.{other.parts[-3]}.{other.parts[-2]}.{other.stem}"
                 text = re.sub(rf"\buse {re.escape(old)}(?=[. ])", f"use Rattle.pie_guarantees.{kind}.{name}", text)
-            # (pie_aqm does not export the declaration of this type to other crates; pie_book does)
+            # (pie_event and pie_aqm do not export the declarations of these types to other crates; pie_book does)
+            text = text.replace("use Rattle.pie_event.specs.Types.", "use Rattle.pie_book.specs.Types.")
             text = re.sub(r"^(use Rattle\.pie_aqm\.specs\.Types\.\{.*), Arrival\b(.*)$", r"\1\2\nuse Rattle.pie_book.specs.Types.{Arrival}", text,
                           flags=re.M)
             kind, name = places[path]

@@ -5,7 +5,8 @@ accepted. Lines of such a file: `law:` the function, `lemma:` what has to be ref
 `old:` and `new:`, texts of one line.
 
 All rules are tried by one check, of a crate that has for each rule, and for each right one, its own copy of these definitions, of the lemma's
-file, and of what that uses of pie_guarantees: so no other crate is checked again, and what all stand on is loaded once. For whoever changes a law.
+file, and of what that uses of pie_guarantees: so no other crate is checked again, and what all stand on is loaded once. For whoever changes a law:
+forty rules take some 160 processor seconds.
 
 usage: tests/wrong_rules.py [RULE ..]      as picks_from_a_half_on; all where none is named
 needs: rt, and what `rt check` kept of the crates below pie_guarantees

@@ -79,16 +79,17 @@ def burst_panel():
 
 # ---- the share of picks
 
-def share(part, words, count=6000):
+def share(part, words):
     """At this probability, the share of considered packets that were picked, up to the last of them. One update makes the probability: a delay by
     stamps, of which beta alone makes it, over the first divisor of auto-tuning."""
+    count = 60 * 10**12 // part
     delay = part * 2048 // 10**6
     records = [("arrive", 1, 0, 0, 1000, "not", 0)] * 2 + [("depart", 1, delay), ("update", 1, delay)]
     for place in range(count):
-        records += [("arrive", 1, delay, place, 1000, "not", words()), ("depart", 1, delay)]
+        records.append(("arrive", 1, delay, place, 1000, "not", words()))
     rows = run("stamp", (2, 1, 0, 0, 10**6, 1, 2**30, 10**12, 65536), records)
     holds(f"the probability is {rows[4][4]}", int(rows[4][4]) == delay * 10**6 // 2048)
-    picked = [place + 1 for place, row in enumerate(row for row in rows[5:] if row[0] == "arrive") if row[7] == "early"]
+    picked = [place + 1 for place, row in enumerate(rows[5:]) if row[7] == "early"]
     return len(picked) / picked[-1]
 
 

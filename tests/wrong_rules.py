@@ -5,7 +5,8 @@ accepted. Lines of such a file: `law:` the function, `lemma:` what has to be ref
 `old:` and `new:`, texts of one line.
 
 All rules are tried by one check, of a crate that has for each rule, and for each right one, its own copy of these definitions, of the lemma's
-file, and of what that uses of pie_guarantees: so no other crate is checked again, and what all stand on is loaded once. For whoever changes a law.
+file, and of what that uses of pie_guarantees: so no other crate is checked again, and what all stand on is loaded once. For whoever changes a law:
+forty rules take some 160 processor seconds.
 
 usage: tests/wrong_rules.py [RULE ..]      as picks_from_a_half_on; all where none is named
 needs: rt, and what `rt check` kept of the crates below pie_guarantees
@@ -102,7 +103,8 @@ class Crate:
             for other, (kind, name) in places.items():
                 old = f"Rattle.{other.parts[-3]}.{other.parts[-2]}.{other.stem}"
                 text = re.sub(rf"\buse {re.escape(old)}(?=[. ])", f"use Rattle.pie_guarantees.{kind}.{name}", text)
-            # (pie_aqm does not export the declaration of this type to other crates; pie_book does)
+            # (pie_event and pie_aqm do not export the declarations of these types to other crates; pie_book does)
+            text = text.replace("use Rattle.pie_event.specs.Types.", "use Rattle.pie_book.specs.Types.")
             text = re.sub(r"^(use Rattle\.pie_aqm\.specs\.Types\.\{.*), Arrival\b(.*)$", r"\1\2\nuse Rattle.pie_book.specs.Types.{Arrival}", text,
                           flags=re.M)
             kind, name = places[path]

@@ -3,7 +3,7 @@ use Rattle.clap.specs.Words.{found_of, one_text}
 use Rattle.clap.proofs.WalkLemmas.{one_text-rows}
 use Rattle.pie_commands.specs.Choice.{bound_read}
 use Rattle.pie_commands.proofs.MomentFacts.{bound-given}
-use Rattle.pie_commands.proofs.explain.bound.Goals as goal
+use Rattle.pie_commands.proofs.moments.bound.Goals as goal
 
 pub returns : goal.returns
 returns c =

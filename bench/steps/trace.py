@@ -21,7 +21,8 @@ for turn in range(turns):
         moment += max(1, round(random.expovariate(load / SLOT)))
         size = random.choice([60, 600, 1500, 1500, 1500])
         tag += 1
-        events.append((moment, f"arrive,1,{moment},{tag},{size},{random.choice(['not', 'ect0', 'ect1', 'ce'])},{2**64 - 2**16 if is_unlucky else random.getrandbits(64)}"))
+        ecn, word = random.choice(["not", "ect0", "ect1", "ce"]), 2**64 - 2**16 if is_unlucky else random.getrandbits(64)
+        events.append((moment, f"arrive,1,{moment},{tag},{size},{ecn},{word}"))
     moment = end
 events += [(at + 300_000, f"depart,2,{at + 300_000}") for at in range(0, moment, SLOT)]
 events += [(at, f"update,3,{at}") for at in range(15_000_000, moment, 15_000_000)]

@@ -12,6 +12,7 @@ usage: bench/uml/beside.py PIE FOLDER [OPTIONS]
   --short 14600x2,146000x0.5      short flows beside them: of so many bytes, so many a second
   --limit 200ms                   of the queue: so long at the first rate, in bytes here and in packets of 1500 at the kernel's
   --ecn      all TCP asks for ECN, and every queue marks that can;  --tupdate 15ms, --target 15ms: of all PIEs;  --grant 5ms: of the link alone
+  --offload  senders hand over up to 64 kB at once, as a network card's segmentation offload has them; else a packet at a time
   --from 5   the table has the beginning of the run apart, until this second
   --same A:B ..                   pairs that are tested for equivalence, stamp:pie and rate:pie-rate where nothing is said and both are there
   --late     runs with late updates count too, for a look at a busy machine
@@ -20,7 +21,8 @@ UML_LINUX=FILE in the environment is another Linux than Debian's, as build.sh ma
 
 A wait is from arrival to departure, in ms: by packet from histories, and for all queues by a ping each 20 ms, less the round trip. `settled`: the
 second from which packets wait at most twice the target and the receiver gets 85 per cent of what the link can carry, for two seconds; after each
-change of the rate anew. A run with late updates is told, and is in no mean. Status 1: a run failed, a history is not clean, or a queue carried nothing."""
+change of the rate anew. A run with late updates is told, and is in no mean. Status 1: a run failed, a history is not clean, or a queue carried
+nothing."""
 import argparse
 import csv
 import json
@@ -84,7 +86,7 @@ def queue_of(name, words):
 def scenario_of(words):
     rates = rates_of(words.rate)
     return {"queues": [queue_of(name, words) for name in words.queues.split(",")], "runs": words.runs, "seconds": words.seconds, "rates": rates,
-            "groups": [group_of(text) for text in words.flows], "short": words.short, "ecn": int(words.ecn),
+            "groups": [group_of(text) for text in words.flows], "short": words.short, "ecn": int(words.ecn), "offload": words.offload,
             "limit": int(rates[0][1] / 8 * number(words.limit, "ms", "s"))}
 
 
@@ -296,8 +298,8 @@ def options():
     parser.add_argument("--ecn", action="store_true")
     parser.add_argument("--from", dest="beginning", type=float, default=5)
     parser.add_argument("--same", nargs="*")
-    parser.add_argument("--late", action="store_true")
-    parser.add_argument("--again", action="store_true")
+    for flag in ("--offload", "--late", "--again"):
+        parser.add_argument(flag, action="store_true")
     return parser.parse_args()
 
 

@@ -80,7 +80,7 @@ class Run:
             do(f"ip addr add 10.1.0.{place + 1}/24 dev senders", "senders")
         do(f"ip addr add {RECEIVER}/24 dev receivers", "receivers")
         for space in ("senders", "receivers"):
-            do(f"ip link set {space} up gso_max_segs 1 txqueuelen 10000", space)
+            do(f"ip link set {space} up txqueuelen 10000 {'' if self.scenario['offload'] else 'gso_max_segs 1'}", space)
         if self.queue["kind"] == "ours":
             do("ip route add 10.2.0.0/24 dev senders", "senders")
             do("ip route add 10.1.0.0/24 dev receivers", "receivers")

@@ -5,7 +5,7 @@ use crate::report::{CALLS, INPUTS, ROUNDS, Report};
 use crate::words::Words;
 use pie_control::{Control, delay, next_probability};
 use pie_fixed::{Nanos, ONE, Prob};
-use pie_params::{Params, Step};
+use pie_params::{Elements, Params, Step};
 use std::alloc::{AllocError, Global};
 use std::rt::Clock;
 
@@ -51,7 +51,7 @@ fn make_updates(params: &Params, start: Nanos, updates: &[Input]) -> u64 {
     for _ in 0..ROUNDS {
         let mut control = Control::opened(params, start);
         for update in updates {
-            control.update(params, Step::Capped, update.delay, update.moment);
+            control.update(params, Elements::usual(), update.delay, update.moment);
         }
         sum = sum.wrapping_add(control.prob().units());
         sum = sum.wrapping_add(control.burst());

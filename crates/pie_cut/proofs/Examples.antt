@@ -26,7 +26,7 @@ use Rattle.pie_record.specs.Answer.{answer_fields}
 use Rattle.pie_record.specs.Clock.{clock_at, clock_in, clock_row}
 use Rattle.pie_record.specs.Number.{number}
 use Rattle.pie_record.specs.FirstRecord.{draft_at, first_kind, limits_at, profile_of, version_of, version_one_fields, version_two_fields}
-use Rattle.pie_record.specs.FirstRecord.{elements_at, version_three_fields, which_of}
+use Rattle.pie_record.specs.FirstRecord.{chosen_at, elements_at, version_three_fields, which_of}
 use Rattle.pie_record.specs.Field.{ecn_of, packet_at, params_at}
 use Rattle.pie_record.specs.Command.{arrival_at, change_at, command_at, command_kind}
 use Rattle.pie_record.specs.HistoryRecord.{answer_at, departure_at, event_line, line_of, note_line, numbers_at, registers_at, shown_line, update_at}
@@ -94,7 +94,7 @@ unfolding held_after shown held_of now_of params_of active_of departures_shown u
     places effective_moment greatest waiting_after departed_count admitted average samples begun cycles first_position first_opening
     first_closing first_cycle cycles_from probability last_delay last_moment granted_burst burst_allowance raw_step tuning_divisor
     tuned_step decayed next digits departures_of delay_noted control_of early_of noted noted_after is_active first_place end_place
-    chosen latest_clock version_three_fields elements_at clock_in clock_at clock_row command_fields answer_fields fields_text is_blank
+    chosen latest_clock version_three_fields chosen_at elements_at clock_in clock_at clock_row command_fields answer_fields fields_text is_blank
 worked = ⊤
 
 -- an arrival, a note, a departure at a moment before it, which is effective as late as the arrival, and a departure of an empty queue; the last

@@ -27,7 +27,8 @@ The first record opens the controller:
       the same in version three: up to 1048576 packets and 2^47 events, and RFC 8033's optional elements, the usual word
       first: <delay> is rate (by the departure rate, section 5.2) or stamp (what the packet that departed last had waited,
       4.3: it stands still while the link does), <picking> derandomized (5.4) or random, <step> capped (5.5) or uncapped,
-      <size> unscaled, or scaled: packets below mean_pkt are picked less often
+      <size> unscaled, or scaled: packets below mean_pkt are picked less often. Behind <size> may stand <decay>: zero (the
+      probability decays where both delays are 0, 4.2) or half (where both are below half the target); zero where it doesn't
   resume,..  and then queued,.. for each packet that waits: the run goes on from the middle of a history, with other commands
       than there, or other parameters. pie cut writes such a beginning; docs/FORMATS.md has its fields
 

@@ -38,7 +38,7 @@ fn inputs(alloc: Global) -> Result<Vec<Input>, AllocError> {
                 old: words.below(40_000_000),
                 prob,
                 moment,
-                bytes: words.below(262_144),
+                bytes: words.below(Params::default_profile().limit_bytes()),
                 average: 1 + words.below(100_000_000),
             });
         }

@@ -352,7 +352,7 @@ pub(crate) fn update(state: &mut PieState, queued: u64, moment: u64) -> PieUpdat
     }
     laws();
     let mut held = raw(state);
-    if held.moment.max(moment) < held.due() {
+    if held.is_too_soon(moment) {
         return PieUpdated::made(TOO_SOON, held.control.old_delay, &held);
     }
     let delay = held.update(queued, moment);

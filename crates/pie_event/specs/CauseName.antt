@@ -1,13 +1,13 @@
 -- The names of what decides arrivals.
 use Rattle.std.specs.Prelude.{ℕ, List, [], ◌∷◌, codes}
-use Rattle.pie_aqm.specs.declared.cause.Cause.{Cause}
-use Rattle.pie_aqm.specs.declared.cause.Cause.TheVariants as cause
-use Rattle.pie_aqm.specs.declared.cause.Fate.TheVariants as fate
-use Rattle.pie_aqm.specs.declared.cause_name.CauseName.{CauseName}
-use Rattle.pie_aqm.specs.declared.cause_name.CauseName.TheVariants.{NoRoomInBytes, NoRoomInPackets, Inactive, BurstAllowed, LowDelay, ShortQueue}
-use Rattle.pie_aqm.specs.declared.cause_name.CauseName.TheVariants.{NoProbability, LittleAccumulated, PickedBySum, PickedBySumNotCapable}
-use Rattle.pie_aqm.specs.declared.cause_name.CauseName.TheVariants.{PickedBySumNotBelow, PickedByWord, PickedByWordNotCapable}
-use Rattle.pie_aqm.specs.declared.cause_name.CauseName.TheVariants.{PickedByWordNotBelow, WordNotBelow}
+use Rattle.pie_event.specs.declared.cause.Cause.{Cause}
+use Rattle.pie_event.specs.declared.cause.Cause.TheVariants as cause
+use Rattle.pie_event.specs.declared.cause.Fate.TheVariants as fate
+use Rattle.pie_event.specs.declared.cause_name.CauseName.{CauseName}
+use Rattle.pie_event.specs.declared.cause_name.CauseName.TheVariants.{NoRoomInBytes, NoRoomInPackets, Inactive, BurstAllowed, LowDelay, ShortQueue}
+use Rattle.pie_event.specs.declared.cause_name.CauseName.TheVariants.{NoProbability, LittleAccumulated, PickedBySum, PickedBySumNotCapable}
+use Rattle.pie_event.specs.declared.cause_name.CauseName.TheVariants.{PickedBySumNotBelow, PickedByWord, PickedByWordNotCapable}
+use Rattle.pie_event.specs.declared.cause_name.CauseName.TheVariants.{PickedByWordNotBelow, WordNotBelow}
 
 -- the name of a cause, that of a picked packet by its fate
 abbrev pub name_of : Cause → CauseName
@@ -16,7 +16,7 @@ name_of (cause.NoRoomInPackets packets) = NoRoomInPackets
 name_of cause.Inactive = Inactive
 name_of (cause.BurstAllowed burst) = BurstAllowed
 name_of (cause.LowDelay old_delay target prob) = LowDelay
-name_of (cause.ShortQueue bytes two_packets) = ShortQueue
+name_of (cause.ShortQueue bytes mean_pkt) = ShortQueue
 name_of cause.NoProbability = NoProbability
 name_of (cause.LittleAccumulated accu prob) = LittleAccumulated
 name_of (cause.PickedBySum accu prob (fate.Marked threshold)) = PickedBySum

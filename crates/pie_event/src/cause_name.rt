@@ -1,6 +1,6 @@
 //! The names of what decides arrivals.
 ghost use Rattle.std.specs.Prelude.{◌≡◌, ◌<◌};
-ghost use Rattle.pie_aqm.specs.CauseName.{name_of, place_of_cause, word_of_cause};
+ghost use Rattle.pie_event.specs.CauseName.{name_of, place_of_cause, word_of_cause};
 
 use crate::{Cause, Fate};
 

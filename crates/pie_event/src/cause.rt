@@ -1,4 +1,4 @@
-//! What decides an arrival: the first case of the rules that holds, with the numbers that it compared (`raw` finds it).
+//! What decides an arrival: the first case of the rules that holds, with the numbers that it compared. `pie_early` and `pie_aqm` find it.
 
 /// Why a picked packet was marked or dropped (RFC 8033, section 5.1).
 #[derive(Clone, Copy, Debug, PartialEq, Eq)]
@@ -56,8 +56,8 @@ pub enum Cause {
     ShortQueue {
         /// The bytes that wait.
         bytes: u64,
-        /// Twice `mean_pkt`.
-        two_packets: u64,
+        /// `mean_pkt`.
+        mean_pkt: u64,
     },
     /// Queued: the probability is 0.
     NoProbability,

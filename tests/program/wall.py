@@ -2,8 +2,8 @@
 """Holds the times of day that `pie explain --wall` tells, and those that `--from` and `--to` take, to Python's dates: of random histories of version
 three by tests/shared/reference.py, with records of the time of day at random places (none, one, or some, between which the time jumps), each record
 of `--all --csv --wall` has the time of day of its effective moment by the last such record before it, and else is the record without the option; the
-words have it in place of milliseconds, also for the last update; the events within some times of day are explained, and no others; and summaries
-have the times of day of their events. Then times at the ends of years, months and days, what lies before 1970 or past 2^64 - 1 ns, texts that are no
+words have it in place of milliseconds, also for the last update; the events within some times of day are explained, and no others, and those are cut
+that begin and end so; and summaries have the times of day of their events. Then times at the ends of years, months and days, what lies before 1970 or past 2^64 - 1 ns, texts that are no
 times of day, and what doesn't go together. Exit status 1 where something differs.
 
 usage: tests/program/wall.py [PROGRAM [FIRST_SEED [RUNS [STEPS]]]]      PROGRAM: crates/pie/out/pie where none is given
@@ -19,6 +19,7 @@ from datetime import datetime, timedelta, timezone
 sys.path.insert(0, f"{os.path.dirname(os.path.abspath(__file__))}/../shared")
 from checks import NAME, expect  # noqa: E402
 from explaining import FIRST, RUNS, histories, pie  # noqa: E402
+from running import run  # noqa: E402
 
 SECOND, MOST = 10**9, 2**64 - 1
 EPOCH = datetime(1970, 1, 1, tzinfo=timezone.utc)
@@ -94,6 +95,32 @@ def hold_within(name, history, lines, times, words):
     later = sum(time is not None and time >= known[0] for time in times)
     summed = pie(history, "--summary", "--csv", "--from", utc(known[0]))
     expect(f"{name}: a summary", (summed[0], summed[1].splitlines()[1].split(",")[0]), (0, str(later)))
+
+
+def hold_cut(name, history, lines, times, words):
+    """pie cut by times of day, also beside moments: its events are those from the first one within up to the first behind it that is not before the
+    end, and they are explained as the whole's."""
+    moments = [int(line.split(",")[4]) for line in lines[1:]]
+    known = [time for time in times if time is not None] or [1_795_550_400 * SECOND]
+    for _ in range(4):
+        first, last = sorted((words.choice(known), min(words.choice(known) + words.randrange(3), MOST)))
+        moment = words.choice(moments)
+        by_day = [time is not None and first <= time for time in times], [time is not None and time <= last for time in times]
+        by_moment = [moment <= it for it in moments], [it <= moment for it in moments]
+        every = [True] * len(times)
+        day, other = (("--from", utc(first)), (f"--to={utc(last)}",)), (("--from", str(moment)), (f"--to={moment}ns",))
+        for options, begun, held in (
+            (day[0] + day[1], *by_day), (day[0], by_day[0], every), (day[1], every, by_day[1]),
+            (day[0] + other[1], by_day[0], by_moment[1]), (other[0] + day[1], by_moment[0], by_day[1]),
+        ):
+            start = next((at for at in range(len(times)) if begun[at] and held[at]), None)
+            status, part, errors = run(["cut", *options], history.encode())
+            if start is None:
+                expect(f"{name}: cut {options}", (status, part, bool(errors)), (1, b"", True))
+                continue
+            end = next((at for at in range(start, len(times)) if not held[at]), len(times))
+            wanted = lines[0] + "".join(lines[1:][start:end])
+            expect(f"{name}: cut {options}", (status, pie(part.decode(), "--all", "--csv"), errors), (0, (0, wanted, ""), b""))
 
 
 def told(times, spaces):
@@ -196,6 +223,7 @@ def hold_texts():
     expect("after", pie(history, "--all", "--from", two, "--to", one), (1, "", order))
     expect("the same", pie(history, "--all", "--from", one, "--to", one), (0, "", ""))
     expect("of two kinds", pie(history, "--all", "--from", two, "--to", "0"), (0, "", ""))
+    expect("a cut after", run(["cut", "--from", two, "--to", one], history.encode()), (1, b"", order.encode()))
 
 
 def main():
@@ -211,6 +239,7 @@ def main():
         lines, times = hold_records(name, history, clocks)
         hold_words(name, history, clocks)
         hold_within(name, history, lines, times, words)
+        hold_cut(name, history, lines, times, words)
         hold_sums(name, history, lines, times, words)
     expect("histories of version three", held >= RUNS // 3, True)
     print(f"{NAME}: {held} histories, and the ends of years, months and days: times of day are those of Python's dates")

@@ -18,7 +18,10 @@ the times of day between them, as they were read, without the notes. So pie audi
 say the same of its events, each by the number that it has in the whole: clean,<events> names the last one.
 
 With --from and --to, or with one of them, the excerpt has the events whose effective moments are within, both ends included; a
---from that is after its --to is refused. A moment is written as for pie explain: 1500000, 1500us, 1.5ms and 0.0015s are the same.
+--from that is after its --to is refused. They are written as for pie explain: a moment as 1500000, 1500us, 1.5ms or 2m, or a time
+of day in UTC as 2026-11-24T20:00:00Z, which is told by the last record clock before an event; no event before any such record is
+within. The excerpt begins with the first event within, and ends before the first one behind it that is after --to: where clocks
+were set back, events in between that are before --from are in it too.
 
 With --event N it has the event with this number, and with --around M so many events before and after it too; with --last N the
 last N events, as far as there are so many. The latter reads a file twice, so standard input won't do for it.
@@ -34,7 +37,7 @@ there already.
 
 Example: why were packets lost in one minute of a day? With the history of the day in the file day:
 
-  pie cut --from 72000s --to 72060s -o minute day
+  pie cut --from 2026-11-24T20:00:00Z --to 2026-11-24T20:01:00Z -o minute day
   pie explain --lost minute
 
 Files of a million events each, day.0000 and so on, and their audit:
@@ -47,12 +50,12 @@ const ARGUMENTS: &[Argument] = &[
     Argument {
         name: "from",
         takes: Takes::Value("MOMENT"),
-        help: "Cut out the events at this moment and later, such as 1.5ms",
+        help: "Cut out the events at this moment or time of day and later, such as 1.5ms",
     },
     Argument {
         name: "to",
         takes: Takes::Value("MOMENT"),
-        help: "Cut out the events at this moment and earlier",
+        help: "Cut out the events at this moment or time of day and earlier",
     },
     Argument {
         name: "event",

@@ -10,9 +10,9 @@ _pie() {
             migrate) words='--progress --output --force --help' ;;
             explain) words='--event --tag --lost --marked --all --from --to --summary --every --digest --csv --wall --progress --output --force --help' ;;
             cut) words='--from --to --event --around --last --every --progress --output --force --help' ;;
-            storm) words='--senders --packets --burst --seed --load --changes --folds --profile --delay --picking --step --size --count --help' ;;
+            storm) words='--senders --packets --burst --seed --load --changes --folds --profile --delay --picking --step --size --decay --count --help' ;;
             params) words='--rate --target --tupdate --limit --alpha --beta --ecn --bytemode --mtu --dq_rate_estimator --no_derandomization \
-                --no_cap_drop_adjustment --help' ;;
+                --no_cap_drop_adjustment --decay --help' ;;
             help) words='run audit explain cut migrate storm params help' ;;
             *) words='' ;;
         esac

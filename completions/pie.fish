@@ -45,6 +45,7 @@ complete -c pie -n '__fish_seen_subcommand_from storm' -l delay -x -a 'rate stam
 complete -c pie -n '__fish_seen_subcommand_from storm' -l picking -x -a 'derandomized random' -d 'whether probabilities accumulate'
 complete -c pie -n '__fish_seen_subcommand_from storm' -l step -x -a 'capped uncapped' -d 'whether a rise is capped'
 complete -c pie -n '__fish_seen_subcommand_from storm' -l size -x -a 'unscaled scaled' -d 'whether sizes count'
+complete -c pie -n '__fish_seen_subcommand_from storm' -l decay -x -a 'zero half' -d 'at which delays the probability decays'
 complete -c pie -n '__fish_seen_subcommand_from storm' -l count -d 'say how many events and changes of caller there were'
 complete -c pie -n '__fish_seen_subcommand_from params' -l rate -x -d 'the rate of the link, as 100mbit'
 complete -c pie -n '__fish_seen_subcommand_from params' -l target -x -d 'the wanted delay, as 20ms'
@@ -58,4 +59,5 @@ complete -c pie -n '__fish_seen_subcommand_from params' -l mtu -x -d 'the MTU of
 complete -c pie -n '__fish_seen_subcommand_from params' -l dq_rate_estimator -d 'delays from the departure rate'
 complete -c pie -n '__fish_seen_subcommand_from params' -l no_derandomization -d 'pick by the random word alone'
 complete -c pie -n '__fish_seen_subcommand_from params' -l no_cap_drop_adjustment -d 'raise the probability without a cap'
+complete -c pie -n '__fish_seen_subcommand_from params' -l decay -x -a 'zero half' -d 'at which delays the probability decays'
 complete -c pie -n '__fish_seen_subcommand_from help' -a 'run audit explain cut migrate storm params help'

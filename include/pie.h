@@ -119,11 +119,12 @@ enum { PIE_ALWAYS_ON = 1, PIE_ON_AND_OFF = 2 };
 
 /* RFC 8033's optional elements that are chosen otherwise than usual: flags, OR-ed into `choices` of an opening. */
 enum {
-    PIE_USUAL = 0,         /* delays by the departure rate, de-randomized picking, capped steps, all packets picked alike */
+    PIE_USUAL = 0,         /* delays by the departure rate, de-randomized picking, capped steps, all packets picked alike, decay at 0 */
     PIE_DELAY_STAMP = 1,   /* a delay is what the packet that departed last had waited (section 4.3), as Linux has it by default */
     PIE_PICK_RANDOM = 2,   /* packets are picked by the random word alone, not de-randomized (section 5.4) */
     PIE_STEP_UNCAPPED = 4, /* an update raises the probability as far as the control law says (section 5.5) */
-    PIE_SIZE_SCALED = 8    /* a packet below mean_pkt is picked less often, in proportion to its size (Linux's bytemode) */
+    PIE_SIZE_SCALED = 8,   /* a packet below mean_pkt is picked less often, in proportion to its size (Linux's bytemode) */
+    PIE_DECAY_HALF = 16    /* the probability decays where this delay and the one before are below half the target, not where both are 0 */
 };
 
 /* The parameters, in the order in which they are checked; the defaults are in brackets. */
@@ -151,7 +152,7 @@ struct pie_opening {
     struct pie_params params; /* the parameters */
     uint64_t moment;          /* of the opening, at most 2^60 - 1 ns (0) */
     uint64_t profile;         /* PIE_ALWAYS_ON or PIE_ON_AND_OFF (1) */
-    uint64_t choices;         /* the flags of the optional elements, at most 15 (0) */
+    uint64_t choices;         /* the flags of the optional elements, at most 31 (0) */
     uint64_t mode;            /* PIE_BOUNDED or PIE_ROLLING (1) */
     uint64_t packets;         /* that the queue holds at most, 1 to 2^20 (2^20) */
     uint64_t tail;            /* events that the log holds, 1 to 2^20 (1024) */
@@ -173,7 +174,7 @@ struct pie_state {
     uint64_t cycle_count;     /* the bytes that it counted, below dq_threshold, 0 with none */
     uint64_t profile;         /* 1 or 2 */
     uint64_t active;          /* 1 while the controller is active, and else 0; in profile 1 always 1 (section 5.3) */
-    uint64_t choices;         /* the flags of the optional elements, at most 15 */
+    uint64_t choices;         /* the flags of the optional elements, at most 31 */
     uint64_t waited;          /* what the packet that departed last had waited, at most 2^40 ns, and 0 where it left the queue empty;
                                  also 0 after an opening, a reset and a turning on. With PIE_DELAY_STAMP it is the delay of
                                  the next update; without it plays no part, and stays 0 */

@@ -9,6 +9,7 @@ the day of the commit. So each crate has its share in each, 40 days try all, and
 usage: tests/mutations.py [--jobs N] [NAME | NAME/EDIT ..]      as pie_book, or pie_book/departs_half; all, where none is named
        tests/mutations.py [--jobs N] --share [DAY]              DAY: in place of the commit's, as a number of days"""
 import argparse
+import functools
 import os
 import re
 import resource
@@ -24,6 +25,7 @@ from pathlib import Path
 ROOT = Path(__file__).resolve().parent.parent
 ME = "tests/mutations.py"
 SHARES, DAY = 40, 24 * 60 * 60
+PARTS = ("src", "specs", "proofs")
 # A line of crates.txt: a crate, whether it is a static library, and what it stands on.
 LINE = re.compile(r"(\w+)([\w= +]*):([^#]*)")
 FUNCTION = re.compile(r"( *)(?:pub(?:\(\w+\))? )?(?:unsafe )?(?:extern \"C\" )?fn (\w+)")
@@ -56,6 +58,13 @@ def library(name):
     return ROOT / "crates" / name / "out/rlib" / f"{name}.rlib"
 
 
+@functools.cache
+def is_built(name):
+    """Whether a crate's library is there, and has been since its files were changed last: `rt ci` puts back what stood in out/ before it."""
+    files = (path for part in PARTS for path in (ROOT / "crates" / name / part).rglob("*") if path.is_file())
+    return library(name).is_dir() and all(path.stat().st_mtime <= library(name).stat().st_mtime for path in files)
+
+
 class Mutation:
     def __init__(self, path):
         self.path, self.crate, self.folder = path, path.parent.parent.name, path.parent.parent
@@ -80,7 +89,7 @@ class Mutation:
                 yield file, old, text
 
     def has_libraries(self):
-        return all(library(it).is_dir() for it in below(self.crate))
+        return all(is_built(it) for it in below(self.crate))
 
 
 def type_of(text):
@@ -117,10 +126,11 @@ def function_at(file, text, at):
         if line.startswith("impl") and inside:
             inside = f"{implemented(' '.join(text.split(chr(10))[number : number + 6]).partition('{')[0])}::{inside}"
             break
-    module = file.removeprefix("src/").removesuffix(".rt").replace("/", "::")
     if not inside or not file.startswith("src/"):
         return None
-    return inside if module in ("lib", "main") else f"{module}::{inside}"
+    module = file.removeprefix("src/").removesuffix(".rt").replace("/", "::")
+    # (a method goes by its type, which may stand in another module)
+    return inside if "::" in inside or module in ("lib", "main") else f"{module}::{inside}"
 
 
 def words(kit, crate, functions):
@@ -142,7 +152,7 @@ def words(kit, crate, functions):
 def checked(kit, mutation, functions):
     """What the prover answers where the mutation stands in a copy of its crate."""
     with tempfile.TemporaryDirectory(prefix="pie-mutation-") as room:
-        for part in ("src", "specs", "proofs"):
+        for part in PARTS:
             if (mutation.folder / part).is_dir():
                 shutil.copytree(mutation.folder / part, Path(room, part))
         for file, text in mutation.texts.items():
@@ -157,7 +167,8 @@ def checked(kit, mutation, functions):
 def judged(done):
     """Whether the prover refused what it checked, and what to say of it; none where it is still proved."""
     lines = done.stdout.rstrip("\n").split("\n")
-    if done.returncode == 0:
+    # (its name is no function's, or that of several)
+    if done.returncode == 0 or done.returncode == 2 and "has no function" in done.stdout or "fits several" in done.stdout:
         return None
     told = [line for line in lines if re.match(r"(note: )?\S+:\d+:\d+:", line) and (": error" in line or line.startswith("note: "))]
     first = next((line for line in told if not NAMES.match(line)), "")
@@ -217,11 +228,12 @@ def main():
     mutations = [Mutation(path) for path in named(given.names)]
     if given.share is not None:
         day = commit_day() if given.share < 0 else given.share
-        mutations = [it for it in mutations[day % SHARES :: SHARES] if it.has_libraries()] if day is not None else []
+        share = mutations[day % SHARES :: SHARES] if day is not None else []
+        mutations = [it for it in share if it.has_libraries()]
         if not rt or not mutations:
             print(f"NOT RUN: {ME}: a share of the mutations, without rt, the commit's date or the libraries of rt ci")
             return 0
-        print(f"{ME}: the share of day {day}, {day % SHARES} of {SHARES}")
+        print(f"{ME}: day {day}, so share {day % SHARES} of {SHARES}: {len(share)}, of which {len(mutations)} have their libraries here", flush=True)
     elif not rt:
         sys.exit(f"{ME}: there is no rt")
     else:

@@ -1,11 +1,14 @@
 #!/usr/bin/env python3
 """Shows that the laws of pie_guarantees say something that isn't the rules again: each wrong rule of crates/pie_guarantees/wrong_rules/ is put in
 the place of the right definition, and the lemma that a law rests on has to be refused; with the right definition in the same place it is
-accepted. Lines of such a file: `law:` the function, `lemma:` what has to be refused, `spec:` the files of definitions that are copied into
-pie_guarantees, whose own definitions and proofs then use the copies, so that no other crate is checked again, and `file:`, `old:` and `new:`, texts
-of one line. For whoever changes a law: a rule takes some 15 processor seconds.
+accepted. Lines of such a file: `law:` the function, `lemma:` what has to be refused, `spec:` the files of definitions that are copied, and `file:`,
+`old:` and `new:`, texts of one line.
 
-usage: tests/wrong_rules.py [RULE ..]      as picks_at_half; all where none is named
+All rules are tried by one check, of a crate that has for each rule, and for each right one, its own copy of these definitions, of the lemma's
+file, and of what that uses of pie_guarantees: so no other crate is checked again, and what all stand on is loaded once. For whoever changes a law:
+forty rules take some 160 processor seconds.
+
+usage: tests/wrong_rules.py [RULE ..]      as picks_from_a_half_on; all where none is named
 needs: rt, and what `rt check` kept of the crates below pie_guarantees
 """
 import re
@@ -16,7 +19,10 @@ import tempfile
 from pathlib import Path
 
 ROOT = Path(__file__).resolve().parent.parent
-RULES = ROOT / "crates/pie_guarantees/wrong_rules"
+LAWS = ROOT / "crates/pie_guarantees"
+RULES = LAWS / "wrong_rules"
+OWN = re.compile(r"Rattle\.pie_guarantees\.(specs|proofs)\.(\w+)")
+REFUSED = re.compile(r"^\./proofs/([A-Z]\d+)\w+\.antt:\d+:\d+: error: `([^`]+)`", re.M)
 
 
 def read(rule):
@@ -26,12 +32,6 @@ def read(rule):
         word, _, text = line.partition(": ")
         found[word].append(text)
     return found
-
-
-def copied(spec):
-    """The name of the copy of a file of definitions, as crates/pie_early/specs/Decision.antt."""
-    crate, name = re.fullmatch(r"crates/(\w+)/specs/(\w+)\.antt", spec).groups()
-    return f"Rattle.{crate}.specs.{name}", f"Wrong{crate.removeprefix('pie_').capitalize()}{name}"
 
 
 def below(lines):
@@ -51,79 +51,100 @@ def below(lines):
     return {name: found[name] for name in found if name in names}
 
 
-class Copy:
-    """A copy of pie_guarantees and the crates below it, in which each rule is tried in turn."""
+def file_of(lemma):
+    """The file of pie_guarantees that has a lemma."""
+    found = [path for path in (LAWS / "proofs").glob("*.antt") if re.search(rf"^ *(?:pub )?{re.escape(lemma)} :", path.read_text(), re.M)]
+    if len(found) != 1:
+        sys.exit(f"tests/wrong_rules.py: {len(found)} files have a lemma {lemma}")
+    return found[0]
+
+
+def used(path):
+    """This file of pie_guarantees, and those that it uses."""
+    found, todo = [], [path]
+    while todo:
+        path = todo.pop()
+        if path not in found and path.exists():
+            found.append(path)
+            todo += [LAWS / kind / f"{name}.antt" for kind, name in OWN.findall(path.read_text())]
+    return found
+
+
+class Crate:
+    """A crate in the place of pie_guarantees, of such copies alone."""
 
     def __init__(self, folder):
-        self.crate = folder / "crates/pie_guarantees"
+        self.folder, self.modules = folder / "crates/pie_guarantees", {"specs": [], "proofs": []}
         crates = below((ROOT / "crates.txt").read_text().splitlines())
         (folder / "crates.txt").write_text("".join(f"{name}: {' '.join(rest)}\n" for name, rest in crates.items()))
         shutil.copy(ROOT / "HANDLES", folder)
-        (folder / "crates").mkdir()
         for name in crates:
-            subprocess.run(["cp", "-a", "--reflink=auto", ROOT / "crates" / name, folder / "crates"], check=True)
-        shutil.rmtree(self.crate / "proofs/clean")
-        for path, line in (("src/lib.rt", "clean"), ("proofs/Lib.antt", "TextFacts")):
-            kept = [it for it in (self.crate / path).read_text().splitlines() if not re.search(rf"\b{line}\b", it)]
-            (self.crate / path).write_text("\n".join(kept) + "\n")
-        for path in ("src/clean.rt", "proofs/TextFacts.antt"):
-            (self.crate / path).unlink()
-        self.lib = (self.crate / "specs/Lib.antt").read_text()
-        own = [*(self.crate / "specs").glob("*.antt"), *(self.crate / "proofs").glob("*.antt")]
-        self.own = {path: path.read_text() for path in own if path.parts[-2:] != ("specs", "Lib.antt")}
+            if name != "pie_guarantees":
+                (folder / "crates").mkdir(exist_ok=True)
+                subprocess.run(["cp", "-a", "--reflink=auto", ROOT / "crates" / name, folder / "crates"], check=True)
+        for kind in ("src", *self.modules):
+            (self.folder / kind).mkdir(parents=True)
+        (self.folder / "src/lib.rt").write_text("//! Nothing but lemmas.\n#![tactic(auto)]\n\n/// Nothing.\npub fn nothing() {}\n")
 
-    def refused(self, rule, is_wrong):
-        """What the check refuses, with the copies of this rule's files, changed or not."""
-        names = dict(copied(spec) for spec in rule["spec"])
-
-        def moved(text):
-            for old, new in names.items():
-                for after in (".", " as"):
-                    text = text.replace(f"use {old}{after}", f"use Rattle.pie_guarantees.specs.{new}{after}")
-            # (pie_aqm does not export the declaration of this type to other crates; pie_book does)
-            return re.sub(r"^(use Rattle\.pie_aqm\.specs\.Types\.\{.*), Arrival\b(.*)$", r"\1\2\nuse Rattle.pie_book.specs.Types.{Arrival}", text,
+    def put(self, mark, rule, is_wrong):
+        """The copies for a rule, changed or not, under names that begin with this mark."""
+        texts = {ROOT / spec: (ROOT / spec).read_text() for spec in rule["spec"]}
+        for path, old, new in zip(rule["file"], rule["old"], rule["new"]):
+            if texts[ROOT / path].count(old) != 1:
+                sys.exit(f"tests/wrong_rules.py: {path}: {texts[ROOT / path].count(old)} times: {old}")
+            if is_wrong:
+                texts[ROOT / path] = texts[ROOT / path].replace(old, new)
+        texts |= {path: path.read_text() for path in used(file_of(rule["lemma"][0]))}
+        places = {}
+        for path in texts:
+            crate, kind, name = path.parts[-3], path.parts[-2], path.stem
+            places[path] = (kind, f"{mark}{crate.removeprefix('pie_').capitalize()}{name}")
+        for path, text in texts.items():
+            for other, (kind, name) in places.items():
+                old = f"Rattle.{other.parts[-3]}.{other.parts[-2]}.{other.stem}"
+                text = re.sub(rf"\buse {re.escape(old)}(?=[. ])", f"use Rattle.pie_guarantees.{kind}.{name}", text)
+            # (pie_event and pie_aqm do not export the declarations of these types to other crates; pie_book does)
+            text = text.replace("use Rattle.pie_event.specs.Types.", "use Rattle.pie_book.specs.Types.")
+            text = re.sub(r"^(use Rattle\.pie_aqm\.specs\.Types\.\{.*), Arrival\b(.*)$", r"\1\2\nuse Rattle.pie_book.specs.Types.{Arrival}", text,
                           flags=re.M)
+            kind, name = places[path]
+            self.modules[kind].append(name)
+            (self.folder / kind / f"{name}.antt").write_text(text)
 
-        texts = {spec: (ROOT / spec).read_text() for spec in rule["spec"]}
-        if is_wrong:
-            for path, old, new in zip(rule["file"], rule["old"], rule["new"]):
-                if texts[path].count(old) != 1:
-                    sys.exit(f"tests/wrong_rules.py: {path}: {texts[path].count(old)} times: {old}")
-                texts[path] = texts[path].replace(old, new)
-        for path in (self.crate / "specs").glob("Wrong*.antt"):
-            path.unlink()
-        for spec, text in texts.items():
-            (self.crate / "specs" / f"{copied(spec)[1]}.antt").write_text(moved(text))
-        (self.crate / "specs/Lib.antt").write_text(self.lib + "".join(f"pub mod {name}\n" for name in names.values()))
-        for path, text in self.own.items():
-            path.write_text(moved(text))
-        done = subprocess.run(["rt", "check", "--allow-holes", "--only", rule["law"][0]], cwd=self.crate, capture_output=True, text=True, check=False)
+    def refused(self):
+        """What the check refuses of the copies of each mark, and all that it said."""
+        for kind, names in self.modules.items():
+            (self.folder / kind / "Lib.antt").write_text("".join(f"pub mod {name}\n" for name in names))
+        done = subprocess.run(["rt", "check", "--allow-holes"], cwd=self.folder, capture_output=True, text=True, check=False)
         said = done.stdout + done.stderr
-        return set(re.findall(r"^\./proofs/\w+\.antt:\d+:\d+: error: `([^`]+)`", said, re.M)), said
-
-
-def tried(copy, names):
-    """How many rules were not refused, or also the right one."""
-    bad, right = 0, {}
-    for name in names:
-        rule = read(RULES / f"{name}.rule")
-        lemma, place = rule["lemma"][0], (rule["law"][0], *rule["spec"])
-        if place not in right:
-            right[place] = copy.refused(rule, False)[0]
-        wrong, said = copy.refused(rule, True)
-        held = lemma in wrong and lemma not in right[place]
-        bad += not held
-        print(f"{name}: {rule['law'][0]}: " + (f"`{lemma}` is refused, as it must be" if held else
-              f"`{lemma}` is not: refused {sorted(wrong)}, with the right rule {sorted(right[place])}"), flush=True)
-        if not held and not wrong:
-            print(said[-1500:], flush=True)
-    return bad
+        found = {}
+        for mark, lemma in REFUSED.findall(said):
+            found.setdefault(mark, set()).add(lemma)
+        return found, said
 
 
 def main():
     names = sys.argv[1:] or sorted(path.stem for path in RULES.glob("*.rule"))
+    rules = [read(RULES / f"{name}.rule") for name in names]
     with tempfile.TemporaryDirectory() as folder:
-        bad = tried(Copy(Path(folder)), names)
+        crate, right = Crate(Path(folder)), {}
+        for number, rule in enumerate(rules):
+            crate.put(f"W{number}", rule, True)
+            place = (*rule["spec"], file_of(rule["lemma"][0]))
+            if place not in right:
+                right[place] = f"R{number}"
+                crate.put(right[place], rule, False)
+        refused, said = crate.refused()
+    bad = 0
+    for number, (name, rule) in enumerate(zip(names, rules)):
+        lemma, other = rule["lemma"][0], refused.get(right[(*rule["spec"], file_of(rule["lemma"][0]))], set())
+        wrong = refused.get(f"W{number}", set())
+        held = lemma in wrong and lemma not in other
+        bad += not held
+        print(f"{name}: {rule['law'][0]}: " + (f"`{lemma}` is refused, as it must be" if held else
+              f"`{lemma}` is not: refused {sorted(wrong)}, with the right rule {sorted(other)}"), flush=True)
+    if bad:
+        print(said[-3000:])
     print(f"{len(names) - bad} refused, {bad} not")
     sys.exit(bool(bad))
 

@@ -394,7 +394,7 @@ static int refusals(void) {
         case 19: state.profile = 3; break;
         case 20: state.active = 0; break; /* in profile one */
         case 21: state.profile = 2, state.active = 2; break;
-        case 22: state.choices = 16; break;
+        case 22: state.choices = 32; break;
         case 23: state.waited = ((uint64_t)1 << 40) + 1; break;
         }
         before = state;
@@ -557,7 +557,7 @@ static int choices(void) {
     CHECK(pie_check_state(&state) == PIE_DONE);
     state.waited++;
     CHECK(pie_check_state(&state) == PIE_BAD_STATE);
-    state.waited = 7, state.choices = 16;
+    state.waited = 7, state.choices = 32;
     CHECK(pie_check_state(&state) == PIE_BAD_STATE);
     /* a reset forgets the wait, new parameters keep it */
     state.choices = PIE_DELAY_STAMP;
@@ -581,6 +581,13 @@ static int choices(void) {
     state = at(TENTH, 15000000);
     state.choices = PIE_SIZE_SCALED;
     CHECK(pie_arrive(&state, 3000, 512, 1, PIE_NOT_ECT, UINT64_MAX, 0) == PIE_ENQUEUE && state.accu == TENTH / 2);
+    /* half: after the step it decays where the delays are below half the target, and not at half of it */
+    state = at(TENTH, 7000000);
+    state.choices = PIE_DECAY_HALF;
+    CHECK(pie_update(&state, 0, 15000000).prob == 87587500000 && next(TENTH, 7000000, 0) == 89375000000);
+    state = at(TENTH, 7500000);
+    state.choices = PIE_DECAY_HALF;
+    CHECK(pie_update(&state, 0, 15000000).prob == 88750000000);
     return 0;
 }
 

@@ -33,7 +33,7 @@ step() {
 audited() {
     local gap found wanted
     gap=$(grep -n -m 1 '^lost,' "$1" | cut -d: -f1)
-    wanted="$1: clean,$(awk -F, 'NR == 1 { count = $1 == "resume" ? $30 : 0; next } $1 !~ /^(queued|clock)$/ { count++ } END { print count }' "$1")"
+    wanted="$1: clean,$(awk -F, 'NR == 1 { count = $1 == "resume" ? $(NF - 30) : 0; next } $1 !~ /^(queued|clock)$/ { count++ } END { print count }' "$1")"
     [ -z "$gap" ] || wanted="pie: $1: record $gap: unknown kind"
     found=$("$pie" audit "$1" 2>&1)
     [ "$found" = "$wanted" ] && return

@@ -121,7 +121,7 @@ def audited(path):
     event before the text, and of its last."""
     text = Path(path).read_bytes()
     first = text.split(NEWLINE, 1)[0].split(b",")
-    before = int(first[29]) if first[0] == b"resume" else 0
+    before = int(first[-31]) if first[0] == b"resume" else 0
     last = before + text.count(NEWLINE) - 1 - len(re.findall(rb"^(?:queued|clock),", text, re.M))
     gap = re.search(rb"^lost,", text, re.M)
     wanted = f"pie: {path}: record {1 + text.count(NEWLINE, 0, gap.start())}: unknown kind\n" if gap else f"{path}: clean,{last}\n"

@@ -90,7 +90,7 @@ static void test_create(void) {
     EXPECT(pie_stage_create("other", &bad, SOCKET_ID_ANY) == NULL && rte_errno == EINVAL);
     bad = params, bad.opening.params.target = 1;
     EXPECT(pie_stage_create("other", &bad, SOCKET_ID_ANY) == NULL && rte_errno == EINVAL);
-    bad = params, bad.opening.choices = 16;
+    bad = params, bad.opening.choices = 32;
     EXPECT(pie_stage_create("other", &bad, SOCKET_ID_ANY) == NULL && rte_errno == EINVAL);
     char name[256];
     memset(name, 'x', sizeof name - 1);

@@ -28,6 +28,7 @@ opens -stamp open3,1,stamp,derandomized,capped,unscaled,rolling
 opens -random open3,1,rate,random,capped,unscaled,rolling
 opens -uncapped open3,1,rate,derandomized,uncapped,unscaled,rolling
 opens -scaled open3,1,rate,derandomized,capped,scaled,rolling
+opens -half open3,1,rate,derandomized,capped,unscaled,half,rolling
 
 # the history of a run is clean, and ns-3 counted the same marks and drops as it has
 runs() {

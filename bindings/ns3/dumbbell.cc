@@ -140,7 +140,8 @@ QueueOf(const Scenario& scenario)
     if (scenario.queue.rfind("recorded", 0) == 0)
     {
         bool isScaled = scenario.queue == "recorded-scaled"; /* ns-3's own scales under a limit in bytes, and has no choice there */
-        Choices choices = ChoicesOf(isScaled ? "" : scenario.queue.substr(8));
+        bool isHalf = scenario.queue == "recorded-half";     /* ns-3's own decays at delays of 0 alone */
+        Choices choices = ChoicesOf(isScaled || isHalf ? "" : scenario.queue.substr(8));
         helper.SetRootQueueDisc("ns3::RecordedPieQueueDisc",
                                 "MeanPkt", UintegerValue(MEAN_PKT),
                                 "LimitBytes", UintegerValue(LimitBytes(scenario)),
@@ -148,6 +149,7 @@ QueueOf(const Scenario& scenario)
                                 "UseCapDropAdjustment", BooleanValue(choices.isCapped),
                                 "UseDerandomization", BooleanValue(choices.isDerandomized),
                                 "ScaleBySize", BooleanValue(isScaled),
+                                "DecayBelowHalf", BooleanValue(isHalf),
                                 "UseEcn", BooleanValue(scenario.ecn),
                                 "History", StringValue(scenario.history));
     }
@@ -329,7 +331,7 @@ Read(int count, char** words)
     bool isHeader = false;
     CommandLine line(__FILE__);
     line.AddValue("queue",
-                  "recorded or pie, with -stamp, -random, -uncapped or -all for another choice; recorded-scaled; fifo; pie-mark, "
+                  "recorded or pie, with -stamp, -random, -uncapped or -all for another choice; recorded-scaled, recorded-half; fifo; pie-mark, "
                   "pie-mark-burst: pie with points changed",
                   s.queue);
     line.AddValue("rate", "Mbit/s of the shared link", s.megabits);

@@ -148,6 +148,11 @@ RecordedPieQueueDisc::GetTypeId()
                           BooleanValue(false),
                           MakeBooleanAccessor(&RecordedPieQueueDisc::m_isScaled),
                           MakeBooleanChecker())
+            .AddAttribute("DecayBelowHalf",
+                          "Whether the probability decays at delays below half the target (appendix B), and else at delays of 0 (section 4.2)",
+                          BooleanValue(false),
+                          MakeBooleanAccessor(&RecordedPieQueueDisc::m_decaysBelowHalf),
+                          MakeBooleanChecker())
             .AddAttribute("History",
                           "The file for the history; none where empty",
                           StringValue(""),
@@ -216,7 +221,8 @@ RecordedPieQueueDisc::Opening() const
     opening.moment = Moment();
     opening.profile = m_profile;
     opening.choices = (m_useRate ? PIE_USUAL : PIE_DELAY_STAMP) | (m_useDerandomization ? PIE_USUAL : PIE_PICK_RANDOM) |
-                      (m_useCap ? PIE_USUAL : PIE_STEP_UNCAPPED) | (m_isScaled ? PIE_SIZE_SCALED : PIE_USUAL);
+                      (m_useCap ? PIE_USUAL : PIE_STEP_UNCAPPED) | (m_isScaled ? PIE_SIZE_SCALED : PIE_USUAL) |
+                      (m_decaysBelowHalf ? PIE_DECAY_HALF : PIE_USUAL);
     opening.packets = m_packets;
     return opening;
 }

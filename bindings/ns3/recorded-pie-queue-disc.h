@@ -74,6 +74,7 @@ class RecordedPieQueueDisc : public QueueDisc
     bool m_useDerandomization;
     bool m_useCap;
     bool m_isScaled;
+    bool m_decaysBelowHalf;
     std::string m_historyName;
 
     pie_state m_pie;

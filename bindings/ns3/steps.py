@@ -15,14 +15,14 @@ TARGET, CAP, DECAY, MEAN_PKT = 0.015, 0.02, 0.98, 1500
 STEPS = ((1e-6, 2048), (1e-5, 512), (1e-4, 128), (1e-3, 32), (1e-2, 8), (1e-1, 2))
 
 
-def next_probability(prob, delay, old, is_capped):
-    """CalculateP outside a burst, with A 0.125 and B 1.25."""
+def next_probability(prob, delay, old, is_capped, is_half):
+    """CalculateP outside a burst, with A 0.125 and B 1.25; and where it is chosen, which ns-3 has not, the decay below half the target."""
     step = 0.125 * (delay - TARGET) + 1.25 * (delay - old)
     step /= next((divisor for bound, divisor in STEPS if prob < bound), 1)
     if is_capped and prob >= 0.1 and step > CAP:
         step = CAP
     after = prob + step
-    if delay == 0 and old == 0:
+    if max(delay, old) < TARGET / 2 if is_half else delay == old == 0:
         after *= DECAY
     return min(max(after, 0), 1)
 
@@ -37,6 +37,7 @@ class Queue:
         self.by_stamps = elements[0] == "stamp"
         self.is_derandomized = elements[1] == "derandomized"
         self.is_capped = elements[2] == "capped"
+        self.is_half = words[6] == "half"
         self.limit = int(words[-3])
         self.packets = deque()
         self.bytes = 0
@@ -93,7 +94,7 @@ def take(path, found):
                 found["updates"] += 1
                 if queue.by_stamps:
                     found["delays that differ"] += abs(queue.waited - delay) > 1e-9
-                differs = abs(next_probability(queue.prob, delay, queue.old, queue.is_capped) - prob) > 1e-9
+                differs = abs(next_probability(queue.prob, delay, queue.old, queue.is_capped, queue.is_half) - prob) > 1e-9
                 found["probabilities that differ"] += differs
                 found["updates in a burst"] += queue.burst > 0
                 found["of them with a probability above 0"] += queue.burst > 0 and prob > 0

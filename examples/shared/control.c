@@ -17,6 +17,7 @@ const char control_help[] =
     "  --bytemode           pick a packet below the MTU less often, in proportion to its size; --mtu 1514b\n"
     "  --no_derandomization, --no_cap_drop_adjustment\n"
     "                       packets picked by the random word alone, steps without a cap\n"
+    "  --decay zero         the probability decays at delays of 0 (zero), or below half the target (half)\n"
     "  --profile 1          1: always active; 2: turns itself on and off\n"
     "  --queue pie          pie, or tail: only the limit drops (PIE with gains of 0, so that its history can be audited too)\n"
     "  --max_burst 150ms, --mean_pkt 1024b, --mark_ecnth 10%, --dq_threshold 16kb\n"
@@ -25,7 +26,7 @@ const char control_help[] =
 /* What was said, beside what is in the control already. */
 struct said {
     uint64_t alpha, beta, mtu, mean_pkt, packets, bytes, mark_ecnth;
-    bool is_rate, bytemode, no_derandomization, no_cap, is_tail;
+    bool is_rate, bytemode, no_derandomization, no_cap, is_half, is_tail;
 };
 
 static const char *fault_of(uint32_t code) {
@@ -98,6 +99,10 @@ static const char *read_delay(const char *text, void *to) {
     return one_of(text, to, "stamp", "rate");
 }
 
+static const char *read_decay(const char *text, void *to) {
+    return one_of(text, to, "zero", "half");
+}
+
 static const char *read_queue(const char *text, void *to) {
     return one_of(text, to, "pie", "tail");
 }
@@ -120,7 +125,8 @@ static const char *finish(const struct command *command, struct control *control
     pie_params_for(control->rate, &usual);
     opening->packets = said->packets != 0 ? said->packets : command->most_packets < 1000 ? command->most_packets : 1000;
     opening->choices = (said->is_rate ? 0u : PIE_DELAY_STAMP) | (said->no_derandomization ? PIE_PICK_RANDOM : 0u) |
-                       (said->no_cap ? PIE_STEP_UNCAPPED : 0u) | (said->bytemode ? PIE_SIZE_SCALED : 0u);
+                       (said->no_cap ? PIE_STEP_UNCAPPED : 0u) | (said->bytemode ? PIE_SIZE_SCALED : 0u) |
+                       (said->is_half ? PIE_DECAY_HALF : 0u);
     params->limit_bytes = said->bytes != 0 ? said->bytes : usual.limit_bytes;
     params->alpha = said->is_tail ? 0 : said->alpha * 1000 / 16;
     params->beta = said->is_tail ? 0 : said->beta * 1000 / 16;
@@ -183,6 +189,7 @@ int read_words(const struct command *command, int count, char **words, struct co
         {"--mtu", option_size, &said.mtu},
         {"--no_derandomization", NULL, &said.no_derandomization},
         {"--no_cap_drop_adjustment", NULL, &said.no_cap},
+        {"--decay", read_decay, &said.is_half},
         {"--profile", option_number, &control->opening.profile},
         {"--queue", read_queue, &said.is_tail},
         {"--max_burst", option_time, &params->max_burst},

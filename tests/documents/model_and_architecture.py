@@ -1,7 +1,8 @@
 #!/usr/bin/env python3
 """Holds the documents to the code: docs/MODEL.md names each definition that a clause of a public function cites, and each function,
 definition and wrong body of its table of rules exists; map and list of crates in docs/ARCHITECTURE.md are those of crates.txt
-(docs/map.py --check). And each `==` of a type is derived, so that it compares every field: what a test or an audit finds equal is the same.
+(docs/map.py --check), and the picture of margins what docs/margins.py draws. And each `==` of a type is derived, so that it compares every field:
+what a test or an audit finds equal is the same.
 It reads by the layout that `rt fmt` writes. Exit status 1 where something is missing.
 
 usage: tests/documents/model_and_architecture.py
@@ -94,8 +95,8 @@ def main():
     model = (ROOT / "docs" / "MODEL.md").read_text()
     missing = [*missing_definitions(model), *missing_of_rules(model), *written_equalities()]
     print("\n".join(missing) or f"{NAME}: the model names what the code has", flush=True)
-    drawn = subprocess.run([ROOT / "docs" / "map.py", "--check"], check=False)
-    sys.exit(bool(missing) or drawn.returncode)
+    drawn = [subprocess.run([ROOT / "docs" / name, "--check"], check=False).returncode for name in ("map.py", "margins.py")]
+    sys.exit(bool(missing) or any(drawn))
 
 
 main()

@@ -1,6 +1,6 @@
 #!/usr/bin/env python3
 """Drives traces of the records' version three through the library for C, event by event, beside a queue of this script's own, and compares
-each answer and each look with the stored history: all sixteen choices of the optional elements, in both profiles. Those whose opening is
+each answer and each look with the stored history: choices of the optional elements, in both profiles. Those whose opening is
 refused are passed over.
 
 usage: tests/libraries/choices.py [FOLDER..]      FOLDER: has NAME.trace with NAME.history, or NAME.in with NAME.out; else tests/rows/choices
@@ -18,7 +18,7 @@ PARAMS = "target t_update max_burst alpha beta mean_pkt limit_bytes mark_ecnth d
 REST = "moment prob old_delay burst last accu average measuring cycle_start cycle_count profile active choices waited".split()
 ECN, VERDICTS = ["not", "ect1", "ect0", "ce"], ["enqueue", "mark", "early", "bytes", "packets"]
 MODES = ["bounded", "rolling"]
-FLAGS = {"stamp": 1, "random": 2, "uncapped": 4, "scaled": 8}
+FLAGS = {"stamp": 1, "random": 2, "uncapped": 4, "scaled": 8, "half": 16}
 U64, U32 = ctypes.c_uint64, ctypes.c_uint32
 
 
@@ -56,13 +56,14 @@ class Queue:
     """The caller's queue, with the library in front of it."""
 
     def __init__(self, pie, opening):
-        profile, *choices, mode, moment, packets, tail, events = opening[1:11]
+        at = 7 if opening[6] in ("zero", "half") else 6  # the place of the mode: the decay stands in front of it where it is told
+        profile, choices, (mode, moment, packets, tail, events) = opening[1], opening[2:at], opening[at : at + 5]
         self.pie, self.state, self.packets, self.bytes = pie, State(), int(packets), 0
         self.waiting = deque()
         params = Params()
         pie.pie_default_params(ctypes.byref(params))
-        if len(opening) > 11:
-            params = Params(*map(int, opening[11:]))
+        if len(opening) > at + 5:
+            params = Params(*map(int, opening[at + 5 :]))
         numbers = int(moment), int(profile), sum(FLAGS.get(word, 0) for word in choices), MODES.index(mode), *map(int, (packets, tail, events))
         assert self.call("open", ctypes.byref(Opening(params, *numbers))) == 0
 

@@ -150,11 +150,11 @@ def main():
         for name in "event params opening refused lost".split():
             getattr(pie, "pie_write_" + name).restype = ctypes.c_size_t
         for number, (profile, elements) in enumerate(product((1, 2), product(*reference.ELEMENTS.values()))):
-            queue, records, count = run_beside(pie, profile, elements, SEED * 32 + number)
+            queue, records, count = run_beside(pie, profile, elements, SEED * 64 + number)
             found = audit(queue.opening + "".join(records), work)
             if found != f"clean,{count}":
                 fail(f"profile {profile}, {elements}: {found} of {count} events")
-            words = random.Random(SEED * 32 + number)
+            words = random.Random(SEED * 64 + number)
             judged = [i for i, (event, _) in enumerate(queue.events) if event.answer <= 100]
             for chosen in words.sample(judged, CHANGES):
                 found = is_found(queue, records, chosen, words, count, work)

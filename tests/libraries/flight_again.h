@@ -217,31 +217,32 @@ struct again {
 static int resume(const struct row *row, struct again *again) {
     struct pie_state *pie = &again->pie;
     memset(again, 0, sizeof *again);
-    if (!is_word(row, 0, "resume") || row->count != 60)
+    uint64_t told = row->count == 61; /* the decay, in front of the mode */
+    if (!is_word(row, 0, "resume") || row->count != 60 + told)
         return 0;
-    nine(row, 20, &pie->params);
+    nine(row, told + 20, &pie->params);
     pie->profile = number(row, 1);
     pie->choices = (is_word(row, 2, "stamp") ? 1u : 0u) + (is_word(row, 3, "random") ? 2u : 0u) + (is_word(row, 4, "uncapped") ? 4u : 0u) +
-                   (is_word(row, 5, "scaled") ? 8u : 0u);
-    again->limit = number(row, 8);
-    again->events = number(row, 29);
-    again->count = number(row, 31);
-    again->bytes = number(row, 32);
-    pie->moment = number(row, 33);
-    pie->prob = number(row, 34);
-    pie->old_delay = number(row, 35);
-    pie->accu = number(row, 36);
-    pie->burst = number(row, 37);
-    pie->last = number(row, 38);
-    pie->average = number(row, 39);
-    pie->measuring = number(row, 40);
-    pie->cycle_start = number(row, 41);
-    pie->cycle_count = number(row, 42);
-    pie->waited = number(row, 43);
-    pie->active = number(row, 44);
-    again->stats.arrivals = number(row, 45);
-    again->stats.left = number(row, 51);
-    return pie_check_state(pie) == PIE_DONE && is_word(row, 30, "");
+                   (is_word(row, 5, "scaled") ? 8u : 0u) + (told && is_word(row, 6, "half") ? 16u : 0u);
+    again->limit = number(row, told + 8);
+    again->events = number(row, told + 29);
+    again->count = number(row, told + 31);
+    again->bytes = number(row, told + 32);
+    pie->moment = number(row, told + 33);
+    pie->prob = number(row, told + 34);
+    pie->old_delay = number(row, told + 35);
+    pie->accu = number(row, told + 36);
+    pie->burst = number(row, told + 37);
+    pie->last = number(row, told + 38);
+    pie->average = number(row, told + 39);
+    pie->measuring = number(row, told + 40);
+    pie->cycle_start = number(row, told + 41);
+    pie->cycle_count = number(row, told + 42);
+    pie->waited = number(row, told + 43);
+    pie->active = number(row, told + 44);
+    again->stats.arrivals = number(row, told + 45);
+    again->stats.left = number(row, told + 51);
+    return pie_check_state(pie) == PIE_DONE && is_word(row, told + 30, "");
 }
 
 /* Makes the call of a record, and compares what the library then writes with the line. */

@@ -175,7 +175,7 @@ def compare_constants(header, source):
         yield "crates/pie_c/src: no ECN fields were found"
     named |= {"PIE_EVENT_" + kind: int(number) for kind, number in re.findall(r"const ([A-Z]+): u8 = (\d+);", source.text)}
     own = {"PIE_ALWAYS_ON": 1, "PIE_ON_AND_OFF": 2, "PIE_USUAL": 0, "PIE_BOUNDED": 0, "PIE_ROLLING": 1}
-    own |= {"PIE_DELAY_STAMP": 1, "PIE_PICK_RANDOM": 2, "PIE_STEP_UNCAPPED": 4, "PIE_SIZE_SCALED": 8}
+    own |= {"PIE_DELAY_STAMP": 1, "PIE_PICK_RANDOM": 2, "PIE_STEP_UNCAPPED": 4, "PIE_SIZE_SCALED": 8, "PIE_DECAY_HALF": 16}
     yield from same("include/pie.h: constants", header.constants, {**named, **ecn, **own})
 
 

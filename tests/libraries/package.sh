@@ -126,7 +126,15 @@ if [ -e "$repository/crates/pie/out/pie" ]; then
     done
 fi
 if [ -e "$repository/crates/pie/out/pie" ]; then
-    ./install.sh "$prefix" program > "$work/installed"
+    # README's own command, where all was built
+    command=$(sed -n 's|^    \(\./install\.sh "$HOME[^ ]*\).*|\1|p' README.md)
+    [ -n "$command" ] || fail "README has no command that installs"
+    HOME=$work/home bash -c "$command" > "$work/installed" || fail "README's command does not install: $command"
+    while read -r file; do
+        [ -s "$file" ] || fail "$file was not installed by README's command"
+    done < "$work/installed"
+    prefix=$work/home/.local
+    grep -qx "$prefix/lib/libpie_c.a" "$work/installed" || fail "README's command installs no library"
     expect "the installed program" "pie $version" "$prefix/bin/pie" --version
     "$prefix/bin/pie-report" --pie "$prefix/bin/pie" -o "$work/page.html" "$repository/examples/burst.history" ||
         fail "the installed pie-report makes no page"

@@ -28,7 +28,7 @@ NOTES = ("refused,", "folded,", "shown,", "tallied,")
 COMMANDS = ("arrive,", "depart,", "update,", "reset,", "params,")
 LATEST = 2**60 - 1
 DIFFERS = "event {} is not what the rules give there, so what comes after it is not cut"
-tried = {"excerpts": 0, "summed up": 0, "cut again": 0, "segments": 0, "with times of day": 0, "out of range": 0}
+tried = {"excerpts": 0, "by time of day": 0, "summed up": 0, "cut again": 0, "segments": 0, "with times of day": 0, "out of range": 0}
 
 
 def cut(text, *words):
@@ -65,6 +65,7 @@ class History:
         self.name, self.text, self.book = name, text, book
         self.rows, self.walls, self.times = explained(text, "--all")[1], explained(text, "--all", "--wall")[1], times_after(text)
         self.moments = [int(row[self.rows[0].index("effective_moment")]) for row in self.rows[1:]]
+        self.days = [row[self.walls[0].index("wall")] for row in self.walls[1:]]
         self.count = len(self.moments)
 
     def part(self, first, last):
@@ -102,6 +103,21 @@ def choices(history, chance):
         yield ["--from", str(start), f"--to={end}ns"], within[0], within[-1]
         yield ["--from", str(start)], within[0], count
         yield ["--to", str(end)], 1, within[-1]
+    yield from by_day(history, chance)
+
+
+def by_day(history, chance):
+    """The same by times of day: from the first event that is within on, before the next that is later or has none."""
+    known = [day for day in history.days if day]
+    for _ in range(min(len(known), 3)):
+        start, end = sorted((chance.choice(known), chance.choice(known)))
+        for words in (["--from", start, "--to", end], ["--from", start], ["--to", end]):
+            low, high = ("" if "--from" not in words else start), ("~" if "--to" not in words else end)
+            first = next(place for place, day in enumerate(history.days) if day and low <= day <= high)
+            behind = (place for place, day in enumerate(history.days) if place > first and "--to" in words and not (day and day <= high))
+            tried["by time of day"] += 1
+            yield words, first + 1, next(behind, history.count)
+
 
 
 def summed(text, *words):
@@ -124,7 +140,7 @@ def check_part(history, words, first, last):
     check_times(what, history, part, first, last)
     if history.book:
         check(part == history.part(first, last), f"{what}: another excerpt than the reference's")
-    if words[0] != "--event":
+    if words[0] != "--event" and not words[-1].endswith("Z"):
         tried["summed up"] += 1
         check(summed(part) == summed(history.text, *words), f"{what}: summed up otherwise than the whole")
     tried["excerpts"] += 1

@@ -22,11 +22,11 @@ from checks import NAME, check, finish  # noqa: E402
 from running import PROGRAM, TRACE, run  # noqa: E402
 
 # The same in version two and the second profile, whose controller the third arrival turns on; and in version three with each element but the cap
-# another than the usual one, and the time of day at the end.
+# another than the usual one, the decay told, and the time of day at the end.
 TRACES = [
     TRACE,
     TRACE.replace(b"open,", b"open2,2,bounded,").replace(b"100000,1000000000000", b"9000,1000000000000"),
-    TRACE.replace(b"open,", b"open3,1,stamp,random,capped,scaled,bounded,") + b"clock,1001005,1795550400000000000\n",
+    TRACE.replace(b"open,", b"open3,1,stamp,random,capped,scaled,half,bounded,") + b"clock,1001005,1795550400000000000\n",
 ]
 
 # What a command has to end with of a text.

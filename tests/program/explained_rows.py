@@ -26,7 +26,8 @@ def opened(fields):
     """The book that a first record opens."""
     kind, *rest = fields
     profile = int(rest.pop(0)) if kind in ("open2", "open3") else 1
-    elements = tuple(rest.pop(0) for _ in USUAL) if kind == "open3" else USUAL
+    words = USUAL if len(fields) in (12, 21) else USUAL[:-1]  # the decay may be told or not
+    elements = (*(rest.pop(0) for _ in words), *USUAL[len(words) :]) if kind == "open3" else USUAL
     mode = rest.pop(0) if kind in ("open2", "open3") else kind
     moment, packets, tail, most, *params = map(int, rest)
     return Book(packets, tail, most, params or DEFAULTS, moment, mode == "rolling", profile, elements)

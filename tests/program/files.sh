@@ -158,6 +158,8 @@ wait $!
 printf -- "$history" | cmp - "$work/piped" || fail 'a run to a pipe: another text'
 rm "$work/folder/pipe"
 expect 'a run to no device' 0 '' '' "$trace" run -o /dev/null
+expect 'a run to -' 0 "$history" '' "$trace" run -o -
+[ ! -e - ] || fail 'a run to -: a file has that name'
 expect 'a run to a full device' 1 '' 'pie: cannot write the output\n' "$trace" run -o /dev/full
 holds 'pipes and devices'
 

@@ -16,7 +16,7 @@ sys.path.insert(0, f"{os.path.dirname(os.path.abspath(__file__))}/../shared")
 WRONG = "--wrong" in sys.argv
 sys.argv = [word for word in sys.argv if word != "--wrong"]
 from checks import NAME, program  # noqa: E402
-from reference import ELEMENTS, FIELDS, PROFILES, USUAL, random_run, record_of  # noqa: E402
+from reference import ELEMENTS, FIELDS, PROFILES, USUAL, elements_of, random_run, record_of  # noqa: E402
 
 EARLY = ("mark", "early")
 seen, broken = Counter(), Counter()
@@ -43,7 +43,7 @@ def shown(row):
 
 def opening_of(row):
     """Profile, elements, moment, ring and parameters; of version three alone."""
-    profile, elements, rest = int(row[1]), tuple(row[2:6]), [int(field) for field in row[7:]]
+    profile, elements, rest = int(row[1]), tuple(row[2:7]), [int(field) for field in row[8:]]
     return profile, dict(zip(ELEMENTS, elements)), rest[0], rest[1], dict(zip(FIELDS, rest[4:]))
 
 
@@ -129,7 +129,8 @@ class Laws:
             hold("falls", delay > params["target"] or delay > was["old"] or prob <= max(0, was["prob"] - 10**11 * WRONG), row, was)
             if self.elements["step"] == "capped" and was["prob"] >= 10**11:
                 hold("capped", prob <= was["prob"] + (10**9 if WRONG else 2 * 10**10), row, was)
-            if delay == 0 and was["old"] == 0:
+            is_half = self.elements["decay"] == "half" and 2 * was["old"] < params["target"]
+            if delay <= was["old"] and (was["old"] == 0 or is_half):
                 hold("decays", prob * 100 <= was["prob"] * 98 - WRONG, row, was)
         self.updates += 1
         self.most, self.least = max(self.most, params["t_update"]), min(self.least, params["t_update"])
@@ -167,7 +168,7 @@ def hold_all(rows):
 
 def sudden_burst():
     """With the defaults, at a link of 10 Mbit/s whose rate is known and that is idle: a burst of 100 packets a microsecond before an update."""
-    lines = [["open3", 1, "rate", "random", "capped", "unscaled", "bounded", 0, 65536, 65536, 2**40,
+    lines = [["open3", 1, "rate", "random", "capped", "unscaled", "zero", "bounded", 0, 65536, 65536, 2**40,
               15_000_000, 15_000_000, 150_000_000, 125, 1250, 1024, 262144, 10**11, 16384]]
     lines += [["arrive", 1, 0, tag, 1000, "not", 0] for tag in range(40)]
     departures = [["depart", 1, 800_000 * (place + 1)] for place in range(40)]
@@ -184,7 +185,7 @@ def sudden_burst():
 def main():
     first, runs, steps = (int(sys.argv[place]) if len(sys.argv) > place else usual for place, usual in ((2, 1), (3, 24), (4, 160)))
     for seed in range(first, first + runs):
-        elements = tuple(words[seed >> place & 1] for place, words in enumerate(ELEMENTS.values()))
+        elements = elements_of(seed * 21)
         profile = 1 + (seed // 3) % 2
         _, steps_run = random_run(seed, steps, 7, 14, steps, False, True, profile, elements)
         trace = [["open3", profile, *elements, "rolling", 5, 7, 14, steps, *PROFILES[0]]]

@@ -23,7 +23,7 @@ from running import PROGRAM, run  # noqa: E402
 FIRST, RUNS = ([int(word) for word in sys.argv[2:4]] + [1, 16][len(sys.argv[2:4]) :])[:2]
 EVENTS = 40
 # The places of a record that resumes: how many events there were, what set the probability, and the first statistic.
-COUNT, SET_BY, STATISTICS = 29, 30, 45
+COUNT, SET_BY, STATISTICS = -31, -30, -15  # counted from the end, since the decay is told or not
 tried = {"follow": 0, "gaps": 0, "unlike": 0, "faults": 0, "differ": 0, "statistics": 0, "packets": 0, "cut": 0, "cut to a difference": 0}
 
 
@@ -117,17 +117,19 @@ def hold_fields(what, before, part, chance):
     """Each field of the beginning is another."""
     row, *rest = part.lines
     fields = row.rstrip("\n").split(",")
-    for place in range(7, len(fields)):
-        other = fields[:]
+    is_told = len(fields) > 60
+    for place in range(7 + is_told, len(fields)):
+        other, from_end = fields[:], place - len(fields)
         other[place] = other_number(fields[place], chance)
         wanted = f"unlike,{before.last}"
-        if place == COUNT:
+        if from_end == COUNT:
             wanted = f"gap,{before.last},{int(other[place]) + 1}"
-        if place == SET_BY:
+        if from_end == SET_BY:
             wanted = "follows"
-        tried["statistics"] += place >= STATISTICS
+        tried["statistics"] += from_end >= STATISTICS
         hold_changed(f"{what}: field {place}", before, ",".join(other) + "\n" + "".join(rest), wanted)
-    for words in ({"1", "2"}, {"bounded", "rolling"}, {"rate", "stamp"}, {"derandomized", "random"}, {"capped", "uncapped"}, {"unscaled", "scaled"}):
+    words_of = [{"1", "2"}, {"bounded", "rolling"}, {"rate", "stamp"}, {"derandomized", "random"}, {"capped", "uncapped"}, {"unscaled", "scaled"}]
+    for words in words_of + [{"zero", "half"}] * is_told:
         place = next(place for place, field in enumerate(fields) if field in words)
         word, other = fields[place], fields[:]
         other[place] = next(iter(words - {word}))
@@ -172,7 +174,7 @@ def hold_segments(what, text, every):
     if status == 1:
         check((got, errors.decode()) == (1, f"pie: {error}\n"), f"{what}: status {got} of a text with a fault, {errors}")
         return
-    first, last = int(text.split(",", COUNT + 1)[COUNT]) if text.startswith("resume,") else 0, int(finding.split(",")[1])
+    first, last = int(text.split("\n", 1)[0].split(",")[COUNT]) if text.startswith("resume,") else 0, int(finding.split(",")[1])
     if first == last:
         return
     tried["cut"], tried["cut to a difference"] = tried["cut"] + 1, tried["cut to a difference"] + (status == 2)

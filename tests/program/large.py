@@ -112,6 +112,7 @@ def ten_million(work):
     history = [opening, "depart,7,1,empty\n" * MANY, f"shown,{MANY},1,0,0,0,0,0,150000000,0,0,0,1\n"]
     compare(work, "ten million records:", ["run"], [opening, "depart,7,1\n" * MANY, "show\n"], history)
     compare(work, "ten million records:", ["audit"], history, [f"clean,{MANY}\n"])
+    compare(work, "ten million records:", ["migrate"], history, history)
 
 
 def limit():

@@ -60,6 +60,8 @@ done <<'END'
 --beta|33|--beta 33: not in 0 to 32, as tc has it
 --delay|rate|--from and --to: missing
 --delay|20ms|--delay 20ms: not a value of this option
+--decay|half|--from and --to: missing
+--decay|quarter|--decay quarter: not a value of this option
 --mark_ecnth|10%|--from and --to: missing
 --mark_ecnth|10mb|--mark_ecnth 10mb: refused: no number with a unit of its kind
 --grant|5ms|--from and --to: missing
@@ -72,11 +74,12 @@ opened() {
         > /dev/null 2> "$work/warned"
     ip netns del "${names[1]}"
 }
+but_tail='{ $($7 == "half" ? 11 : 10) = ""; print }'
 bound=10
 while read -r words; do
     # shellcheck disable=SC2086
-    opened $words && wanted=$("$program" params $words 2> /dev/null | cut -d, -f1-9,11-)
-    found=$(head -n 1 "$work/opened" | cut -d, -f1-9,11-)
+    opened $words && wanted=$("$program" params $words 2> /dev/null | awk -F, -v OFS=, "$but_tail")
+    found=$(head -n 1 "$work/opened" | awk -F, -v OFS=, "$but_tail")
     nine=15000000,15000000,150000000,125,1250,1024,262144,100000000000,16384
     if [ "$(tr -d '\n' <<< "${found%,"$nine"}")" != "${wanted%,"$nine"}" ]; then
         echo "$script: with $words the link opens $found, and pie params says $wanted"
@@ -88,6 +91,7 @@ done <<'END'
 --rate 9000kbit --dq_rate_estimator --no_derandomization --no_cap_drop_adjustment --ecn
 --rate 10mbit --bytemode
 --rate 10mbit --bytemode --mtu 9000 --limit 77p
+--rate 10mbit --decay half
 END
 # tells_time TEXT SINCE: each event of a text is told by a time of day that isn't earlier than this one, nor later than now
 tells_time() {

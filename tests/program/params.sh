@@ -7,6 +7,7 @@
 # The usual elements, and as many events as there may be.
 usual=open3,1,rate,derandomized,capped,unscaled,rolling
 events=140737488355328
+nine=15000000,15000000,150000000,125,1250,1024,262144,0,16384
 # params NAME RECORD ERRORS WORDS..
 params() {
     local name=$1 record=$2 errors=$3
@@ -17,14 +18,21 @@ params() {
 params 'the defaults of tc' "$usual,0,1000,1000,$events,15000000,15000000,150000000,125,1250,1024,262144,0,16384" ''
 params 'what tc shows' "$usual,0,1000,1000,$events,20000000,15000000,150000000,125,1250,1024,2500000,100000000000,16384" '' \
     --rate 100mbit --target 20ms --limit 1000p --alpha 2 --beta 20 --tupdate 15ms --ecn
-params 'other units' "$usual,0,65536,65536,$events,500000,1000,150000000,0,2000,1024,262144,0,16384" '' \
+stalls="pie: dq_threshold, 16384, is above half of rate x target: the departure rate's estimate can stand still, as time stamps do not\n"
+params 'other units' "$usual,0,65536,65536,$events,500000,1000,150000000,0,2000,1024,262144,0,16384" "$stalls" \
     --rate 9000kbit --target 500us --limit 65536 --alpha 0 --beta 32 --tupdate 1000ns
 # (the bytes are those of the table of include/pie.h, by pie_params_for)
-for row in 10mbit:262144 100mbit:2500000 1gbit:25000000 10gbit:250000000 40gbit:1000000000 100gbit:1073741824 41bit:262144 \
-    2.5GBIT:62500000 0.1tbit:1073741824 12.5Mbps:2500000 100Mibit:2621440 1gibps:214748365 1000kbit:262144 125000kbps:25000000; do
-    record="$usual,0,1000,1000,$events,15000000,15000000,150000000,125,1250,1024,${row#*:},0,16384"
-    params "a limit at ${row%:*}" "$record" '' --rate "${row%:*}"
+for row in 10mbit:262144:stalls 100mbit:2500000 1gbit:25000000 10gbit:250000000 40gbit:1000000000 100gbit:1073741824 41bit:262144:stalls \
+    2.5GBIT:62500000 0.1tbit:1073741824 12.5Mbps:2500000 100Mibit:2621440 1gibps:214748365 1000kbit:262144:stalls 125000kbps:25000000; do
+    IFS=: read -r rate limit warns <<< "$row"
+    params "a limit at $rate" "$usual,0,1000,1000,$events,15000000,15000000,150000000,125,1250,1024,$limit,0,16384" "${warns:+$stalls}" --rate "$rate"
 done
+# Half of what waits at the target is 16384 bytes at 17.476266667 Mbit/s; by time stamps, and where no rate is known, nothing is said.
+record="$usual,0,1000,1000,$events,15000000,15000000,150000000,125,1250,1024,436907,0,16384"
+params 'a rate at which the estimator stalls' "$record" "$stalls" --rate 17476266bit
+params 'a rate at which it does not' "$record" '' --rate 17476267bit
+record="open3,1,stamp,derandomized,capped,unscaled,rolling,0,1000,1000,$events,$nine"
+expect 'a rate by time stamps' 0 "$record\n" '' '' params --rate 512kbit
 short='is under rate x target: the queue is full before it waits so long, and all losses are tail drops\n'
 params 'a limit that is too small' "$usual,0,1000,1000,$events,1000000000,15000000,150000000,125,1250,1024,2500000,0,16384" \
     "pie: limit_bytes, 2500000, $short" --rate 100mbit --target 1s
@@ -35,7 +43,6 @@ params 'the defaults of RFC 8033' "$usual,0,1000,1000,$events" '' --ecn
 params 'as many packets as there may be' "$usual,0,1048576,1048576,$events,15000000,15000000,150000000,125,1250,1024,262144,0,16384" '' \
     --limit 1048576
 # Each choice alone, and all of them.
-nine=15000000,15000000,150000000,125,1250,1024,262144,0,16384
 chosen() {
     local words=$1 mean=$2
     shift 2
@@ -47,7 +54,9 @@ chosen stamp,derandomized,capped,unscaled 1024
 chosen rate,random,capped,unscaled 1024 --dq_rate_estimator --no_derandomization
 chosen rate,derandomized,uncapped,unscaled 1024 --dq_rate_estimator --no_cap_drop_adjustment
 chosen rate,derandomized,capped,scaled 1514 --dq_rate_estimator --bytemode
-chosen stamp,random,uncapped,scaled 9000 --no_derandomization --no_cap_drop_adjustment --bytemode --mtu 9000
+chosen stamp,derandomized,capped,unscaled,half 1024 --decay half
+chosen stamp,derandomized,capped,unscaled 1024 --decay=zero
+chosen stamp,random,uncapped,scaled,half 9000 --no_derandomization --no_cap_drop_adjustment --bytemode --mtu 9000 --decay half
 chosen stamp,derandomized,capped,unscaled 1024 --mtu 9000
 for time in 20ms 20MS 020ms 20.0ms 20msec 20Msecs 0.02s .02sec 20000us 20000usecs 20000000ns 20000000nsecs; do
     params "a target of $time" "$usual,0,1000,1000,$events,20000000,15000000,150000000,125,1250,1024,262144,0,16384" '' --target "$time"
@@ -69,6 +78,7 @@ expect 'a part of a packet' 1 '' 'pie: --limit is a whole number of packets\n' '
 most='is at most 1152921504606846975, in nanoseconds, bits a second or packets\n'
 expect 'a rate that is too great' 1 '' "pie: --rate $most" '' params --rate 1152922tbit
 expect 'a time that is too great' 1 '' "pie: --target $most" '' params --target 99999999999999999999ms
+expect 'a decay of another word' 1 '' 'pie: --decay is zero or half\n' '' params --decay quarter
 expect 'no limit' 1 '' 'pie: --limit is a number of packets, as 1000p\n' '' params --limit 1000kb
 expect 'a limit that is too great' 1 '' 'pie: --limit is 1 to 1048576 packets\n' '' params --limit 1048577p
 expect 'no packets' 1 '' 'pie: --limit is 1 to 1048576 packets\n' '' params --limit 0

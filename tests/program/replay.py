@@ -185,8 +185,8 @@ def each_kind(tool):
 
 def choices(tool):
     data = pcap(RAW, [(m, p) for m, p, _, _ in traffic(1500)])
-    words = ["--dq_rate_estimator", "--no_derandomization", "--no_cap_drop_adjustment", "--bytemode"]
-    for number in range(16):
+    words = ["--dq_rate_estimator", "--no_derandomization", "--no_cap_drop_adjustment", "--bytemode", "--decay=half"]
+    for number in range(32):
         for profile in "12":
             # (at this rate and threshold cycles of the departure rate open and end all the time)
             chosen = [it for i, it in enumerate(words) if number >> i & 1]

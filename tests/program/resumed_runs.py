@@ -18,7 +18,7 @@ from pathlib import Path
 sys.path.insert(0, str(Path(__file__).resolve().parents[1] / "shared"))
 from checks import check, finish  # noqa: E402
 from reference import PROFILES, Book, random_command, record_of  # noqa: E402
-from reference_resumed import begun, history_rows, random_book, resumed_at  # noqa: E402
+from reference_resumed import begun, history_rows, opening_of, random_book, resumed_at  # noqa: E402
 from reference_texts import Fault, answered, error_of, records, request, text_of, up_to_fault  # noqa: E402
 from running import PROGRAM  # noqa: E402
 
@@ -158,7 +158,7 @@ def main():
     texts, lines = 0, 0
     for seed in range(FIRST, FIRST + RUNS):
         whole, chance = random_book(seed, STEPS), random.Random(seed)
-        opening = ["open3", *resumed_at(whole, 0)[0][1:20]]
+        opening = opening_of(whole)
         trace = [opening, *(record_of(caller, command) for caller, command, _ in whole.events), ["show"], ["tally"]]
         status, output, _ = ran(trace)
         of_whole = output.splitlines(keepends=True)

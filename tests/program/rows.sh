@@ -42,8 +42,8 @@ for history in "$rows"/*.history; do
         failed=1
     fi
 done
-if [ "$tried" -lt 53 ]; then
-    echo "$script: $tried rows, where 53 or more are wanted"
+if [ "$tried" -lt 62 ]; then
+    echo "$script: $tried rows, where 62 or more are wanted"
     failed=1
 fi
 exit "$failed"

@@ -112,7 +112,8 @@ for seed in $(seq 20); do
 done
 # Each choice of the controller's elements, in both profiles: the history opens with it, and is clean.
 for profile in 1 2; do
-    for choice in --delay=stamp --picking=random --step=uncapped --size=scaled '--delay=stamp --picking=random --step=uncapped --size=scaled'; do
+    for choice in --delay=stamp --picking=random --step=uncapped --size=scaled --decay=half \
+        '--delay=stamp --picking=random --step=uncapped --size=scaled --decay=half'; do
         "$program" storm --senders 4 --packets 300 --load 150 --changes 3 --folds 2 --profile "$profile" $choice > "$work/output" 2> "$work/errors"
         got=$?
         opening=open3,$profile,rate,derandomized,capped,unscaled
@@ -122,6 +123,7 @@ for profile in 1 2; do
                 --picking=*) opening=${opening/,derandomized,/,random,} ;;
                 --step=*) opening=${opening/,capped,/,uncapped,} ;;
                 --size=*) opening=${opening/%,unscaled/,scaled} ;;
+                --decay=*) opening=$opening,half ;;
             esac
         done
         begins=$(head -n 1 "$work/output")
@@ -132,8 +134,8 @@ for profile in 1 2; do
         fi
     done
 done
-wanted='--delay is rate or stamp, --picking derandomized or random, --step capped or uncapped, --size unscaled or scaled'
-for words in --delay=stamps --picking=rate --step=Capped --size=scaled,; do
+wanted='--delay is rate or stamp, --picking derandomized or random, --step capped or uncapped, --size unscaled or scaled, --decay zero or half'
+for words in --delay=stamps --picking=rate --step=Capped --size=scaled, --decay=quarter; do
     expect "storm $words" 1 '' "pie: storm: $wanted\n" '' storm $words
 done
 full 'a storm' storm --packets 1 < /dev/null

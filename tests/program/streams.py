@@ -1,5 +1,5 @@
 #!/usr/bin/env python3
-"""Runs the built program with standard streams that are closed, full or broken, at a terminal, interrupted, and with words that are not
+"""Runs the built program with standard streams that are closed, full, broken or read by nobody, at a terminal, interrupted, and with words that are not
 UTF-8.
 
 usage: tests/program/streams.py [PROGRAM]      PROGRAM: crates/pie/out/pie where none is given
@@ -15,7 +15,7 @@ import time
 
 sys.path.insert(0, f"{os.path.dirname(os.path.abspath(__file__))}/../shared")
 from checks import check, finish  # noqa: E402
-from running import PROGRAM, READ, READERS, WRITE, hold_readers, shell  # noqa: E402
+from running import PROGRAM, READ, READERS, TRACE, WRITE, hold_readers, run, shell  # noqa: E402
 
 
 def streams():
@@ -32,15 +32,37 @@ def streams():
         check(shell(f'"$1" {name} <&- >&- 2>&-') == (1, b"", b""), name, "without any stream")
         check(shell(f'"$1" {name} </') == (1, b"", READ), name, "with a folder as input")
     check(shell('"$1" storm --packets 1 <&- 2>&-')[0] == 0, "a storm without standard input and error")
-    early_end = '"$1" storm --packets 2000 | head -n 1 >/dev/null; exit ${PIPESTATUS[0]}'
-    for line in ['"$1" storm --packets 1 >&-', '"$1" storm --packets 1 >/dev/full', early_end]:
+    for line in ['"$1" storm --packets 1 >&-', '"$1" storm --packets 1 >/dev/full']:
         check(shell(line) == (1, b"", WRITE), line)
     check(shell('"$1" run --help >/dev/full') == (1, b"", WRITE), "help on a full device")
     check(shell('"$1" --help >&-') == (1, b"", WRITE), "help without standard output")
     check(shell('"$1" <&- >&- 2>&-')[0] == 1, "no subcommand and no stream")
-    # (the reader of the pipe is gone long before the history has been written)
-    broken = '(printf "open,0,4,1048576,4194304\\n"; yes depart,1,1 | head -n 300000) | ("$1" run; echo $? >&3) 3>&2 | head -n 1 >/dev/null'
-    check(shell(broken)[2] == WRITE + b"1\n", "a broken pipe")
+
+
+def closed():
+    """A pipe that nobody reads any more: nothing is said, and the status is that of a program which SIGPIPE ended. So of each subcommand, of help, and
+    where the reader ends in the midst; but a file that -o names is no such pipe, and a fault of the text that is met before is told."""
+    history = run(["run"], TRACE)[1]
+    texts = {"run": (["run"], TRACE), "params": (["params"], b""), "storm": (["storm", "--packets", "1"], b""), "help": (["--help"], b""),
+             "help of cut": (["cut", "--help"], b""), **{name: (words, history) for name, words in READERS.items()}}
+    for name, (words, given) in texts.items():
+        check(unread(words, given) == (141, b""), name, "to a pipe that nobody reads", unread(words, given))
+    check(unread(["audit", "-", "-"], history) == (141, b""), "audits of files to a pipe that nobody reads")
+    check(unread(["run", "-o", "/dev/full"], TRACE) == (1, WRITE), "a full device, where nobody reads standard output")
+    check(unread(["audit"], b"dep\n")[0] == 1, "a fault, where nobody reads standard output")
+    early = '| head -n 1 >/dev/null; exit ${PIPESTATUS[%d]}'
+    check(shell('"$1" storm --packets 2000 ' + early % 0) == (141, b"", b""), "a storm whose reader ends early")
+    long = '(printf "open,0,4,1048576,4194304\\n"; yes depart,1,1 | head -n 300000)'
+    check(shell(f'{long} | "$1" run ' + early % 1) == (141, b"", b""), "a run whose reader ends early")
+
+
+def unread(words, given):
+    """The status and the error stream of the program, whose standard output is a pipe that nobody reads."""
+    reader, writer = os.pipe()
+    os.close(reader)
+    done = subprocess.run([PROGRAM, *words], input=given, stdout=writer, stderr=subprocess.PIPE, timeout=60, check=False)
+    os.close(writer)
+    return done.returncode, done.stderr
 
 
 def at_terminal(words, path, is_output_terminal):
@@ -111,6 +133,7 @@ def words():
 def main():
     hold_readers()
     streams()
+    closed()
     terminals()
     interrupted()
     words()

@@ -54,9 +54,9 @@ def with_targets(history, rows):
     """The records of all events of a history, each with the target before and after it, and how long it was since the update before it, or the
     opening."""
     opening, *others = [line.split(",") for line in history.splitlines()]
-    places = {"open": 1, "rolling": 1, "open2": 3, "open3": 7}
-    last, target = int(opening[places[opening[0]]]), DEFAULT_TARGET
-    if len(opening) > places[opening[0]] + 9:
+    place = {"open": 1, "rolling": 1, "open2": 3, "open3": 7}[opening[0]] + (opening[0] == "open3" and opening[6] in ("zero", "half"))
+    last, target = int(opening[place]), DEFAULT_TARGET
+    if len(opening) > place + 9:
         target = int(opening[-9])
     events = [fields for fields in others if fields[0] in ("arrive", "depart", "update", "reset", "params")]
     for row, fields in zip(rows, events, strict=True):
@@ -197,7 +197,7 @@ def lengths():
     history = "open,0,4,16,100\nreset,1,1500000,done\n"
     for text in ("0", "0ms", "0.000000s"):
         expect(f"--every {text}", pie(history, "--every", text), (1, "", "pie: --every: a period lasts at least 1 ns\n"))
-    form = "pie: --every: a moment is whole nanoseconds, or a number with ns, us, ms or s, such as 1500000, 1.5ms or 2s\n"
+    form = "pie: --every: a moment is whole nanoseconds, or a number with ns, us, ms, s, m or h, such as 1500000, 1.5ms or 2m\n"
     expect("--every soon", pie(history, "--summary", "--every", "soon"), (1, "", form))
 
 

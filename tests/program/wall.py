@@ -185,7 +185,7 @@ def hold_texts():
                  "2026-11-24T20:00:00.Z", "2026-11-24T20:00:00.1234567890Z", "2026-11-24T20:00:00,5Z", "2026-11-24T20:00:00Z ",
                  "2026-1-24T20:00:00ZZ", "2026-11-24T20:00:0xZ", "1234-", "20260-11-24T20:00:00Z"):
         expected = form if text != "20260-11-24T20:00:00Z" else (
-            "pie: --from: a moment is whole nanoseconds, or a number with ns, us, ms or s, such as 1500000, 1.5ms or 2s\n")
+            "pie: --from: a moment is whole nanoseconds, or a number with ns, us, ms, s, m or h, such as 1500000, 1.5ms or 2m\n")
         expect(f"--from {text!r}", pie(history, "--all", f"--from={text}"), (1, "", expected))
     past = "pie: --to: a time of day is from 1970 to 2554-07-21T23:34:33.709551615Z\n"
     for text in ("1969-12-31T23:59:59.999999999Z", "0000-01-01T00:00:00Z", "2554-07-21T23:34:33.709551616Z", "2554-07-21T23:34:34Z",

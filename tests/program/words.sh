@@ -80,7 +80,7 @@ done
 mistake "error: invalid value '0' for '--last <N>': 0 is not in 1..18446744073709551615" cut --last 0
 mistake "error: invalid value '0' for '--every <N>': 0 is not in 1..18446744073709551615" cut --every 0
 mistake 'pie: one: No such file or directory (os error 2)' cut --last 3 one
-mistake 'pie: --from: a moment is whole nanoseconds, or a number with ns, us, ms or s, such as 1500000, 1.5ms or 2s' cut --from soon
+mistake 'pie: --from: a moment is whole nanoseconds, or a number with ns, us, ms, s, m or h, such as 1500000, 1.5ms or 2m' cut --from soon
 mistake "error: invalid value '1' for '--senders <N>': 1 is not in 2..=8" storm --senders 1
 mistake "error: invalid value '9' for '--senders <N>': 9 is not in 2..=8" storm --senders 9
 mistake "error: invalid value 'two' for '--senders <N>': invalid digit found in string" storm --senders two

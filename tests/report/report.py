@@ -66,7 +66,7 @@ def hold_data(name, page, path, *words):
     rows = table(explain(path, "--summary", "--csv", *words)[1])
     check([dict(zip(data["fields"], map(str, data["summary"])))] == rows, f"{name}: the summary")
     opening = path.read_text().split("\n", 1)[0].split(",")
-    place = {"open2": 7, "open3": 11, "resume": 20}.get(opening[0], 5)
+    place = {"open2": 7, "open3": 11, "resume": 20}.get(opening[0], 5) + (opening[6] in ("zero", "half") if len(opening) > 6 else 0)
     check([str(data["target"])] == (opening[place : place + 1] or ["15000000"]), f"{name}: the target")
     periods = table(explain(path, f"--every={data['period']}", "--csv", *words)[1])
     check([dict(zip(data["fields"], map(str, row))) for row in data["periods"]] == periods, f"{name}: the periods")

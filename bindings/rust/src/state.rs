@@ -37,7 +37,7 @@ pub struct State {
     pub profile: u64,
     /// 1 while the controller is active, and else 0; in profile one always 1 (section 5.3).
     pub active: u64,
-    /// The flags of the [`Choices`], at most 15.
+    /// The flags of the [`Choices`], at most 31.
     pub choices: u64,
     /// What the packet that departed last had waited, at most 2^40 ns; 0 where delays don't come from time stamps.
     pub waited: u64,
@@ -54,12 +54,15 @@ pub struct Choices {
     pub step_uncapped: bool,
     /// A packet below `mean_pkt` is picked less often, in proportion to its size.
     pub size_scaled: bool,
+    /// The probability decays where this delay and the one before are below half the target, not where both are 0 (section 4.2).
+    pub decay_half: bool,
 }
 
 impl Choices {
     /// As the library has them.
     pub(crate) fn flags(self) -> u64 {
-        u64::from(self.delay_stamp) | u64::from(self.pick_random) << 1 | u64::from(self.step_uncapped) << 2 | u64::from(self.size_scaled) << 3
+        let flags = [self.delay_stamp, self.pick_random, self.step_uncapped, self.size_scaled, self.decay_half];
+        flags.iter().rev().fold(0, |sum, &flag| 2 * sum + u64::from(flag))
     }
 }
 

@@ -127,8 +127,8 @@ fn openings() {
     let two = Opening { profile: Profile::Two, ..one };
     assert_eq!(open(two).unwrap(), format!("open2,2,bounded,9,64,1024,100,{nine}\n"));
     assert_eq!(open(Opening { mode: Mode::Rolling, ..two }).unwrap(), format!("open2,2,rolling,9,64,1024,100,{nine}\n"));
-    let choices = Choices { delay_stamp: true, size_scaled: true, ..Choices::default() };
-    let wanted = format!("open3,1,stamp,derandomized,capped,scaled,bounded,9,64,1024,100,{nine}\n");
+    let choices = Choices { delay_stamp: true, size_scaled: true, decay_half: true, ..Choices::default() };
+    let wanted = format!("open3,1,stamp,derandomized,capped,scaled,half,bounded,9,64,1024,100,{nine}\n");
     assert_eq!(open(Opening { choices, ..one }).unwrap(), wanted);
     let late = Opening { moment: MAX_MOMENT + 1, ..one };
     let bad = Opening { params: Params { alpha: u64::MAX, ..params }, ..one };

@@ -411,6 +411,6 @@ fn delays_by_time_stamps() {
     let mut rate = open(&Params::default(), 0).unwrap();
     rate.depart_waited(1500, 40_000, MAX_MOMENT, 1).unwrap();
     assert_eq!((rate.measuring, rate.waited), (1, 0));
-    let choices = Choices { pick_random: true, step_uncapped: true, size_scaled: true, delay_stamp: false };
+    let choices = Choices { pick_random: true, step_uncapped: true, size_scaled: true, ..Choices::default() };
     assert_eq!(open_with(&Params::default(), 0, Profile::Two, choices).unwrap().choices, 14);
 }

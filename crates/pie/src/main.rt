@@ -23,7 +23,7 @@ fn main(mut rt: HostRuntime) -> ExitCode {
         &mut output,
         &mut errors,
     );
-    ExitCode::from(end.status())
+    ExitCode::from(end.told(output.is_closed(), &mut errors))
 }
 
 /// The words of the command line, or nothing where they could not be had, which is then said on standard error.

@@ -6,5 +6,3 @@ pub mod Laws
 pub mod Sounds
 pub mod SoundNumbers
 mod Examples
-pub mod Causes
-mod CauseNames

@@ -6,5 +6,3 @@ pub mod Steps
 pub mod Events
 pub mod History
 pub mod Calls
-pub mod Cause
-pub mod CauseName

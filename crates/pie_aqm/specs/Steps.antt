@@ -2,7 +2,7 @@
 -- to 5.5, and Appendix A for tail drop; when profile two turns on and off is this project's own).
 use Rattle.std.specs.Prelude.{ℕ, ◌+◌, ◌-◌, ◌*◌, ◌^◌, ◌==◌, max, ◌&&◌, not, nat_lt, nat_le, Bool, true, false, Option, Some, None, is_none}
 use Rattle.std.specs.Prelude.{min, option_map, if◌then◌else◌}
-use Rattle.pie_aqm.specs.Types.{RawParams, Elements, Delay, Rate, Stamp, departure, Estimate, Parts, Offered, Choice, Enqueue, Mark, Drop}
+use Rattle.pie_aqm.specs.Types.{RawParams, Elements, Delay, Rate, Stamp, departure, Estimate, Parts, Offered, Choice, Enqueue}
 use Rattle.pie_aqm.specs.Types.{Profile, One, Two, Arrival, Verdict}
 use Rattle.pie_aqm.specs.Held.{Held}
 use Rattle.pie_rate.specs.Estimate.{Begun}
@@ -10,8 +10,12 @@ use Rattle.pie_rate.specs.Step.{after_departure}
 use Rattle.pie_control.specs.Delay.{delay_of}
 use Rattle.pie_control.specs.History.{burst_after, ends_calm}
 use Rattle.pie_control.specs.Next.{next}
+use Rattle.pie_early.specs.Cause.{early_cause}
 use Rattle.pie_early.specs.Decision.{accu_after, choice_of}
-use Rattle.pie_event.specs.declared.verdict.Verdict.TheVariants.{Enqueued, Marked, DroppedEarly, DroppedBytes, DroppedPackets}
+pub use Rattle.pie_early.specs.Decision.{chosen}
+use Rattle.pie_event.specs.declared.cause.Cause.{Cause}
+use Rattle.pie_event.specs.declared.cause.Cause.TheVariants.{NoRoomInBytes, NoRoomInPackets, Inactive}
+use Rattle.pie_event.specs.declared.verdict.Verdict.TheVariants.{DroppedBytes, DroppedPackets}
 use Rattle.pie_event.specs.Verdict.{is_queued}
 
 -- the effective moment: the greatest so far
@@ -61,12 +65,6 @@ changed h params moment = record h { params = params; moment = now_at h moment; 
 
 -- ---- arrivals
 
--- the verdict of early drop
-abbrev pub chosen : Choice → Verdict
-chosen Enqueue = Enqueued
-chosen Mark = Marked
-chosen Drop = DroppedEarly
-
 -- an arriving packet as early drop sees it
 abbrev pub offered : Arrival → Offered
 offered a = record { bytes = a.queued; size = a.size; ecn = a.ecn; word = a.word }
@@ -83,6 +81,13 @@ by_room limit a no_bytes no_packet room = if nat_lt limit (a.queued + a.size) th
 -- the verdict: tail drop by bytes, then by packets, and else early drop's choice
 unfoldable pub verdict : Held → Arrival → Verdict
 verdict h a = by_room h.params.limit_bytes a DroppedBytes DroppedPackets (chosen (choice h a))
+
+-- what decides it, where so many packets wait: the limit in bytes, then that in packets, then that the controller is inactive, then the
+-- rest, each with the numbers that it compares (RFC 8033, Appendix A; the limit in packets is this project's own)
+unfoldable pub cause : Held → Arrival → ℕ → Cause
+cause h a packets =
+    by_room h.params.limit_bytes a (NoRoomInBytes a.queued a.size h.params.limit_bytes) (NoRoomInPackets packets)
+    (if h.active then early_cause h.elements h.params h.control (offered a) h.accu else Inactive)
 
 -- the accumulated probability after it: 0 after a tail drop, and as it was while the controller is inactive
 unfoldable pub accu_left : Held → Arrival → ℕ
@@ -185,6 +190,13 @@ due_of params control = control.last + params.t_update
 
 abbrev pub due : Held → ℕ
 due h = due_of h.params h.control
+
+-- an update is too soon where the effective moment, that before it being this, is before the due moment
+abbrev pub is_before_due : ℕ → ℕ → ℕ → Bool
+is_before_due before due moment = nat_lt (max before moment) due
+
+abbrev pub is_too_soon : Held → ℕ → Bool
+is_too_soon h moment = is_before_due h.moment (due h) moment
 
 -- the queueing delay: by the departure rate, or what the packet that departed last had waited
 abbrev pub delay_by : Delay → ℕ → ℕ → ℕ

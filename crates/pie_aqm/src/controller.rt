@@ -5,11 +5,12 @@ ghost use Rattle.pie_aqm.specs.Events.{ControllerEvent, Opened};
 ghost use Rattle.pie_aqm.specs.Held.{IsSound, held_by};
 ghost use Rattle.pie_aqm.specs.History.{Shows};
 ghost use Rattle.pie_aqm.specs.Sound.{first_unsound};
-ghost use Rattle.pie_aqm.specs.Steps.{arrived, changed, delay_answered, delay_in, departed, due, opened, passed, reset, updated};
+ghost use Rattle.pie_aqm.specs.Steps.{arrived, cause, changed, delay_answered, delay_in, departed, due, is_too_soon, opened, passed, reset, updated};
+ghost use Rattle.pie_event.specs.Cause.{verdict_of};
 ghost use Rattle.pie_event.specs.Verdict.{is_queued};
 ghost use Rattle.pie_aqm.specs.Steps.{verdict};
 
-use crate::{Arrival, Profile, RawController, Register, Verdict};
+use crate::{Arrival, Cause, Profile, RawController, Register, Verdict};
 use pie_control::Control;
 use pie_early::Early;
 use pie_fixed::Nanos;
@@ -87,6 +88,17 @@ impl Controller {
         self.raw.arrive_either_way(arrival, moment.units())
     }
 
+    /// What would decide an arriving packet here: the first case of the rules that holds, with the numbers that it compares. Its
+    /// verdict is that of `arrive`. Nothing is changed. `packets` is how many packets are in the queue, which the cause says where
+    /// the ring is full.
+    pub fn cause(&self, arrival: Arrival, packets: u64) -> Cause
+        requires { arrival.queued ≤ 2 ^ 30 }
+        ensures cause { result ≡ cause self.now arrival packets }
+        ensures verdict { verdict_of result ≡ verdict self.now arrival }
+    {
+        self.raw.cause(arrival, packets)
+    }
+
     /// What it holds, as plain numbers.
     #[inline(always)]
     pub fn raw(&self) -> RawController
@@ -162,19 +174,19 @@ impl Controller {
         self.raw.delay(queued)
     }
 
+    /// Whether an update at this moment is too soon: the effective moment is then before the due moment.
+    #[inline(always)]
+    pub fn is_too_soon(&self, moment: Nanos) -> bool
+        ensures { result ≡ is_too_soon self.now moment }
+    {
+        self.raw.is_too_soon(moment.units())
+    }
+
     /// The moment from which an update isn't too soon, in nanoseconds: the last update's, and `t_update` after it.
     pub fn due(&self) -> u64
         ensures { result ≡ due self.now }
     {
         self.raw.due()
-    }
-
-    /// The optional elements of RFC 8033, as they were chosen.
-    #[inline(always)]
-    pub(crate) fn elements(&self) -> Elements
-        ensures { result ≡ self.now.elements }
-    {
-        self.raw.elements
     }
 
     /// The parameters in force.

@@ -9,8 +9,6 @@
 //! `sound`), and hands each call on.
 #![tactic(auto)]
 
-mod cause;
-mod cause_name;
 mod controller;
 mod law;
 mod profile;
@@ -18,10 +16,9 @@ mod raw;
 mod register;
 mod verdict;
 
-pub use cause::{Cause, Fate};
-pub use cause_name::CauseName;
 pub use controller::Controller;
 pub use law::{calls_keep_it_sound, calls_look_back};
+pub use pie_event::{Cause, CauseName, Fate};
 pub use profile::Profile;
 pub use raw::RawController;
 pub use register::Register;

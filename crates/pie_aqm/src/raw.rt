@@ -1,23 +1,22 @@
-//! The controller's rules over plain numbers; and beside the rule of an arrival what names its cause, whose verdict is the same.
+//! The controller's rules over plain numbers.
 ghost use Rattle.std.specs.Prelude.{◌≡◌, ◌+◌, ◌^◌, ◌<◌, ◌≤◌, ℕ, IfSome, max, min, true, false};
-ghost use Rattle.pie_aqm.specs.Cause.{cause, considered_cause, early_cause, fate_of, verdict_of};
+ghost use Rattle.pie_event.specs.Cause.{verdict_of};
 ghost use Rattle.pie_aqm.specs.Held.{IsSound, held_by};
-ghost use Rattle.pie_aqm.specs.Steps.{accu_left, anew, arrived, capped, changed, count_kept_open, delay_answered, delay_in, departed, due};
+ghost use Rattle.pie_aqm.specs.Steps.{accu_left, anew, arrived, capped, cause, changed, count_kept_open, delay_answered, delay_in, departed, due, is_too_soon};
 ghost use Rattle.pie_aqm.specs.Steps.{is_unmeasured, measures, opened, passed, reset, updated, verdict, wait_of, with_count};
 ghost use Rattle.pie_event.specs.Verdict.{is_queued};
 
 use crate::profile::opens_active;
 use crate::verdict::{verdict_of, wakes};
-use crate::{Arrival, Cause, Controller, Fate, Profile, Verdict};
-use pie_control::{Control, MAX_DELAY, RawControl};
-use pie_early::{LOW_PROB, NEVER_PICKED, Offered, counted_as, decide};
-use pie_fixed::{ALWAYS_PICKED, Accu, Prob, chosen};
-use pie_params::{Delay, Elements, Params, Picking, RawParams, Size};
+use crate::{Arrival, Cause, Profile, Verdict};
+use pie_control::{MAX_DELAY, RawControl};
+use pie_early::decide;
+use pie_params::{Delay, Elements, Picking, RawParams, Size};
 use pie_queue::Ecn;
 use pie_rate::{MAX_THRESHOLD, RawRate};
 
-/// What a [`Controller`](crate::Controller) holds, as plain numbers, each in its range or not: the controller's rules, each of which
-/// stands here alone.
+/// What a [`Controller`](crate::Controller) holds, as plain numbers, each in its range or not: the controller's rules, put together from
+/// those of its parts.
 ///
 /// Its calls check nothing. Those for each packet need not: no numbers make them overflow. An update, its delay and when it is due
 /// want numbers in their ranges.
@@ -184,6 +183,36 @@ impl RawController {
         (verdict_of(decision.choice), decision.accu)
     }
 
+    /// What would decide an arriving packet, as [`Controller::cause`](crate::Controller::cause) says it.
+    #[tactic(auto, unfolding(crate::specs::Steps::cause, crate::specs::Steps::verdict))]
+    pub(crate) fn cause(&self, arrival: Arrival, packets: u64) -> Cause
+        requires { arrival.queued ≤ 2 ^ 30 }
+        ensures cause { result ≡ cause (held_by self.now) arrival packets }
+        ensures verdict { verdict_of result ≡ verdict (held_by self.now) arrival }
+    {
+        let limit = self.params.limit_bytes;
+        if limit < arrival.queued + u64::from(arrival.size) {
+            return Cause::NoRoomInBytes {
+                bytes: arrival.queued,
+                size: arrival.size,
+                limit,
+            };
+        }
+        if arrival.is_full {
+            return Cause::NoRoomInPackets { packets };
+        }
+        if !self.active {
+            return Cause::Inactive;
+        }
+        pie_early::cause(
+            &self.params,
+            self.elements,
+            &self.control,
+            arrival.offered(),
+            self.accu,
+        )
+    }
+
     /// Probability, old delay, accumulated probability, rate estimate and the last packet's wait become 0, and the burst allowance
     /// `max_burst`.
     #[inline(always)]
@@ -325,6 +354,16 @@ impl RawController {
         }
     }
 
+    /// Whether an update at this moment is too soon, as [`Controller::is_too_soon`](crate::Controller::is_too_soon) says it.
+    #[inline(always)]
+    #[tactic(auto, using(std::proofs::lemmas::Bool::Decides::nat_tests))]
+    pub fn is_too_soon(&self, moment: u64) -> bool
+        requires { IsSound (held_by self.now) }
+        ensures { result ≡ is_too_soon (held_by self.now) moment }
+    {
+        self.moment.max(moment) < self.due()
+    }
+
     /// The moment from which an update isn't too soon, as [`Controller::due`](crate::Controller::due) says it.
     #[inline(always)]
     pub fn due(&self) -> u64
@@ -345,128 +384,5 @@ fn wait(left: u64, since: u64, now: u64) -> u64
         0
     } else {
         now.saturating_sub(since).min(MAX_DELAY)
-    }
-}
-
-/// Why a picked packet is marked or dropped.
-#[tactic(auto, using(std::proofs::lemmas::Bool::Decides::nat_tests))]
-fn fate_of(params: &Params, prob: Prob, ecn: Ecn) -> Fate
-    ensures { result ≡ fate_of params.now prob ecn }
-{
-    let threshold = params.mark_ecnth().units();
-    if !ecn.capable() {
-        Fate::NotCapable
-    } else if prob.units() < threshold {
-        Fate::Marked { threshold }
-    } else {
-        Fate::NotBelow { threshold }
-    }
-}
-
-/// What decides an arrival that is considered, where the probability counts as this one.
-#[tactic(auto, using(std::proofs::lemmas::Bool::Decides::nat_tests), unfolding(crate::specs::Cause::considered_cause))]
-fn considered_cause(picking: Picking, prob: Prob, accu: Accu, fate: Fate, word: u64) -> Cause
-    ensures { result ≡ considered_cause picking prob accu fate word }
-{
-    let accumulates = picking.accumulates();
-    let is_below = chosen(prob, word);
-    let (accu, prob) = (accu.units(), prob.units());
-    if prob == 0 {
-        Cause::NoProbability
-    } else if accumulates && accu + prob < NEVER_PICKED {
-        Cause::LittleAccumulated { accu, prob }
-    } else if accumulates && accu + prob >= ALWAYS_PICKED {
-        Cause::PickedBySum { accu, prob, fate }
-    } else if is_below {
-        Cause::PickedByWord {
-            accu,
-            prob,
-            word,
-            fate,
-        }
-    } else {
-        Cause::WordNotBelow { accu, prob, word }
-    }
-}
-
-/// What decides an arrival that the queue has room for.
-#[tactic(auto, using(std::proofs::lemmas::Bool::Decides::nat_tests), unfolding(crate::specs::Cause::early_cause))]
-fn early_cause(
-    elements: Elements,
-    params: &Params,
-    control: &Control,
-    offered: Offered,
-    accu: Accu,
-) -> Cause
-    ensures { result ≡ early_cause elements params.now control.now offered accu }
-{
-    let burst = control.burst();
-    if burst > 0 {
-        return Cause::BurstAllowed { burst };
-    }
-    let (old_delay, target, prob) = (control.old(), params.target().units(), control.prob());
-    if 2 * old_delay < target && prob.units() < LOW_PROB {
-        return Cause::LowDelay {
-            old_delay,
-            target,
-            prob: prob.units(),
-        };
-    }
-    let two_packets = 2 * params.mean_pkt();
-    let bytes = offered.bytes;
-    if bytes <= two_packets {
-        return Cause::ShortQueue { bytes, two_packets };
-    }
-    let fate = fate_of(params, prob, offered.ecn);
-    let counted = counted_as(elements.size, &params.raw(), offered.size, prob.units());
-    considered_cause(
-        elements.picking,
-        Prob::of_units(counted),
-        accu,
-        fate,
-        offered.word,
-    )
-}
-
-impl Controller {
-    /// What would decide an arriving packet here: the first case of the rules that holds, with the numbers that it compares. Its
-    /// verdict is that of `arrive`. Nothing is changed. `packets` is how many packets are in the queue, which the cause says where
-    /// the ring is full.
-    pub fn cause(&self, arrival: Arrival, packets: u64) -> Cause
-        requires { arrival.queued ≤ 2 ^ 30 }
-        ensures cause { result ≡ cause self.now arrival packets }
-        ensures verdict { verdict_of result ≡ verdict self.now arrival }
-    {
-        self.first_case(arrival, packets)
-    }
-
-    /// The same.
-    #[tactic(auto, using(std::proofs::lemmas::Bool::Decides::nat_tests), unfolding(crate::specs::Cause::cause))]
-    fn first_case(&self, arrival: Arrival, packets: u64) -> Cause
-        requires { arrival.queued ≤ 2 ^ 30 }
-        ensures { result ≡ cause self.now arrival packets }
-    {
-        let limit = self.params().limit_bytes();
-        if limit < arrival.queued + u64::from(arrival.size) {
-            return Cause::NoRoomInBytes {
-                bytes: arrival.queued,
-                size: arrival.size,
-                limit,
-            };
-        }
-        if arrival.is_full {
-            return Cause::NoRoomInPackets { packets };
-        }
-        if !self.is_active() {
-            return Cause::Inactive;
-        }
-        let accu = self.early().accu();
-        early_cause(
-            self.elements(),
-            &self.params(),
-            &self.control(),
-            arrival.offered(),
-            accu,
-        )
     }
 }

@@ -5,7 +5,7 @@ use crate::report::{CALLS, INPUTS, ROUNDS, Report};
 use crate::words::Words;
 use pie_control::{Control, delay, next_probability};
 use pie_fixed::{Nanos, ONE, Prob};
-use pie_params::{Params, Step};
+use pie_params::{Elements, Params, Step};
 use std::alloc::{AllocError, Global};
 use std::rt::Clock;
 
@@ -38,7 +38,7 @@ fn inputs(alloc: Global) -> Result<Vec<Input>, AllocError> {
                 old: words.below(40_000_000),
                 prob,
                 moment,
-                bytes: words.below(262_144),
+                bytes: words.below(Params::default_profile().limit_bytes()),
                 average: 1 + words.below(100_000_000),
             });
         }
@@ -51,7 +51,7 @@ fn make_updates(params: &Params, start: Nanos, updates: &[Input]) -> u64 {
     for _ in 0..ROUNDS {
         let mut control = Control::opened(params, start);
         for update in updates {
-            control.update(params, Step::Capped, update.delay, update.moment);
+            control.update(params, Elements::usual(), update.delay, update.moment);
         }
         sum = sum.wrapping_add(control.prob().units());
         sum = sum.wrapping_add(control.burst());

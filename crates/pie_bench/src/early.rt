@@ -10,9 +10,6 @@ use pie_queue::Ecn;
 use std::alloc::{AllocError, Global};
 use std::rt::Clock;
 
-/// A twentieth, below which an arrival is considered by the old delay alone.
-const PROB: u64 = 50_000_000_000;
-
 /// Decides on one arrival, by a call that is not inlined, so that nothing of it is done once for many.
 #[inline(never)]
 fn decide(early: &mut Early, params: &Params, control: &Control, arrival: Offered) -> Choice {
@@ -20,11 +17,11 @@ fn decide(early: &mut Early, params: &Params, control: &Control, arrival: Offere
 }
 
 /// Arrivals at a queue that holds more than two packets.
-fn arrivals(alloc: Global) -> Result<Vec<Offered>, AllocError> {
+fn arrivals(alloc: Global, params: &Params) -> Result<Vec<Offered>, AllocError> {
     let mut words = Words::new();
     let mut arrivals = Vec::with_capacity(alloc, INPUTS as usize)?;
     for _ in 0..INPUTS {
-        let bytes = 4096 + words.below(200_000);
+        let bytes = 4 * params.mean_pkt() + words.below(200_000);
         let ecn = match words.below(4) {
             0 => Ecn::NotEct,
             1 => Ecn::Ect1,
@@ -61,14 +58,16 @@ fn consider(params: &Params, control: &Control, arrivals: &[Offered]) -> u64 {
 /// Prints the time of an arrival that is considered, and of one that isn't, after all tests of that, since the
 /// probability and the old delay are low.
 pub fn measure<R: Clock + Print>(report: &mut Report<R>, alloc: Global) {
-    match arrivals(alloc) {
+    match arrivals(alloc, &Params::default_profile()) {
         Ok(arrivals) => time_both(report, arrivals.as_slice()),
         Err(why) => report.lacks(why),
     }
 }
 
 fn time_both<R: Clock + Print>(report: &mut Report<R>, arrivals: &[Offered]) {
-    let (Some(prob), Some(moment)) = (Prob::from_units(PROB), Nanos::from_units(0)) else {
+    // A twentieth, below which an arrival is considered by the old delay alone.
+    let prob = Params::default_profile().mark_ecnth().units() / 2;
+    let (Some(prob), Some(moment)) = (Prob::from_units(prob), Nanos::from_units(0)) else {
         return;
     };
     let long = Control::from_parts(prob, 15_000_000, 0, moment);

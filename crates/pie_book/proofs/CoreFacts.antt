@@ -11,7 +11,7 @@ use Rattle.pie_book.specs.Types.{Event, Mode, Opening, Stats, Registers}
 use Rattle.pie_queue.specs.Queue.{bytes_of}
 use Rattle.pie_event.specs.declared.verdict.Verdict.TheVariants as verdict
 use Rattle.pie_aqm.specs.Calls.{after_call, shown_by}
-use Rattle.pie_aqm.specs.Cause.{cause}
+use Rattle.pie_aqm.specs.Steps.{cause}
 use Rattle.pie_aqm.specs.Events.{Arrived}
 use Rattle.pie_aqm.specs.History as Controller
 use Rattle.pie_aqm.specs.Places.{Place, places, after, greatest}

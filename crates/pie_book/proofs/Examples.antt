@@ -26,7 +26,8 @@ use Rattle.pie_control.specs.History.{probability, last_delay, last_moment, gran
 use Rattle.pie_control.specs.Next.{raw_step, tuning_divisor, tuned_step, decayed, next}
 use Rattle.pie_early.specs.Decision.{is_considered, is_picked}
 use Rattle.pie_early.specs.History.{accumulated}
-use Rattle.pie_aqm.specs.Cause.{cause, considered_cause, early_cause}
+use Rattle.pie_aqm.specs.Steps.{cause}
+use Rattle.pie_early.specs.Cause.{considered_cause, early_cause}
 use Rattle.pie_aqm.specs.Steps.{verdict}
 use Rattle.pie_book.specs.Registers.{registers_after}
 use Rattle.pie_book.specs.Run.{answers, outcomes, progress_after}

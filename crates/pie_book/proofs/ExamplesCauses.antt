@@ -3,13 +3,13 @@ use Rattle.std.proofs.Common.{refl, ℕ, ◌≡◌, List, [], ◌∷◌, ◌++�
 use Rattle.pie_params.specs.Profile.{default_profile}
 use Rattle.pie_queue.specs.declared.ecn.Ecn.{Ecn}
 use Rattle.pie_queue.specs.declared.ecn.Ecn.TheVariants.{NotEct, Ect0, Ce}
-use Rattle.pie_aqm.specs.declared.cause.Cause.{Cause}
-use Rattle.pie_aqm.specs.declared.cause.Cause.TheVariants.{NoRoomInBytes, NoRoomInPackets, Inactive, BurstAllowed, LowDelay, ShortQueue}
-use Rattle.pie_aqm.specs.declared.cause.Cause.TheVariants.{NoProbability, LittleAccumulated, PickedBySum, PickedByWord, WordNotBelow}
-use Rattle.pie_aqm.specs.declared.cause.Fate.TheVariants.{Marked, NotCapable, NotBelow}
+use Rattle.pie_event.specs.declared.cause.Cause.{Cause}
+use Rattle.pie_event.specs.declared.cause.Cause.TheVariants.{NoRoomInBytes, NoRoomInPackets, Inactive, BurstAllowed, LowDelay, ShortQueue}
+use Rattle.pie_event.specs.declared.cause.Cause.TheVariants.{NoProbability, LittleAccumulated, PickedBySum, PickedByWord, WordNotBelow}
+use Rattle.pie_event.specs.declared.cause.Fate.TheVariants.{Marked, NotCapable, NotBelow}
 use Rattle.pie_book.specs.Types.{Two, Arrive, Depart, Update, Reset, SetParams, Event, Bounded, Opening}
 use Rattle.pie_event.specs.declared.command.Answer.TheVariants as answer
-use Rattle.pie_aqm.specs.Cause.{considered_cause, early_cause}
+use Rattle.pie_early.specs.Cause.{considered_cause, early_cause}
 use Rattle.pie_params.specs.Elements.{usual}
 use Rattle.pie_early.specs.declared.decision.Offered.{Offered}
 use Rattle.pie_book.specs.Cause.{cause_after}
@@ -58,7 +58,7 @@ the_words = (refl, refl)
 
 -- two packets of the mean size are a short queue, one byte more is not
 short_queues : map (λ bytes. early_cause usual default_profile (parts 100000000000 15000000 0 0) (meets bytes NotEct 0) 0) (2048 ∷ 2049 ∷ [])
-    ≡ ShortQueue 2048 2048 ∷ LittleAccumulated 0 100000000000 ∷ []
+    ≡ ShortQueue 2048 1024 ∷ LittleAccumulated 0 100000000000 ∷ []
 unfolding early_cause considered_cause
 short_queues = refl
 
@@ -76,7 +76,7 @@ low_probabilities = refl
 -- a burst is looked at first, then the delay, then the queue; and probability 0 before what is accumulated
 the_order : (early_cause usual default_profile (parts 0 0 1 0) (meets 0 NotEct 0) 0 ≡ BurstAllowed 1)
     × (early_cause usual default_profile (parts 0 0 0 0) (meets 0 NotEct 0) 0 ≡ LowDelay 0 15000000 0)
-    × (early_cause usual default_profile (parts 0 15000000 0 0) (meets 0 NotEct 0) 0 ≡ ShortQueue 0 2048)
+    × (early_cause usual default_profile (parts 0 15000000 0 0) (meets 0 NotEct 0) 0 ≡ ShortQueue 0 1024)
     × (at 0 8400000000000 NotEct 0 ≡ NoProbability)
 unfolding early_cause considered_cause
 the_order = (refl, refl, refl, refl)

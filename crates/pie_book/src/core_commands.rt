@@ -6,9 +6,10 @@ ghost use Rattle.pie_queue.specs.Queue.{IsSize, bytes_of};
 ghost use Rattle.pie_event.specs.Verdict.{is_queued};
 ghost use Rattle.pie_book.specs.Types.{Arrive, Depart, Update, Reset, SetParams, Left};
 ghost use Rattle.pie_event.specs.Deed.{admission, arrival_deed};
+ghost use Rattle.pie_book.specs.Run.{event_of};
 
-use crate::Answer;
 use crate::deciding_core::Core;
+use crate::recorded::{Happened, Recorded};
 use pie_aqm::{Arrival, Verdict};
 use pie_fixed::Nanos;
 use pie_params::Params;
@@ -21,10 +22,16 @@ impl Core {
 
     /// The verdict on an arriving packet, which is queued where it says so.
     #[inline(always)]
-    pub(crate) fn arrive(&mut self, moment: Nanos, packet: Packet, word: u64) -> Answer
+    pub(crate) fn arrive(
+        &mut self,
+        caller: u16,
+        moment: Nanos,
+        packet: Packet,
+        word: u64,
+    ) -> Recorded
         requires size { IsSize packet.size }
         requires room { self.old.count < self.old.events }
-        ensures answer { result ≡ answer_in self.old (Arrive moment packet word) }
+        ensures event { result ≡ event_of caller (Arrive moment packet word) (answer_in self.old (Arrive moment packet word)) }
         ensures after { self.new ≡ after_command self.old (Arrive moment packet word) }
     {
         let now = self.controller.moment().max(moment);
@@ -32,7 +39,13 @@ impl Core {
         let verdict = self.controller.arrive(arrival, moment);
         self.tally.arrived(verdict);
         self.admit(verdict, packet, now);
-        Answer::of(verdict)
+        Recorded::of(Happened::Arrived {
+            caller,
+            verdict,
+            moment: moment.units(),
+            packet,
+            word,
+        })
     }
 
     /// An arriving packet, and the queue that it meets.
@@ -78,16 +91,19 @@ impl Core {
 
     /// The oldest packet departs, if there is one.
     #[inline(always)]
-    pub(crate) fn depart(&mut self, moment: Nanos) -> Answer
+    pub(crate) fn depart(&mut self, caller: u16, moment: Nanos) -> Recorded
         requires room { self.old.count < self.old.events }
-        ensures answer { result ≡ answer_in self.old (Depart moment) }
+        ensures event { result ≡ event_of caller (Depart moment) (answer_in self.old (Depart moment)) }
         ensures after { self.new ≡ after_command self.old (Depart moment) }
-        ensures threshold { (packet : Packet) → result ≡ Left packet → self.old.held.params.dq_threshold ≤ 65536 }
+        ensures threshold { (packet : Packet) → answer_in self.old (Depart moment) ≡ Left packet → self.old.held.params.dq_threshold ≤ 65536 }
     {
         let Some(oldest) = self.queue.take() else {
             self.controller.pass(moment);
             self.tally.found_none();
-            return Answer::Empty;
+            return Recorded::of(Happened::FoundNone {
+                caller,
+                moment: moment.units(),
+            });
         };
         let packet = oldest.packet;
         self.controller
@@ -95,45 +111,58 @@ impl Core {
         let now = self.controller.moment();
         let waited = now.units().saturating_sub(oldest.since.units());
         self.tally.departed(packet, waited);
-        Answer::Left(packet)
+        Recorded::of(Happened::Departed {
+            caller,
+            moment: moment.units(),
+            packet,
+        })
     }
 
     /// Makes an update.
     #[inline(always)]
-    pub(crate) fn update(&mut self, moment: Nanos) -> Answer
+    pub(crate) fn update(&mut self, caller: u16, moment: Nanos) -> Recorded
         requires room { self.old.count < self.old.events }
-        ensures answer { result ≡ answer_in self.old (Update moment) }
+        ensures event { result ≡ event_of caller (Update moment) (answer_in self.old (Update moment)) }
         ensures after { self.new ≡ after_command self.old (Update moment) }
     {
         let delay = self.controller.update(self.queue.bytes(), moment);
         self.tally.updated(delay);
         let control = self.controller.control();
-        Answer::Updated {
+        Recorded::of(Happened::Updated {
+            caller,
+            moment: moment.units(),
             delay,
             prob: control.prob().units(),
             burst: control.burst(),
-        }
+        })
     }
 
     /// Makes a reset.
-    pub(crate) fn reset(&mut self, moment: Nanos) -> Answer
+    pub(crate) fn reset(&mut self, caller: u16, moment: Nanos) -> Recorded
         requires room { self.old.count < self.old.events }
-        ensures answer { result ≡ answer_in self.old (Reset moment) }
+        ensures event { result ≡ event_of caller (Reset moment) (answer_in self.old (Reset moment)) }
         ensures after { self.new ≡ after_command self.old (Reset moment) }
     {
         self.controller.reset(moment);
         self.tally.was_reset();
-        Answer::Done
+        Recorded::of(Happened::WasReset {
+            caller,
+            moment: moment.units(),
+        })
     }
 
     /// Sets the parameters.
-    pub(crate) fn set(&mut self, moment: Nanos, params: Params) -> Answer
+    pub(crate) fn set(&mut self, caller: u16, moment: Nanos, params: Params) -> Recorded
         requires room { self.old.count < self.old.events }
-        ensures answer { result ≡ answer_in self.old (SetParams moment params) }
+        ensures event { result ≡ event_of caller (SetParams moment params) (answer_in self.old (SetParams moment params)) }
         ensures after { self.new ≡ after_command self.old (SetParams moment params) }
     {
         self.controller.set_params(params, moment);
         self.tally.changed();
-        Answer::Done
+        Recorded::of(Happened::WasSet {
+            caller,
+            moment: moment.units(),
+            params,
+        })
     }
 }

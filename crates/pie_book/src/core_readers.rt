@@ -1,6 +1,6 @@
 //! What a core tells of itself.
 ghost use Rattle.std.specs.Prelude.{◌≡◌, List, slice_get, IfSome};
-ghost use Rattle.pie_aqm.specs.Cause.{verdict_of};
+ghost use Rattle.pie_event.specs.Cause.{verdict_of};
 ghost use Rattle.pie_book.specs.Types.{Event, Opening};
 ghost use Rattle.pie_book.specs.Cause.{cause_after};
 ghost use Rattle.pie_book.specs.Decision.{decision};

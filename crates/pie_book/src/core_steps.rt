@@ -1,11 +1,12 @@
 //! A core decides a command.
-ghost use Rattle.std.specs.Prelude.{◌≡◌, ◌<◌, ◌++◌, ◌∷◌, [], ℕ, List, true, None, Some, IfOk, IfErr, OnErr};
+ghost use Rattle.std.specs.Prelude.{◌≡◌, ◌<◌, ◌++◌, ◌∷◌, [], List, None, Some, IfOk, IfErr, OnErr};
 ghost use Rattle.pie_book.specs.Types.{Event, Opening};
-ghost use Rattle.pie_event.specs.Deed.{fits, handed_in};
+ghost use Rattle.pie_event.specs.Deed.{handed_in};
 ghost use Rattle.pie_book.specs.Decision.{decision, refusal_by_rule};
 ghost use Rattle.pie_book.specs.Run.{event_of, refused_or};
 
 use crate::deciding_core::Core;
+use crate::recorded::Recorded;
 use crate::{Answer, Command, Refusal};
 use pie_fixed::Nanos;
 use pie_queue::MAX_SIZE;
@@ -28,9 +29,8 @@ impl Core {
             → IfOk result (λ answer. Shows opening self.new (history ++ event_of caller command answer ∷ [])) }
         ensures refused { OnErr result (self.new ≡ self.old) }
     {
-        let _ = caller;
         match self.taken(&command) {
-            Ok(moment) => Ok(self.advance(moment, command)),
+            Ok(moment) => Ok(self.advance(caller, moment, command).answer()),
             Err(why) => Err(why),
         }
     }
@@ -52,9 +52,10 @@ impl Core {
                 }
             }
             Command::Update { .. } => {
-                let due = self.controller.due();
-                if self.controller.moment().max(moment).units() < due {
-                    return Err(Refusal::TooSoon { due });
+                if self.controller.is_too_soon(moment) {
+                    return Err(Refusal::TooSoon {
+                        due: self.controller.due(),
+                    });
                 }
             }
             Command::Depart { .. } | Command::Reset { .. } | Command::SetParams { .. } => {}
@@ -65,38 +66,39 @@ impl Core {
         Ok(moment)
     }
 
-    /// Decides a command that is not refused and hands in this moment, and counts it.
+    /// Decides a command that is not refused and hands in this moment, and counts it: the event that it then is.
     #[inline(always)]
-    pub(crate) fn advance(&mut self, moment: Nanos, command: Command) -> Answer
+    pub(crate) fn advance(&mut self, caller: u16, moment: Nanos, command: Command) -> Recorded
         requires taken { refusal_of self.old command ≡ None }
         requires room { self.old.count < self.old.events }
         requires moment { moment ≡ handed_in command }
-        ensures decides { (opening : Opening) (history : List Event) → Shows opening self.old history → result ≡ decision opening history command }
-        ensures shows { (opening : Opening) (history : List Event) (caller : ℕ) → Shows opening self.old history
-            → Shows opening self.new (history ++ event_of caller command result ∷ []) }
-        ensures fits { fits command result ≡ true }
+        ensures event { result ≡ event_of caller command result.answer }
+        ensures decides { (opening : Opening) (history : List Event) → Shows opening self.old history
+            → result.answer ≡ decision opening history command }
+        ensures shows { (opening : Opening) (history : List Event) → Shows opening self.old history
+            → Shows opening self.new (history ++ event_of caller command result.answer ∷ []) }
     {
-        let answer = self.decide(moment, command);
+        let recorded = self.decide(caller, moment, command);
         self.close();
-        answer
+        recorded
     }
 
     /// The same, but for the largest queue.
     #[inline(always)]
-    fn decide(&mut self, moment: Nanos, command: Command) -> Answer
+    fn decide(&mut self, caller: u16, moment: Nanos, command: Command) -> Recorded
         requires taken { refusal_of self.old command ≡ None }
         requires room { self.old.count < self.old.events }
         requires moment { moment ≡ handed_in command }
-        ensures answer { result ≡ answer_in self.old command }
+        ensures event { result ≡ event_of caller command (answer_in self.old command) }
         ensures after { self.new ≡ after_command self.old command }
-        ensures threshold { HasThreshold self.old command result }
+        ensures threshold { HasThreshold self.old command (answer_in self.old command) }
     {
         match command {
-            Command::Arrive { packet, word, .. } => self.arrive(moment, packet, word),
-            Command::Depart { .. } => self.depart(moment),
-            Command::Update { .. } => self.update(moment),
-            Command::Reset { .. } => self.reset(moment),
-            Command::SetParams { params, .. } => self.set(moment, params),
+            Command::Arrive { packet, word, .. } => self.arrive(caller, moment, packet, word),
+            Command::Depart { .. } => self.depart(caller, moment),
+            Command::Update { .. } => self.update(caller, moment),
+            Command::Reset { .. } => self.reset(caller, moment),
+            Command::SetParams { params, .. } => self.set(caller, moment, params),
         }
     }
 

@@ -1,8 +1,10 @@
 -- The optional elements by their flags.
-use Rattle.std.proofs.Common.{◌≡◌, ℕ, zero, suc, ◌≤◌, ◌==◌, if◌then◌else◌, Bool, true, false, refl, arith}
+use Rattle.std.proofs.Common.{◌≡◌, ℕ, zero, suc, ◌≤◌, ◌==◌, ◌&&◌, if◌then◌else◌, Bool, true, false, refl, arith}
 use Rattle.std.proofs.lemmas.Bool.{eqb-true}
-use Rattle.std.proofs.lemmas.Bool.Decides.{nat_tests}
+use Rattle.std.proofs.lemmas.Bool.Decides.{Decides-below_and, Decides-eqb, nat_tests}
 use Rattle.pie_params.specs.declared.elements.Elements.{Elements}
+use Rattle.pie_params.specs.declared.elements.Decay.{Decay}
+use Rattle.pie_params.specs.declared.elements.Decay.TheVariants.{Half, Zero}
 use Rattle.pie_params.specs.declared.elements.Delay.{Delay}
 use Rattle.pie_params.specs.declared.elements.Delay.TheVariants.{Rate, Stamp}
 use Rattle.pie_params.specs.declared.elements.Picking.{Picking}
@@ -12,34 +14,51 @@ use Rattle.pie_params.specs.declared.elements.Step.TheVariants.{Capped, Uncapped
 use Rattle.pie_params.specs.declared.elements.Size.{Size}
 use Rattle.pie_params.specs.declared.elements.Size.TheVariants.{Unscaled, Scaled}
 use Rattle.pie_params.specs.Elements.{usual}
-use Rattle.pie_c.specs.State.{choices_of, delay_flag, elements_of, picking_flag, size_flag, step_flag}
+use Rattle.pie_c.specs.State.{choices_of, decay_flag, delay_flag, elements_of, picking_flag, size_flag, step_flag}
 
-of-parts : (d : Delay) (p : Picking) (t : Step) (z : Size)
-    → elements_of (choices_of (record { delay = d; picking = p; step = t; size = z })) ≡ record { delay = d; picking = p; step = t; size = z }
+of-parts : (d : Delay) (p : Picking) (t : Step) (z : Size) (c : Decay)
+    → elements_of (choices_of (record { delay = d; picking = p; step = t; size = z; decay = c }))
+    ≡ record { delay = d; picking = p; step = t; size = z; decay = c }
 unfolding elements_of choices_of
-of-parts Rate Derandomized Capped Unscaled = refl
-of-parts Rate Derandomized Capped Scaled = refl
-of-parts Rate Derandomized Uncapped Unscaled = refl
-of-parts Rate Derandomized Uncapped Scaled = refl
-of-parts Rate Random Capped Unscaled = refl
-of-parts Rate Random Capped Scaled = refl
-of-parts Rate Random Uncapped Unscaled = refl
-of-parts Rate Random Uncapped Scaled = refl
-of-parts Stamp Derandomized Capped Unscaled = refl
-of-parts Stamp Derandomized Capped Scaled = refl
-of-parts Stamp Derandomized Uncapped Unscaled = refl
-of-parts Stamp Derandomized Uncapped Scaled = refl
-of-parts Stamp Random Capped Unscaled = refl
-of-parts Stamp Random Capped Scaled = refl
-of-parts Stamp Random Uncapped Unscaled = refl
-of-parts Stamp Random Uncapped Scaled = refl
+of-parts Rate Derandomized Capped Unscaled Zero = refl
+of-parts Rate Derandomized Capped Unscaled Half = refl
+of-parts Rate Derandomized Capped Scaled Zero = refl
+of-parts Rate Derandomized Capped Scaled Half = refl
+of-parts Rate Derandomized Uncapped Unscaled Zero = refl
+of-parts Rate Derandomized Uncapped Unscaled Half = refl
+of-parts Rate Derandomized Uncapped Scaled Zero = refl
+of-parts Rate Derandomized Uncapped Scaled Half = refl
+of-parts Rate Random Capped Unscaled Zero = refl
+of-parts Rate Random Capped Unscaled Half = refl
+of-parts Rate Random Capped Scaled Zero = refl
+of-parts Rate Random Capped Scaled Half = refl
+of-parts Rate Random Uncapped Unscaled Zero = refl
+of-parts Rate Random Uncapped Unscaled Half = refl
+of-parts Rate Random Uncapped Scaled Zero = refl
+of-parts Rate Random Uncapped Scaled Half = refl
+of-parts Stamp Derandomized Capped Unscaled Zero = refl
+of-parts Stamp Derandomized Capped Unscaled Half = refl
+of-parts Stamp Derandomized Capped Scaled Zero = refl
+of-parts Stamp Derandomized Capped Scaled Half = refl
+of-parts Stamp Derandomized Uncapped Unscaled Zero = refl
+of-parts Stamp Derandomized Uncapped Unscaled Half = refl
+of-parts Stamp Derandomized Uncapped Scaled Zero = refl
+of-parts Stamp Derandomized Uncapped Scaled Half = refl
+of-parts Stamp Random Capped Unscaled Zero = refl
+of-parts Stamp Random Capped Unscaled Half = refl
+of-parts Stamp Random Capped Scaled Zero = refl
+of-parts Stamp Random Capped Scaled Half = refl
+of-parts Stamp Random Uncapped Unscaled Zero = refl
+of-parts Stamp Random Uncapped Unscaled Half = refl
+of-parts Stamp Random Uncapped Scaled Zero = refl
+of-parts Stamp Random Uncapped Scaled Half = refl
 
 pub elements-back : (e : Elements) → elements_of (choices_of e) ≡ e
-elements-back e = of-parts e.delay e.picking e.step e.size
+elements-back e = of-parts e.delay e.picking e.step e.size e.decay
 
-pub few-choices : (e : Elements) → choices_of e ≤ 15
+pub few-choices : (e : Elements) → choices_of e ≤ 31
 unfolding choices_of
-few-choices e = omega (arith, delay e.delay, picking e.picking, step e.step, size e.size)
+few-choices e = omega (arith, delay e.delay, picking e.picking, step e.step, size e.size, decay e.decay)
   where
     delay : (d : Delay) → delay_flag d ≤ 1
     delay Rate = omega arith
@@ -57,25 +76,20 @@ few-choices e = omega (arith, delay e.delay, picking e.picking, step e.step, siz
     size Unscaled = omega arith
     size Scaled = omega arith
 
-pub choices-back : (n : ℕ) → n ≤ 15 → choices_of (elements_of n) ≡ n
+    decay : (c : Decay) → decay_flag c ≤ 16
+    decay Zero = omega arith
+    decay Half = omega arith
+
+-- each number below one gives its flags back
+abbrev back_below : ℕ → Bool
+back_below zero = true
+back_below (suc n) = (choices_of (elements_of n) == n) && back_below n
+
+pub choices-back : (n : ℕ) → n ≤ 31 → choices_of (elements_of n) ≡ n
 unfolding elements_of choices_of
-choices-back zero h = refl
-choices-back (suc zero) h = refl
-choices-back (suc (suc zero)) h = refl
-choices-back (suc (suc (suc zero))) h = refl
-choices-back (suc (suc (suc (suc zero)))) h = refl
-choices-back (suc (suc (suc (suc (suc zero))))) h = refl
-choices-back (suc (suc (suc (suc (suc (suc zero)))))) h = refl
-choices-back (suc (suc (suc (suc (suc (suc (suc zero))))))) h = refl
-choices-back (suc (suc (suc (suc (suc (suc (suc (suc zero)))))))) h = refl
-choices-back (suc (suc (suc (suc (suc (suc (suc (suc (suc zero))))))))) h = refl
-choices-back (suc (suc (suc (suc (suc (suc (suc (suc (suc (suc zero)))))))))) h = refl
-choices-back (suc (suc (suc (suc (suc (suc (suc (suc (suc (suc (suc zero))))))))))) h = refl
-choices-back (suc (suc (suc (suc (suc (suc (suc (suc (suc (suc (suc (suc zero)))))))))))) h = refl
-choices-back (suc (suc (suc (suc (suc (suc (suc (suc (suc (suc (suc (suc (suc zero))))))))))))) h = refl
-choices-back (suc (suc (suc (suc (suc (suc (suc (suc (suc (suc (suc (suc (suc (suc zero)))))))))))))) h = refl
-choices-back (suc (suc (suc (suc (suc (suc (suc (suc (suc (suc (suc (suc (suc (suc (suc zero))))))))))))))) h = refl
-choices-back (suc (suc (suc (suc (suc (suc (suc (suc (suc (suc (suc (suc (suc (suc (suc (suc n)))))))))))))))) h = omega arith
+choices-back n few =
+    (Decides-below_and (λ m. choices_of (elements_of m) == m) (λ m. choices_of (elements_of m) ≡ m) back_below
+    (λ m. Decides-eqb (choices_of (elements_of m)) m) refl (λ m. refl) 32).0 refl n (omega (arith, few))
 
 -- at most the first is chosen
 pub nearly_usual : (n : ℕ) → n ≤ 1 → elements_of n ≡ (if n == 1 then record usual { delay = Stamp } else usual)

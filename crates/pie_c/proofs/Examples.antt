@@ -6,6 +6,7 @@ use Rattle.pie_early.specs.Decision.{is_considered, is_picked}
 use Rattle.pie_c.specs.declared.params.PieParams.{PieParams}
 use Rattle.pie_c.specs.declared.state.PieState.{PieState}
 use Rattle.pie_params.specs.Elements.{usual}
+use Rattle.pie_params.specs.declared.elements.Decay.TheVariants.{Half}
 use Rattle.pie_params.specs.declared.elements.Delay.TheVariants.{Stamp}
 use Rattle.pie_params.specs.declared.elements.Picking.TheVariants.{Random}
 use Rattle.pie_params.specs.declared.elements.Step.TheVariants.{Uncapped}
@@ -16,7 +17,7 @@ use Rattle.pie_aqm.specs.Steps.{accu_left, arrived, capped, departed, opened, up
 use Rattle.pie_c.specs.Calls.{arrival_of, arrival_refusal, packet_refusal, waited_refusal, departure_refusal, moment_refusal, reset_refusal, state_refusal}
 use Rattle.pie_c.specs.Calls.{update_refusal, verdict_number}
 use Rattle.pie_c.specs.Opening.{default_opening, opening_refusal}
-use Rattle.pie_c.specs.Params.{params_for, raw_of}
+use Rattle.pie_c.specs.Params.{raw_of}
 use Rattle.pie_c.specs.declared.opening.PieOpening.{PieOpening}
 use Rattle.pie_c.specs.State.{are_in_range, choices_of, elements_of, is_choice_sound, held_in, is_activity_sound, is_control_sound, is_rate_sound, is_sound, state_of, with_arrival, with_rate}
 
@@ -58,10 +59,10 @@ unfolding state_of reset_refusal moment_refusal packet_refusal is_sound are_in_r
 state_refusals = (refl, refl, refl, refl, refl, refl)
 
 -- where delays come from time stamps a departure says when the packet arrived; numbers of its own are looked at first
-stamped : (departure_refusal (record start { choices = 1 }) 1 0 0 ≡ 119) × (departure_refusal (record start { choices = 14 }) 1 0 0 ≡ 0)
+stamped : (departure_refusal (record start { choices = 1 }) 1 0 0 ≡ 119) × (departure_refusal (record start { choices = 30 }) 1 0 0 ≡ 0)
     × (waited_refusal (record start { choices = 1 }) 1 0 1 5 ≡ 118) × (waited_refusal (record start { choices = 1; moment = 1 }) 1 0 1 0 ≡ 0)
     × (waited_refusal start 1 0 1 0 ≡ 0) × (waited_refusal (record start { choices = 1 }) 0 0 1 5 ≡ 102)
-    × (elements_of 5 ≡ record usual { delay = Stamp; step = Uncapped }) × (elements_of 10 ≡ record usual { picking = Random; size = Scaled })
+    × (elements_of 5 ≡ record usual { delay = Stamp; step = Uncapped }) × (elements_of 26 ≡ record usual { picking = Random; size = Scaled; decay = Half })
 unfolding state_of packet_refusal elements_of choices_of
 stamped = (refl, refl, refl, refl, refl, refl, refl, refl)
 
@@ -86,19 +87,14 @@ refusals = (refl, refl, refl, refl, refl)
 abbrev opens : PieOpening
 opens = default_opening 0
 
-openings : (opening_refusal (record opens { params = record defaults { target = 1 }; moment = 2 ^ 60; profile = 3; choices = 16; mode = 2 }) ≡ 107)
-    × (opening_refusal (record opens { moment = 2 ^ 60; profile = 3; choices = 16; mode = 2 }) ≡ 101)
-    × (opening_refusal (record opens { profile = 3; choices = 16; mode = 2 }) ≡ 113) × (opening_refusal (record opens { profile = 0 }) ≡ 113)
-    × (opening_refusal (record opens { profile = 2; choices = 16; mode = 2 }) ≡ 117) × (opening_refusal (record opens { choices = 15; mode = 2 }) ≡ 120)
+openings : (opening_refusal (record opens { params = record defaults { target = 1 }; moment = 2 ^ 60; profile = 3; choices = 32; mode = 2 }) ≡ 107)
+    × (opening_refusal (record opens { moment = 2 ^ 60; profile = 3; choices = 32; mode = 2 }) ≡ 101)
+    × (opening_refusal (record opens { profile = 3; choices = 32; mode = 2 }) ≡ 113) × (opening_refusal (record opens { profile = 0 }) ≡ 113)
+    × (opening_refusal (record opens { profile = 2; choices = 32; mode = 2 }) ≡ 117) × (opening_refusal (record opens { choices = 31; mode = 2 }) ≡ 120)
     × (opening_refusal (record opens { packets = 0 }) ≡ 120) × (opening_refusal (record opens { tail = 2 ^ 20 + 1 }) ≡ 120)
-    × (opening_refusal (record opens { events = 2 ^ 47 + 1 }) ≡ 120) × (opening_refusal (record opens { profile = 2; choices = 15; mode = 0 }) ≡ 0)
+    × (opening_refusal (record opens { events = 2 ^ 47 + 1 }) ≡ 120) × (opening_refusal (record opens { profile = 2; choices = 31; mode = 0 }) ≡ 0)
 unfolding opening_refusal are_in_range
 openings = (refl, refl, refl, refl, refl, refl, refl, refl, refl, refl)
-
--- 200 ms at a rate: no less than the default, and no more than 2^30
-rates_of_links : (params_for 0 ≡ defaults) × (params_for 1_000_000_001 ≡ record defaults { limit_bytes = 25_000_001 })
-    × (params_for (10 ^ 11) ≡ record defaults { limit_bytes = 2 ^ 30 })
-rates_of_links = (refl, refl, refl)
 
 too_soon : (update_refusal start 0 14_999_999 ≡ 103) × (update_refusal start 0 15_000_000 ≡ 0)
     × (update_refusal (record start { moment = 15_000_000 }) 0 3 ≡ 0)

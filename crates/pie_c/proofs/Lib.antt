@@ -2,5 +2,4 @@ pub mod Choices
 mod Sound
 mod Examples
 pub mod Packets
-pub mod Updates
 pub mod WrittenFacts

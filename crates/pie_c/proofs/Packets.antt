@@ -31,7 +31,7 @@ use Rattle.pie_c.specs.Opening.{held_by_opening, limits_of, opening_in, opening_
 use Rattle.pie_c.specs.Params.{params_of, raw_of}
 use Rattle.pie_c.specs.State.{choices_of, elements_of, held_in, is_sound, last_moment, profile_number, profile_of, state_of, takes_stamps}
 use Rattle.pie_c.specs.State.{are_in_range, with_arrival, with_departure, with_rate, with_registers}
-use Rattle.pie_c.proofs.Sound.{choice-from, held-sound, held-state, kept-arrived, kept-departed, kept-moment, kept-waited, params-from, parts-of, profile-back, state-held}
+use Rattle.pie_c.proofs.Sound.{choice-from, held-sound, held-state, kept-by, params-from, parts-of, profile-back, state-held}
 use Rattle.pie_c.proofs.Sound.{state-sound}
 
 -- ---- a call that nothing refuses
@@ -77,12 +77,12 @@ pub record Opens (o : PieOpening) : Type 0 where
   pub params : are_in_range o.params ≡ true
   pub moment : o.moment < 2 ^ 60
   pub profile : ((o.profile == 1) || (o.profile == 2)) ≡ true
-  pub choices : o.choices ≤ 15
+  pub choices : o.choices ≤ 31
 
 pub opening-taken : (o : PieOpening) → opening_refusal o ≡ 0 → Opens o
 unfolding opening_refusal
 opening-taken o free =
-    by (are_in_range o.params) (nat_lt last_moment o.moment) ((o.profile == 1) || (o.profile == 2)) (nat_lt 15 o.choices)
+    by (are_in_range o.params) (nat_lt last_moment o.moment) ((o.profile == 1) || (o.profile == 2)) (nat_lt 31 o.choices)
     (nat_lt 1 o.mode || not (book.are_in_range (limits_of o))) refl refl refl refl free
   where
     code : (good late known many odd : Bool) → ℕ
@@ -90,7 +90,7 @@ opening-taken o free =
         if not good then 107 else if late then 101 else if not known then 113 else if many then 117 else if odd then 120 else 0
 
     by : (good late known many odd : Bool) → are_in_range o.params ≡ good → nat_lt last_moment o.moment ≡ late
-        → ((o.profile == 1) || (o.profile == 2)) ≡ known → nat_lt 15 o.choices ≡ many
+        → ((o.profile == 1) || (o.profile == 2)) ≡ known → nat_lt 31 o.choices ≡ many
         → code good late known many odd ≡ 0 → Opens o
     by false late known many odd g l k m free = cc
     by true true known many odd g l k m free = cc
@@ -107,14 +107,6 @@ says-opening o it is = by (opening_refusal o == 0) refl is
         → (opening_refusal o ≡ 0) × (it ≡ opening_in o)
     by true e is = (eqb-true (opening_refusal o) 0 e, cc)
     by false e is = cc
-
-pub says-why : (o : PieOpening) (code : ℕ) → opening_of o ≡ Err code → ((opening_refusal o == 0) ≡ false) × (code ≡ opening_refusal o)
-says-why o code is = by (opening_refusal o == 0) refl is
-  where
-    by : (free : Bool) → (opening_refusal o == 0) ≡ free → (if free then Ok (opening_in o) else Err (opening_refusal o)) ≡ Err code
-        → ((opening_refusal o == 0) ≡ false) × (code ≡ opening_refusal o)
-    by true e is = cc
-    by false e is = (e, cc)
 
 threshold-in : (params : RawParams) → first_bad params ≡ None → params.dq_threshold ≤ 65536
 threshold-in params good =
@@ -212,9 +204,7 @@ pub registers-state : (s : PieState) (h : Held) → h.params ≡ raw_of s.params
     → with_registers s h ≡ state_of h
 unfolding state_of
 registers-state s h same kind chosen =
-    ap (λ (p : PieParams). record (with_registers s h) { params = p }) (sym (ap params_of same))
-    ∙ ap (λ (n : ℕ). record (with_registers s h) { params = params_of h.params; profile = n }) (sym kind)
-    ∙ ap (λ (n : ℕ). record (with_registers s h) { params = params_of h.params; profile = profile_number h.profile; choices = n }) (sym chosen)
+    λ i. record (with_registers s h) { params = params_of ((sym same) i); profile = (sym kind) i; choices = (sym chosen) i }
 
 kind-back : (s : PieState) → is_sound s ≡ true → profile_number (profile_of s.profile) ≡ s.profile
 kind-back s sound = let parts = parts-of s sound in profile-back (s.profile == 2) s refl parts.activity
@@ -224,7 +214,7 @@ chosen-back s sound = let parts = parts-of s sound in choices-back s.choices (ch
 
 pub arrived-state : (s : PieState) (a : Arrival) (moment : ℕ) → is_sound s ≡ true
     → with_arrival s (arrived (held_in s) a moment) ≡ state_of (arrived (held_in s) a moment)
-unfolding held_in
+unfolding held_in state_of
 arrived-state s a moment sound = by (turns_on (held_in s) (bytes_with (verdict (held_in s) a) a.queued a.size)) refl
   where
     by : (on : Bool) → turns_on (held_in s) (bytes_with (verdict (held_in s) a) a.queued a.size) ≡ on
@@ -232,7 +222,8 @@ arrived-state s a moment sound = by (turns_on (held_in s) (bytes_with (verdict (
         ≡ state_of (if on then record (anew (judged (held_in s) a moment)) { active = true } else judged (held_in s) a moment)
     by true e =
         rw (on-alone (s.active == 1) _ e) (registers-state s (record (anew (judged (held_in s) a moment)) { active = true }) refl (kind-back s sound) (chosen-back s sound))
-    by false e = rw (not-both (s.active == 1)) (kept-arrived s (judged (held_in s) a moment) sound refl)
+    by false e = rw (not-both (s.active == 1)) (kept-by s (judged (held_in s) a moment)
+        (λ (t : PieState). record t { moment = (judged (held_in s) a moment).moment; accu = (judged (held_in s) a moment).accu }) sound refl)
 
 capped-is : (h : Held) → h.params.dq_threshold ≤ 65536 → capped h ≡ h
 capped-is h t = ap (λ (n : ℕ). record h { params = record h.params { dq_threshold = n } }) (grind arith)
@@ -240,7 +231,7 @@ capped-is h t = ap (λ (n : ℕ). record h { params = record h.params { dq_thres
 -- a departure of a state that takes delays by the rate, and of one that takes them from time stamps
 pub departed-state : (s : PieState) (size left since moment : ℕ) → is_sound s ≡ true
     → with_departure s (departed (capped (held_in s)) size left since moment) ≡ state_of (departed (held_in s) size left since moment)
-unfolding held_in elements_of
+unfolding held_in state_of elements_of
 departed-state s size left since moment sound =
     ap (λ (h : Held). with_departure s (departed h size left since moment)) (capped-is (held_in s) (threshold-of s sound)) ∙ by (takes_stamps s) refl
   where
@@ -251,10 +242,13 @@ departed-state s size left since moment sound =
         → with_departure s (departed (held_in s) size left since moment) ≡ state_of (departed (held_in s) size left since moment)
     by true is =
         ap (λ (b : Bool). two b (departed (held_in s) size left since moment)) is
-        ∙ kept-waited s (departed (held_in s) size left since moment) sound (rw is refl)
+        ∙ kept-by s (departed (held_in s) size left since moment)
+        (λ (t : PieState). record t { moment = (departed (held_in s) size left since moment).moment; waited = (departed (held_in s) size left since moment).waited })
+        sound (rw is refl)
     by false is =
         ap (λ (b : Bool). two b (departed (held_in s) size left since moment)) is
-        ∙ kept-departed s (departed (held_in s) size left since moment) sound (rw is refl)
+        ∙ kept-by s (departed (held_in s) size left since moment) (λ (t : PieState). with_rate t (departed (held_in s) size left since moment)) sound
+        (rw is refl)
 
 -- where delays come from the rate it doesn't matter since when a packet waited
 pub by-rate : (s : PieState) (size left since moment : ℕ) → takes_stamps s ≡ false
@@ -339,8 +333,8 @@ unfolding held_in
 unmeasured-state s h moment closed is = rw (is, closed) refl
 
 pub passed-state : (s : PieState) (moment : ℕ) → is_sound s ≡ true → record s { moment = max s.moment moment } ≡ state_of (passed (held_in s) moment)
-unfolding held_in
-passed-state s moment sound = kept-moment s (passed (held_in s) moment) sound refl
+unfolding held_in state_of
+passed-state s moment sound = kept-by s (passed (held_in s) moment) (λ (t : PieState). record t { moment = max s.moment moment }) sound refl
 
 -- an arrival at a state that has its moment already
 abbrev pub at_later : PieState → ℕ → PieState

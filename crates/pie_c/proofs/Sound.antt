@@ -1,9 +1,8 @@
 -- A state says what a controller holds, and is sound where that is.
-use Rattle.std.proofs.Common.{◌≡◌, ℕ, ◌<◌, ◌≤◌, ◌^◌, ◌==◌, ◌&&◌, nat_lt, nat_le, if◌then◌else◌, Bool, true, false, Option, Some, None, is_none}
+use Rattle.std.proofs.Common.{◌≡◌, ◌<◌, ◌≤◌, ◌^◌, ◌==◌, ◌&&◌, nat_lt, nat_le, if◌then◌else◌, Bool, true, false, Option, Some, None, is_none}
 use Rattle.std.proofs.Common.{arith, refl, sym, ap, ◌∙◌}
 use Rattle.std.proofs.lemmas.Bool.Decides.{nat_tests}
 use Rattle.pie_params.specs.declared.raw.RawParams.{RawParams}
-use Rattle.pie_params.specs.declared.elements.Elements.{Elements}
 use Rattle.pie_params.specs.Range.{first_bad}
 use Rattle.pie_rate.specs.Estimate.{Begun}
 use Rattle.pie_event.specs.declared.profile.Profile.{Profile}
@@ -13,7 +12,7 @@ use Rattle.pie_c.specs.declared.params.PieParams.{PieParams}
 use Rattle.pie_c.specs.declared.state.PieState.{PieState}
 use Rattle.pie_c.specs.Params.{params_of, raw_of}
 use Rattle.pie_c.specs.State.{are_in_range, begun_in, count_of, flag, flag_of, held_in, is_activity_sound, is_control_sound, is_rate_sound, is_sound}
-use Rattle.pie_c.specs.State.{choices_of, elements_of, is_choice_sound, last_moment, profile_number, profile_of, start_of, state_of}
+use Rattle.pie_c.specs.State.{is_choice_sound, last_moment, profile_number, profile_of, start_of, state_of}
 use Rattle.pie_c.proofs.Choices.{choices-back, elements-back, few-choices}
 
 -- ---- what a state says of what is held is what is held
@@ -32,31 +31,12 @@ begun-is (Some cycle) = refl
 
 pub held-state : (h : Held) → held_in (state_of h) ≡ h
 unfolding held_in state_of
-held-state h =
-    ap (λ (p : Profile). record {
-      profile = p;
-      elements = elements_of (choices_of h.elements);
-      params = h.params;
-      moment = h.moment;
-      active = flag h.active == 1;
-      rate = record { average = h.rate.average; begun = begun_in (flag_of h.rate.begun) (start_of h.rate.begun) (count_of h.rate.begun) };
-      waited = h.waited;
-      control = h.control;
-      accu = h.accu;
-    }) (profile-is h.profile)
-    ∙ ap (λ (a : Bool). record h {
-      elements = elements_of (choices_of h.elements);
-      active = a;
-      rate = record {
-        average = h.rate.average;
-        begun = begun_in (flag_of h.rate.begun) (start_of h.rate.begun) (count_of h.rate.begun);
-      };
-    }) (active-is h.active)
-    ∙ ap (λ (o : Option Begun). record h {
-      elements = elements_of (choices_of h.elements);
-      rate = record { average = h.rate.average; begun = o };
-    }) (begun-is h.rate.begun)
-    ∙ ap (λ (e : Elements). record h { elements = e }) (elements-back h.elements)
+held-state h = λ i. record h {
+  profile = profile-is h.profile i;
+  elements = elements-back h.elements i;
+  active = active-is h.active i;
+  rate = record { average = h.rate.average; begun = begun-is h.rate.begun i };
+}
 
 -- ---- sound
 
@@ -83,14 +63,14 @@ parts-of s h = record {
 }
 
 pub record Choice (s : PieState) : Type 0 where
-  pub known : s.choices ≤ 15
+  pub known : s.choices ≤ 31
   pub waited : s.waited ≤ 2 ^ 40
 
 pub choice-from : (s : PieState) → is_choice_sound s ≡ true → Choice s
 unfolding is_choice_sound
 choice-from s h = record { known = grind (arith, nat_tests); waited = grind (arith, nat_tests) }
 
-choice-to : (s : PieState) → s.choices ≤ 15 → s.waited ≤ 2 ^ 40 → is_choice_sound s ≡ true
+choice-to : (s : PieState) → s.choices ≤ 31 → s.waited ≤ 2 ^ 40 → is_choice_sound s ≡ true
 unfolding is_choice_sound
 choice-to s k w = grind (arith, nat_tests)
 
@@ -234,67 +214,18 @@ pub state-held : (s : PieState) → is_sound s ≡ true → state_of (held_in s)
 unfolding held_in state_of
 state-held s sound =
     let parts = parts-of s sound in
-    let o : Option Begun = begun_in s.measuring s.cycle_start s.cycle_count in
     let cycle = cycle-back (s.measuring == 1) s refl parts.rate in
-    ap (λ (n : ℕ). record s {
-      measuring = n;
-      cycle_start = start_of o;
-      cycle_count = count_of o;
-      profile = profile_number (profile_of s.profile);
-      active = flag (s.active == 1);
-      choices = choices_of (elements_of s.choices);
-    }) cycle.flag
-    ∙ ap (λ (n : ℕ). record s {
-      cycle_start = n;
-      cycle_count = count_of o;
-      profile = profile_number (profile_of s.profile);
-      active = flag (s.active == 1);
-      choices = choices_of (elements_of s.choices);
-    }) cycle.start
-    ∙ ap (λ (n : ℕ). record s {
-      cycle_count = n;
-      profile = profile_number (profile_of s.profile);
-      active = flag (s.active == 1);
-      choices = choices_of (elements_of s.choices);
-    }) cycle.count
-    ∙ ap (λ (n : ℕ). record s { profile = n; active = flag (s.active == 1); choices = choices_of (elements_of s.choices) })
-    (profile-back (s.profile == 2) s refl parts.activity)
-    ∙ ap (λ (n : ℕ). record s { active = n; choices = choices_of (elements_of s.choices) }) (active-back (s.active == 1) s refl parts.activity)
-    ∙ ap (λ (n : ℕ). record s { choices = n }) (choices-back s.choices (choice-from s parts.choice).known)
+    λ i. record s {
+      measuring = cycle.flag i;
+      cycle_start = cycle.start i;
+      cycle_count = cycle.count i;
+      profile = profile-back (s.profile == 2) s refl parts.activity i;
+      active = active-back (s.active == 1) s refl parts.activity i;
+      choices = choices-back s.choices (choice-from s parts.choice).known i;
+    }
 
-pub kept-moment : (s : PieState) (h : Held) → is_sound s ≡ true → h ≡ record (held_in s) { moment = h.moment }
-    → record s { moment = h.moment } ≡ state_of h
-unfolding state_of
-kept-moment s h sound is = ap (λ (t : PieState). record t { moment = h.moment }) (sym (state-held s sound)) ∙ sym (ap state_of is)
-
-pub kept-arrived : (s : PieState) (h : Held) → is_sound s ≡ true → h ≡ record (held_in s) { moment = h.moment; accu = h.accu }
-    → record s { moment = h.moment; accu = h.accu } ≡ state_of h
-unfolding state_of
-kept-arrived s h sound is = ap (λ (t : PieState). record t { moment = h.moment; accu = h.accu }) (sym (state-held s sound)) ∙ sym (ap state_of is)
-
-pub kept-departed : (s : PieState) (h : Held) → is_sound s ≡ true → h ≡ record (held_in s) { moment = h.moment; rate = h.rate }
-    → record s {
-      moment = h.moment;
-      average = h.rate.average;
-      measuring = flag_of h.rate.begun;
-      cycle_start = start_of h.rate.begun;
-      cycle_count = count_of h.rate.begun;
-    } ≡ state_of h
-unfolding state_of
-kept-departed s h sound is =
-    ap (λ (t : PieState). record t {
-      moment = h.moment;
-      average = h.rate.average;
-      measuring = flag_of h.rate.begun;
-      cycle_start = start_of h.rate.begun;
-      cycle_count = count_of h.rate.begun;
-    }) (sym (state-held s sound))
-    ∙ sym (ap state_of is)
-
-pub kept-waited : (s : PieState) (h : Held) → is_sound s ≡ true → h ≡ record (held_in s) { moment = h.moment; waited = h.waited }
-    → record s { moment = h.moment; waited = h.waited } ≡ state_of h
-unfolding state_of
-kept-waited s h sound is = ap (λ (t : PieState). record t { moment = h.moment; waited = h.waited }) (sym (state-held s sound)) ∙ sym (ap state_of is)
+pub kept-by : (s : PieState) (h : Held) (f : PieState → PieState) → is_sound s ≡ true → f (state_of (held_in s)) ≡ state_of h → f s ≡ state_of h
+kept-by s h f sound is = ap f (sym (state-held s sound)) ∙ is
 
 pub kept-updated : (s : PieState) (h : Held) → is_sound s ≡ true
     → h ≡ record (held_in s) { moment = h.moment; active = h.active; control = h.control }
@@ -307,13 +238,11 @@ pub kept-updated : (s : PieState) (h : Held) → is_sound s ≡ true
       active = flag h.active;
     } ≡ state_of h
 unfolding state_of
-kept-updated s h sound is =
-    ap (λ (t : PieState). record t {
-      moment = h.moment;
-      prob = h.control.prob;
-      old_delay = h.control.old_delay;
-      burst = h.control.burst;
-      last = h.control.last;
-      active = flag h.active;
-    }) (sym (state-held s sound))
-    ∙ sym (ap state_of is)
+kept-updated s h sound is = kept-by s h (λ (t : PieState). record t {
+  moment = h.moment;
+  prob = h.control.prob;
+  old_delay = h.control.old_delay;
+  burst = h.control.burst;
+  last = h.control.last;
+  active = flag h.active;
+}) sound (sym (ap state_of is))

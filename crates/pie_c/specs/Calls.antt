@@ -9,7 +9,7 @@ use Rattle.pie_aqm.specs.Calls.{Arrive, Call, after_call, shown_by}
 use Rattle.pie_aqm.specs.Events.{ControllerEvent, Opened}
 use Rattle.pie_aqm.specs.Held.{Held}
 use Rattle.pie_aqm.specs.History.{Shows}
-use Rattle.pie_aqm.specs.Steps.{arrived, delay_answered, due, now_at, updated, verdict}
+use Rattle.pie_aqm.specs.Steps.{arrived, delay_answered, due, is_too_soon, updated, verdict}
 use Rattle.pie_c.specs.declared.params.PieParams.{PieParams}
 use Rattle.pie_c.specs.declared.state.PieState.{PieState}
 use Rattle.pie_c.specs.declared.updated.PieUpdated.{PieUpdated}
@@ -121,7 +121,7 @@ update_refusal state queued moment =
     if not (is_sound state) then 110
     else if nat_lt last_moment moment then 101
     else if nat_lt (2 ^ 30) queued then 112
-    else if nat_lt (now_at (held_in state) moment) (due (held_in state)) then 103
+    else if is_too_soon (held_in state) moment then 103
     else 0
 
 -- what an update answers with this number and this delay, from what is held after it

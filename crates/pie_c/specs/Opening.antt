@@ -5,17 +5,18 @@ use Rattle.pie_event.specs.declared.opening.Limits.{Limits}
 use Rattle.pie_event.specs.declared.opening.Mode.{Mode}
 use Rattle.pie_event.specs.declared.opening.Mode.TheVariants.{Bounded, Rolling}
 use Rattle.pie_event.specs.declared.opening.Opening.{Opening}
+use Rattle.pie_params.specs.Profile.{profile_for}
 use Rattle.pie_aqm.specs.Events.{Opened}
 use Rattle.pie_aqm.specs.Held.{Held}
 use Rattle.pie_aqm.specs.Steps.{opened}
 use Rattle.pie_c.specs.declared.opening.PieOpening.{PieOpening}
-use Rattle.pie_c.specs.Params.{params_for, raw_of}
+use Rattle.pie_c.specs.Params.{params_of, raw_of}
 use Rattle.pie_c.specs.State.{are_in_range, elements_of, last_moment, profile_of}
 
 -- the default opening for a link of this rate
 abbrev pub default_opening : ℕ → PieOpening
 default_opening rate = record {
-  params = params_for rate;
+  params = params_of (profile_for rate);
   moment = 0;
   profile = 1;
   choices = 0;
@@ -39,7 +40,7 @@ opening_refusal o =
     if not (are_in_range o.params) then 107
     else if nat_lt last_moment o.moment then 101
     else if not ((o.profile == 1) || (o.profile == 2)) then 113
-    else if nat_lt 15 o.choices then 117
+    else if nat_lt 31 o.choices then 117
     else if nat_lt 1 o.mode || not (book.are_in_range (limits_of o)) then 120
     else 0
 

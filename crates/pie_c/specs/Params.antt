@@ -1,7 +1,5 @@
 -- The parameters as a C caller holds them, and the numbers of their fields.
-use Rattle.std.specs.Prelude.{ℕ, ◌^◌, Option, Some, None, max, min}
-use Rattle.std.specs.Int.{div_ceil}
-use Rattle.pie_params.specs.Profile.{default_profile}
+use Rattle.std.specs.Prelude.{ℕ, Option, Some, None}
 use Rattle.pie_params.specs.declared.raw.Field.{Field}
 use Rattle.pie_params.specs.declared.raw.Field.TheVariants.{Target, TUpdate, MaxBurst, Alpha, Beta, MeanPkt, LimitBytes, MarkEcnth, DqThreshold}
 use Rattle.pie_params.specs.declared.raw.RawParams.{RawParams}
@@ -34,10 +32,6 @@ params_of p = record {
   mark_ecnth = p.mark_ecnth;
   dq_threshold = p.dq_threshold;
 }
-
--- the default parameters for a link of this rate: the limit is 200 ms at it, but no less than the default and no more than the range allows
-abbrev pub params_for : ℕ → PieParams
-params_for rate = params_of (record default_profile { limit_bytes = min (max (div_ceil rate 40) default_profile.limit_bytes) (2 ^ 30) })
 
 -- the number of a field, counted from 1 in the order in which the fields are checked
 abbrev pub field_number : Field → ℕ

@@ -1,6 +1,8 @@
 -- What a state says that a controller holds, and which states are sound.
 use Rattle.std.specs.Prelude.{ℕ, ◌^◌, ◌-◌, ◌+◌, ◌/◌, ◌%◌, Bool, not, ◌&&◌, ◌==◌, nat_lt, nat_le, is_none, Option, Some, None, if◌then◌else◌}
 use Rattle.pie_params.specs.declared.elements.Elements.{Elements}
+use Rattle.pie_params.specs.declared.elements.Decay.{Decay}
+use Rattle.pie_params.specs.declared.elements.Decay.TheVariants.{Half, Zero}
 use Rattle.pie_params.specs.declared.elements.Delay.{Delay}
 use Rattle.pie_params.specs.declared.elements.Delay.TheVariants.{Rate, Stamp}
 use Rattle.pie_params.specs.declared.elements.Picking.{Picking}
@@ -35,7 +37,7 @@ abbrev pub profile_number : Profile → ℕ
 profile_number One = 1
 profile_number Two = 2
 
--- the optional elements by their flags, 1, 2, 4 and 8, and their flags
+-- the optional elements by their flags, 1, 2, 4, 8 and 16, and their flags
 abbrev pub delay_of : ℕ → Delay
 delay_of choices = if choices % 2 == 1 then Stamp else Rate
 
@@ -45,6 +47,7 @@ elements_of choices = record {
   picking = if (choices / 2) % 2 == 1 then Random else Derandomized;
   step = if (choices / 4) % 2 == 1 then Uncapped else Capped;
   size = if (choices / 8) % 2 == 1 then Scaled else Unscaled;
+  decay = if (choices / 16) % 2 == 1 then Half else Zero;
 }
 
 abbrev pub delay_flag : Delay → ℕ
@@ -63,8 +66,12 @@ abbrev pub size_flag : Size → ℕ
 size_flag Unscaled = 0
 size_flag Scaled = 8
 
+abbrev pub decay_flag : Decay → ℕ
+decay_flag Zero = 0
+decay_flag Half = 16
+
 unfoldable pub choices_of : Elements → ℕ
-choices_of e = delay_flag e.delay + picking_flag e.picking + step_flag e.step + size_flag e.size
+choices_of e = delay_flag e.delay + picking_flag e.picking + step_flag e.step + size_flag e.size + decay_flag e.decay
 
 -- the cycle of the departure rate that is begun, where the flag says so
 abbrev pub begun_in : ℕ → ℕ → ℕ → Option Begun
@@ -185,7 +192,7 @@ is_activity_sound s = if s.profile == 1 then s.active == 1 else (s.profile == 2)
 
 -- the choices are known, and the wait is in its range
 unfoldable pub is_choice_sound : PieState → Bool
-is_choice_sound s = nat_le s.choices 15 && nat_le s.waited (2 ^ 40)
+is_choice_sound s = nat_le s.choices 31 && nat_le s.waited (2 ^ 40)
 
 -- each field is in its range, and the fields fit one another
 unfoldable pub is_sound : PieState → Bool

@@ -1,7 +1,7 @@
 //! The calls on a state. Those for each packet read the state's numbers as they are: their rules are total, so nothing of the state
 //! is checked. The others refuse a state that isn't sound. Each refuses what it is handed out of its range, lets the controller
 //! make its step, and writes back what that changed.
-ghost use Rattle.std.specs.Prelude.{◌≡◌, ◌+◌, ◌-◌, ◌^◌, ◌∷◌, [], ◌++◌, List, if◌then◌else◌, max, min, true};
+ghost use Rattle.std.specs.Prelude.{◌≡◌, ◌<◌, ◌+◌, ◌-◌, ◌^◌, ◌∷◌, [], ◌++◌, List, if◌then◌else◌, max, min, true};
 ghost use Rattle.pie_aqm.specs.Calls.{Arrive, Change, Depart, Pass, Restart, Update, after_call, shown_by};
 ghost use Rattle.pie_aqm.specs.Events.{ControllerEvent, Opened};
 ghost use Rattle.pie_aqm.specs.History.{Shows};
@@ -328,12 +328,7 @@ pub(crate) fn empty(state: &mut PieState, moment: u64) -> u32
 #[unsafe(no_mangle)]
 pub extern "C" fn pie_update(state: &mut PieState, queued: u64, moment: u64) -> PieUpdated
     ensures answer { result ≡ updated_by state.old queued moment }
-    ensures after { state.new ≡ kept_if_refused (update_refusal state.old queued moment) state.old
-        (after_call (held_in state.old) (Update queued moment)) }
-    ensures sound { is_sound state.old ≡ true → is_sound state.new ≡ true }
-    ensures shows { (opened : Opened) (events : List ControllerEvent) → update_refusal state.old queued moment ≡ 0
-        → Shows opened events (held_in state.old)
-        → Shows opened (events ++ shown_by (held_in state.old) (Update queued moment) ∷ []) (held_in state.new) }
+    ensures made { Makes state.old (Update queued moment) (update_refusal state.old queued moment) state.new }
 {
     update(state, queued, moment)
 }
@@ -343,6 +338,7 @@ pub extern "C" fn pie_update(state: &mut PieState, queued: u64, moment: u64) -> 
 #[tactic(auto, unfolding(crate::specs::Calls::update_refusal))]
 pub(crate) fn update(state: &mut PieState, queued: u64, moment: u64) -> PieUpdated
     ensures answer { result ≡ updated_by state.old queued moment }
+    ensures small { result.code < 2 ^ 32 }
     ensures made { Makes state.old (Update queued moment) (update_refusal state.old queued moment) state.new }
 {
     if !is_sound(state) {
@@ -356,7 +352,7 @@ pub(crate) fn update(state: &mut PieState, queued: u64, moment: u64) -> PieUpdat
     }
     laws();
     let mut held = raw(state);
-    if held.moment.max(moment) < held.due() {
+    if held.is_too_soon(moment) {
         return PieUpdated::made(TOO_SOON, held.control.old_delay, &held);
     }
     let delay = held.update(queued, moment);
@@ -377,10 +373,7 @@ pub extern "C" fn pie_due(state: &PieState) -> u64
 #[unsafe(no_mangle)]
 pub extern "C" fn pie_reset(state: &mut PieState, moment: u64) -> u32
     ensures answer { result ≡ reset_refusal state.old moment }
-    ensures after { state.new ≡ kept_if_refused (reset_refusal state.old moment) state.old (after_call (held_in state.old) (Restart moment)) }
-    ensures sound { is_sound state.old ≡ true → is_sound state.new ≡ true }
-    ensures shows { (opened : Opened) (events : List ControllerEvent) → reset_refusal state.old moment ≡ 0 → Shows opened events (held_in state.old)
-        → Shows opened (events ++ shown_by (held_in state.old) (Restart moment) ∷ []) (held_in state.new) }
+    ensures made { Makes state.old (Restart moment) (reset_refusal state.old moment) state.new }
 {
     reset(state, moment)
 }
@@ -411,12 +404,7 @@ pub(crate) fn reset(state: &mut PieState, moment: u64) -> u32
 #[unsafe(no_mangle)]
 pub extern "C" fn pie_set_params(state: &mut PieState, params: &PieParams, moment: u64) -> u32
     ensures answer { result ≡ params_refusal state.old params.now moment }
-    ensures after { state.new ≡ kept_if_refused (params_refusal state.old params.now moment) state.old
-        (after_call (held_in state.old) (Change (raw_of params.now) moment)) }
-    ensures sound { is_sound state.old ≡ true → is_sound state.new ≡ true }
-    ensures shows { (opened : Opened) (events : List ControllerEvent) → params_refusal state.old params.now moment ≡ 0
-        → Shows opened events (held_in state.old)
-        → Shows opened (events ++ shown_by (held_in state.old) (Change (raw_of params.now) moment) ∷ []) (held_in state.new) }
+    ensures made { Makes state.old (Change (raw_of params.now) moment) (params_refusal state.old params.now moment) state.new }
 {
     set_params(state, params, moment)
 }

@@ -1,7 +1,7 @@
 ghost use Rattle.std.specs.Prelude.{◌≡◌};
-ghost use Rattle.pie_params.specs.Profile.{default_profile};
+ghost use Rattle.pie_params.specs.Profile.{default_profile, profile_for};
 ghost use Rattle.pie_params.specs.Range.{first_bad};
-ghost use Rattle.pie_c.specs.Params.{bad_number, field_number, params_for, params_of, raw_of};
+ghost use Rattle.pie_c.specs.Params.{bad_number, field_number, params_of, raw_of};
 
 use pie_params::{BadParam, Field, Params, RawParams};
 
@@ -50,7 +50,7 @@ impl PieParams {
     }
 
     /// The same fields as a C caller holds them.
-    fn from_raw(raw: RawParams) -> PieParams
+    pub(crate) fn from_raw(raw: RawParams) -> PieParams
         ensures { result ≡ params_of raw }
     {
         PieParams {
@@ -87,29 +87,18 @@ fn number(field: Field) -> u32
 /// Fills in the default parameters: those of RFC 8033 where it has them.
 #[unsafe(no_mangle)]
 pub extern "C" fn pie_default_params(params: &mut PieParams)
-    ensures { params.new ≡ params_of default_profile }
+    ensures { raw_of params.new ≡ default_profile }
 {
     *params = PieParams::from_raw(Params::default_profile().raw());
 }
 
-/// The default parameters for a link of this rate, in bits a second: `limit_bytes` is 200 ms at it, but no less than the default and no more
-/// than its range allows.
-pub(crate) fn params_for(rate: u64) -> PieParams
-    ensures { result ≡ params_for rate }
-{
-    let usual = Params::default_profile().raw();
-    PieParams::from_raw(RawParams {
-        limit_bytes: rate.div_ceil(40).max(usual.limit_bytes).min(1 << 30),
-        ..usual
-    })
-}
-
-/// Fills them in.
+/// Fills in the default parameters for a link of this rate, in bits a second: `limit_bytes` is 200 ms at it, but no less than the default and
+/// no more than its range allows.
 #[unsafe(no_mangle)]
 pub extern "C" fn pie_params_for(rate: u64, params: &mut PieParams)
-    ensures { params.new ≡ params_for rate }
+    ensures { raw_of params.new ≡ profile_for rate }
 {
-    *params = params_for(rate);
+    *params = PieParams::from_raw(Params::for_rate(rate).raw());
 }
 
 /// The number of the first parameter that is out of its range, counted from 1 in the order of the

@@ -39,7 +39,7 @@ pub struct PieState {
     /// 1 while the controller is active, and else 0; always 1 in profile one.
     pub active: u64,
     /// The optional elements of RFC 8033 that are chosen otherwise than usual, as flags: 1 the delay from time stamps, 2 random
-    /// picking, 4 steps without a cap, 8 packets scaled by their size; at most 15.
+    /// picking, 4 steps without a cap, 8 packets scaled by their size, 16 the decay below half the target; at most 31.
     pub choices: u64,
     /// What the packet that departed last had waited, at most `2^40`; 0 where delays don't come from time stamps.
     pub waited: u64,

@@ -59,9 +59,14 @@ unfolding clap_on_literals wanted_of
 around-cut name = refl
 
 from-cut : (name : Text) → wanted_of (options_in (name ∷ codes "cut" ∷ codes "--from" ∷ codes "2s" ∷ []))
-    ≡ Some (Part (between 2_000_000_000 (2 ^ 64 - 1)))
+    ≡ Some (Part (between (Some (Moment 2_000_000_000)) None))
 unfolding clap_on_literals wanted_of digit_count number_after is_word time_scale
 from-cut name = refl
+
+to_day-cut : (name : Text) → wanted_of (options_in (name ∷ codes "cut" ∷ codes "--to=2026-11-24T20:00:00Z" ∷ []))
+    ≡ Some (Part (between None (Some (Unix 1795550400000000000))))
+unfolding clap_on_literals wanted_of digit_count number_after utc_in utc_with unix_of seconds_part date_part has_marks nanos_in day_number
+to_day-cut name = refl
 
 late-cut : (name : Text) → wanted_of (options_in (name ∷ codes "cut" ∷ codes "--from=2" ∷ codes "--to=1" ∷ [])) ≡ None
 unfolding clap_on_literals wanted_of digit_count number_after is_word time_scale

@@ -1,5 +1,5 @@
 -- `pie cut`: what the words choose, and how it ends.
-use Rattle.std.specs.Prelude.{ℕ, ◌≡◌, ◌==◌, ◌+◌, ◌-◌, ◌^◌, ◌<◌, List, Bool, true, false, Option, Some, None, Result, Ok, Err, ⊤, codes, min, not, nat_le}
+use Rattle.std.specs.Prelude.{ℕ, ◌≡◌, ◌==◌, ◌+◌, ◌-◌, ◌^◌, ◌<◌, List, Bool, true, false, Option, Some, None, Result, Ok, Err, ⊤, codes, min, not}
 use Rattle.std.specs.Prelude.{if◌then◌else◌}
 use Rattle.std.specs.Str.{bytes_eq}
 use Rattle.clap.specs.Words.{Row, Text}
@@ -13,7 +13,8 @@ use Rattle.pie_cut.specs.Answer.{CutsEither}
 use Rattle.pie_cut.specs.Last.{LastEither}
 use Rattle.pie_cut.specs.Segment.{IsInSegments, every_answer}
 use Rattle.pie_cut.specs.Told.{TextTold}
-use Rattle.pie_units.specs.declared.moment.MomentFault.{MomentFault}
+use Rattle.pie_units.specs.declared.when.When.{When}
+use Rattle.pie_units.specs.declared.when.WhenFault.{WhenFault}
 use Rattle.pie_options.specs.Words.{number_given}
 use Rattle.pie_commands.specs.declared.end.End.{End}
 use Rattle.pie_commands.specs.declared.end.End.TheVariants.{Done, Differs, Fault, Failed}
@@ -22,35 +23,33 @@ use Rattle.pie_commands.specs.declared.cut.Pieces.TheVariants.{One}
 use Rattle.pie_commands.specs.declared.cut.Pieces.TheVariants as pieces
 use Rattle.pie_commands.specs.declared.cut.Wanted.{Wanted}
 use Rattle.pie_commands.specs.declared.cut.Wanted.TheVariants.{Part, Last, Every}
-use Rattle.pie_commands.specs.Choice.{moment_given}
+use Rattle.pie_commands.specs.Choice.{bound_given, in_order}
 use Rattle.pie_commands.specs.Ends.{EndsBy, WritesNothing}
 
 -- ---- the choice
 
 -- the event with this number, and so many before it and after it
 abbrev pub around : ℕ → ℕ → Span
-around event more = record { first = event - more; last = min (event + more) (2 ^ 64 - 1); from = 0; to = 2 ^ 64 - 1 }
+around event more = record { first = event - more; last = min (event + more) (2 ^ 64 - 1); from = None; to = None }
 
--- the events at the moments from one to another
-abbrev pub between : ℕ → ℕ → Span
+-- the events from one bound to another: moments, or times of day
+abbrev pub between : Option When → Option When → Span
 between from to = record { first = 0; last = 2 ^ 64 - 1; from = from; to = to }
 
 -- the last so many of the events up to this number
 abbrev pub last_of : ℕ → ℕ → Span
-last_of number many = record { first = min (number - many + 1) (2 ^ 64 - 1); last = number; from = 0; to = 2 ^ 64 - 1 }
+last_of number many = record { first = min (number - many + 1) (2 ^ 64 - 1); last = number; from = None; to = None }
 
--- the events at given moments, where there is one
-abbrev pub at_moments : Option ℕ → Option ℕ → Option Span
-at_moments None None = None
-at_moments (Some from) None = Some (between from (2 ^ 64 - 1))
-at_moments None (Some to) = Some (between 0 to)
-at_moments (Some from) (Some to) = Some (between from to)
+-- the events within given bounds, where there is one
+abbrev pub within : Option When → Option When → Option Span
+within None None = None
+within from to = Some (between from to)
 
 -- segments of some events
 abbrev pub segments : ℕ → Option Wanted
 segments every = if every == 0 then None else Some (Every every)
 
--- what is chosen, where it is in exactly one way: an event, with some around it or none; the last ones; segments; or those at moments
+-- what is chosen, where it is in exactly one way: an event, with some around it or none; the last ones; segments; or those within bounds
 abbrev pub chosen : Option ℕ → Option ℕ → Option ℕ → Option ℕ → Option Span → Option Wanted
 chosen (Some event) None None None None = Some (Part (around event 0))
 chosen (Some event) (Some more) None None None = Some (Part (around event more))
@@ -59,20 +58,15 @@ chosen None None None (Some every) None = segments every
 chosen None None None None (Some span) = Some (Part span)
 chosen _ _ _ _ _ = None
 
--- the one moment isn't after the other, where there are both
-abbrev pub are_in_order : Option ℕ → Option ℕ → Bool
-are_in_order (Some from) (Some to) = nat_le from to
-are_in_order _ _ = true
-
--- .. where both moments can be read, and the one isn't after the other
-abbrev pub wanted_at : Option ℕ → Option ℕ → Option ℕ → Option ℕ → Result (Option ℕ) MomentFault → Result (Option ℕ) MomentFault → Option Wanted
-wanted_at event more last every (Ok from) (Ok to) = if are_in_order from to then chosen event more last every (at_moments from to) else None
+-- .. where both bounds can be read, and the one isn't after the other
+abbrev pub wanted_at : Option ℕ → Option ℕ → Option ℕ → Option ℕ → Result (Option When) WhenFault → Result (Option When) WhenFault → Option Wanted
+wanted_at event more last every (Ok from) (Ok to) = if in_order from to then chosen event more last every (within from to) else None
 wanted_at _ _ _ _ _ _ = None
 
 -- what these options choose; nothing where they don't say it as they have to
 unfoldable pub wanted_of : List Row → Option Wanted
 wanted_of options = wanted_at (number_given (codes "event") options) (number_given (codes "around") options) (number_given (codes "last") options)
-    (number_given (codes "every") options) (moment_given (codes "from") options) (moment_given (codes "to") options)
+    (number_given (codes "every") options) (bound_given (codes "from") options) (bound_given (codes "to") options)
 
 -- segments have some events each
 abbrev pub HasSome : Wanted → Type 0

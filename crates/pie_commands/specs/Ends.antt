@@ -1,5 +1,5 @@
 -- How a run, a migration and an audit end: the exit status, and what is written.
-use Rattle.std.specs.Prelude.{ℕ, ◌≡◌, ◌⊎◌, ◌^◌, ◌++◌, List, Bool, true, false, Option, Some, None, Result, Ok, Err, codes}
+use Rattle.std.specs.Prelude.{ℕ, ◌≡◌, ◌⊎◌, ◌^◌, ◌++◌, ◌&&◌, if◌then◌else◌, List, Bool, true, false, Option, Some, None, Result, Ok, Err, codes}
 use Rattle.std.specs.Fmt.{decimal}
 use Rattle.std.specs.Io.KnownBytes.{Appends}
 use Rattle.pie_record.specs.declared.fault.TraceFault.{TraceFault}
@@ -24,6 +24,15 @@ status_of Differs = 2
 status_of (Fault why) = 1
 status_of Unable = 1
 status_of Failed = 1
+
+-- the writer failed
+abbrev pub is_unwritten : End → Bool
+is_unwritten (Fault trace_fault.Write) = true
+is_unwritten _ = false
+
+-- .. which is 141 where the writer failed since nobody reads any more what is written
+abbrev pub told_status : Bool → End → ℕ
+told_status closed end = if closed && is_unwritten end then 141 else status_of end
 
 -- the end where what was written had to be put in its place, and is there or not
 abbrev pub settled : End → Bool → End

@@ -4,6 +4,8 @@ use Rattle.clap.specs.Words.{Row, Text, first_of}
 use Rattle.pie_event.specs.declared.profile.Profile.{Profile}
 use Rattle.pie_event.specs.declared.profile.Profile.TheVariants.{One, Two}
 use Rattle.pie_params.specs.declared.elements.Elements.{Elements}
+use Rattle.pie_params.specs.declared.elements.Decay.{Decay}
+use Rattle.pie_params.specs.declared.elements.Decay.TheVariants.{Half, Zero}
 use Rattle.pie_params.specs.declared.elements.Delay.{Delay}
 use Rattle.pie_params.specs.declared.elements.Delay.TheVariants.{Rate, Stamp}
 use Rattle.pie_params.specs.declared.elements.Picking.{Picking}
@@ -13,7 +15,7 @@ use Rattle.pie_params.specs.declared.elements.Step.TheVariants.{Capped, Uncapped
 use Rattle.pie_params.specs.declared.elements.Size.{Size}
 use Rattle.pie_params.specs.declared.elements.Size.TheVariants.{Unscaled, Scaled}
 use Rattle.pie_record.specs.FirstRecord.{which_of}
-use Rattle.pie_record.specs.Words.{delay_word, picking_word, size_word, step_word}
+use Rattle.pie_record.specs.Words.{decay_word, delay_word, picking_word, size_word, step_word}
 use Rattle.pie_storm.specs.declared.numbers.StormNumbers.{StormNumbers}
 use Rattle.pie_storm.specs.declared.plan.Plan.{Plan}
 use Rattle.pie_options.specs.Words.{burst_in, changes_in, folds_in, load_in, packets_in, profile_in, seed_in, senders_in}
@@ -45,16 +47,20 @@ picking_in options = choice_in (codes "picking") (picking_word Derandomized) Der
 abbrev pub step_in : List Row → Option Step
 step_in options = choice_in (codes "step") (step_word Capped) Capped (step_word Uncapped) Uncapped options
 
--- .. and whether a packet's size counts
+-- .. whether a packet's size counts
 abbrev pub size_in : List Row → Option Size
 size_in options = choice_in (codes "size") (size_word Unscaled) Unscaled (size_word Scaled) Scaled options
+
+-- .. and at which delays the probability decays
+abbrev pub decay_in : List Row → Option Decay
+decay_in options = choice_in (codes "decay") (decay_word Zero) Zero (decay_word Half) Half options
 
 -- the elements that the options choose, where each word names a choice
 unfoldable pub elements_in : List Row → Option Elements
 elements_in options =
-    option_and_then (λ delay. option_and_then (λ picking. option_and_then (λ step. option_and_then (λ size.
-    Some (record { delay = delay; picking = picking; step = step; size = size })) (size_in options)) (step_in options)) (picking_in options))
-    (delay_in options)
+    option_and_then (λ delay. option_and_then (λ picking. option_and_then (λ step. option_and_then (λ size. option_and_then (λ decay.
+    Some (record { delay = delay; picking = picking; step = step; size = size; decay = decay })) (decay_in options)) (size_in options))
+    (step_in options)) (picking_in options)) (delay_in options)
 
 -- the profile of this number
 abbrev pub profile_by : ℕ → Profile

@@ -11,6 +11,7 @@ use Rattle.pie_tuning.specs.Opening.{elements_for, gain_of, opening_for, params_
 use Rattle.pie_tuning.specs.Units.{packets_of, rate_of, time_of}
 use Rattle.pie_options.specs.Words.{flag_given, number_or}
 use Rattle.pie_record.specs.declared.fault.TraceFault.TheVariants as trace_fault
+use Rattle.pie_commands.specs.StormEnds.{decay_in}
 use Rattle.pie_commands.specs.declared.end.End.{End}
 use Rattle.pie_commands.specs.declared.end.End.TheVariants.{Done, Differs, Fault, Unable, Failed}
 
@@ -33,6 +34,7 @@ pub record AsksFor (options : List Row) (asked : Asked) : Type 0 where
   pub mtu : asked.mtu ≡ number_or (codes "mtu") 1 65535 1514 options
   pub no_derandomization : asked.no_derandomization ≡ flag_given (codes "no_derandomization") options
   pub no_cap_drop_adjustment : asked.no_cap_drop_adjustment ≡ flag_given (codes "no_cap_drop_adjustment") options
+  pub decay : decay_in options ≡ Some asked.decay
 
 -- the record of what the options ask for was written: its parameters are in their ranges, and so many packets may wait
 pub record WritesParams (options : List Row) (before now : Option (List ℕ)) : Type 0 where
@@ -42,7 +44,7 @@ pub record WritesParams (options : List Row) (before now : Option (List ℕ)) : 
   pub packets : (1 ≤ asked.packets) × (asked.packets ≤ 2 ^ 20)
   pub written : Appends before now (text_of (opening_row (opening_for asked.packets (elements_for asked) (params_for asked))))
 
--- no such record is asked for: a text writes no number of its kind, or a number is out of its range
+-- no such record is asked for: a text writes no number of its kind or names no choice, or a number is out of its range
 abbrev pub IsOutOfRange : Asked → Type 0
 IsOutOfRange asked = (IsInRange (params_for asked) → ⊥) ⊎ (asked.packets ≡ 0) ⊎ (2 ^ 20 < asked.packets)
 

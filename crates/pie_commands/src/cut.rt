@@ -6,18 +6,19 @@ ghost use Rattle.pie_record.specs.Text.{records_of};
 ghost use Rattle.pie_cut.specs.Last.{LastEither};
 ghost use Rattle.pie_files.specs.Files.{text_given};
 ghost use Rattle.pie_options.specs.Words.{file_in};
-ghost use Rattle.pie_commands.specs.CutEnds.{CutsInto, CutsLast, EndsCut, HasSome, at_moments, chosen, cut_ends, end_of_cut};
+ghost use Rattle.pie_commands.specs.CutEnds.{CutsInto, CutsLast, EndsCut, HasSome, chosen, cut_ends, end_of_cut, within};
 ghost use Rattle.pie_commands.specs.Ends.{EndsBy};
 ghost use Rattle.pie_commands.specs.CutEnds.{ends_last, is_named, segments, wanted_by, wanted_of};
 
 use crate::end::{End, failed, faulted};
-use crate::moments::{NO_ORDER, are_in_order, moment_of};
+use crate::moments::{NO_ORDER, bound_of, in_order};
 use crate::screen::{Screen, shows_progress};
 use clap::ArgMatches;
 use pie_cut::{CutFault, Span, cut_either, cut_every, last_number};
 use pie_files::{NamedFiles, Watched, fault, named_fault, reader_of};
 use pie_options::{file, number};
 use pie_trace::TraceFault;
+use pie_units::When;
 use std::alloc::Global;
 use std::io::{Read, Write};
 use std::time::Clock;
@@ -49,15 +50,13 @@ const NO_PART: &str =
 /// What is said where the last events are asked of what can't be read twice.
 const NO_NAME: &str = "cut --last reads a file twice, so it takes one that has a name";
 
-/// The events at these moments, where there is one.
-fn at_moments(from: Option<u64>, to: Option<u64>) -> Option<Span>
-    ensures { result ≡ at_moments from to }
+/// The events within these bounds, where there is one.
+fn within(from: Option<When>, to: Option<When>) -> Option<Span>
+    ensures { result ≡ within from to }
 {
     match (from, to) {
         (None, None) => None,
-        (Some(from), None) => Some(Span::between(from, u64::MAX)),
-        (None, Some(to)) => Some(Span::between(0, to)),
-        (Some(from), Some(to)) => Some(Span::between(from, to)),
+        _ => Some(Span::between(from, to)),
     }
 }
 
@@ -102,19 +101,19 @@ fn wanted_of<E: Write>(options: &ArgMatches<'_>, errors: &mut E) -> Option<Wante
     ensures chosen { result ≡ wanted_of (rows_of (found_of options.now)) }
     ensures some { IfSome result HasSome }
 {
-    let Ok(from) = moment_of(options, "from", errors) else {
+    let Ok(from) = bound_of(options, "from", errors) else {
         return None;
     };
-    let Ok(to) = moment_of(options, "to", errors) else {
+    let Ok(to) = bound_of(options, "to", errors) else {
         return None;
     };
-    if !are_in_order(from, to) {
+    if !in_order(from, to) {
         fault(errors, NO_ORDER);
         return None;
     }
     let (event, around) = (number(options, "event"), number(options, "around"));
     let (last, every) = (number(options, "last"), number(options, "every"));
-    let wanted = chosen(event, around, last, every, at_moments(from, to));
+    let wanted = chosen(event, around, last, every, within(from, to));
     if wanted.is_none() {
         fault(errors, NO_PART);
     }

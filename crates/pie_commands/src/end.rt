@@ -1,6 +1,6 @@
 //! How the program ends, and the exit status that says so.
-ghost use Rattle.std.specs.Prelude.{◌≡◌};
-ghost use Rattle.pie_commands.specs.Ends.{end_of, settled, status_of};
+ghost use Rattle.std.specs.Prelude.{◌≡◌, false, true};
+ghost use Rattle.pie_commands.specs.Ends.{end_of, is_unwritten, settled, status_of, told_status};
 ghost use Rattle.pie_commands.specs.Outputs.{is_whole};
 
 use pie_files::fault;
@@ -25,7 +25,7 @@ pub enum End {
 
 impl End {
     /// The exit status: 0 done, 2 an event that differs, and else 1.
-    pub fn status(self) -> u8
+    fn status(self) -> u8
         ensures { result ≡ status_of self }
     {
         match self {
@@ -33,6 +33,30 @@ impl End {
             End::Differs => 2,
             End::Fault(_) | End::Unable | End::Failed => 1,
         }
+    }
+
+    /// Whether the writer failed.
+    fn is_unwritten(self) -> bool
+        ensures { result ≡ is_unwritten self }
+    {
+        matches!(self, End::Fault(TraceFault::Write))
+    }
+
+    /// The exit status, with a line on `errors` where the writer failed. Where that is since nobody reads any more what is written, as behind `head`,
+    /// nothing is said, and the status is 141, as a shell has it of a program that SIGPIPE ended.
+    pub fn told<E: Write>(self, is_closed: bool, errors: &mut E) -> u8
+        ensures status { result ≡ told_status is_closed self }
+        ensures quiet { is_closed ≡ true → E.contents errors.new ≡ E.contents errors.old }
+        ensures silent { is_unwritten self ≡ false → E.contents errors.new ≡ E.contents errors.old }
+    {
+        if !self.is_unwritten() {
+            return self.status();
+        }
+        if is_closed {
+            return 141;
+        }
+        fault(errors, TraceFault::Write);
+        1
     }
 
     /// Whether all that there was to write was written.
@@ -63,12 +87,15 @@ pub(crate) fn ended<T: Copy, E: Write>(errors: &mut E, given: Result<T, TraceFau
     }
 }
 
-/// The end at a fault, with its line on `errors`.
+/// The end at a fault, with its line on `errors`, but of the writer: of that it isn't known yet whether it is to be told (`End::told`).
 pub(crate) fn faulted<E: Write>(errors: &mut E, why: TraceFault) -> End
     ensures { result ≡ End.Fault why }
 {
-    fault(errors, why);
-    End::Fault(why)
+    let end = End::Fault(why);
+    if !end.is_unwritten() {
+        fault(errors, why);
+    }
+    end
 }
 
 /// The end where nothing can begin, with its line on `errors`.

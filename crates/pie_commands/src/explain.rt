@@ -5,19 +5,18 @@ ghost use Rattle.pie_record.specs.Text.{records_of};
 ghost use Rattle.pie_explain.specs.Either.{ExplainsEither};
 ghost use Rattle.pie_files.specs.Files.{text_given};
 ghost use Rattle.pie_options.specs.Words.{file_in};
-ghost use Rattle.pie_commands.specs.Choice.{bound_given, choice_of, chosen, every_of, form_of, in_order, is_by_wall, is_digest, is_summary, lasts};
+ghost use Rattle.pie_commands.specs.Choice.{choice_of, chosen, every_of, form_of, is_by_wall, is_digest, is_summary, lasts};
 ghost use Rattle.pie_commands.specs.Choice.{tale_of, told_by, which_of};
 ghost use Rattle.pie_commands.specs.ExplainEnds.{EndsExplain, end_of_explain, explain_ends};
 
 use crate::end::{End, failed, faulted};
-use crate::moments::{NO_ORDER, moment, moment_of};
+use crate::moments::{NO_ORDER, bound_of, in_order, moment, moment_of};
 use crate::screen::{Screen, shows_progress};
 use clap::ArgMatches;
 use pie_explain::{Choice, ExplainFault, Form, Which, explain_either};
 use pie_files::{NamedFiles, Watched, fault, reader_of};
 use pie_options::{file, flag, number};
 use pie_summary::Summary;
-use pie_units::{When, WhenFault};
 use std::alloc::Global;
 use std::io::{Read, Write};
 use std::time::Clock;
@@ -82,41 +81,6 @@ fn lasts(every: Option<u64>) -> bool
     match every {
         Some(every) => every != 0,
         None => true,
-    }
-}
-
-/// Whether the one bound isn't after the other, where there are both, and both are moments or times of day.
-fn in_order(from: Option<When>, to: Option<When>) -> bool
-    ensures { result ≡ in_order from to }
-{
-    match (from, to) {
-        (Some(When::Moment(from)), Some(When::Moment(to))) => from <= to,
-        (Some(When::Unix(from)), Some(When::Unix(to))) => from <= to,
-        _ => true,
-    }
-}
-
-/// The bound that an option is given.
-fn bound(options: &ArgMatches<'_>, name: &str) -> Result<Option<When>, WhenFault>
-    ensures { result ≡ bound_given name.now (rows_of (found_of options.now)) }
-{
-    options.try_get_one::<When>(name)
-}
-
-/// The same, with a line on `errors` where its text is none.
-fn bound_of<E: Write>(
-    options: &ArgMatches<'_>,
-    name: &str,
-    errors: &mut E,
-) -> Result<Option<When>, WhenFault>
-    ensures { result ≡ bound_given name.now (rows_of (found_of options.now)) }
-{
-    match bound(options, name) {
-        Ok(bound) => Ok(bound),
-        Err(why) => {
-            let _ = writeln!(errors, "pie: --{name}: {why}");
-            Err(why)
-        }
     }
 }
 

@@ -1,11 +1,10 @@
-//! The moments that options are given.
+//! The moments and times of day that options are given.
 ghost use Rattle.std.specs.Prelude.{◌≡◌};
 ghost use Rattle.clap.specs.Words.{found_of, rows_of};
-ghost use Rattle.pie_commands.specs.Choice.{moment_given, units_of};
-ghost use Rattle.pie_commands.specs.CutEnds.{are_in_order};
+ghost use Rattle.pie_commands.specs.Choice.{bound_given, in_order, moment_given, units_of};
 
 use clap::ArgMatches;
-use pie_units::{Moment, MomentFault};
+use pie_units::{Moment, MomentFault, When, WhenFault};
 use std::io::Write;
 
 /// The nanoseconds of a moment that was read, if there was one to read.
@@ -46,12 +45,37 @@ pub(crate) fn moment_of<E: Write>(
 /// What is said where no moment is both late and early enough.
 pub(crate) const NO_ORDER: &str = "--from is after --to: no event is at both";
 
-/// Whether the one moment isn't after the other, where there are both.
-pub(crate) fn are_in_order(from: Option<u64>, to: Option<u64>) -> bool
-    ensures { result ≡ are_in_order from to }
+/// Whether the one bound isn't after the other, where there are both, and both are moments or times of day.
+pub(crate) fn in_order(from: Option<When>, to: Option<When>) -> bool
+    ensures { result ≡ in_order from to }
 {
     match (from, to) {
-        (Some(from), Some(to)) => from <= to,
+        (Some(When::Moment(from)), Some(When::Moment(to))) => from <= to,
+        (Some(When::Unix(from)), Some(When::Unix(to))) => from <= to,
         _ => true,
+    }
+}
+
+/// The bound that an option is given.
+fn bound(options: &ArgMatches<'_>, name: &str) -> Result<Option<When>, WhenFault>
+    ensures { result ≡ bound_given name.now (rows_of (found_of options.now)) }
+{
+    options.try_get_one::<When>(name)
+}
+
+/// The same, with a line on `errors` where its text is none.
+pub(crate) fn bound_of<E: Write>(
+    options: &ArgMatches<'_>,
+    name: &str,
+    errors: &mut E,
+) -> Result<Option<When>, WhenFault>
+    ensures { result ≡ bound_given name.now (rows_of (found_of options.now)) }
+{
+    match bound(options, name) {
+        Ok(bound) => Ok(bound),
+        Err(why) => {
+            let _ = writeln!(errors, "pie: --{name}: {why}");
+            Err(why)
+        }
     }
 }

@@ -6,14 +6,15 @@ ghost use Rattle.pie_tuning.specs.declared.asked.Asked.{Asked};
 ghost use Rattle.pie_commands.specs.Tuning.{AsksFor, EndsParams, given_or};
 
 use crate::end::{End, failed, faulted};
+use crate::storm::decay_of;
 use clap::ArgMatches;
 use pie_book::Limits;
 use pie_options::{flag, number, number_or};
 use pie_params::{Params, RawParams};
 use pie_trace::TraceFault;
 use pie_tuning::{
-    Asked, OptionFault, elements_for, gain_of, is_short, opening_for, packets_of, params_for,
-    rate_of, time_of, write_opening,
+    Asked, OptionFault, can_stall, elements_for, gain_of, is_short, opening_for, packets_of,
+    params_for, rate_of, time_of, write_opening,
 };
 use std::io::Write;
 
@@ -61,7 +62,7 @@ fn read_of<E: Write>(read: Result<u64, OptionFault>, name: &str, errors: &mut E)
     }
 }
 
-/// What the options ask for; none, with a line on `errors`, where a text writes no number of its kind.
+/// What the options ask for; none, with a line on `errors`, where a text writes no number of its kind or names no choice.
 fn asked_in<E: Write>(options: &ArgMatches<'_>, errors: &mut E) -> Option<Asked>
     ensures asked { IfSome result (AsksFor (rows_of (found_of options.now))) }
     ensures none { result ≡ None → (asked : Asked) → AsksFor (rows_of (found_of options.now)) asked → ⊥ }
@@ -78,6 +79,10 @@ fn asked_in<E: Write>(options: &ArgMatches<'_>, errors: &mut E) -> Option<Asked>
     let Some(packets) = read_of(packets_in(options), "limit", errors) else {
         return None;
     };
+    let Some(decay) = decay_of(options) else {
+        let _ = writeln!(errors, "pie: --decay is zero or half");
+        return None;
+    };
     Some(Asked {
         rate,
         target,
@@ -91,6 +96,7 @@ fn asked_in<E: Write>(options: &ArgMatches<'_>, errors: &mut E) -> Option<Asked>
         mtu: number_or(options, "mtu", 1, 65535, 1514),
         no_derandomization: flag(options, "no_derandomization"),
         no_cap_drop_adjustment: flag(options, "no_cap_drop_adjustment"),
+        decay,
     })
 }
 
@@ -117,6 +123,17 @@ fn say_short<E: Write>(asked: &Asked, params: &RawParams, errors: &mut E) {
     }
 }
 
+/// Says that the departure rate's estimator can stall.
+fn say_stall<E: Write>(asked: &Asked, params: &RawParams, errors: &mut E) {
+    if can_stall(asked, params) {
+        let threshold = params.dq_threshold;
+        let _ = writeln!(
+            errors,
+            "pie: dq_threshold, {threshold}, is above half of rate x target: the departure rate's estimate can stand still, as time stamps do not"
+        );
+    }
+}
+
 /// `pie params`: writes the record that opens a book with what the options ask for.
 pub(crate) fn params<W: Write, E: Write>(
     options: &ArgMatches<'_>,
@@ -137,6 +154,7 @@ pub(crate) fn params<W: Write, E: Write>(
     }
     say_rounded(options, errors);
     say_short(&asked, &params.raw(), errors);
+    say_stall(&asked, &params.raw(), errors);
     let opening = opening_for(asked.packets as u32, elements_for(&asked), params);
     match write_opening(&opening, output) {
         Ok(()) => End::Done,

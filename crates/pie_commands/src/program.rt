@@ -35,7 +35,8 @@ use std::thread::Threads;
 
 /// Runs `pie` with these words, of which the first is the program's own name, and answers how it ended, which gives the exit status: 0
 /// done, 1 a fault, whose text stands on `errors`, 2 an audit, an explanation or a cut that met an event that differs. A mistake in the words
-/// prints what `clap` says of it on `errors` and ends with 1; a request for help prints it on `output` and ends with 0.
+/// prints what `clap` says of it on `errors` and ends with 1; a request for help prints it on `output` and ends with 0. That `output` could not be
+/// written is told by `End::told` alone.
 ///
 /// A `FILE` among the words is opened by `rt`, and then all that is said here of the reader holds of that file's text, where `rt` knows it; `-` is
 /// the reader. A file that can't be opened ends with 1, and nothing was written.

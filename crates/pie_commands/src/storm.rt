@@ -1,7 +1,7 @@
 //! `pie storm`: the storm that the options ask for, whose history is written.
 ghost use Rattle.std.specs.Prelude.{◌≡◌, Some};
 ghost use Rattle.clap.specs.Words.{found_of, rows_of};
-ghost use Rattle.pie_commands.specs.StormEnds.{EndsStorm, choice_in, delay_in, elements_in, numbers_in, picking_in};
+ghost use Rattle.pie_commands.specs.StormEnds.{EndsStorm, choice_in, decay_in, delay_in, elements_in, numbers_in, picking_in};
 ghost use Rattle.pie_commands.specs.StormEnds.{profile_by, size_in, step_in};
 ghost use Rattle.pie_options.specs.Words.{profile_in};
 ghost use Rattle.pie_storm.specs.StormPlan.{HasStormRange};
@@ -10,9 +10,9 @@ use crate::end::{End, failed, faulted, unable};
 use clap::ArgMatches;
 use pie_book::{Event, Profile};
 use pie_options::{flag, number_or};
-use pie_params::{Delay, Elements, Picking, Size, Step};
+use pie_params::{Decay, Delay, Elements, Picking, Size, Step};
 use pie_record::first_record::which_of;
-use pie_record::words::{delay_word, picking_word, size_word, step_word};
+use pie_record::words::{decay_word, delay_word, picking_word, size_word, step_word};
 use pie_storm::{StormNumbers, write_storm};
 use pie_trace::TraceFault;
 use std::alloc::Global;
@@ -33,7 +33,8 @@ const LOAD: u64 = 100;
 
 /// What is said where the word of a choice is none of its own.
 const NO_CHOICE: &str =
-    "storm: --delay is rate or stamp, --picking derandomized or random, --step capped or uncapped, --size unscaled or scaled";
+    "storm: --delay is rate or stamp, --picking derandomized or random, --step capped or uncapped, --size unscaled or scaled, \
+--decay zero or half";
 
 /// Which of two choices an option names: the first where the words don't give it, and none where they give another word.
 fn choice<T: Copy>(
@@ -112,6 +113,21 @@ fn size_of(options: &ArgMatches<'_>) -> Option<Size>
     )
 }
 
+/// At which delays the probability decays.
+pub(crate) fn decay_of(options: &ArgMatches<'_>) -> Option<Decay>
+    ensures { result ≡ decay_in (rows_of (found_of options.now)) }
+{
+    let (one, other) = (Decay::Zero, Decay::Half);
+    choice(
+        options,
+        "decay",
+        decay_word(one),
+        one,
+        decay_word(other),
+        other,
+    )
+}
+
 /// RFC 8033's optional elements that these options choose; none where a word names no choice.
 #[tactic(auto, unfolding(crate::specs::StormEnds::elements_in))]
 fn elements_of(options: &ArgMatches<'_>) -> Option<Elements>
@@ -121,11 +137,13 @@ fn elements_of(options: &ArgMatches<'_>) -> Option<Elements>
     let picking = picking_of(options)?;
     let step = step_of(options)?;
     let size = size_of(options)?;
+    let decay = decay_of(options)?;
     Some(Elements {
         delay,
         picking,
         step,
         size,
+        decay,
     })
 }
 

@@ -1,5 +1,5 @@
 -- Excerpts of a small history, from its bytes: each theorem computes.
-use Rattle.std.specs.Prelude.{◌≡◌, ℕ, List, [], ◌++◌, Result, Ok, Err, Option, Some, None, true, false, codes, refl, ⊤}
+use Rattle.std.specs.Prelude.{◌≡◌, ◌+◌, ◌-◌, min, ℕ, List, [], ◌++◌, Result, Ok, Err, Option, Some, None, true, false, codes, refl, ⊤}
 use Rattle.std.specs.Fmt.{digits}
 use Rattle.std.specs.List.{flat_map}
 use Rattle.csv.specs.Machine.{next_record}
@@ -26,7 +26,7 @@ use Rattle.pie_record.specs.Answer.{answer_fields}
 use Rattle.pie_record.specs.Clock.{clock_at, clock_in, clock_row}
 use Rattle.pie_record.specs.Number.{number}
 use Rattle.pie_record.specs.FirstRecord.{draft_at, first_kind, limits_at, profile_of, version_of, version_one_fields, version_two_fields}
-use Rattle.pie_record.specs.FirstRecord.{elements_at, version_three_fields, which_of}
+use Rattle.pie_record.specs.FirstRecord.{chosen_at, elements_at, version_three_fields, which_of}
 use Rattle.pie_record.specs.Field.{ecn_of, packet_at, params_at}
 use Rattle.pie_record.specs.Command.{arrival_at, change_at, command_at, command_kind}
 use Rattle.pie_record.specs.HistoryRecord.{answer_at, departure_at, event_line, line_of, note_line, numbers_at, registers_at, shown_line, update_at}
@@ -43,6 +43,9 @@ use Rattle.pie_record.specs.declared.fault.TraceFault.{TraceFault}
 use Rattle.pie_record.specs.declared.fault.TraceFault.TheVariants as fault
 use Rattle.pie_cut.specs.declared.fault.CutFault.{CutFault}
 use Rattle.pie_cut.specs.declared.fault.CutFault.TheVariants.{Differs, NoEvents, Trace}
+use Rattle.pie_units.specs.declared.when.When.{When}
+use Rattle.pie_units.specs.declared.when.When.TheVariants.{Moment, Unix}
+use Rattle.pie_cut.specs.declared.span.Met.{Met}
 use Rattle.pie_cut.specs.declared.span.Span.{Span}
 use Rattle.pie_cut.specs.Answer.{answer_since}
 use Rattle.pie_cut.specs.Excerpt.{chosen, end_place, first_place, kept, line_text, number_told}
@@ -60,18 +63,38 @@ use Rattle.std.proofs.Common.{ap, arith}
 
 -- all moments
 abbrev numbers : ℕ → ℕ → Span
-numbers first last = record { first = first; last = last; from = 0; to = 18446744073709551615 }
+numbers first last = record { first = first; last = last; from = None; to = None }
 
 -- all numbers
+abbrev within : Option When → Option When → Span
+within from to = record { first = 0; last = 18446744073709551615; from = from; to = to }
+
 abbrev moments : ℕ → ℕ → Span
-moments from to = record { first = 0; last = 18446744073709551615; from = from; to = to }
+moments from to = within (Some (Moment from)) (Some (Moment to))
+
+abbrev at_times : ℕ → ℕ → Span
+at_times from to = within (Some (Unix from)) (Some (Unix to))
+
+-- an event with this number, this moment, and this time of day or none
+abbrev met : ℕ → ℕ → Option ℕ → Met
+met number moment time = record { number = number; moment = moment; time = time }
 
 -- of a text before which 100 events were: event 100 is none of it, 101 is the first wanted, 103 the last, and 104 is past it
-wanted : (is_reached (numbers 1 103) 100 100 7 ≡ false) × (is_reached (numbers 1 103) 100 101 7 ≡ true)
-    × (is_past (numbers 1 103) 100 103 7 ≡ false) × (is_past (numbers 1 103) 100 104 7 ≡ true)
-    × (is_reached (moments 8 9) 100 101 7 ≡ false) × (is_reached (moments 7 9) 100 101 7 ≡ true)
-    × (is_past (moments 7 9) 100 101 9 ≡ false) × (is_past (moments 7 9) 100 101 10 ≡ true)
+wanted : (is_reached (numbers 1 103) 100 (met 100 7 None) ≡ false) × (is_reached (numbers 1 103) 100 (met 101 7 None) ≡ true)
+    × (is_past (numbers 1 103) 100 false (met 103 7 None) ≡ false) × (is_past (numbers 1 103) 100 false (met 104 7 None) ≡ true)
+    × (is_reached (moments 8 9) 100 (met 101 7 None) ≡ false) × (is_reached (moments 7 9) 100 (met 101 7 None) ≡ true)
+    × (is_past (moments 7 9) 100 false (met 101 9 None) ≡ false) × (is_past (moments 7 9) 100 false (met 101 10 None) ≡ true)
 wanted = (refl, refl, refl, refl, refl, refl, refl, refl)
+
+-- times of day are no moments, and may go back: one later than the last ends an excerpt that has begun, and is not the first that is wanted; nor is
+-- an event whose time no record tells, which ends it too
+wanted-times : (is_reached (at_times 8 9) 0 (met 1 8 (Some 7)) ≡ false) × (is_reached (at_times 8 9) 0 (met 1 0 (Some 8)) ≡ true)
+    × (is_reached (at_times 8 9) 0 (met 1 0 (Some 9)) ≡ true) × (is_reached (at_times 8 9) 0 (met 1 0 (Some 10)) ≡ false)
+    × (is_reached (at_times 8 9) 0 (met 1 8 None) ≡ false) × (is_reached (within None (Some (Unix 9))) 0 (met 1 8 None) ≡ false)
+    × (is_past (at_times 8 9) 0 true (met 1 99 (Some 9)) ≡ false) × (is_past (at_times 8 9) 0 true (met 1 0 (Some 10)) ≡ true)
+    × (is_past (at_times 8 9) 0 false (met 1 0 (Some 10)) ≡ false) × (is_past (at_times 8 9) 0 true (met 1 0 None) ≡ true)
+    × (is_past (at_times 8 9) 0 true (met 1 0 (Some 7)) ≡ false) × (is_past (at_times 8 9) 5 true (met 5 0 (Some 10)) ≡ false)
+wanted-times = (refl, refl, refl, refl, refl, refl, refl, refl, refl, refl, refl, refl)
 
 -- segments of 50 events of it: 101 to 150, 151 to 200; none is beyond the greatest number
 segments : (segment 100 50 0 ≡ numbers 101 150) × (segment 100 50 1 ≡ numbers 151 200)
@@ -94,7 +117,7 @@ unfolding held_after shown held_of now_of params_of active_of departures_shown u
     places effective_moment greatest waiting_after departed_count admitted average samples begun cycles first_position first_opening
     first_closing first_cycle cycles_from probability last_delay last_moment granted_burst burst_allowance raw_step tuning_divisor
     tuned_step decayed next digits departures_of delay_noted control_of early_of noted noted_after is_active first_place end_place
-    chosen latest_clock version_three_fields elements_at clock_in clock_at clock_row command_fields answer_fields fields_text is_blank
+    chosen latest_clock version_three_fields chosen_at elements_at clock_in clock_at clock_row command_fields answer_fields fields_text is_blank
 worked = ⊤
 
 -- an arrival, a note, a departure at a moment before it, which is effective as late as the arrival, and a departure of an empty queue; the last
@@ -123,6 +146,14 @@ answers : (cut (numbers 2 3) (codes "empty") ≡ Ok 2) × (cut (numbers 0 9) (co
     × (cut (numbers 1 1) (codes "full") ≡ Err (Trace (fault.Word 5)))
 unfolding worked
 answers = (refl, refl, refl, refl, refl, refl, refl, refl)
+
+-- what is around an event past the end: those of it that there are
+abbrev around : ℕ → ℕ → Result ℕ CutFault
+around event more = cut (numbers (event - more) (min (event + more) 18446744073709551615)) (codes "empty")
+
+around-the-end : (around 5 3 ≡ Ok 2) × (around 4 1 ≡ Ok 1) × (around 5 1 ≡ Err NoEvents) × (around 9 18446744073709551615 ≡ Ok 3)
+unfolding worked
+around-the-end = (refl, refl, refl, refl)
 
 -- how cutting it into segments is answered
 abbrev every : List ℕ → Result ℕ CutFault
@@ -186,6 +217,30 @@ times : (text_of_cut (numbers 1 1) timed ≡ codes "arrive,1,30,7,1500,ect0,0,en
     × (clock_of_cut (numbers 1 1) (history (codes "empty")) ≡ Some None)
 unfolding worked
 times = (refl, refl, refl, refl, refl, refl, refl, refl, refl)
+
+-- a time of day that no record tells yet, one that is set back, and one that is set on
+abbrev set_back : List ℕ
+set_back =
+    codes "open3,1,rate,derandomized,capped,unscaled,bounded,0,4,16,100\n"
+    ++ codes "arrive,1,10,1,1500,ect0,0,enqueue\n"
+    ++ codes "clock,11,1000\narrive,1,20,2,1500,ect0,0,enqueue\n"
+    ++ codes "clock,21,900\narrive,1,30,3,1500,ect0,0,enqueue\n"
+    ++ codes "clock,31,1100\narrive,1,40,4,1500,ect0,0,enqueue\n"
+
+-- its events are at no time, 1009, 909 and 1109: from the first that is wanted on, up to one that is later, and times that were set back among them
+times-answered : (cut_of (at_times 1009 1050) set_back ≡ Ok 2) × (cut_of (at_times 900 1000) set_back ≡ Ok 1)
+    × (cut_of (within (Some (Unix 1009)) None) set_back ≡ Ok 3) × (cut_of (within (Some (Unix 1010)) None) set_back ≡ Ok 1)
+    × (cut_of (within (Some (Unix 1110)) None) set_back ≡ Err NoEvents) × (cut_of (within None (Some (Unix 1109))) set_back ≡ Ok 3)
+    × (cut_of (within (Some (Moment 25)) (Some (Unix 1000))) set_back ≡ Ok 1)
+    × (cut_of (within (Some (Unix 900)) (Some (Moment 30))) set_back ≡ Ok 2)
+unfolding worked
+times-answered = (refl, refl, refl, refl, refl, refl, refl, refl)
+
+times-cut : (text_of_cut (at_times 900 1000) set_back ≡ codes "arrive,1,30,3,1500,ect0,0,enqueue\nclock,31,1100\n")
+    × (clock_of_cut (at_times 900 1000) set_back ≡ Some (Some (record { moment = 21; unix = 900 })))
+    × (text_of_cut (within None (Some (Unix 908))) set_back ≡ [])
+unfolding worked
+times-cut = (refl, refl, refl)
 
 -- ---- parameters out of their range
 

@@ -14,3 +14,5 @@ mod WholeFacts
 mod TextFacts
 mod CutText
 mod ShownOnce
+mod ChainFacts
+mod ChainText

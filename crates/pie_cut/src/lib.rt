@@ -25,6 +25,6 @@ pub use either::cut_either;
 pub use fault::CutFault;
 pub use joined::{Joined, Joint, TextEnd, audit_joined, texts_that_follow_are_one_history};
 pub use last::last_number;
-pub use law::{cuts_are_found_as_the_whole, texts_that_go_on_follow};
+pub use law::{cuts_are_found_as_the_whole, segments_come_to_the_whole, texts_that_go_on_follow};
 pub use segments::cut_every;
 pub use span::Span;

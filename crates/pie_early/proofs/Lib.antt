@@ -2,4 +2,5 @@ mod Examples
 pub mod Scaling
 pub mod Laws
 pub mod Picking
+pub mod Causes
 pub mod Arrivals

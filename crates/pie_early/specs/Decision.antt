@@ -15,6 +15,8 @@ use Rattle.pie_queue.specs.Ecn.{is_capable}
 use Rattle.pie_early.specs.declared.decision.Offered.{Offered}
 use Rattle.pie_early.specs.declared.early.Choice.{Choice}
 use Rattle.pie_early.specs.declared.early.Choice.TheVariants.{Enqueue, Mark, Drop}
+use Rattle.pie_event.specs.declared.verdict.Verdict.{Verdict}
+use Rattle.pie_event.specs.declared.verdict.Verdict.TheVariants.{Enqueued, Marked, DroppedEarly}
 
 -- a fifth, 0.85 and 8.5, in units of 10^-12
 abbrev pub a_fifth : ℕ
@@ -104,3 +106,9 @@ abbrev pub is_pick : Choice → Bool
 is_pick Enqueue = false
 is_pick Mark = true
 is_pick Drop = true
+
+-- a choice as the verdict on an arrival
+abbrev pub chosen : Choice → Verdict
+chosen Enqueue = Enqueued
+chosen Mark = Marked
+chosen Drop = DroppedEarly

@@ -1,3 +1,4 @@
 pub mod Decision
+pub mod Cause
 pub mod Events
 pub mod History

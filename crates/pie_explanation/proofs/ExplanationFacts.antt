@@ -2,7 +2,7 @@
 use Rattle.std.proofs.Common.{◌≡◌, ℕ, List, ap, length, refl, ◌∙◌}
 use Rattle.std.specs.Prelude.{Option, max}
 use Rattle.pie_event.specs.declared.opening.Opening.{Opening}
-use Rattle.pie_aqm.specs.declared.cause.Cause.{Cause}
+use Rattle.pie_event.specs.declared.cause.Cause.{Cause}
 use Rattle.pie_event.specs.declared.command.Event.{Event}
 use Rattle.pie_event.specs.declared.registers.Registers.{Registers}
 use Rattle.pie_book.specs.Cause.{cause_after}

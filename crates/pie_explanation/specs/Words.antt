@@ -5,11 +5,11 @@ use Rattle.std.specs.Fmt.{decimal}
 use Rattle.pie_queue.specs.declared.ecn.Ecn.{Ecn}
 use Rattle.pie_queue.specs.declared.ecn.Ecn.TheVariants.{NotEct, Ect1, Ect0, Ce}
 use Rattle.pie_queue.specs.declared.packet.Packet.{Packet}
-use Rattle.pie_aqm.specs.declared.cause.Cause.{Cause}
-use Rattle.pie_aqm.specs.declared.cause.Cause.TheVariants.{NoRoomInBytes, NoRoomInPackets, Inactive, BurstAllowed, LowDelay, ShortQueue}
-use Rattle.pie_aqm.specs.declared.cause.Cause.TheVariants.{NoProbability, LittleAccumulated, PickedBySum, PickedByWord, WordNotBelow}
-use Rattle.pie_aqm.specs.declared.cause.Fate.{Fate}
-use Rattle.pie_aqm.specs.declared.cause.Fate.TheVariants as fate
+use Rattle.pie_event.specs.declared.cause.Cause.{Cause}
+use Rattle.pie_event.specs.declared.cause.Cause.TheVariants.{NoRoomInBytes, NoRoomInPackets, Inactive, BurstAllowed, LowDelay, ShortQueue}
+use Rattle.pie_event.specs.declared.cause.Cause.TheVariants.{NoProbability, LittleAccumulated, PickedBySum, PickedByWord, WordNotBelow}
+use Rattle.pie_event.specs.declared.cause.Fate.{Fate}
+use Rattle.pie_event.specs.declared.cause.Fate.TheVariants as fate
 use Rattle.pie_event.specs.declared.command.Command.{Command}
 use Rattle.pie_event.specs.declared.command.Command.TheVariants.{Arrive, Depart, Update, Reset, SetParams}
 use Rattle.pie_event.specs.declared.command.Answer.{Answer}
@@ -163,9 +163,9 @@ cause_words shown (BurstAllowed burst) = joined (codes "  a burst is allowed: " 
 cause_words shown (LowDelay old_delay target prob) =
     joined (codes "  the old delay, " ∷ millis old_delay ∷ codes ", is below half the target of " ∷ millis target
     ∷ codes ",\n  and the probability, " ∷ per_cent prob ∷ codes ", below 20 %\n" ∷ [])
-cause_words shown (ShortQueue bytes two_packets) =
-    joined (codes "  the queue is short: " ∷ decimal bytes ∷ codes " bytes, at most two mean packets (" ∷ decimal two_packets ∷ codes " bytes)\n"
-    ∷ [])
+cause_words shown (ShortQueue bytes mean_pkt) =
+    joined (codes "  the queue is short: " ∷ decimal bytes ∷ codes " bytes, at most two mean packets (" ∷ decimal (2 * mean_pkt)
+    ∷ codes " bytes)\n" ∷ [])
 cause_words shown NoProbability = never_words shown
 cause_words shown cause = considered_words shown cause
 

@@ -28,8 +28,9 @@ pub fn time_of(clock: Option<Clock>, moment: u64) -> Option<u64>
     }
 }
 
-/// Whether a moment with this time of day is not before the first that is wanted.
-fn is_from(first: Option<When>, moment: u64, time: Option<u64>) -> bool
+/// Whether a moment with this time of day is not before the first that is wanted, if there is one. One that has no time of day is before
+/// each.
+pub fn is_from(first: Option<When>, moment: u64, time: Option<u64>) -> bool
     ensures { result ≡ is_from first moment time }
 {
     match (first, time) {
@@ -40,8 +41,8 @@ fn is_from(first: Option<When>, moment: u64, time: Option<u64>) -> bool
     }
 }
 
-/// Whether it is not after the last that is wanted.
-fn is_to(last: Option<When>, moment: u64, time: Option<u64>) -> bool
+/// Whether it is not after the last that is wanted, if there is one. One that has no time of day is after each.
+pub fn is_to(last: Option<When>, moment: u64, time: Option<u64>) -> bool
     ensures { result ≡ is_to last moment time }
 {
     match (last, time) {

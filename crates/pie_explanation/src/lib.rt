@@ -15,7 +15,7 @@ mod text;
 pub mod units;
 pub mod which;
 
-pub use choice::{Choice, time_of};
+pub use choice::{Choice, is_from, is_to, time_of};
 pub use explanation::{Explained, Explanation, moment_of};
 pub use form::Form;
 pub use pie_event::Setter;

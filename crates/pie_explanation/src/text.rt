@@ -1,7 +1,7 @@
 //! An explanation in words, of four to nine lines.
 ghost use Rattle.std.specs.Prelude.{◌≡◌, ◌++◌, ◌∷◌, [], OnOk, codes, string_bytes, true};
 ghost use Rattle.std.specs.Fmt.{decimal};
-ghost use Rattle.pie_aqm.specs.declared.cause.Cause.TheVariants.{BurstAllowed, LowDelay, NoRoomInBytes, NoRoomInPackets, ShortQueue};
+ghost use Rattle.pie_event.specs.declared.cause.Cause.TheVariants.{BurstAllowed, LowDelay, NoRoomInBytes, NoRoomInPackets, ShortQueue};
 ghost use Rattle.pie_event.specs.declared.command.Answer.TheVariants.{Updated};
 ghost use Rattle.pie_explanation.specs.Words.{before_words, burst_words, cause_words, compared_words, considered_words, counted_name, deed_words};
 ghost use Rattle.pie_explanation.specs.Words.{departure_words, joined, never_words, per_cent, scaled_words, total_words};
@@ -307,9 +307,10 @@ fn push_low_delay(
 
 /// How short the queue was.
 #[tactic(auto, unfolding(crate::specs::Words::cause_words))]
-fn push_short_queue(page: &mut String, bytes: u64, two_packets: u64) -> Result<(), AllocError>
-    ensures { OnOk result (string_bytes page.new ≡ string_bytes page.old ++ cause_words 0 (ShortQueue bytes two_packets)) }
+fn push_short_queue(page: &mut String, bytes: u64, mean_pkt: u64) -> Result<(), AllocError>
+    ensures { OnOk result (string_bytes page.new ≡ string_bytes page.old ++ cause_words 0 (ShortQueue bytes mean_pkt)) }
 {
+    let two_packets = 2 * u128::from(mean_pkt);
     write!(
         page,
         "  the queue is short: {bytes} bytes, at most two mean packets ({two_packets} bytes)\n"
@@ -348,7 +349,7 @@ fn push_cause(page: &mut String, shown: u64, cause: Cause) -> Result<(), AllocEr
             target,
             prob,
         } => push_low_delay(page, old_delay, target, prob),
-        Cause::ShortQueue { bytes, two_packets } => push_short_queue(page, bytes, two_packets),
+        Cause::ShortQueue { bytes, mean_pkt } => push_short_queue(page, bytes, mean_pkt),
         Cause::NoProbability => push_never(page, shown),
         _ => push_considered(page, shown, cause),
     }

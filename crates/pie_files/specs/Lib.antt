@@ -1,3 +1,4 @@
 pub mod Files
+pub mod Host
 pub mod Output
 pub mod Watched

@@ -1,5 +1,8 @@
 //! The files of the system.
-ghost use Rattle.std.specs.Prelude.{None, false};
+ghost use Rattle.std.specs.Prelude.{◌≡◌, None, false};
+ghost use Rattle.std.specs.Io.{WritesAtMost};
+ghost use Rattle.std.specs.Io.KnownBytes.{WriteAppends};
+ghost use Rattle.pie_files.specs.Host.{has_closed, is_closed};
 
 use crate::files::NamedFiles;
 use either::{Either, Left, Right};
@@ -18,21 +21,57 @@ pub struct Output {
     to: Either<Stdout, File>,
     /// The name of the file that was made, until that is moved.
     made: Option<String>,
+    /// Nobody reads it any more.
+    is_closed: bool,
 }
 
 impl Output {
-    /// Standard output.
-    pub fn standard(output: Stdout) -> Output {
+    /// What writes there, of a file with this other name until it is moved.
+    fn new(to: Either<Stdout, File>, made: Option<String>) -> Output
+        ensures { is_closed result ≡ false }
+    {
         Output {
-            to: Left(output),
-            made: None,
+            to,
+            made,
+            is_closed: false,
+        }
+    }
+
+    /// Standard output.
+    pub fn standard(output: Stdout) -> Output
+        ensures { is_closed result ≡ false }
+    {
+        Output::new(Left(output), None)
+    }
+
+    /// Whether a write has failed since nobody reads it any more, as a pipe whose reader has ended.
+    pub fn is_closed(&self) -> bool
+        ensures { result ≡ is_closed self.now }
+    {
+        self.is_closed
+    }
+
+    /// Notes whether a write that was answered so failed since nobody reads it any more.
+    fn note(&mut self, given: &io::Result<usize>)
+        ensures { is_closed self.new ≡ has_closed (is_closed self.old) given.now }
+    {
+        if let Err(why) = given {
+            if matches!(why.kind(), ErrorKind::BrokenPipe) {
+                self.is_closed = true;
+            }
         }
     }
 }
 
 impl Write for Output {
-    fn write(&mut self, bytes: &[u8]) -> io::Result<usize> {
-        self.to.write(bytes)
+    fn write(&mut self, bytes: &[u8]) -> io::Result<usize>
+        ensures bound { WritesAtMost result bytes.now }
+        ensures bytes { WriteAppends None None result bytes.now }
+        ensures closed { is_closed self.new ≡ has_closed (is_closed self.old) result }
+    {
+        let given = self.to.write(bytes);
+        self.note(&given);
+        given
     }
 
     fn flush(&mut self) -> io::Result<()> {
@@ -81,10 +120,7 @@ fn create_beside(rt: &HostRuntime, name: &str, replaced: Option<&Metadata>) -> i
         let made = name_beside(rt, name, count)?;
         match create(rt, made.as_str(), replaced) {
             Ok(file) => {
-                return Ok(Output {
-                    to: Right(file),
-                    made: Some(made),
-                });
+                return Ok(Output::new(Right(file), Some(made)));
             }
             Err(why) => {
                 if why.kind() != ErrorKind::AlreadyExists {
@@ -101,10 +137,8 @@ fn create_beside(rt: &HostRuntime, name: &str, replaced: Option<&Metadata>) -> i
 
 /// Opens what is no file to write to it as it is.
 fn open_as_it_is(rt: &HostRuntime, name: &str) -> io::Result<Output> {
-    Ok(Output {
-        to: Right(OpenOptions::new().write(true).open(rt, name)?),
-        made: None,
-    })
+    let to = OpenOptions::new().write(true).open(rt, name)?;
+    Ok(Output::new(Right(to), None))
 }
 
 /// Whether nothing has this name, not even a link.
@@ -115,7 +149,8 @@ fn is_free(rt: &HostRuntime, name: &str) -> bool {
     }
 }
 
-/// Moves a file onto a name that no file has. That it has none is seen to in the same step, where the folder can hold links.
+/// Moves a file onto a name that no file has. That it has none is seen to in the same step, where the folder can hold links; elsewhere an empty file
+/// takes the name first, which replaces none.
 fn move_to_free(rt: &HostRuntime, made: &str, name: &str) -> io::Result<()> {
     match fs::hard_link(rt, made, name) {
         Ok(()) => {
@@ -123,12 +158,19 @@ fn move_to_free(rt: &HostRuntime, made: &str, name: &str) -> io::Result<()> {
             Ok(())
         }
         Err(_) => {
-            if !is_free(rt, name) {
-                return Err(is_there());
-            }
-            fs::rename(rt, made, name)
+            let _ = create(rt, name, None)?;
+            replace_empty(rt, made, name)
         }
     }
+}
+
+/// Moves a file onto the name of an empty one, which goes where that can't be done.
+fn replace_empty(rt: &HostRuntime, made: &str, name: &str) -> io::Result<()> {
+    let moved = fs::rename(rt, made, name);
+    if moved.is_err() {
+        let _ = fs::remove_file(rt, name);
+    }
+    moved
 }
 
 impl NamedFiles for HostRuntime {
@@ -199,7 +241,11 @@ impl NamedFiles for HostRuntime {
     }
 
     fn leave(&mut self, made: Output) -> Option<String> {
-        let Output { to, made } = made;
+        let Output {
+            to,
+            made,
+            is_closed: _,
+        } = made;
         let other = made?;
         let Right(file) = to else {
             return None;

@@ -129,9 +129,9 @@ module _ (burst least most start last : ℕ) where
       taken false = let whole = old.whole in let far = old.allows.together in omega arith
 
       by : (active : Bool) → Lasts burst least most start last (n + 1) h.params
-          (if active then Steps.control_updated h.elements.step h.params h.control (Steps.delay_in h queued) (max h.moment moment)
+          (if active then Steps.control_updated h.elements h.params h.control (Steps.delay_in h queued) (max h.moment moment)
           else record h.control { last = max h.moment moment }).burst
-          (if active then Steps.control_updated h.elements.step h.params h.control (Steps.delay_in h queued) (max h.moment moment)
+          (if active then Steps.control_updated h.elements h.params h.control (Steps.delay_in h queued) (max h.moment moment)
           else record h.control { last = max h.moment moment }).last
           (max h.moment moment)
       by true = next (if is_calm h queued then h.params.max_burst else (h.control.burst - h.params.t_update)) (taken (is_calm h queued))
@@ -354,7 +354,7 @@ within-next h waiting packets (Update moment) old keep = by h.active
     less true = omega arith
     less false = omega (arith, old)
 
-    by : (active : Bool) → (if active then Steps.control_updated h.elements.step h.params h.control (Steps.delay_in h (bytes_of waiting))
+    by : (active : Bool) → (if active then Steps.control_updated h.elements h.params h.control (Steps.delay_in h (bytes_of waiting))
         (max h.moment moment) else record h.control { last = max h.moment moment }).burst ≤ h.params.max_burst
     by true = less (is_calm h (bytes_of waiting))
     by false = old

@@ -9,9 +9,12 @@ use Rattle.std.proofs.lemmas.Nat.{le-div, mul-le}
 use Rattle.std.proofs.Math.Nat.{div-mul-le_self}
 use Rattle.pie_fixed.specs.Fixed.{bounded_of}
 use Rattle.pie_params.specs.declared.raw.RawParams.{RawParams}
+use Rattle.pie_params.specs.declared.elements.Decay.{Decay}
+use Rattle.pie_params.specs.declared.elements.Decay.TheVariants.{Half, Zero}
+use Rattle.pie_params.specs.declared.elements.Elements.{Elements}
 use Rattle.pie_params.specs.declared.elements.Step.{Step}
 use Rattle.pie_params.specs.Elements.{is_capped}
-use Rattle.pie_control.specs.Next.{decayed, next, raw_step, tuned_step, tuning_divisor}
+use Rattle.pie_control.specs.Next.{decayed, decays, next, raw_step, tuned_step, tuning_divisor}
 use Rattle.pie_control.proofs.Quotients.{bounded_of-below, decay-below, int_div-below}
 
 div-mono : (a b d : ℕ) → 0 < d → a ≤ b → a / d ≤ b / d
@@ -81,50 +84,48 @@ decay-mono x y le = div-mono-int (x *ℤ pos 98) (y *ℤ pos 98) 100 (omega arit
 
 -- ---- the next probability
 
-sum_of : Step → RawParams → ℕ → ℕ → ℕ → ℤ
-sum_of step params prob delay old = pos prob +ℤ tuned_step step prob (raw_step params delay old)
+sum_of : Elements → RawParams → ℕ → ℕ → ℕ → ℤ
+sum_of elements params prob delay old = pos prob +ℤ tuned_step elements.step prob (raw_step params delay old)
 
-sum-mono : (step : Step) (params : RawParams) (prob old delay more : ℕ) → delay ≤ more
-    → sum_of step params prob delay old ≤ℤ sum_of step params prob more old
+sum-mono : (elements : Elements) (params : RawParams) (prob old delay more : ℕ) → delay ≤ more
+    → sum_of elements params prob delay old ≤ℤ sum_of elements params prob more old
 unfolding sum_of
-sum-mono step params prob old delay more le =
-    let t = tuned-mono step prob (raw_step params delay old) (raw_step params more old) (raw-mono params old delay more le) in
+sum-mono elements params prob old delay more le =
+    let t = tuned-mono elements.step prob (raw_step params delay old) (raw_step params more old) (raw-mono params old delay more le) in
     omega (arith, ints, t)
 
--- a higher delay never gives a lower next probability, all else the same
-pub next_mono : (step : Step) (params : RawParams) (prob old delay more : ℕ) → delay ≤ more
-    → next step params prob delay old ≤ next step params prob more old
-unfolding next decayed sum_of
-next_mono step params prob old delay more le =
-    by (delay == 0) (more == 0) (old == 0) (let zero : more == 0 ≡ true → delay == 0 ≡ true = λ is. both is in zero)
-  where
-    both : more == 0 ≡ true → delay == 0 ≡ true
-    both is = grind (arith, nat_tests)
+-- where it decays at a delay it does so at a lower one
+decays-below : (choice : Decay) (params : RawParams) (old delay more : ℕ) → delay ≤ more → decays choice params more old ≡ true
+    → decays choice params delay old ≡ true
+decays-below Zero params old delay more le is = grind (arith, nat_tests)
+decays-below Half params old delay more le is = grind (arith, nat_tests)
 
+-- a higher delay never gives a lower next probability, all else the same
+pub next_mono : (elements : Elements) (params : RawParams) (prob old delay more : ℕ) → delay ≤ more
+    → next elements params prob delay old ≤ next elements params prob more old
+unfolding next decayed sum_of
+next_mono elements params prob old delay more le =
+    by (decays elements.decay params delay old) (decays elements.decay params more old) (decays-below elements.decay params old delay more le)
+  where
     x : ℤ
-    x = sum_of step params prob delay old
+    x = sum_of elements params prob delay old
 
     y : ℤ
-    y = sum_of step params prob more old
+    y = sum_of elements params prob more old
 
-    xy : sum_of step params prob delay old ≤ℤ sum_of step params prob more old
-    xy = sum-mono step params prob old delay more le
+    xy : sum_of elements params prob delay old ≤ℤ sum_of elements params prob more old
+    xy = sum-mono elements params prob old delay more le
 
-    by : (d m o : Bool) → (m ≡ true → d ≡ true)
-        → bounded_of (if d && o then int_div (sum_of step params prob delay old *ℤ pos 98) (pos 100) else sum_of step params prob delay old)
-        ≤ bounded_of (if m && o then int_div (sum_of step params prob more old *ℤ pos 98) (pos 100) else sum_of step params prob more old)
-    by true true true both = bounded-mono (int_div (x *ℤ pos 98) (pos 100)) (int_div (y *ℤ pos 98) (pos 100)) (decay-mono x y xy)
-    by true false true both =
+    by : (d m : Bool) → (m ≡ true → d ≡ true)
+        → bounded_of (if d then int_div (sum_of elements params prob delay old *ℤ pos 98) (pos 100) else sum_of elements params prob delay old)
+        ≤ bounded_of (if m then int_div (sum_of elements params prob more old *ℤ pos 98) (pos 100) else sum_of elements params prob more old)
+    by true true both = bounded-mono (int_div (x *ℤ pos 98) (pos 100)) (int_div (y *ℤ pos 98) (pos 100)) (decay-mono x y xy)
+    by true false both =
         let less = decay-less x in
         let more = bounded-mono x y xy in
         omega (arith, less, more)
-    by true m false both = grind-free m
-      where
-        grind-free : (m : Bool) → bounded_of x ≤ bounded_of (if m && false then int_div (y *ℤ pos 98) (pos 100) else y)
-        grind-free true = bounded-mono x y xy
-        grind-free false = bounded-mono x y xy
-    by false true o both = let wrong : false ≡ true = both refl in cc
-    by false false o both = bounded-mono x y xy
+    by false true both = let wrong : false ≡ true = both refl in cc
+    by false false both = bounded-mono x y xy
 
 -- ---- up and down
 
@@ -175,36 +176,35 @@ raw-down params delay old below fallen =
     omega (arith, ints, a, b)
 
 -- what decays or not is at most what doesn't
-pub decayed-less : (delay old : ℕ) (x : ℤ) → bounded_of (decayed delay old x) ≤ bounded_of x
+pub decayed-less : (decays : Bool) (x : ℤ) → bounded_of (decayed decays x) ≤ bounded_of x
 unfolding decayed
-decayed-less delay old x = by ((delay == 0) && (old == 0))
-  where
-    by : (b : Bool) → bounded_of (if b then int_div (x *ℤ pos 98) (pos 100) else x) ≤ bounded_of x
-    by true = decay-less x
-    by false = omega arith
+decayed-less true x = decay-less x
+decayed-less false x = omega arith
 
-pub next_up : (step : Step) (params : RawParams) (prob delay old : ℕ) → prob ≤ 10 ^ 12 → 0 < params.target → params.target ≤ delay → old ≤ delay
-    → prob ≤ next step params prob delay old
+-- it does not decay at the target or above it
+pub none_decays : (choice : Decay) (params : RawParams) (delay old : ℕ) → 0 < params.target → params.target ≤ delay
+    → decays choice params delay old ≡ false
+none_decays Zero params delay old some above = grind (arith, nat_tests)
+none_decays Half params delay old some above = grind (arith, nat_tests)
+
+pub next_up : (elements : Elements) (params : RawParams) (prob delay old : ℕ) → prob ≤ 10 ^ 12 → 0 < params.target → params.target ≤ delay
+    → old ≤ delay → prob ≤ next elements params prob delay old
 unfolding next decayed
-next_up step params prob delay old within some above risen =
-    rw not-zero (by (pos prob +ℤ tuned_step step prob (raw_step params delay old))
-    (let t = tuned-up step prob (raw_step params delay old) (raw-up params delay old above risen) in omega (arith, ints, t)))
+next_up elements params prob delay old within some above risen =
+    rw (none_decays elements.decay params delay old some above) (by (pos prob +ℤ tuned_step elements.step prob (raw_step params delay old))
+    (let t = tuned-up elements.step prob (raw_step params delay old) (raw-up params delay old above risen) in omega (arith, ints, t)))
   where
-    not-zero : (delay == 0) ≡ false
-    not-zero = grind (arith, nat_tests)
-
     by : (x : ℤ) → pos prob ≤ℤ x → prob ≤ bounded_of x
     by (pos a) le = let b : prob ≤ a = omega (arith, ints, le) in omega (arith, b, within)
     by (negsuc a) le = absurd (omega (arith, ints, le))
 
-pub next_down : (step : Step) (params : RawParams) (prob delay old : ℕ) → delay ≤ params.target → delay ≤ old
-    → next step params prob delay old ≤ prob
+pub next_down : (elements : Elements) (params : RawParams) (prob delay old : ℕ) → delay ≤ params.target → delay ≤ old
+    → next elements params prob delay old ≤ prob
 unfolding next
-next_down step params prob delay old below fallen =
-    let t = tuned-down step prob (raw_step params delay old) (raw-down params delay old below fallen) in
-    let x : ℤ = pos prob +ℤ tuned_step step prob (raw_step params delay old) in
-    let less = decayed-less delay old (pos prob +ℤ tuned_step step prob (raw_step params delay old)) in
-    let few = bounded_of-below (pos prob +ℤ tuned_step step prob (raw_step params delay old)) prob (omega (arith, ints, t)) in
+next_down elements params prob delay old below fallen =
+    let t = tuned-down elements.step prob (raw_step params delay old) (raw-down params delay old below fallen) in
+    let less = decayed-less (decays elements.decay params delay old) (pos prob +ℤ tuned_step elements.step prob (raw_step params delay old)) in
+    let few = bounded_of-below (pos prob +ℤ tuned_step elements.step prob (raw_step params delay old)) prob (omega (arith, ints, t)) in
     omega (arith, less, few)
 
 tuned-capped : (step : Step) (prob : ℕ) (x : ℤ) → is_capped step ≡ true → 10 ^ 11 ≤ prob → tuned_step step prob x ≤ℤ pos 20_000_000_000
@@ -218,13 +218,14 @@ tuned-capped step prob x capped large =
     min-below : (z : ℤ) → int_min z (pos 20_000_000_000) ≤ℤ pos 20_000_000_000
     min-below z = omega (arith, ints, clamps)
 
-pub next_capped : (step : Step) (params : RawParams) (prob delay old : ℕ) → is_capped step ≡ true → 10 ^ 11 ≤ prob
-    → next step params prob delay old ≤ prob + 20_000_000_000
+pub next_capped : (elements : Elements) (params : RawParams) (prob delay old : ℕ) → is_capped elements.step ≡ true → 10 ^ 11 ≤ prob
+    → next elements params prob delay old ≤ prob + 20_000_000_000
 unfolding next
-next_capped step params prob delay old capped large =
-    let t = tuned-capped step prob (raw_step params delay old) capped large in
-    let less = decayed-less delay old (pos prob +ℤ tuned_step step prob (raw_step params delay old)) in
-    let few = bounded_of-below (pos prob +ℤ tuned_step step prob (raw_step params delay old)) (prob + 20_000_000_000) (omega (arith, ints, t)) in
+next_capped elements params prob delay old capped large =
+    let t = tuned-capped elements.step prob (raw_step params delay old) capped large in
+    let less = decayed-less (decays elements.decay params delay old) (pos prob +ℤ tuned_step elements.step prob (raw_step params delay old)) in
+    let few = bounded_of-below (pos prob +ℤ tuned_step elements.step prob (raw_step params delay old)) (prob + 20_000_000_000)
+    (omega (arith, ints, t)) in
     omega (arith, less, few)
 
 decayed-share : (prob : ℕ) (x : ℤ) → x ≤ℤ pos prob → bounded_of (int_div (x *ℤ pos 98) (pos 100)) * 100 ≤ prob * 98
@@ -234,9 +235,16 @@ decayed-share prob x le =
     let q = div-mul-le_self (prob * 98) 100 in
     omega (arith, ints, b, q)
 
--- with both delays 0 it falls to 98 hundredths at most
-pub next_decays : (step : Step) (params : RawParams) (prob : ℕ) → next step params prob 0 0 * 100 ≤ prob * 98
+-- where it decays the delay is below the target, or 0
+pub decays_low : (choice : Decay) (params : RawParams) (delay old : ℕ) → decays choice params delay old ≡ true → delay ≤ params.target
+decays_low Zero params delay old is = let none : delay ≡ 0 = grind (arith, nat_tests) in omega (arith, none)
+decays_low Half params delay old is = grind (arith, nat_tests)
+
+-- where it decays, and the delay has not risen, it falls to 98 hundredths at most
+pub next_decays : (elements : Elements) (params : RawParams) (prob delay old : ℕ) → decays elements.decay params delay old ≡ true → delay ≤ old
+    → next elements params prob delay old * 100 ≤ prob * 98
 unfolding next decayed
-next_decays step params prob =
-    let t = tuned-down step prob (raw_step params 0 0) (raw-down params 0 0 (omega arith) (omega arith)) in
-    decayed-share prob (pos prob +ℤ tuned_step step prob (raw_step params 0 0)) (omega (arith, ints, t))
+next_decays elements params prob delay old is fallen =
+    let t = tuned-down elements.step prob (raw_step params delay old)
+    (raw-down params delay old (decays_low elements.decay params delay old is) fallen) in
+    rw is (decayed-share prob (pos prob +ℤ tuned_step elements.step prob (raw_step params delay old)) (omega (arith, ints, t)))

@@ -5,13 +5,11 @@ use Rattle.std.proofs.lemmas.Nat.{mul-le}
 use Rattle.std.proofs.Math.Nat.{le_of_mul-le-mul_right, pow-suc}
 use Rattle.std.proofs.lemmas.List.{append-nil, append_assoc}
 use Rattle.std.proofs.lemmas.List.Sums.{sum_by-cons}
-use Rattle.pie_params.specs.Elements.{is_capped}
+use Rattle.pie_params.specs.Elements.{is_capped, usual}
 use Rattle.pie_params.specs.Profile.{default_profile}
 use Rattle.pie_params.specs.declared.elements.Elements.{Elements}
-use Rattle.pie_params.specs.declared.elements.Step.{Step}
-use Rattle.pie_params.specs.declared.elements.Step.TheVariants.{Capped}
 use Rattle.pie_queue.specs.Queue.{bytes_of}
-use Rattle.pie_control.specs.Next.{decayed, next, raw_step, tuned_step, tuning_divisor}
+use Rattle.pie_control.specs.Next.{decayed, decays, next, raw_step, tuned_step, tuning_divisor}
 use Rattle.pie_event.specs.Deed.{deed, deed_of, is_update}
 use Rattle.pie_aqm.specs.Calls.{after_call}
 use Rattle.pie_aqm.specs.Held.{Held}
@@ -28,7 +26,7 @@ use Rattle.pie_guarantees.specs.Bursts.{KeepsParams, updates_in}
 use Rattle.pie_guarantees.specs.Lawful.{AllAlong, IsLawful}
 use Rattle.pie_guarantees.specs.Probability.{IsActiveUpdate, IsSteady, after_updates, old_delay_after, probability_after}
 use Rattle.pie_guarantees.proofs.LawfulFacts.{IsStep, sound_at, step_at}
-use Rattle.pie_guarantees.proofs.NextFacts.{next_capped, next_decays, next_down, next_up}
+use Rattle.pie_guarantees.proofs.NextFacts.{decays_low, next_capped, next_decays, next_down, next_up}
 use Rattle.pie_guarantees.proofs.SteadyFacts.{after_both, stays_down}
 
 pub elements-is : (opening : Opening) (history : List Event) → (held_after opening history).elements ≡ opening.choices.elements
@@ -55,12 +53,12 @@ update-of (Reset moment) answer e = cc
 update-of (SetParams moment params) answer e = cc
 
 updated-prob : (h : Held) (queued moment : ℕ) → h.active ≡ true
-    → (Steps.updated h queued moment).control.prob ≡ next h.elements.step h.params h.control.prob (Steps.delay_in h queued) h.control.old_delay
+    → (Steps.updated h queued moment).control.prob ≡ next h.elements h.params h.control.prob (Steps.delay_in h queued) h.control.old_delay
 updated-prob h queued moment on = rw on refl
 
 prob-next : (opening : Opening) (before : List Event) (event : Event) → IsStep opening before event → IsActiveUpdate opening before event
     → probability_after opening (before ++ event ∷ [])
-    ≡ next opening.choices.elements.step (params_after opening before) (probability_after opening before) (delay_after opening before)
+    ≡ next opening.choices.elements (params_after opening before) (probability_after opening before) (delay_after opening before)
     (old_delay_after opening before)
 prob-next opening before event step active =
     let h = held_after opening before in
@@ -68,7 +66,7 @@ prob-next opening before event step active =
     ap (λ (g : Held). g.control.prob) step.held
     ∙ ap (λ (c : Command). (after_call h (call_of (waiting_after opening before) opening.limits.packets c)).control.prob) u.is
     ∙ updated-prob h (bytes_of (waiting_after opening before)) u.moment active.active
-    ∙ ap (λ (e : Elements). next e.step h.params h.control.prob (delay_after opening before) h.control.old_delay) (elements-is opening before)
+    ∙ ap (λ (e : Elements). next e h.params h.control.prob (delay_after opening before) h.control.old_delay) (elements-is opening before)
 
 module _ (opening : Opening) (before : List Event) (event : Event) (later : List Event) (lawful : IsLawful opening (before ++ event ∷ later)) where
   step : IsStep opening before event
@@ -76,7 +74,7 @@ module _ (opening : Opening) (before : List Event) (event : Event) (later : List
 
   module _ (active : IsActiveUpdate opening before event) where
     is : probability_after opening (before ++ event ∷ [])
-        ≡ next opening.choices.elements.step (params_after opening before) (probability_after opening before) (delay_after opening before)
+        ≡ next opening.choices.elements (params_after opening before) (probability_after opening before) (delay_after opening before)
         (old_delay_after opening before)
     is = prob-next opening before event (step_at opening before event later lawful) active
 
@@ -86,26 +84,28 @@ module _ (opening : Opening) (before : List Event) (event : Event) (later : List
     rises_above above risen =
         let sound = (step_at opening before event later lawful).sound in
         let target = (in-range (params_after opening before) sound.params).target in
-        rw is (next_up opening.choices.elements.step (params_after opening before) (probability_after opening before) (delay_after opening before)
+        rw is (next_up opening.choices.elements (params_after opening before) (probability_after opening before) (delay_after opening before)
         (old_delay_after opening before) sound.prob (let least = target.0 in omega arith) above risen)
 
     pub falls_below : delay_after opening before ≤ (params_after opening before).target
         → delay_after opening before ≤ old_delay_after opening before
         → probability_after opening (before ++ event ∷ []) ≤ probability_after opening before
     falls_below below fallen =
-        rw is (next_down opening.choices.elements.step (params_after opening before) (probability_after opening before) (delay_after opening before)
+        rw is (next_down opening.choices.elements (params_after opening before) (probability_after opening before) (delay_after opening before)
         (old_delay_after opening before) below fallen)
 
     pub capped_rise : is_capped opening.choices.elements.step ≡ true → 100_000_000_000 ≤ probability_after opening before
         → probability_after opening (before ++ event ∷ []) ≤ probability_after opening before + 20_000_000_000
     capped_rise capped large =
-        rw is (next_capped opening.choices.elements.step (params_after opening before) (probability_after opening before)
+        rw is (next_capped opening.choices.elements (params_after opening before) (probability_after opening before)
         (delay_after opening before) (old_delay_after opening before) capped large)
 
-    pub decays_by_two : delay_after opening before ≡ 0 → old_delay_after opening before ≡ 0
+    pub decays_by_two : decays opening.choices.elements.decay (params_after opening before) (delay_after opening before)
+        (old_delay_after opening before) ≡ true → delay_after opening before ≤ old_delay_after opening before
         → probability_after opening (before ++ event ∷ []) * 100 ≤ probability_after opening before * 98
-    decays_by_two none old =
-        rw (is, none, old) (next_decays opening.choices.elements.step (params_after opening before) (probability_after opening before))
+    decays_by_two low fallen =
+        rw is (next_decays opening.choices.elements (params_after opening before) (probability_after opening before) (delay_after opening before)
+        (old_delay_after opening before) low fallen)
 
 -- ---- any other event
 
@@ -138,9 +138,9 @@ no_other_rise opening before event later lawful other =
 -- ---- one delay all along
 
 -- what an event leaves while the delay is steady
-record Next (delay : ℕ) (step : Step) (h g : Held) (updates : Bool) : Type 0 where
+record Next (delay : ℕ) (elements : Elements) (h g : Held) (updates : Bool) : Type 0 where
   params : g.params ≡ h.params
-  prob : g.control.prob ≡ (if updates then next step h.params h.control.prob delay delay else h.control.prob)
+  prob : g.control.prob ≡ (if updates then next elements h.params h.control.prob delay delay else h.control.prob)
 
 active-arrival : (h : Held) (a : Arrival) (moment : ℕ) → h.active ≡ true → Steps.arrived h a moment ≡ judged h a moment
 active-arrival h a moment on = by (Steps.turns_on h (bytes_with (Steps.verdict h a) a.queued a.size)) (rw on refl)
@@ -153,23 +153,23 @@ same-next : (delay : ℕ) (h : Held) (waiting : List Waiting) (packets : ℕ) (c
     → is_reset (deed command answer) ≡ false → h.active ≡ true
     → (is_update (deed command answer) ≡ true → Steps.delay_in h (bytes_of waiting) ≡ delay)
     → (is_update (deed command answer) ≡ true → h.control.old_delay ≡ delay)
-    → Next delay h.elements.step h (after_call h (call_of waiting packets command)) (is_update (deed command answer))
+    → Next delay h.elements h (after_call h (call_of waiting packets command)) (is_update (deed command answer))
 same-next delay h waiting packets (Arrive moment packet word) answer keeps unreset on now old =
     by answer (active-arrival h (arrival_of waiting packets packet word) moment on)
   where
-    same : (g : Held) → g ≡ judged h (arrival_of waiting packets packet word) moment → Next delay h.elements.step h g false
+    same : (g : Held) → g ≡ judged h (arrival_of waiting packets packet word) moment → Next delay h.elements h g false
     same g is = record { params = ap (λ (k : Held). k.params) is; prob = ap (λ (k : Held). k.control.prob) is }
 
     by : (answer : Answer) → Steps.arrived h (arrival_of waiting packets packet word) moment ≡ judged h
         (arrival_of waiting packets packet word) moment
-        → Next delay h.elements.step h (Steps.arrived h (arrival_of waiting packets packet word) moment)
+        → Next delay h.elements h (Steps.arrived h (arrival_of waiting packets packet word) moment)
         (is_update (deed (Arrive moment packet word) answer))
     by Enqueued is = same (Steps.arrived h (arrival_of waiting packets packet word) moment) is
     by _ is = same (Steps.arrived h (arrival_of waiting packets packet word) moment) is
 same-next delay h waiting packets (Depart moment) answer keeps unreset on now old = by waiting answer
   where
     by : (waiting : List Waiting) (answer : Answer)
-        → Next delay h.elements.step h (after_call h (departure_call waiting moment)) (is_update (deed (Depart moment) answer))
+        → Next delay h.elements h (after_call h (departure_call waiting moment)) (is_update (deed (Depart moment) answer))
     by [] Enqueued = record { params = refl; prob = refl }
     by [] _ = record { params = refl; prob = refl }
     by (oldest ∷ others) Enqueued = record { params = refl; prob = refl }
@@ -184,21 +184,21 @@ same-next delay h waiting packets (SetParams moment params) answer keeps unreset
 counted-cons : (event : Event) (later : List Event) → updates_in (event ∷ later) ≡ cond (is_update (deed_of event)) 1 0 + updates_in later
 counted-cons event later = sum_by-cons (λ (e : Event). cond (is_update (deed_of e)) 1 0) event later
 
-one-update : (updates : Bool) (n : ℕ) (step : Step) (params : RawParams) (delay prob : ℕ)
-    → after_updates n step params delay (if updates then next step params prob delay delay else prob)
-    ≡ after_updates (cond updates 1 0 + n) step params delay prob
+one-update : (updates : Bool) (n : ℕ) (elements : Elements) (params : RawParams) (delay prob : ℕ)
+    → after_updates n elements params delay (if updates then next elements params prob delay delay else prob)
+    ≡ after_updates (cond updates 1 0 + n) elements params delay prob
 unfolding after_updates
-one-update true n choice params delay prob =
+one-update true n elements params delay prob =
     let one : suc n ≡ 1 + n = omega arith in
-    ap (λ (k : ℕ). after_updates k choice params delay prob) one
-one-update false n choice params delay prob =
+    ap (λ (k : ℕ). after_updates k elements params delay prob) one
+one-update false n elements params delay prob =
     let none : n ≡ 0 + n = omega arith in
-    ap (λ (k : ℕ). after_updates k choice params delay prob) none
+    ap (λ (k : ℕ). after_updates k elements params delay prob) none
 
 pub steadily : (delay : ℕ) (opening : Opening) (before : List Event) (between : List Event) (later : List Event)
     → IsLawful opening (before ++ between ++ later) → AllAlong (IsSteady delay opening) before between
     → probability_after opening (before ++ between)
-    ≡ after_updates (updates_in between) opening.choices.elements.step (params_after opening before) delay (probability_after opening before)
+    ≡ after_updates (updates_in between) opening.choices.elements (params_after opening before) delay (probability_after opening before)
 unfolding AllAlong after_updates
 steadily delay opening before [] later lawful steady = rw (append-nil before) refl
 steadily delay opening before (event ∷ between) later lawful steady =
@@ -208,13 +208,13 @@ steadily delay opening before (event ∷ between) later lawful steady =
     let rest = steadily delay opening (before ++ event ∷ []) between later (rw (← one) at lawful) steady.1 in
     let h = held_after opening before in
     let w = waiting_after opening before in
-    let moved : Next delay h.elements.step h (held_after opening (before ++ event ∷ [])) (is_update (deed_of event)) =
-    subst (λ (g : Held). Next delay h.elements.step h g (is_update (deed_of event))) (sym step.held)
+    let moved : Next delay h.elements h (held_after opening (before ++ event ∷ [])) (is_update (deed_of event)) =
+    subst (λ (g : Held). Next delay h.elements h g (is_update (deed_of event))) (sym step.held)
     (same-next delay h w opening.limits.packets event.command event.answer here.keeps here.unreset here.active here.delay_now here.delay_old) in
-    let s = opening.choices.elements.step in
+    let s = opening.choices.elements in
     let prob : probability_after opening (before ++ event ∷ [])
     ≡ (if is_update (deed_of event) then next s h.params h.control.prob delay delay else h.control.prob) =
-    moved.prob ∙ ap (λ (e : Elements). if is_update (deed_of event) then next e.step h.params h.control.prob delay delay else h.control.prob)
+    moved.prob ∙ ap (λ (e : Elements). if is_update (deed_of event) then next e h.params h.control.prob delay delay else h.control.prob)
     (elements-is opening before) in
     ap (probability_after opening) (sym one) ∙ rest
     ∙ ap (λ (p : RawParams). after_updates (updates_in between) s p delay (probability_after opening (before ++ event ∷ []))) moved.params
@@ -228,36 +228,40 @@ fades-more x y p a b rest one =
     let second : y * 100 * b ≤ p * 98 * b = mul-le (y * 100) b (p * 98) b one (omega arith) in
     grind arith
 
-faded-after : (n : ℕ) (step : Step) (params : RawParams) (prob : ℕ) → after_updates n step params 0 prob * 100 ^ n ≤ prob * 98 ^ n
+faded-after : (n : ℕ) (elements : Elements) (params : RawParams) (delay prob : ℕ) → decays elements.decay params delay delay ≡ true
+    → after_updates n elements params delay prob * 100 ^ n ≤ prob * 98 ^ n
 unfolding after_updates
-faded-after zero choice params prob = omega arith
-faded-after (suc n) choice params prob =
-    let rest = faded-after n choice params (next choice params prob 0 0) in
-    let one = next_decays choice params prob in
+faded-after zero elements params delay prob is = omega arith
+faded-after (suc n) elements params delay prob is =
+    let rest = faded-after n elements params delay (next elements params prob delay delay) is in
+    let one = next_decays elements params prob delay delay is (omega arith) in
     rw (pow-suc 100 n, pow-suc 98 n)
-    (fades-more (after_updates n choice params 0 (next choice params prob 0 0)) (next choice params prob 0 0) prob (100 ^ n) (98 ^ n) rest one)
+    (fades-more (after_updates n elements params delay (next elements params prob delay delay)) (next elements params prob delay delay) prob
+    (100 ^ n) (98 ^ n) rest one)
 
-pub fades_away : (opening : Opening) (before : List Event) (between : List Event) (later : List Event)
-    → IsLawful opening (before ++ between ++ later) → AllAlong (IsSteady 0 opening) before between
+pub fades_away : (delay : ℕ) (opening : Opening) (before : List Event) (between : List Event) (later : List Event)
+    → IsLawful opening (before ++ between ++ later) → AllAlong (IsSteady delay opening) before between
+    → decays opening.choices.elements.decay (params_after opening before) delay delay ≡ true
     → probability_after opening (before ++ between) * 100 ^ updates_in between ≤ probability_after opening before * 98 ^ updates_in between
-fades_away opening before between later lawful steady =
-    let n = updates_in between in
-    let is = steadily 0 opening before between later lawful steady in
-    rw is (faded-after (updates_in between) opening.choices.elements.step (params_after opening before) (probability_after opening before))
+fades_away delay opening before between later lawful steady is =
+    rw (steadily delay opening before between later lawful steady)
+    (faded-after (updates_in between) opening.choices.elements (params_after opening before) delay (probability_after opening before) is)
 
 -- a hundred and fourteen times 98 hundredths are less than a tenth
 hundred-fourteen : 98 ^ 114 * 10 ≤ 100 ^ 114
 hundred-fourteen = omega arith
 
-pub a_tenth_is_left : (n : ℕ) (step : Step) (params : RawParams) (prob : ℕ) → 114 ≤ n → after_updates n step params 0 prob * 10 ≤ prob
-a_tenth_is_left n choice params prob many =
+pub a_tenth_is_left : (n : ℕ) (elements : Elements) (params : RawParams) (delay : ℕ) (prob : ℕ)
+    → decays elements.decay params delay delay ≡ true → 114 ≤ n → after_updates n elements params delay prob * 10 ≤ prob
+a_tenth_is_left n elements params delay prob is many =
     let split : 114 + (n - 114) ≡ n = omega (arith, many) in
-    let less : after_updates n choice params 0 prob ≤ after_updates 114 choice params 0 prob =
-    subst (λ (k : ℕ). after_updates k choice params 0 prob ≤ after_updates 114 choice params 0 prob) split
-    (rw (after_both 114 (n - 114) choice params 0 prob)
-    (stays_down choice params 0 (omega arith) (n - 114) (after_updates 114 choice params 0 prob))) in
-    let faded = faded-after 114 choice params prob in
-    let left = share (after_updates 114 choice params 0 prob) prob (98 ^ 114) (100 ^ 114) (omega arith) faded hundred-fourteen in
+    let low = decays_low elements.decay params delay delay is in
+    let less : after_updates n elements params delay prob ≤ after_updates 114 elements params delay prob =
+    subst (λ (k : ℕ). after_updates k elements params delay prob ≤ after_updates 114 elements params delay prob) split
+    (rw (after_both 114 (n - 114) elements params delay prob)
+    (stays_down elements params delay low (n - 114) (after_updates 114 elements params delay prob))) in
+    let faded = faded-after 114 elements params delay prob is in
+    let left = share (after_updates 114 elements params delay prob) prob (98 ^ 114) (100 ^ 114) (omega arith) faded hundred-fourteen in
     omega (arith, less, left)
   where
     share : (x p a b : ℕ) → 0 < b → x * b ≤ p * a → a * 10 ≤ b → x * 10 ≤ p
@@ -268,26 +272,26 @@ a_tenth_is_left n choice params prob many =
 
 -- ---- with the defaults
 
-pub tenth_after : after_updates 162 Capped default_profile 30_000_000 0 ≡ 100_178_833_003
+pub tenth_after : after_updates 162 usual default_profile 30_000_000 0 ≡ 100_178_833_003
 unfolding after_updates next raw_step tuned_step tuning_divisor decayed
 tenth_after = refl
 
-pub tenth_not_before : after_updates 161 Capped default_profile 30_000_000 0 ≡ 99_241_333_003
+pub tenth_not_before : after_updates 161 usual default_profile 30_000_000 0 ≡ 99_241_333_003
 unfolding after_updates next raw_step tuned_step tuning_divisor decayed
 tenth_not_before = refl
 
-pub faded_after : after_updates 87 Capped default_profile 0 1_000_000_000_000 ≡ 96_421_179_148
+pub faded_after : after_updates 87 usual default_profile 0 1_000_000_000_000 ≡ 96_421_179_148
 unfolding after_updates next raw_step tuned_step tuning_divisor decayed
 faded_after = refl
 
-pub not_yet_faded : after_updates 86 Capped default_profile 0 1_000_000_000_000 ≡ 100_263_958_315
+pub not_yet_faded : after_updates 86 usual default_profile 0 1_000_000_000_000 ≡ 100_263_958_315
 unfolding after_updates next raw_step tuned_step tuning_divisor decayed
 not_yet_faded = refl
 
-pub below_a_tenth : next Capped default_profile 99_999_999_999 1_000_000_000 0 ≡ 786_562_499_999
+pub below_a_tenth : next usual default_profile 99_999_999_999 1_000_000_000 0 ≡ 786_562_499_999
 unfolding next raw_step tuned_step tuning_divisor decayed
 below_a_tenth = refl
 
-pub from_a_tenth : next Capped default_profile 100_000_000_000 1_000_000_000 0 ≡ 120_000_000_000
+pub from_a_tenth : next usual default_profile 100_000_000_000 1_000_000_000 0 ≡ 120_000_000_000
 unfolding next raw_step tuned_step tuning_divisor decayed
 from_a_tenth = refl

@@ -10,12 +10,13 @@ use Rattle.std.proofs.Math.Nat.{div-mul-le_self, lt-mul-div-succ}
 use Rattle.pie_fixed.specs.Fixed.{bounded_of}
 use Rattle.pie_params.specs.Profile.{default_profile}
 use Rattle.pie_params.specs.declared.raw.RawParams.{RawParams}
+use Rattle.pie_params.specs.declared.elements.Elements.{Elements}
 use Rattle.pie_params.specs.declared.elements.Step.{Step}
 use Rattle.pie_params.specs.Elements.{is_capped}
-use Rattle.pie_control.specs.Next.{decayed, next, raw_step, tuned_step, tuning_divisor}
+use Rattle.pie_control.specs.Next.{decayed, decays, next, raw_step, tuned_step, tuning_divisor}
 use Rattle.pie_control.proofs.Quotients.{bounded_of-below}
 use Rattle.pie_guarantees.specs.Probability.{after_updates, least_rise, untuned_fall, untuned_rise, updates_from, updates_to_a_tenth}
-use Rattle.pie_guarantees.proofs.NextFacts.{decayed-less, divisor-some, next_down, next_up}
+use Rattle.pie_guarantees.proofs.NextFacts.{decayed-less, divisor-some, next_down, next_up, none_decays}
 
 -- ---- the table of auto-tuning
 
@@ -130,50 +131,44 @@ least-bounded : (prob rise : ℕ) (x : ℤ) → pos rise ≤ℤ x → min (10 ^ 
 least-bounded prob rise (pos a) le = omega (arith, ints, le)
 least-bounded prob rise (negsuc a) le = absurd (omega (arith, ints, le))
 
-none-decays : (delay : ℕ) (x : ℤ) → 0 < delay → decayed delay delay x ≡ x
-unfolding decayed
-none-decays delay x some = rw not-zero refl
-  where
-    not-zero : (delay == 0) ≡ false
-    not-zero = grind (arith, nat_tests)
+one-rise : (elements : Elements) (params : RawParams) (prob delay : ℕ) → 0 < params.target → params.target ≤ delay
+    → min (10 ^ 12) (prob + least_rise params delay prob) ≤ next elements params prob delay delay
+unfolding next decayed
+one-rise elements params prob delay some above =
+    rw (none_decays elements.decay params delay delay some above, raw-above params delay above)
+    (least-bounded prob (least_rise params delay prob) (tuned_step elements.step prob (pos (untuned_rise params delay)))
+    (least-tuned elements.step params delay prob))
 
-one-rise : (step : Step) (params : RawParams) (prob delay : ℕ) → 0 < params.target → params.target ≤ delay
-    → min (10 ^ 12) (prob + least_rise params delay prob) ≤ next step params prob delay delay
-unfolding next
-one-rise step params prob delay some above =
-    rw (none-decays delay (pos prob +ℤ tuned_step step prob (raw_step params delay delay)) (omega (arith, some, above)), raw-above params delay above)
-    (least-bounded prob (least_rise params delay prob) (tuned_step step prob (pos (untuned_rise params delay))) (least-tuned step params delay prob))
+one-rise-most : (elements : Elements) (params : RawParams) (prob delay : ℕ) → 0 < params.target → params.target ≤ delay
+    → next elements params prob delay delay ≤ prob + untuned_rise params delay / tuning_divisor prob
+unfolding next decayed
+one-rise-most elements params prob delay some above =
+    rw (none_decays elements.decay params delay delay some above, raw-above params delay above)
+    (let t = tuned-most elements.step prob (untuned_rise params delay) in
+    bounded_of-below (pos prob +ℤ tuned_step elements.step prob (pos (untuned_rise params delay)))
+    (prob + untuned_rise params delay / tuning_divisor prob) (omega (arith, ints, t)))
 
-one-rise-most : (step : Step) (params : RawParams) (prob delay : ℕ) → 0 < params.target → params.target ≤ delay
-    → next step params prob delay delay ≤ prob + untuned_rise params delay / tuning_divisor prob
-unfolding next
-one-rise-most step params prob delay some above =
-    rw (none-decays delay (pos prob +ℤ tuned_step step prob (raw_step params delay delay)) (omega (arith, some, above)), raw-above params delay above)
-    (let t = tuned-most step prob (untuned_rise params delay) in
-    bounded_of-below (pos prob +ℤ tuned_step step prob (pos (untuned_rise params delay))) (prob + untuned_rise params delay / tuning_divisor prob)
-    (omega (arith, ints, t)))
+fallen-step : (elements : Elements) (params : RawParams) (prob delay : ℕ) → delay ≤ params.target
+    → tuned_step elements.step prob (raw_step params delay delay) ≡ pos 0 -ℤ pos (untuned_fall params delay / tuning_divisor prob)
+fallen-step elements params prob delay below =
+    ap (λ (z : ℤ). tuned_step elements.step prob z) (raw-below params delay below) ∙ tuned-below elements.step prob (untuned_fall params delay)
 
-one-fall : (step : Step) (params : RawParams) (prob delay : ℕ) → delay ≤ params.target → 0 < next step params prob delay delay
-    → next step params prob delay delay + untuned_fall params delay / tuning_divisor prob ≤ prob
+one-fall : (elements : Elements) (params : RawParams) (prob delay : ℕ) → delay ≤ params.target → 0 < next elements params prob delay delay
+    → next elements params prob delay delay + untuned_fall params delay / tuning_divisor prob ≤ prob
 unfolding next
-one-fall step params prob delay below some =
+one-fall elements params prob delay below some =
     let fall = untuned_fall params delay / tuning_divisor prob in
-    let is : tuned_step step prob (raw_step params delay delay) ≡ pos 0 -ℤ pos fall =
-    ap (λ (z : ℤ). tuned_step step prob z) (raw-below params delay below) ∙ tuned-below step prob (untuned_fall params delay) in
-    let less : next step params prob delay delay ≤ bounded_of (pos prob +ℤ (pos 0 -ℤ pos fall)) =
-    subst (λ (z : ℤ). next step params prob delay delay ≤ bounded_of (pos prob +ℤ z)) is
-    (decayed-less delay delay (pos prob +ℤ tuned_step step prob (raw_step params delay delay))) in
+    let less : next elements params prob delay delay ≤ bounded_of (pos prob +ℤ (pos 0 -ℤ pos fall)) =
+    subst (λ (z : ℤ). next elements params prob delay delay ≤ bounded_of (pos prob +ℤ z)) (fallen-step elements params prob delay below)
+    (decayed-less (decays elements.decay params delay delay) (pos prob +ℤ tuned_step elements.step prob (raw_step params delay delay))) in
     let fallen = bounded-fall prob fall (omega (arith, less, some)) in
     omega (arith, less, fallen)
 
-one-fall-most : (step : Step) (params : RawParams) (prob delay : ℕ) → prob ≤ 10 ^ 12 → 0 < delay → delay ≤ params.target
-    → prob ≤ next step params prob delay delay + untuned_fall params delay / tuning_divisor prob
-unfolding next
-one-fall-most step params prob delay within some below =
-    let fall = untuned_fall params delay / tuning_divisor prob in
-    let is : tuned_step step prob (raw_step params delay delay) ≡ pos 0 -ℤ pos fall =
-    ap (λ (z : ℤ). tuned_step step prob z) (raw-below params delay below) ∙ tuned-below step prob (untuned_fall params delay) in
-    rw (none-decays delay (pos prob +ℤ tuned_step step prob (raw_step params delay delay)) some, is) (fall-bounded prob fall within)
+one-fall-most : (elements : Elements) (params : RawParams) (prob delay : ℕ) → prob ≤ 10 ^ 12 → decays elements.decay params delay delay ≡ false
+    → delay ≤ params.target → prob ≤ next elements params prob delay delay + untuned_fall params delay / tuning_divisor prob
+unfolding next decayed
+one-fall-most elements params prob delay within still below =
+    rw (still, fallen-step elements params prob delay below) (fall-bounded prob (untuned_fall params delay / tuning_divisor prob) within)
 
 -- ---- several updates
 
@@ -181,9 +176,10 @@ within-one : (z : ℤ) → bounded_of z ≤ 10 ^ 12
 within-one (pos a) = omega arith
 within-one (negsuc a) = omega arith
 
-next-within : (step : Step) (params : RawParams) (prob delay old : ℕ) → next step params prob delay old ≤ 10 ^ 12
+next-within : (elements : Elements) (params : RawParams) (prob delay old : ℕ) → next elements params prob delay old ≤ 10 ^ 12
 unfolding next
-next-within step params prob delay old = within-one (decayed delay old (pos prob +ℤ tuned_step step prob (raw_step params delay old)))
+next-within elements params prob delay old =
+    within-one (decayed (decays elements.decay params delay old) (pos prob +ℤ tuned_step elements.step prob (raw_step params delay old)))
 
 -- a divisor that falls leaves more
 div-more : (n d e : ℕ) → 0 < e → e ≤ d → n / d ≤ n / e
@@ -199,108 +195,113 @@ rise-grows params delay low high le =
 more-times : (n rise : ℕ) → suc n * rise ≡ rise + n * rise
 more-times n rise = grind arith
 
-module _ (step : Step) (params : RawParams) (delay : ℕ) (some : 0 < params.target) (above : params.target ≤ delay) where
+module _ (elements : Elements) (params : RawParams) (delay : ℕ) (some : 0 < params.target) (above : params.target ≤ delay) where
   -- it never falls
-  pub stays_up : (n prob : ℕ) → prob ≤ 10 ^ 12 → prob ≤ after_updates n step params delay prob
+  pub stays_up : (n prob : ℕ) → prob ≤ 10 ^ 12 → prob ≤ after_updates n elements params delay prob
   unfolding after_updates
   stays_up zero prob within = omega arith
   stays_up (suc n) prob within =
-      let one = next_up step params prob delay delay within some above (omega arith) in
-      let rest = stays_up n (next step params prob delay delay) (next-within step params prob delay delay) in
+      let one = next_up elements params prob delay delay within some above (omega arith) in
+      let rest = stays_up n (next elements params prob delay delay) (next-within elements params prob delay delay) in
       omega (arith, one, rest)
 
   rises-by : (n rise prob : ℕ) → rise ≤ least_rise params delay prob → prob ≤ 10 ^ 12
-      → min (10 ^ 12) (prob + n * rise) ≤ after_updates n step params delay prob
+      → min (10 ^ 12) (prob + n * rise) ≤ after_updates n elements params delay prob
   unfolding after_updates
   rises-by zero rise prob least within = omega arith
   rises-by (suc n) rise prob least within =
-      let one = one-rise step params prob delay some above in
-      let up = next_up step params prob delay delay within some above (omega arith) in
-      let grows = rise-grows params delay prob (next step params prob delay delay) up in
-      let rest = rises-by n rise (next step params prob delay delay) (omega (arith, least, grows)) (next-within step params prob delay delay) in
+      let one = one-rise elements params prob delay some above in
+      let up = next_up elements params prob delay delay within some above (omega arith) in
+      let grows = rise-grows params delay prob (next elements params prob delay delay) up in
+      let rest = rises-by n rise (next elements params prob delay delay) (omega (arith, least, grows))
+      (next-within elements params prob delay delay) in
       let times = more-times n rise in
       omega (arith, one, rest, times, least)
 
   pub rises_at_least : (n prob : ℕ) → prob ≤ 10 ^ 12
-      → min (10 ^ 12) (prob + n * least_rise params delay prob) ≤ after_updates n step params delay prob
+      → min (10 ^ 12) (prob + n * least_rise params delay prob) ≤ after_updates n elements params delay prob
   rises_at_least n prob within = rises-by n (least_rise params delay prob) prob (omega arith) within
 
-  pub rises_at_most : (n prob most : ℕ) → prob ≤ 10 ^ 12 → after_updates n step params delay prob ≤ most
-      → after_updates n step params delay prob ≤ prob + n * (untuned_rise params delay / tuning_divisor most)
+  pub rises_at_most : (n prob most : ℕ) → prob ≤ 10 ^ 12 → after_updates n elements params delay prob ≤ most
+      → after_updates n elements params delay prob ≤ prob + n * (untuned_rise params delay / tuning_divisor most)
   unfolding after_updates
   rises_at_most zero prob most within below = omega arith
   rises_at_most (suc n) prob most within below =
-      let one = one-rise-most step params prob delay some above in
-      let up = next_up step params prob delay delay within some above (omega arith) in
-      let rest = rises_at_most n (next step params prob delay delay) most (next-within step params prob delay delay) below in
-      let stays = stays_up n (next step params prob delay delay) (next-within step params prob delay delay) in
+      let one = one-rise-most elements params prob delay some above in
+      let up = next_up elements params prob delay delay within some above (omega arith) in
+      let rest = rises_at_most n (next elements params prob delay delay) most (next-within elements params prob delay delay) below in
+      let stays = stays_up n (next elements params prob delay delay) (next-within elements params prob delay delay) in
       let more = div-more (untuned_rise params delay) (tuning_divisor prob) (tuning_divisor most) (divisor-some most)
       (divisor-falls prob most (omega (arith, up, stays, below))) in
       let times = more-times n (untuned_rise params delay / tuning_divisor most) in
       omega (arith, one, rest, more, times)
 
-module _ (step : Step) (params : RawParams) (delay : ℕ) (below : delay ≤ params.target) where
-  pub stays_down : (n prob : ℕ) → after_updates n step params delay prob ≤ prob
+module _ (elements : Elements) (params : RawParams) (delay : ℕ) (below : delay ≤ params.target) where
+  pub stays_down : (n prob : ℕ) → after_updates n elements params delay prob ≤ prob
   unfolding after_updates
   stays_down zero prob = omega arith
   stays_down (suc n) prob =
-      let one = next_down step params prob delay delay below (omega arith) in
-      let rest = stays_down n (next step params prob delay delay) in
+      let one = next_down elements params prob delay delay below (omega arith) in
+      let rest = stays_down n (next elements params prob delay delay) in
       omega (arith, one, rest)
 
-  pub falls_at_least : (n prob least : ℕ) → 0 < least → least ≤ after_updates n step params delay prob
-      → after_updates n step params delay prob + n * (untuned_fall params delay / tuning_divisor least) ≤ prob
+  pub falls_at_least : (n prob least : ℕ) → 0 < least → least ≤ after_updates n elements params delay prob
+      → after_updates n elements params delay prob + n * (untuned_fall params delay / tuning_divisor least) ≤ prob
   unfolding after_updates
   falls_at_least zero prob least some above = omega arith
   falls_at_least (suc n) prob least some above =
-      let rest = falls_at_least n (next step params prob delay delay) least some above in
-      let stays = stays_down n (next step params prob delay delay) in
-      let down = next_down step params prob delay delay below (omega arith) in
-      let one = one-fall step params prob delay below (omega (arith, some, above, stays)) in
+      let rest = falls_at_least n (next elements params prob delay delay) least some above in
+      let stays = stays_down n (next elements params prob delay delay) in
+      let down = next_down elements params prob delay delay below (omega arith) in
+      let one = one-fall elements params prob delay below (omega (arith, some, above, stays)) in
       let more = div-more (untuned_fall params delay) (tuning_divisor least) (tuning_divisor prob) (divisor-some prob)
       (divisor-falls least prob (omega (arith, above, stays, down))) in
       let times = more-times n (untuned_fall params delay / tuning_divisor least) in
       omega (arith, one, rest, more, times)
 
-  falls-by : (n prob fall : ℕ) → prob ≤ 10 ^ 12 → 0 < delay → untuned_fall params delay / tuning_divisor prob ≤ fall
-      → prob ≤ after_updates n step params delay prob + n * fall
+  falls-by : (n prob fall : ℕ) → prob ≤ 10 ^ 12 → decays elements.decay params delay delay ≡ false
+      → untuned_fall params delay / tuning_divisor prob ≤ fall
+      → prob ≤ after_updates n elements params delay prob + n * fall
   unfolding after_updates
-  falls-by zero prob fall within some most = omega arith
-  falls-by (suc n) prob fall within some most =
-      let one = one-fall-most step params prob delay within some below in
-      let down = next_down step params prob delay delay below (omega arith) in
-      let less = div-more (untuned_fall params delay) (tuning_divisor (next step params prob delay delay)) (tuning_divisor prob) (divisor-some prob)
-      (divisor-falls (next step params prob delay delay) prob down) in
-      let rest = falls-by n (next step params prob delay delay) fall (next-within step params prob delay delay) some (omega (arith, less, most)) in
+  falls-by zero prob fall within still most = omega arith
+  falls-by (suc n) prob fall within still most =
+      let one = one-fall-most elements params prob delay within still below in
+      let down = next_down elements params prob delay delay below (omega arith) in
+      let less = div-more (untuned_fall params delay) (tuning_divisor (next elements params prob delay delay)) (tuning_divisor prob)
+      (divisor-some prob)
+      (divisor-falls (next elements params prob delay delay) prob down) in
+      let rest = falls-by n (next elements params prob delay delay) fall (next-within elements params prob delay delay) still
+      (omega (arith, less, most)) in
       let times = more-times n fall in
       omega (arith, one, rest, most, times)
 
-  pub falls_at_most : (n prob : ℕ) → prob ≤ 10 ^ 12 → 0 < delay
-      → prob ≤ after_updates n step params delay prob + n * (untuned_fall params delay / tuning_divisor prob)
-  falls_at_most n prob within some = falls-by n prob (untuned_fall params delay / tuning_divisor prob) within some (omega arith)
+  pub falls_at_most : (n prob : ℕ) → prob ≤ 10 ^ 12 → decays elements.decay params delay delay ≡ false
+      → prob ≤ after_updates n elements params delay prob + n * (untuned_fall params delay / tuning_divisor prob)
+  falls_at_most n prob within still = falls-by n prob (untuned_fall params delay / tuning_divisor prob) within still (omega arith)
 
 -- ---- to a tenth
 
-pub after_both : (m n : ℕ) (step : Step) (params : RawParams) (delay prob : ℕ)
-    → after_updates (m + n) step params delay prob ≡ after_updates n step params delay (after_updates m step params delay prob)
+pub after_both : (m n : ℕ) (elements : Elements) (params : RawParams) (delay prob : ℕ)
+    → after_updates (m + n) elements params delay prob ≡ after_updates n elements params delay (after_updates m elements params delay prob)
 unfolding after_updates
-after_both zero n step params delay prob =
-    let none : 0 + n ≡ n = omega arith in ap (λ (k : ℕ). after_updates k step params delay prob) none
-after_both (suc m) n step params delay prob =
+after_both zero n elements params delay prob =
+    let none : 0 + n ≡ n = omega arith in ap (λ (k : ℕ). after_updates k elements params delay prob) none
+after_both (suc m) n elements params delay prob =
     let one : suc m + n ≡ suc (m + n) = omega arith in
-    ap (λ (k : ℕ). after_updates k step params delay prob) one ∙ after_both m n step params delay (next step params prob delay delay)
+    ap (λ (k : ℕ). after_updates k elements params delay prob) one ∙ after_both m n elements params delay (next elements params prob delay delay)
 
-after-within : (n : ℕ) (step : Step) (params : RawParams) (delay prob : ℕ) → prob ≤ 10 ^ 12 → after_updates n step params delay prob ≤ 10 ^ 12
+after-within : (n : ℕ) (elements : Elements) (params : RawParams) (delay prob : ℕ) → prob ≤ 10 ^ 12
+    → after_updates n elements params delay prob ≤ 10 ^ 12
 unfolding after_updates
-after-within zero step params delay prob within = within
-after-within (suc n) step params delay prob within =
-    after-within n step params delay (next step params prob delay delay) (next-within step params prob delay delay)
+after-within zero elements params delay prob within = within
+after-within (suc n) elements params delay prob within =
+    after-within n elements params delay (next elements params prob delay delay) (next-within elements params prob delay delay)
 
 -- so many steps go so far
 enough : (far by : ℕ) → 0 < by → far ≤ (far / by + 1) * by
 enough far by some = let rest = lt-mul-div-succ far some in omega (arith, rest)
 
-module _ (step : Step) (params : RawParams) (delay : ℕ) (some : 0 < params.target) (above : params.target ≤ delay)
+module _ (elements : Elements) (params : RawParams) (delay : ℕ) (some : 0 < params.target) (above : params.target ≤ delay)
     (rises : 2048 ≤ untuned_rise params delay) where
   rise-some : (low : ℕ) → 0 < least_rise params delay low
   rise-some low =
@@ -309,23 +310,23 @@ module _ (step : Step) (params : RawParams) (delay : ℕ) (some : 0 < params.tar
       omega (arith, one)
 
   reaches : (low high prob : ℕ) → low ≤ prob → prob ≤ 10 ^ 12 → high ≤ 10 ^ 12
-      → high ≤ after_updates (updates_from params delay low high) step params delay prob
+      → high ≤ after_updates (updates_from params delay low high) elements params delay prob
   reaches low high prob from within top =
       let n = updates_from params delay low high in
       let r = least_rise params delay low in
-      let far = rises-by step params delay some above (updates_from params delay low high) (least_rise params delay low) prob
+      let far = rises-by elements params delay some above (updates_from params delay low high) (least_rise params delay low) prob
       (rise-grows params delay low prob from) within in
       let steps = enough (high - low) (least_rise params delay low) (rise-some low) in
       omega (arith, far, steps, from, top)
 
   -- where so many updates have come so far, so many more come further
-  further : (m low high prob : ℕ) → prob ≤ 10 ^ 12 → high ≤ 10 ^ 12 → low ≤ after_updates m step params delay prob
-      → high ≤ after_updates (m + updates_from params delay low high) step params delay prob
+  further : (m low high prob : ℕ) → prob ≤ 10 ^ 12 → high ≤ 10 ^ 12 → low ≤ after_updates m elements params delay prob
+      → high ≤ after_updates (m + updates_from params delay low high) elements params delay prob
   further m low high prob within top there =
-      rw (after_both m (updates_from params delay low high) step params delay prob)
-      (reaches low high (after_updates m step params delay prob) there (after-within m step params delay prob within) top)
+      rw (after_both m (updates_from params delay low high) elements params delay prob)
+      (reaches low high (after_updates m elements params delay prob) there (after-within m elements params delay prob within) top)
 
-  tenth : (prob : ℕ) → prob ≤ 10 ^ 12 → 10 ^ 11 ≤ after_updates (updates_to_a_tenth params delay) step params delay prob
+  tenth : (prob : ℕ) → prob ≤ 10 ^ 12 → 10 ^ 11 ≤ after_updates (updates_to_a_tenth params delay) elements params delay prob
   tenth prob within =
       let a = updates_from params delay 0 (10 ^ 6) in
       let b = updates_from params delay (10 ^ 6) (10 ^ 7) in
@@ -339,16 +340,16 @@ module _ (step : Step) (params : RawParams) (delay : ℕ) (some : 0 < params.tar
       (further (a + b) (10 ^ 7) (10 ^ 8) prob within (omega arith)
       (further a (10 ^ 6) (10 ^ 7) prob within (omega arith) (reaches 0 (10 ^ 6) prob (omega arith) within (omega arith))))))
 
-  pub reaches_a_tenth : (n prob : ℕ) → prob ≤ 10 ^ 12 → updates_to_a_tenth params delay ≤ n → 10 ^ 11 ≤ after_updates n step params delay prob
+  pub reaches_a_tenth : (n prob : ℕ) → prob ≤ 10 ^ 12 → updates_to_a_tenth params delay ≤ n → 10 ^ 11 ≤ after_updates n elements params delay prob
   reaches_a_tenth n prob within many =
       let m = updates_to_a_tenth params delay in
       let split : updates_to_a_tenth params delay + (n - updates_to_a_tenth params delay) ≡ n = omega (arith, many) in
       let there = tenth prob within in
-      let stays = stays_up step params delay some above (n - updates_to_a_tenth params delay)
-      (after_updates (updates_to_a_tenth params delay) step params delay prob)
-      (after-within (updates_to_a_tenth params delay) step params delay prob within) in
-      let both = after_both (updates_to_a_tenth params delay) (n - updates_to_a_tenth params delay) step params delay prob in
-      subst (λ (k : ℕ). 10 ^ 11 ≤ after_updates k step params delay prob) split (rw both (omega (arith, there, stays)))
+      let stays = stays_up elements params delay some above (n - updates_to_a_tenth params delay)
+      (after_updates (updates_to_a_tenth params delay) elements params delay prob)
+      (after-within (updates_to_a_tenth params delay) elements params delay prob within) in
+      let both = after_both (updates_to_a_tenth params delay) (n - updates_to_a_tenth params delay) elements params delay prob in
+      subst (λ (k : ℕ). 10 ^ 11 ≤ after_updates k elements params delay prob) split (rw both (omega (arith, there, stays)))
 
 pub twice_the_target : updates_to_a_tenth default_profile 30_000_000 ≡ 164
 unfolding tuning_divisor

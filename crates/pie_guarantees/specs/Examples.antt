@@ -1,9 +1,8 @@
 -- Worked histories, in which a law that one might expect fails, or in which a bound is all but reached.
 use Rattle.std.specs.Prelude.{ℕ, List, [], ◌∷◌}
-use Rattle.pie_params.specs.declared.elements.Delay.TheVariants.{Rate, Stamp}
-use Rattle.pie_params.specs.declared.elements.Picking.TheVariants.{Derandomized, Random}
-use Rattle.pie_params.specs.declared.elements.Size.TheVariants.{Unscaled}
-use Rattle.pie_params.specs.declared.elements.Step.TheVariants.{Capped}
+use Rattle.pie_params.specs.Elements.{usual}
+use Rattle.pie_params.specs.declared.elements.Delay.TheVariants.{Stamp}
+use Rattle.pie_params.specs.declared.elements.Picking.TheVariants.{Random}
 use Rattle.pie_queue.specs.declared.ecn.Ecn.TheVariants.{NotEct}
 use Rattle.pie_book.specs.Types.{RawParams, One, Command, Arrive, Depart, Update, SetParams}
 use Rattle.pie_book.specs.Types.{Answer, Enqueued, DroppedEarly, Left, Updated, Done, Event}
@@ -41,7 +40,7 @@ limited bytes = record {
 -- ---- a limit that is lowered below the bytes that wait
 
 abbrev pub lowered_opening : Opening
-lowered_opening = opened (record { delay = Rate; picking = Derandomized; step = Capped; size = Unscaled }) (limited 1000)
+lowered_opening = opened usual (limited 1000)
 
 abbrev pub lowered : List Event
 lowered = happened (Arrive 0 (thousand_bytes 1) 0) Enqueued ∷ happened (SetParams 1 (limited 500)) Done ∷ []
@@ -49,7 +48,7 @@ lowered = happened (Arrive 0 (thousand_bytes 1) 0) Enqueued ∷ happened (SetPar
 -- ---- a burst that begins just before an update: with updates 100 apart and an allowance of 200, its first packet at 99 and the first drop at 200
 
 abbrev pub burst_opening : Opening
-burst_opening = opened (record { delay = Stamp; picking = Random; step = Capped; size = Unscaled }) (limited 100000)
+burst_opening = opened (record usual { delay = Stamp; picking = Random }) (limited 100000)
 
 abbrev pub burst_begins : List Event
 burst_begins = happened (Arrive 99 (thousand_bytes 1) 0) Enqueued ∷ []

@@ -1,6 +1,6 @@
 -- How the probability follows the delay (RFC 8033, sections 4.2, 5.1 and 5.5).
 use Rattle.std.specs.Prelude.{◌≡◌, ◌+◌, ◌*◌, ◌-◌, ◌/◌, ◌^◌, min, ℕ, zero, suc, List, true, false}
-use Rattle.pie_params.specs.declared.elements.Step.{Step}
+use Rattle.pie_params.specs.declared.elements.Elements.{Elements}
 use Rattle.pie_control.specs.Next.{next, tuning_divisor}
 use Rattle.pie_event.specs.Deed.{deed_of, is_update}
 use Rattle.pie_book.specs.Types.{RawParams, Event, Opening}
@@ -22,9 +22,9 @@ abbrev pub old_delay_after : Opening → List Event → ℕ
 old_delay_after opening history = (parts_after opening history).old_delay
 
 -- what a probability comes to by so many updates at one delay
-unfoldable pub after_updates : ℕ → Step → RawParams → ℕ → ℕ → ℕ
-after_updates zero step params delay prob = prob
-after_updates (suc n) step params delay prob = after_updates n step params delay (next step params prob delay delay)
+unfoldable pub after_updates : ℕ → Elements → RawParams → ℕ → ℕ → ℕ
+after_updates zero elements params delay prob = prob
+after_updates (suc n) elements params delay prob = after_updates n elements params delay (next elements params prob delay delay)
 
 -- before auto-tuning each update at one delay raises the probability by alpha times what the delay is above the target
 abbrev pub untuned_rise : RawParams → ℕ → ℕ

@@ -1,11 +1,10 @@
 //! How the probability follows the delay (RFC 8033, sections 4.2, 5.1 and 5.5).
 ghost use Rattle.std.specs.Prelude.{◌≡◌, ◌≤◌, ◌<◌, ◌+◌, ◌*◌, ◌/◌, ◌^◌, min, ◌⊎◌, ◌++◌, ◌∷◌, [], List, ℕ, true, false};
-ghost use Rattle.pie_control.specs.Next.{next, tuning_divisor};
+ghost use Rattle.pie_control.specs.Next.{decays, next, tuning_divisor};
 ghost use Rattle.pie_event.specs.Deed.{deed_of, is_update};
-ghost use Rattle.pie_params.specs.Elements.{is_capped};
+ghost use Rattle.pie_params.specs.Elements.{is_capped, usual};
 ghost use Rattle.pie_params.specs.Profile.{default_profile};
-ghost use Rattle.pie_params.specs.declared.elements.Step.TheVariants.{Capped};
-ghost use Rattle.pie_params.specs.declared.elements.Step.{Step};
+ghost use Rattle.pie_params.specs.declared.elements.Elements.{Elements};
 ghost use Rattle.pie_book.specs.Types.{Event, Opening, RawParams};
 ghost use Rattle.pie_book.specs.Estimates.{active_after, delay_after, params_after};
 ghost use Rattle.pie_guarantees.specs.Bursts.{updates_in};
@@ -14,10 +13,9 @@ ghost use Rattle.pie_guarantees.specs.Probability.{IsActiveUpdate, IsSteady, aft
 ghost use Rattle.pie_guarantees.specs.Probability.{untuned_fall, untuned_rise, updates_to_a_tenth};
 
 /// The probability is always 0 to 1, in units of 10^-12 (`bounded`). An update of an active controller that finds the delay at or above the
-/// target and
-/// not fallen doesn't lower it (`rises`); one that finds it at or below the target and not risen doesn't raise it (`falls`). From 10 per cent on a
-/// rise is at most 2 points, where rises are capped (`capped`); and an update that finds no delay, as the one before did, leaves at
-/// most 98 hundredths (`decays`). No other event raises it (`nothing_else_raises`).
+/// target and not fallen doesn't lower it (`rises`); one that finds it at or below the target and not risen doesn't raise it (`falls`). From 10 per
+/// cent on a rise is at most 2 points, where rises are capped (`capped`); and an update that finds delays at which the probability decays, and none
+/// that rises, leaves at most 98 hundredths (`decays`). No other event raises it (`nothing_else_raises`).
 ///
 /// It does nothing: its contract is the law.
 pub fn the_probability_follows_the_delay()
@@ -35,7 +33,9 @@ pub fn the_probability_follows_the_delay()
         → 100_000_000_000 ≤ probability_after opening before
         → probability_after opening (before ++ event ∷ []) ≤ probability_after opening before + 20_000_000_000 }
     ensures decays { (opening : Opening) (before : List Event) (event : Event) (later : List Event) → IsLawful opening (before ++ event ∷ later)
-        → IsActiveUpdate opening before event → delay_after opening before ≡ 0 → old_delay_after opening before ≡ 0
+        → IsActiveUpdate opening before event
+        → decays opening.choices.elements.decay (params_after opening before) (delay_after opening before) (old_delay_after opening before) ≡ true
+        → delay_after opening before ≤ old_delay_after opening before
         → probability_after opening (before ++ event ∷ []) * 100 ≤ probability_after opening before * 98 }
     ensures nothing_else_raises { (opening : Opening) (before : List Event) (event : Event) (later : List Event)
         → IsLawful opening (before ++ event ∷ later) → (is_update (deed_of event) ≡ false) ⊎ (active_after opening before ≡ false)
@@ -48,54 +48,56 @@ pub fn the_probability_follows_the_delay()
 ///
 /// It does nothing: its contract is the law.
 pub fn what_gives_a_higher_probability()
-    ensures delay { (step : Step) (params : RawParams) (prob : ℕ) (old : ℕ) (delay : ℕ) (more : ℕ) → delay ≤ more
-        → next step params prob delay old ≤ next step params prob more old }
-    ensures below { next Capped default_profile 99_999_999_999 1_000_000_000 0 ≡ 786_562_499_999 }
-    ensures from_a_tenth { next Capped default_profile 100_000_000_000 1_000_000_000 0 ≡ 120_000_000_000 }
+    ensures delay { (elements : Elements) (params : RawParams) (prob : ℕ) (old : ℕ) (delay : ℕ) (more : ℕ) → delay ≤ more
+        → next elements params prob delay old ≤ next elements params prob more old }
+    ensures below { next usual default_profile 99_999_999_999 1_000_000_000 0 ≡ 786_562_499_999 }
+    ensures from_a_tenth { next usual default_profile 100_000_000_000 1_000_000_000 0 ≡ 120_000_000_000 }
 {}
 
 /// While each update finds the same delay the probability is that after so many updates of one delay (`steady`). With the defaults, from 0 at
-/// twice the target it is at least 10 per cent after 162 updates, 2.43 seconds (`tenth_at_last`, `not_before`). With no delay it falls by 2 per
-/// cent an
-/// update at least (`fades`), so from 1 to a tenth in at most 87 updates, 1.3 seconds (`faded`, `not_yet_faded`).
+/// twice the target it is at least 10 per cent after 162 updates, 2.43 seconds (`tenth_at_last`, `not_before`). Where it decays it falls by 2 per
+/// cent an update at least (`fades`); with no delay from 1 to a tenth in 87 updates, 1.3 seconds (`faded`, `not_yet_faded`).
 ///
 /// It does nothing: its contract is the law.
 pub fn how_fast_the_probability_changes()
     ensures steady { (delay : ℕ) (opening : Opening) (before : List Event) (between : List Event) (later : List Event)
         → IsLawful opening (before ++ between ++ later) → AllAlong (IsSteady delay opening) before between
         → probability_after opening (before ++ between)
-        ≡ after_updates (updates_in between) opening.choices.elements.step (params_after opening before) delay (probability_after opening before) }
-    ensures tenth_at_last { after_updates 162 Capped default_profile 30_000_000 0 ≡ 100_178_833_003 }
-    ensures not_before { after_updates 161 Capped default_profile 30_000_000 0 ≡ 99_241_333_003 }
-    ensures fades { (opening : Opening) (before : List Event) (between : List Event) (later : List Event)
-        → IsLawful opening (before ++ between ++ later) → AllAlong (IsSteady 0 opening) before between
+        ≡ after_updates (updates_in between) opening.choices.elements (params_after opening before) delay (probability_after opening before) }
+    ensures tenth_at_last { after_updates 162 usual default_profile 30_000_000 0 ≡ 100_178_833_003 }
+    ensures not_before { after_updates 161 usual default_profile 30_000_000 0 ≡ 99_241_333_003 }
+    ensures fades { (delay : ℕ) (opening : Opening) (before : List Event) (between : List Event) (later : List Event)
+        → IsLawful opening (before ++ between ++ later) → AllAlong (IsSteady delay opening) before between
+        → decays opening.choices.elements.decay (params_after opening before) delay delay ≡ true
         → probability_after opening (before ++ between) * 100 ^ updates_in between ≤ probability_after opening before * 98 ^ updates_in between }
-    ensures faded { after_updates 87 Capped default_profile 0 1_000_000_000_000 ≡ 96_421_179_148 }
-    ensures not_yet_faded { after_updates 86 Capped default_profile 0 1_000_000_000_000 ≡ 100_263_958_315 }
+    ensures faded { after_updates 87 usual default_profile 0 1_000_000_000_000 ≡ 96_421_179_148 }
+    ensures not_yet_faded { after_updates 86 usual default_profile 0 1_000_000_000_000 ≡ 100_263_958_315 }
 {}
 
 /// What n updates of one delay make of a probability, by the table of auto-tuning (RFC 8033, section 5.1.1), whatever the parameters: from a
 /// probability they raise it by at least n times alpha over the divisor there for each nanosecond above the target, at most 2 points each (`rises`),
 /// and while it has come no further than `most` by no more than that over the divisor at `most` (`rises_no_faster`); below the target they lower it
-/// so (`falls`, `falls_no_faster`). So it is at 10 per cent after the updates that each row of the table takes, one after the other (`to_a_tenth`):
-/// with the defaults at twice the target after 164 (`at_twice_the_target`), where the exact number is 162. With no delay 114 updates leave at most
-/// a tenth (`fades_to_a_tenth`).
+/// so (`falls`, and where it does not decay `falls_no_faster`). So it is at 10 per cent after the updates that each row of the table takes, one after
+/// the other (`to_a_tenth`): with the defaults at twice the target after 164 (`at_twice_the_target`), where the exact number is 162. Where it decays
+/// 114 updates leave at most a tenth (`fades_to_a_tenth`).
 ///
 /// It does nothing: its contract is the law.
 pub fn steady_delays_move_the_probability()
-    ensures rises { (step : Step) (params : RawParams) (delay : ℕ) → 0 < params.target → params.target ≤ delay → (n : ℕ) (prob : ℕ)
-        → prob ≤ 10 ^ 12 → min (10 ^ 12) (prob + n * least_rise params delay prob) ≤ after_updates n step params delay prob }
-    ensures rises_no_faster { (step : Step) (params : RawParams) (delay : ℕ) → 0 < params.target → params.target ≤ delay
-        → (n : ℕ) (prob : ℕ) (most : ℕ) → prob ≤ 10 ^ 12 → after_updates n step params delay prob ≤ most
-        → after_updates n step params delay prob ≤ prob + n * (untuned_rise params delay / tuning_divisor most) }
-    ensures falls { (step : Step) (params : RawParams) (delay : ℕ) → delay ≤ params.target → (n : ℕ) (prob : ℕ) (least : ℕ) → 0 < least
-        → least ≤ after_updates n step params delay prob
-        → after_updates n step params delay prob + n * (untuned_fall params delay / tuning_divisor least) ≤ prob }
-    ensures falls_no_faster { (step : Step) (params : RawParams) (delay : ℕ) → delay ≤ params.target → (n : ℕ) (prob : ℕ) → prob ≤ 10 ^ 12
-        → 0 < delay → prob ≤ after_updates n step params delay prob + n * (untuned_fall params delay / tuning_divisor prob) }
-    ensures to_a_tenth { (step : Step) (params : RawParams) (delay : ℕ) → 0 < params.target → params.target ≤ delay
+    ensures rises { (elements : Elements) (params : RawParams) (delay : ℕ) → 0 < params.target → params.target ≤ delay → (n : ℕ) (prob : ℕ)
+        → prob ≤ 10 ^ 12 → min (10 ^ 12) (prob + n * least_rise params delay prob) ≤ after_updates n elements params delay prob }
+    ensures rises_no_faster { (elements : Elements) (params : RawParams) (delay : ℕ) → 0 < params.target → params.target ≤ delay
+        → (n : ℕ) (prob : ℕ) (most : ℕ) → prob ≤ 10 ^ 12 → after_updates n elements params delay prob ≤ most
+        → after_updates n elements params delay prob ≤ prob + n * (untuned_rise params delay / tuning_divisor most) }
+    ensures falls { (elements : Elements) (params : RawParams) (delay : ℕ) → delay ≤ params.target → (n : ℕ) (prob : ℕ) (least : ℕ) → 0 < least
+        → least ≤ after_updates n elements params delay prob
+        → after_updates n elements params delay prob + n * (untuned_fall params delay / tuning_divisor least) ≤ prob }
+    ensures falls_no_faster { (elements : Elements) (params : RawParams) (delay : ℕ) → delay ≤ params.target → (n : ℕ) (prob : ℕ) → prob ≤ 10 ^ 12
+        → decays elements.decay params delay delay ≡ false
+        → prob ≤ after_updates n elements params delay prob + n * (untuned_fall params delay / tuning_divisor prob) }
+    ensures to_a_tenth { (elements : Elements) (params : RawParams) (delay : ℕ) → 0 < params.target → params.target ≤ delay
         → 2048 ≤ untuned_rise params delay → (n : ℕ) (prob : ℕ) → prob ≤ 10 ^ 12 → updates_to_a_tenth params delay ≤ n
-        → 10 ^ 11 ≤ after_updates n step params delay prob }
+        → 10 ^ 11 ≤ after_updates n elements params delay prob }
     ensures at_twice_the_target { updates_to_a_tenth default_profile 30_000_000 ≡ 164 }
-    ensures fades_to_a_tenth { (n : ℕ) (step : Step) (params : RawParams) (prob : ℕ) → 114 ≤ n → after_updates n step params 0 prob * 10 ≤ prob }
+    ensures fades_to_a_tenth { (n : ℕ) (elements : Elements) (params : RawParams) (delay : ℕ) (prob : ℕ)
+        → decays elements.decay params delay delay ≡ true → 114 ≤ n → after_updates n elements params delay prob * 10 ≤ prob }
 {}

@@ -1,8 +1,8 @@
 -- Which words ask for which subcommand, and what they give its options, worked out.
-use Rattle.std.proofs.Common.{◌≡◌, [], ◌∷◌, Some, codes, refl, true}
+use Rattle.std.proofs.Common.{◌≡◌, [], ◌∷◌, None, Some, codes, refl, true}
 use Rattle.clap.specs.Words.{Text}
 use Rattle.clap.proofs.OnLiterals.{clap_on_literals}
-use Rattle.pie_options.specs.Words.{Asks, file_in, files_in, is_joined, options_in, packets_in, seed_in, senders_in}
+use Rattle.pie_options.specs.Words.{Asks, file_in, files_in, is_joined, options_in, output_in, packets_in, seed_in, senders_in}
 
 -- ---- files
 
@@ -21,6 +21,14 @@ audited-joined name = refl
 run-file : (name : Text) → file_in (options_in (name ∷ codes "run" ∷ codes "a" ∷ codes "--count" ∷ [])) ≡ Some (codes "a")
 unfolding clap_on_literals
 run-file name = refl
+
+run-output : (name : Text) → output_in (options_in (name ∷ codes "run" ∷ codes "-o" ∷ codes "a" ∷ [])) ≡ Some (codes "a")
+unfolding clap_on_literals
+run-output name = refl
+
+run-standard : (name : Text) → output_in (options_in (name ∷ codes "run" ∷ codes "-o" ∷ codes "-" ∷ [])) ≡ None
+unfolding clap_on_literals
+run-standard name = refl
 
 -- ---- `pie explain`
 

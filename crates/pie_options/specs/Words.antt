@@ -66,11 +66,11 @@ rules_for Migrate = progress_rule ∷ output_rule ∷ force_rule ∷ file_rule �
 rules_for Storm = number_rule (codes "senders") 2 8 ∷ number_rule (codes "packets") 1 10_000 ∷ number_rule (codes "burst") 1 1024
     ∷ number_rule (codes "seed") 0 (2 ^ 64 - 1) ∷ number_rule (codes "load") 50 200 ∷ number_rule (codes "changes") 0 100 ∷ number_rule (codes "folds") 0 100
     ∷ number_rule (codes "profile") 1 2 ∷ text_rule (codes "delay") ∷ text_rule (codes "picking") ∷ text_rule (codes "step")
-    ∷ text_rule (codes "size") ∷ flag_rule (codes "count") ∷ []
+    ∷ text_rule (codes "size") ∷ text_rule (codes "decay") ∷ flag_rule (codes "count") ∷ []
 rules_for Params = text_rule (codes "rate") ∷ text_rule (codes "target") ∷ text_rule (codes "tupdate") ∷ text_rule (codes "limit")
     ∷ number_rule (codes "alpha") 0 32 ∷ number_rule (codes "beta") 0 32 ∷ flag_rule (codes "ecn") ∷ flag_rule (codes "bytemode")
     ∷ number_rule (codes "mtu") 1 65535 ∷ flag_rule (codes "dq_rate_estimator") ∷ flag_rule (codes "no_derandomization")
-    ∷ flag_rule (codes "no_cap_drop_adjustment") ∷ []
+    ∷ flag_rule (codes "no_cap_drop_adjustment") ∷ text_rule (codes "decay") ∷ []
 
 abbrev pub app_for : Subcommand → App
 app_for subcommand = with_rules (new_app (word_of subcommand)) (rules_for subcommand)
@@ -136,9 +136,13 @@ is_joined options = flag_given (codes "joined") options
 abbrev pub is_forced : List Row → Bool
 is_forced options = flag_given (codes "force") options
 
--- the file that is to be made, where the options name one
+-- the file that is to be made, where the options name one: `-` is the name of none, but standard output
+abbrev pub file_made : Option Text → Option Text
+file_made None = None
+file_made (Some name) = if bytes_eq name (codes "-") then None else Some name
+
 abbrev pub output_in : List Row → Option Text
-output_in options = first_of (codes "output") options
+output_in options = file_made (first_of (codes "output") options)
 
 -- the eight numbers of `pie storm`
 abbrev pub senders_in : List Row → ℕ

@@ -17,13 +17,14 @@ event of the history is decided again, as pie audit does, and of a chosen one is
 which numbers: those before the event.
 
 With --from and --to only the chosen events are explained whose effective moments are within, both ends included; a --from that is
-after its --to is refused. A moment is written as whole nanoseconds, or as a number with ns, us, ms or s: 1500000, 1500us, 1.5ms
-and 0.0015s are the same. Longer units of tc, as msec and msecs, and capital letters do too.
+after its --to is refused. A moment is written as whole nanoseconds, or as a number with ns, us, ms, s, m (minutes) or h: 1500000,
+1500us, 1.5ms and 0.0015s are the same. Longer units of tc, as msec and msecs, and capital letters do too.
 
 A history of version three may tell the time of day: a record clock says what it was at a moment. With --wall the moments are told
 by the last such record before the event, in UTC, and CSV has one more field, wall, the time of day of the effective moment; before
 any such record moments are told as without it, and the field is empty. --from and --to also take a time of day in UTC, such as
-2026-11-24T20:00:00Z, with up to nine decimals of a second; then an event before any such record is not chosen.
+2026-11-24T20:00:00Z, with up to nine decimals of a second; then an event before any such record is not chosen. A summary by
+--wall has the times of day of its first and its last event that have one, and with CSV that of the first.
 
 With --summary the chosen events are summed up, all of them where no option chooses: what became of the arrivals and what
 decided them (by the words of the field cause), with their part of these arrivals; how long the packets had waited that left;
@@ -107,7 +108,7 @@ const ARGUMENTS: &[Argument] = &[
     Argument {
         name: "every",
         takes: Takes::Value("TIME"),
-        help: "Sum up the events of each period of this length, such as 100ms",
+        help: "Sum up the events of each period of this length, such as 100ms or 1m",
     },
     Argument {
         name: "digest",

@@ -1,7 +1,7 @@
 //! What the words give the options of a subcommand.
 ghost use Rattle.std.specs.Prelude.{◌≡◌, ◌≤◌, option_map};
 ghost use Rattle.clap.specs.Words.{found_of, rows_of};
-ghost use Rattle.pie_options.specs.Words.{file_in, flag_given, number_given, number_or, output_in};
+ghost use Rattle.pie_options.specs.Words.{file_in, file_made, flag_given, number_given, number_or, output_in};
 
 use clap::ArgMatches;
 
@@ -39,9 +39,19 @@ pub fn file<'a>(options: &ArgMatches<'a>) -> Option<&'a str>
     options.get_str("file")
 }
 
+/// The file of this name: none for `-`, which is standard output.
+fn file_made<'a>(name: Option<&'a str>) -> Option<&'a str>
+    ensures { option_map (λ name. name.now) result ≡ file_made (option_map (λ name. name.now) name.entry) }
+{
+    match name {
+        Some(name) => { if name == "-" { None } else { Some(name) } }
+        None => None,
+    }
+}
+
 /// The file that the words name to be written, where they name one.
 pub fn output<'a>(options: &ArgMatches<'a>) -> Option<&'a str>
     ensures { option_map (λ name. name.now) result ≡ output_in (rows_of (found_of options.now)) }
 {
-    options.get_str("output")
+    file_made(options.get_str("output"))
 }

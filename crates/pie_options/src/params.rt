@@ -13,20 +13,21 @@ pub(crate) const ABOUT: &str =
 /// What `pie params --help` says below its options.
 pub(crate) const HELP: &str =
     "The record opens a rolling book of version three, which may have 2^47 events:
-open3,1,<delay>,<picking>,<step>,<size>,rolling,0,<packets>,<tail>,<events>, and the nine parameters where they are not the default
-ones, as pie run --help has it. TIME, RATE and PACKETS are written as tc reads them, in letters of any case: TIME is a number of ns, us,
-ms or s, as 20ms or 1.5msec; RATE one of bit, kbit, mbit, gbit or tbit (by 1024: kibit, mibit, gibit, tibit), or of bytes a second, bps,
-kbps, kibps and so on, as 100mbit or 12.5mbps; PACKETS is one of packets, with or without a p. Nothing is rounded: 1.5ns and 0.5bit are
-refused.
+open3,1,<delay>,<picking>,<step>,<size>,rolling,0,<packets>,<tail>,<events>, with half behind <size> where that is the decay, and the
+nine parameters where they are not the default ones, as pie run --help has it. TIME, RATE and PACKETS are written as tc reads them, in
+letters of any case: TIME is a number of ns, us, ms or s, as 20ms or 1.5msec; RATE one of bit, kbit, mbit, gbit or tbit (by 1024: kibit,
+mibit, gibit, tibit), or of bytes a second, bps, kbps, kibps and so on, as 100mbit or 12.5mbps; PACKETS is one of packets, with or without
+a p. Nothing is rounded: 1.5ns and 0.5bit are refused.
 
 alpha and beta count sixteenths per second, as those of tc: 2 and 20 are 125 and 1250 thousandths, the values of RFC 8033. With --ecn
 packets of ECN-capable endpoints are marked while the probability is below 10 per cent, and without it never. limit_bytes is 200 ms
 at the rate, but no less than 262144 and no more than 2^30; where it is under rate x target, standard error warns.
 
 As with tc, delays are taken from time stamps: what the packet that departed last had waited. With --dq_rate_estimator they are
-estimated from the departure rate. With --bytemode a packet below the MTU is picked less often, in proportion to its size.
+estimated from the departure rate, which stands still where too few bytes wait: standard error warns where 16384, dq_threshold, is above
+half of rate x target. With --bytemode a packet below the MTU is picked less often, in proportion to its size.
 --no_derandomization and --no_cap_drop_adjustment are ns-3's UseDerandomization and UseCapDropAdjustment, turned off; tc always has
-both on.
+both on. With --decay half the probability decays while delays are below half the target, as DPDK's rte_pie has it; tc has zero.
 
 Example: what tc qdisc add dev eth0 root pie target 20ms limit 1000p ecn dq_rate_estimator asks for at 100 Mbit/s:
 
@@ -98,6 +99,11 @@ const ARGUMENTS: &[Argument] = &[
         name: "no_cap_drop_adjustment",
         takes: Takes::Nothing,
         help: "Raise the probability as far as the control law says",
+    },
+    Argument {
+        name: "decay",
+        takes: Takes::Value("zero|half"),
+        help: "Decay at delays of 0, or below half the target; zero by default",
     },
 ];
 

@@ -27,7 +27,8 @@ The first record opens the controller:
       the same in version three: up to 1048576 packets and 2^47 events, and RFC 8033's optional elements, the usual word
       first: <delay> is rate (by the departure rate, section 5.2) or stamp (what the packet that departed last had waited,
       4.3: it stands still while the link does), <picking> derandomized (5.4) or random, <step> capped (5.5) or uncapped,
-      <size> unscaled, or scaled: packets below mean_pkt are picked less often
+      <size> unscaled, or scaled: packets below mean_pkt are picked less often. Behind <size> may stand <decay>: zero (the
+      probability decays where both delays are 0, 4.2) or half (where both are below half the target); zero where it doesn't
   resume,..  and then queued,.. for each packet that waits: the run goes on from the middle of a history, with other commands
       than there, or other parameters. pie cut writes such a beginning; docs/FORMATS.md has its fields
 
@@ -70,9 +71,14 @@ record ends with status 0, however many were refused: with --count a line on sta
 pie: 11 events, 2 refused records.
 
 With -o FILE the history is written to FILE.partial, in the same folder (FILE.partial.2 and so on where there is one), and is
-moved to FILE when all of it was written. After a fault, a full disk or Ctrl-C what was written until then stays under that name,
-which standard error tells but after Ctrl-C, and FILE is as it was. A FILE that is there is replaced only with --force, and never
-where it is what is read, by this name or another. /dev/stdout, pipes and devices are written to as they are.
+moved to FILE when all of it was written and synced to its disk. The folder isn't synced: after a power failure FILE is whole or
+as it was (or empty, where the folder can hold no hard links). After a fault, a full disk or Ctrl-C what was written until then
+stays under that other name, which standard error tells but after Ctrl-C, and FILE is as it was. A FILE that is there, or came
+meanwhile, is replaced only with --force, and never where it is what is read, by this name or another. /dev/stdout, pipes and
+devices are written to as they are, and -o - is standard output.
+
+Where nobody reads standard output any more, as behind head, pie ends without a word, and with status 141, as a shell has it of a
+program that SIGPIPE ended.
 
 Example, in which three updates raise the probability until one packet is marked and one is dropped early:
 

@@ -23,7 +23,7 @@ start together, and none runs further ahead of another than four milliseconds of
 With --burst 32 a sender hands in 32 packets in one call, all at the moment of the last, with nothing of another thread between;
 its last burst may be shorter. Departures stay one a call.
 
-With --profile, --delay, --picking, --step and --size the controller is one with other choices of RFC 8033's elements, whose
+With --profile, --delay, --picking, --step, --size and --decay the controller is one with other choices of RFC 8033's elements, whose
 sections are named above. A delay by time stamps stands still while a link stalls, since no packet departs.
 
 The history opens with the default parameters, as pie run writes it. It has the folded events and those that were left. They are
@@ -94,6 +94,11 @@ const ARGUMENTS: &[Argument] = &[
         name: "size",
         takes: Takes::Value("unscaled|scaled"),
         help: "Whether packets below mean_pkt are picked less often, in proportion; unscaled by default",
+    },
+    Argument {
+        name: "decay",
+        takes: Takes::Value("zero|half"),
+        help: "Whether the probability decays at delays of 0 (4.2), or below half the target; zero by default",
     },
     Argument {
         name: "count",

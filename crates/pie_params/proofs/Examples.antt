@@ -4,7 +4,7 @@ use Rattle.std.specs.Prelude.{true, false, Some, None, map}
 use Rattle.pie_fixed.specs.declared.TheConstants.{ONE}
 use Rattle.pie_params.specs.declared.raw.Field.TheVariants.{Target, TUpdate, MaxBurst, Alpha, Beta, MeanPkt, LimitBytes, MarkEcnth, DqThreshold}
 use Rattle.pie_params.specs.declared.raw.RawParams.{RawParams}
-use Rattle.pie_params.specs.Profile.{default_profile}
+use Rattle.pie_params.specs.Profile.{default_profile, profile_for}
 use Rattle.pie_params.specs.Range.{first_bad, is_dq_threshold, is_in_range}
 
 -- the bound of the marking threshold, which a definition and a clause name, is the probability 1
@@ -22,6 +22,10 @@ default_gains = (refl, refl)
 
 default_sizes : (default_profile.mean_pkt ≡ 2 ^ 10) × (default_profile.limit_bytes ≡ 2 ^ 18) × (default_profile.dq_threshold ≡ 2 ^ 14)
 default_sizes = (refl, refl, refl)
+
+rates : (profile_for 0 ≡ default_profile) × (profile_for 1_000_000_001 ≡ record default_profile { limit_bytes = 25_000_001 })
+    × (profile_for (10 ^ 11) ≡ record default_profile { limit_bytes = 2 ^ 30 })
+rates = (refl, refl, refl)
 
 default_mark_ecnth : default_profile.mark_ecnth * 10 ≡ ONE
 default_mark_ecnth = refl

@@ -1,4 +1,6 @@
 -- The default parameters.
+use Rattle.std.specs.Prelude.{ℕ, ◌^◌, max, min}
+use Rattle.std.specs.Int.{div_ceil}
 use Rattle.pie_params.specs.declared.raw.RawParams.{RawParams}
 
 -- RFC 8033's defaults where it has them (section 4.2 and 4.4), and this project's own elsewhere
@@ -14,3 +16,7 @@ default_profile = record {
   mark_ecnth = 100_000_000_000;
   dq_threshold = 16384;
 }
+
+-- those for a link of this rate, in bits a second: the limit is 200 ms at it, but no less than the default and no more than its range allows
+abbrev pub profile_for : ℕ → RawParams
+profile_for rate = record default_profile { limit_bytes = min (max (div_ceil rate 40) default_profile.limit_bytes) (2 ^ 30) }

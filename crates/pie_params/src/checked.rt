@@ -80,7 +80,7 @@ impl Model for Params {
 }
 
 impl Params {
-    ghost use Rattle.pie_params.specs.Profile.{default_profile};
+    ghost use Rattle.pie_params.specs.Profile.{default_profile, profile_for};
     ghost use Rattle.pie_params.specs.Range.{first_bad, is_dq_threshold, IsInRange};
 
     /// The default parameters: those of RFC 8033 (sections 4.2, 4.4, 5.1 and 5.2) where it has them.
@@ -97,6 +97,18 @@ impl Params {
             limit_bytes: 262_144,
             mark_ecnth: 100_000_000_000,
             dq_threshold: 16384,
+        })
+    }
+
+    /// The default parameters for a link of this rate, in bits a second: the limit is 200 ms at it, but no less than the default and no more
+    /// than its range allows (this project's own).
+    pub fn for_rate(rate: u64) -> Self
+        ensures { result ≡ profile_for rate }
+    {
+        let usual = Params::default_profile().raw();
+        Params::in_range(RawParams {
+            limit_bytes: rate.div_ceil(40).max(usual.limit_bytes).min(1 << 30),
+            ..usual
         })
     }
 

@@ -1,9 +1,9 @@
 -- The numbers of a summary, each over the whole list of the events that were explained.
 use Rattle.std.specs.Prelude.{ℕ, ◌-◌, nat_lt, min, if◌then◌else◌, Bool, true, false, List, map, slice_index, Option, Some, None}
 use Rattle.std.specs.List.{filter_map, sum}
-use Rattle.pie_aqm.specs.declared.cause.Cause.{Cause}
+use Rattle.pie_event.specs.declared.cause.Cause.{Cause}
 use Rattle.pie_aqm.specs.Places.{Place, last_or, places, up_to}
-use Rattle.pie_aqm.specs.CauseName.{name_of, place_of_cause}
+use Rattle.pie_event.specs.CauseName.{name_of, place_of_cause}
 use Rattle.pie_event.specs.declared.command.Command.{Command}
 use Rattle.pie_event.specs.declared.command.Command.TheVariants.{Arrive}
 use Rattle.pie_event.specs.declared.command.Answer.{Answer}

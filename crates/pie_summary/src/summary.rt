@@ -29,7 +29,7 @@ pub struct Summary {
 }
 
 /// Writes what stands before the first summary: for CSV the header row.
-#[tactic(auto, unfolding(crate::specs::Summary::header, pie_aqm::specs::CauseName::word_of_cause))]
+#[tactic(auto, unfolding(crate::specs::Summary::header, pie_event::specs::CauseName::word_of_cause))]
 fn push_header(page: &mut Page, form: Form) -> Result<(), AllocError>
     ensures { OnOk result (page.new ≡ page.old ++ header form) }
 {

@@ -7,7 +7,7 @@ use Rattle.csv.specs.Writing.{fields_text, is_blank}
 use Rattle.pie_record.specs.declared.fault.TraceFault.TheVariants as fault
 use Rattle.pie_record.specs.Number.{number}
 use Rattle.pie_record.specs.FirstRecord.{draft_at, first_kind, limits_at, profile_of, version_of, version_one_fields, version_two_fields}
-use Rattle.pie_record.specs.FirstRecord.{elements_at, version_three_fields, which_of}
+use Rattle.pie_record.specs.FirstRecord.{chosen_at, elements_at, version_three_fields, which_of}
 use Rattle.pie_record.specs.Field.{ecn_of, packet_at, params_at}
 use Rattle.pie_record.specs.Command.{arrival_at, change_at, command_at, command_kind}
 use Rattle.pie_record.specs.HistoryRecord.{answer_at, departure_at, event_line, line_of, note_line, numbers_at, registers_at, shown_line, update_at}
@@ -54,5 +54,5 @@ unfolding records_from next_record strip_bom field_at fields_text is_blank numbe
     limits_at draft_at version_one_fields version_two_fields opening_of rows_text verdict_of command_at packet_at command_kind arrival_at
     event_line answer_at departure_at update_at change_at numbers_at registers_at note_line shown_line line_of told_by lines_from fault_from
     history_opening history_version after_opening first_in_two later_in_two told_rows migrated history_fault event_count history_events elements_at
-    version_three_fields
+    version_three_fields chosen_at
 third-migrated = (refl, refl)

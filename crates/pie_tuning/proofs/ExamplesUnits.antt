@@ -4,7 +4,7 @@ use Rattle.std.specs.Prelude.{Ok, Err}
 use Rattle.pie_units.specs.Scale.{is_word, prefix_scale, rate_scale, time_scale}
 use Rattle.pie_units.specs.Written.{digit_count, number_after}
 use Rattle.pie_tuning.specs.declared.units.OptionFault.TheVariants.{NotATime, NoRate, PreciseTime}
-use Rattle.pie_tuning.specs.Opening.{gain_of, limit_for}
+use Rattle.pie_tuning.specs.Opening.{gain_of}
 use Rattle.pie_tuning.specs.Units.{packets_of, rate_of, time_of}
 
 milliseconds : time_of (codes "1.5ms") ≡ Ok 1_500_000
@@ -34,13 +34,6 @@ no-rate = refl
 packets : packets_of (codes "1000p") ≡ Ok 1000
 unfolding digit_count number_after is_word
 packets = refl
-
--- as pie_params_for of include/pie.h has it
-hundred_megabits : limit_for 100_000_000 ≡ 2_500_000
-hundred_megabits = refl
-
-ten_megabits : limit_for 10_000_000 ≡ 262_144
-ten_megabits = refl
 
 -- RFC 8033's 0.125 and 1.25
 usual-alpha : gain_of 2 ≡ 125

@@ -1,9 +1,9 @@
 //! The parameters and the choices that a link of some rate is to have.
 ghost use Rattle.std.specs.Prelude.{◌≡◌, ◌≤◌, ◌*◌, nat_lt};
-ghost use Rattle.pie_tuning.specs.Opening.{delay_for, elements_for, gain_of, limit_for, mark_ecnth_for, mean_pkt_for, params_for, picking_for, size_for};
+ghost use Rattle.pie_tuning.specs.Opening.{can_stall, delay_for, elements_for, gain_of, params_for, picking_for, size_for};
 ghost use Rattle.pie_tuning.specs.Opening.{step_for};
 
-use pie_params::{Delay, Elements, Picking, RawParams, Size, Step};
+use pie_params::{Decay, Delay, Elements, Params, Picking, RawParams, Size, Step};
 
 /// What is asked for.
 #[derive(Clone, Copy, Debug, PartialEq, Eq)]
@@ -32,6 +32,8 @@ pub struct Asked {
     pub no_derandomization: bool,
     /// Whether an update raises the probability as far as the control law says (RFC 8033, section 5.5).
     pub no_cap_drop_adjustment: bool,
+    /// At which delays the probability decays.
+    pub decay: Decay,
 }
 
 /// What a gain of `tc`, which counts sixteenths per second, is in thousandths per second, rounded down.
@@ -40,20 +42,6 @@ pub fn gain_of(gain: u64) -> u64
     ensures { result ≡ gain_of gain }
 {
     gain * 1000 / 16
-}
-
-/// The limit in bytes for a link of this rate: 200 ms at it, but no less than the default, as `pie_params_for` of include/pie.h has it.
-fn limit_for(rate: u64) -> u64
-    ensures { result ≡ limit_for rate }
-{
-    rate.div_ceil(40).max(262_144).min(1 << 30)
-}
-
-/// The threshold of marks (RFC 8033, section 5.1), 10 per cent, or 0 where packets are dropped and never marked.
-fn mark_ecnth_for(ecn: bool) -> u64
-    ensures { result ≡ mark_ecnth_for ecn }
-{
-    if ecn { 100_000_000_000 } else { 0 }
 }
 
 /// Where delays are taken from.
@@ -109,31 +97,28 @@ pub fn elements_for(asked: &Asked) -> Elements
         picking: picking_for(asked.no_derandomization),
         step: step_for(asked.no_cap_drop_adjustment),
         size: size_for(asked.bytemode),
+        decay: asked.decay,
     }
 }
 
-/// The mean size of a packet: the MTU where a packet's size is a part of it, and else the default.
-fn mean_pkt_for(bytemode: bool, mtu: u64) -> u64
-    ensures { result ≡ mean_pkt_for bytemode mtu }
-{
-    if bytemode { mtu } else { 1024 }
-}
-
-/// The nine parameters of what is asked for. Those that `tc` has no option for are the defaults, but for `limit_bytes`, which is 200 ms at
-/// the link's rate, no less than 262144 and no more than 2^30, and for `mean_pkt`, which is the MTU in `bytemode`.
+/// The nine parameters of what is asked for. Those that `tc` has no option for are the defaults at the link's rate, but for `mean_pkt`, which is
+/// the MTU in `bytemode`. Packets are marked up to the default, or never.
 pub fn params_for(asked: &Asked) -> RawParams
     ensures { result ≡ params_for asked.now }
 {
+    let usual = Params::for_rate(asked.rate).raw();
     RawParams {
         target: asked.target,
         t_update: asked.t_update,
-        max_burst: 150_000_000,
         alpha: asked.alpha,
         beta: asked.beta,
-        mean_pkt: mean_pkt_for(asked.bytemode, asked.mtu),
-        limit_bytes: limit_for(asked.rate),
-        mark_ecnth: mark_ecnth_for(asked.ecn),
-        dq_threshold: 16384,
+        mean_pkt: if asked.bytemode {
+            asked.mtu
+        } else {
+            usual.mean_pkt
+        },
+        mark_ecnth: if asked.ecn { usual.mark_ecnth } else { 0 },
+        ..usual
     }
 }
 
@@ -144,4 +129,15 @@ pub fn is_short(rate: u64, params: &RawParams) -> bool
 {
     let wanted = u128::from(rate) * u128::from(params.target);
     u128::from(params.limit_bytes) * 8_000_000_000 < wanted
+}
+
+/// Whether the departure rate's estimator, where it is asked for, can stall at this rate: `dq_threshold` is above half of what waits where the
+/// queue is at the target, so a cycle may not begin for long, and the estimate stands still (RFC 8033, section 5.2).
+pub fn can_stall(asked: &Asked, params: &RawParams) -> bool
+    ensures { result ≡ can_stall asked.now params.now }
+{
+    let wanted = u128::from(asked.rate) * u128::from(params.target);
+    asked.dq_rate_estimator
+        && asked.rate != 0
+        && wanted < u128::from(params.dq_threshold) * 16_000_000_000
 }

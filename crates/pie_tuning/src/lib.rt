@@ -9,6 +9,6 @@ mod asked;
 mod opening;
 mod units;
 
-pub use asked::{Asked, elements_for, gain_of, is_short, params_for};
+pub use asked::{Asked, can_stall, elements_for, gain_of, is_short, params_for};
 pub use opening::{opening_for, write_opening};
 pub use units::{OptionFault, packets_of, rate_of, time_of};

@@ -58,6 +58,18 @@ too_many_decimals : value_of Time (codes "1.0000000000000000000s") ≡ Err TooPr
 unfolding digit_count number_after is_word prefix_scale rate_scale size_scale time_scale
 too_many_decimals = refl
 
+minutes : value_of Moment (codes "1.5m") ≡ Ok 90_000_000_000
+unfolding digit_count number_after is_word time_scale
+minutes = refl
+
+hours : value_of Moment (codes "2H") ≡ Ok 7_200_000_000_000
+unfolding digit_count number_after is_word time_scale
+hours = refl
+
+short_minutes : value_of Moment (codes "3min") ≡ Err NotANumber
+unfolding digit_count number_after is_word time_scale
+short_minutes = refl
+
 greatest : value_of Moment (codes "1152921504606846975") ≡ Ok (2 ^ 60 - 1)
 unfolding digit_count number_after is_word prefix_scale rate_scale size_scale time_scale
 greatest = refl

@@ -70,9 +70,13 @@ size_scale unit =
 abbrev pub packets_scale : List ℕ → Option ℕ
 packets_scale unit = if is_either (codes "") (codes "p") unit then Some 1 else None
 
--- a moment is a time whose unit may be left out: then it is in nanoseconds
+-- a moment is a time, whose unit may also be minutes or hours, or be left out: then it is in nanoseconds
 abbrev pub moment_scale : List ℕ → Option ℕ
-moment_scale unit = if is_word (codes "") unit then Some 1 else time_scale unit
+moment_scale unit =
+    if is_word (codes "") unit then Some 1
+    else if is_word (codes "m") unit then Some (60 * 10 ^ 9)
+    else if is_word (codes "h") unit then Some (3600 * 10 ^ 9)
+    else time_scale unit
 
 -- how many of the smallest a unit of this kind is
 abbrev pub scale_of : Kind → List ℕ → Option ℕ

@@ -11,7 +11,7 @@ use thiserror::Error;
 #[derive(Clone, Copy, Debug, PartialEq, Eq, Error)]
 pub enum MomentFault {
     /// It is written otherwise.
-    #[error("a moment is whole nanoseconds, or a number with ns, us, ms or s, such as 1500000, 1.5ms or 2s")]
+    #[error("a moment is whole nanoseconds, or a number with ns, us, ms, s, m or h, such as 1500000, 1.5ms or 2m")]
     NotAMoment,
     /// It isn't a whole number of nanoseconds, or has more than 18 decimals.
     #[error("a moment is no more precise than a nanosecond")]

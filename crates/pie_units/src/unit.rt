@@ -6,7 +6,7 @@ ghost use Rattle.pie_units.specs.Scale.{rate_scale, scale_of, size_scale, time_s
 /// What a text tells.
 #[derive(Clone, Copy, Debug, PartialEq, Eq)]
 pub enum Kind {
-    /// A moment, in nanoseconds: a time, or whole nanoseconds without a unit.
+    /// A moment, in nanoseconds: a time, also in minutes, `m`, or hours, `h`; or whole nanoseconds without a unit.
     Moment,
     /// A time, in nanoseconds: `ns`, `us`, `ms` or `s`, or longer `nsec`, `nsecs`, `usec` and so on.
     Time,
@@ -176,13 +176,17 @@ fn packets_scale(unit: &[u8]) -> Option<u64>
     }
 }
 
-/// The nanoseconds of a unit of time, or of none.
+/// The nanoseconds of a unit of time, of minutes or hours, or of none.
 fn moment_scale(unit: &[u8]) -> Option<u64>
     ensures scale { result ≡ moment_scale unit.now }
     ensures some { IfSome result (λ scale. 1 ≤ scale) }
 {
     if is_word(b"", unit) {
         Some(1)
+    } else if is_word(b"m", unit) {
+        Some(60_000_000_000)
+    } else if is_word(b"h", unit) {
+        Some(3_600_000_000_000)
     } else {
         time_scale(unit)
     }

@@ -41,8 +41,9 @@ fn numbers(text: &[u8]) -> (u64, u64) {
     assert!(text.ends_with('\n'));
     let (first, rest) = text.split_once('\n').unwrap();
     let fields: Vec<&str> = first.split(',').collect();
-    assert_eq!((fields[0], fields.len(), fields[30]), ("resume", 60, ""));
-    let number = |at: usize| fields[at].parse::<u64>().unwrap();
+    let decay = usize::from(fields[6] == "half"); // is told in front of the mode
+    assert_eq!((fields[0], fields.len(), fields[30 + decay]), ("resume", 60 + decay, ""));
+    let number = |at: usize| fields[at + decay].parse::<u64>().unwrap();
     let (packets, bytes) = rest.lines().take_while(|it| it.starts_with("queued,")).fold((0, 0), |(packets, bytes), it| {
         (packets + 1, bytes + it.split(',').nth(2).unwrap().parse::<u64>().unwrap())
     });

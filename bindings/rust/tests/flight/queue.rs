@@ -79,6 +79,7 @@ impl Queue {
             pick_random: random.is_one_of(2),
             step_uncapped: random.is_one_of(2),
             size_scaled: random.is_one_of(2),
+            decay_half: random.is_one_of(2),
         };
         let opening = Opening {
             params,

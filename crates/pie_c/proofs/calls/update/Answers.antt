@@ -34,8 +34,8 @@ returns-then-queued-gt-MAX_QUEUED-clause-made c =
     let many : nat_lt (2 ^ 30) a.queued ≡ true = grind (arith, nat_tests) in
     unmade a.state.now (Update a.queued a.moment) _ (rw (sound, early, many) refl)
 
-pub due-requires : goal.due-requires
-due-requires c = rw c.raw-held.ensures (held-sound c.args.state.now (sym c.is_sound.ensures ∙ c.if-not-is_sound.false))
+pub is_too_soon-requires : goal.is_too_soon-requires
+is_too_soon-requires c = rw c.raw-held.ensures (held-sound c.args.state.now (sym c.is_sound.ensures ∙ c.if-not-is_sound.false))
 
 pub made-requires : goal.made-requires
 made-requires c = rw c.raw-held.ensures (held-sound c.args.state.now (sym c.is_sound.ensures ∙ c.if-not-is_sound.false))
@@ -44,13 +44,13 @@ too_soon : (c : After-made) → update_refusal c.args.state.now c.args.queued c.
 unfolding held_in update_refusal
 too_soon c = search rules
 
-pub returns-then-max-due-clause-answer : goal.returns-then-max-due-clause-answer
+pub returns-then-is_too_soon-clause-answer : goal.returns-then-is_too_soon-clause-answer
 unfolding held_in
-returns-then-max-due-clause-answer c =
+returns-then-is_too_soon-clause-answer c =
     rw (too_soon c, c.made.ensures) (ap (λ (h : Held). updated_with 103 h.control.old_delay h) c.raw-held.ensures)
 
-pub returns-then-max-due-clause-made : goal.returns-then-max-due-clause-made
-returns-then-max-due-clause-made c =
+pub returns-then-is_too_soon-clause-made : goal.returns-then-is_too_soon-clause-made
+returns-then-is_too_soon-clause-made c =
     let a = c.args in
     unmade a.state.now (Update a.queued a.moment) _ (rw (too_soon c) refl)
 

@@ -1,16 +1,16 @@
-use Rattle.std.proofs.Common.{◌∙◌}
-use Rattle.pie_book.proofs.CoreFacts.{answer-fits, next-decided, next-shows}
+use Rattle.std.proofs.Common.{ap, ◌∙◌, refl}
+use Rattle.pie_book.specs.Types.{Event}
+use Rattle.pie_book.proofs.CoreFacts.{next-decided, next-shows}
 use Rattle.pie_book.proofs.deciding_core.Core.advance.Goals as goal
 
-pub returns-clause-fits : goal.returns-clause-fits
-returns-clause-fits c = rw c.decide-answer.ensures.answer (answer-fits c.args.self.now.held c.args.self.now.waiting c.args.self.now.packets
-    c.args.command)
+pub returns-clause-event : goal.returns-clause-event
+returns-clause-event c = rw c.decide-recorded.ensures.event refl
 
 pub returns-clause-decides : goal.returns-clause-decides
-returns-clause-decides c opening history shows = c.decide-answer.ensures.answer ∙ next-decided opening c.args.self.now history shows c.args.command
+returns-clause-decides c opening history shows =
+    ap (λ (e : Event). e.answer) c.decide-recorded.ensures.event ∙ next-decided opening c.args.self.now history shows c.args.command
 
 pub returns-clause-shows : goal.returns-clause-shows
-returns-clause-shows c opening history caller shows =
-    rw (c.close.ensures, c.decide-answer.ensures.after, c.decide-answer.ensures.answer)
-    (next-shows opening c.args.self.now history shows caller c.args.command (rw c.decide-answer.ensures.answer at c.decide-answer.ensures.threshold)
-    c.requires.taken)
+returns-clause-shows c opening history shows =
+    rw (c.close.ensures, c.decide-recorded.ensures.after, c.decide-recorded.ensures.event)
+    (next-shows opening c.args.self.now history shows c.args.caller c.args.command c.decide-recorded.ensures.threshold c.requires.taken)

@@ -1,7 +1,0 @@
--- Each name stands at its place in the list of all.
-use Rattle.std.proofs.Common.{◌≡◌, map, refl}
-use Rattle.std.specs.List.{range_with_len}
-use Rattle.pie_aqm.specs.CauseName.{cause_names, place_of_cause}
-
-places-in-order : map place_of_cause cause_names ≡ range_with_len 0 15
-places-in-order = refl

@@ -1,0 +1,13 @@
+use Rattle.std.proofs.Common.{◌∙◌, ap}
+use Rattle.clap.specs.Words.{found_of, one_text}
+use Rattle.clap.proofs.WalkLemmas.{one_text-rows}
+use Rattle.pie_commands.specs.Choice.{bound_read}
+use Rattle.pie_commands.proofs.MomentFacts.{bound-given}
+use Rattle.pie_commands.proofs.moments.bound.Goals as goal
+
+pub returns : goal.returns
+returns c =
+    let found = found_of c.args.options.now in
+    let name = c.args.name.now in
+    bound-given (one_text found name) c.try_get_one.result c.try_get_one.ensures.none c.try_get_one.ensures.value
+    ∙ ap bound_read (one_text-rows found name)

@@ -1,0 +1,11 @@
+use Rattle.std.proofs.Common.{sym, ◌∙◌}
+use Rattle.pie_control.specs.Parts.{parts_of}
+use Rattle.pie_early.proofs.Causes.{cause-considered}
+use Rattle.pie_early.proofs.decision.first_case.Goals as goal
+
+pub returns : goal.returns
+returns c =
+    let a = c.args in
+    rw (c.considered_cause.ensures, c.counted_as-prob.ensures.value, c.fate_of-fate.ensures)
+    (sym (cause-considered a.elements a.params.now (parts_of a.control.now) a.offered a.accu
+    (sym c.is_considered.ensures ∙ c.if-not-is_considered.false)))

@@ -1,0 +1,119 @@
+//! The names of what decides arrivals.
+ghost use Rattle.std.specs.Prelude.{◌≡◌, ◌<◌};
+ghost use Rattle.pie_event.specs.CauseName.{name_of, place_of_cause, word_of_cause};
+
+use crate::{Cause, Fate};
+
+/// What decided an arrival, and what became of it where it was picked: a `Cause` without its numbers, in the order of the decision.
+#[derive(Clone, Copy, Debug, PartialEq, Eq)]
+pub enum CauseName {
+    /// Tail drop: no room in bytes.
+    NoRoomInBytes,
+    /// Tail drop: no room in packets.
+    NoRoomInPackets,
+    /// Queued: the controller is inactive.
+    Inactive,
+    /// Queued: a burst is allowed.
+    BurstAllowed,
+    /// Queued: little delay and a small probability.
+    LowDelay,
+    /// Queued: the queue is short.
+    ShortQueue,
+    /// Queued: the probability is 0.
+    NoProbability,
+    /// Queued: little is accumulated.
+    LittleAccumulated,
+    /// Picked by the accumulated probability, and marked.
+    PickedBySum,
+    /// Picked so, and dropped: its endpoints do not understand a mark.
+    PickedBySumNotCapable,
+    /// Picked so, and dropped: the probability is not below `mark_ecnth`.
+    PickedBySumNotBelow,
+    /// Picked by the random word, and marked.
+    PickedByWord,
+    /// Picked so, and dropped: its endpoints do not understand a mark.
+    PickedByWordNotCapable,
+    /// Picked so, and dropped: the probability is not below `mark_ecnth`.
+    PickedByWordNotBelow,
+    /// Queued: the random word is not below the probability.
+    WordNotBelow,
+}
+
+impl CauseName {
+    /// Its word, as in the records of explanations and summaries.
+    #[tactic(auto, unfolding(crate::specs::CauseName::word_of_cause))]
+    pub fn word(self) -> &'static str
+        ensures { result.now ≡ word_of_cause self }
+    {
+        match self {
+            CauseName::NoRoomInBytes => "no_room_in_bytes",
+            CauseName::NoRoomInPackets => "no_room_in_packets",
+            CauseName::Inactive => "inactive",
+            CauseName::BurstAllowed => "burst_allowed",
+            CauseName::LowDelay => "low_delay",
+            CauseName::ShortQueue => "short_queue",
+            CauseName::NoProbability => "no_probability",
+            CauseName::LittleAccumulated => "little_accumulated",
+            CauseName::PickedBySum => "picked_by_sum",
+            CauseName::PickedBySumNotCapable => "picked_by_sum_not_capable",
+            CauseName::PickedBySumNotBelow => "picked_by_sum_not_below",
+            CauseName::PickedByWord => "picked_by_word",
+            CauseName::PickedByWordNotCapable => "picked_by_word_not_capable",
+            CauseName::PickedByWordNotBelow => "picked_by_word_not_below",
+            CauseName::WordNotBelow => "word_not_below",
+        }
+    }
+
+    /// Its place in the order of the decision, 0 to 14.
+    pub fn place(self) -> usize
+        ensures place { result ≡ place_of_cause self }
+        ensures within { result < 15 }
+    {
+        match self {
+            CauseName::NoRoomInBytes => 0,
+            CauseName::NoRoomInPackets => 1,
+            CauseName::Inactive => 2,
+            CauseName::BurstAllowed => 3,
+            CauseName::LowDelay => 4,
+            CauseName::ShortQueue => 5,
+            CauseName::NoProbability => 6,
+            CauseName::LittleAccumulated => 7,
+            CauseName::PickedBySum => 8,
+            CauseName::PickedBySumNotCapable => 9,
+            CauseName::PickedBySumNotBelow => 10,
+            CauseName::PickedByWord => 11,
+            CauseName::PickedByWordNotCapable => 12,
+            CauseName::PickedByWordNotBelow => 13,
+            CauseName::WordNotBelow => 14,
+        }
+    }
+}
+
+impl Cause {
+    /// Its name.
+    pub fn name(self) -> CauseName
+        ensures { result ≡ name_of self }
+    {
+        match self {
+            Cause::NoRoomInBytes { .. } => CauseName::NoRoomInBytes,
+            Cause::NoRoomInPackets { .. } => CauseName::NoRoomInPackets,
+            Cause::Inactive => CauseName::Inactive,
+            Cause::BurstAllowed { .. } => CauseName::BurstAllowed,
+            Cause::LowDelay { .. } => CauseName::LowDelay,
+            Cause::ShortQueue { .. } => CauseName::ShortQueue,
+            Cause::NoProbability => CauseName::NoProbability,
+            Cause::LittleAccumulated { .. } => CauseName::LittleAccumulated,
+            Cause::PickedBySum { fate, .. } => match fate {
+                Fate::Marked { .. } => CauseName::PickedBySum,
+                Fate::NotCapable => CauseName::PickedBySumNotCapable,
+                Fate::NotBelow { .. } => CauseName::PickedBySumNotBelow,
+            },
+            Cause::PickedByWord { fate, .. } => match fate {
+                Fate::Marked { .. } => CauseName::PickedByWord,
+                Fate::NotCapable => CauseName::PickedByWordNotCapable,
+                Fate::NotBelow { .. } => CauseName::PickedByWordNotBelow,
+            },
+            Cause::WordNotBelow { .. } => CauseName::WordNotBelow,
+        }
+    }
+}

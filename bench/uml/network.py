@@ -141,6 +141,8 @@ class Run:
 
     def send(self):
         """Begins the traffic, and says when."""
+        # (neighbours are looked for now, and not by the first packet of the traffic)
+        subprocess.run([*inside("senders"), "ping", "-c", "1", "-W", "2", RECEIVER], stdout=subprocess.DEVNULL)
         time.sleep(max(0.0, self.begun + LEAD - time.monotonic()))
         begun, seconds = time.time(), self.scenario["seconds"]
         first = self.groups[0]["rtt"]

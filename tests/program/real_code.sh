@@ -6,7 +6,11 @@
 # needs: program
 . "$(dirname "$0")/../shared/script.sh"
 steps=$top/bench/steps
-"$steps/run.sh" "$program" > "$work/found" 2>&1
+for kind in 'stamp 100000000000' 'rate 0'; do
+    # shellcheck disable=SC2086
+    python3 "$steps/trace.py" 1 $kind > "$work/trace" && "$program" run "$work/trace" > "$work/${kind% *}" || exit 1
+done
+"$steps/run.sh" "$program" "$work/stamp" "$work/rate" > "$work/found" 2>&1
 status=$?
 if [ $status = 3 ]; then
     echo "NOT RUN: $script: no decision was compared with Linux's and DPDK's code: $(cat "$work/found"); bench/steps/install.sh installs it"
@@ -18,7 +22,7 @@ while IFS='|' read -r old new; do
     cp "$steps/out/linux_pie.h" "$work/"
     sed "s|$old|$new|" "$steps/out/linux_pie.c" > "$work/linux_pie.c"
     cmp -s "$steps/out/linux_pie.c" "$work/linux_pie.c" && fail "no $old in Linux's code"
-    LINUX_CODE=$work "$steps/run.sh" "$program" > "$work/wrong" 2>&1 && fail "with $new in the place of $old nothing was found"
+    LINUX_CODE=$work "$steps/run.sh" "$program" "$work/stamp" > "$work/wrong" 2>&1 && fail "with $new in the place of $old nothing was found"
 done <<'END'
 vars->prob / 64|vars->prob / 32
 MAX_PROB / 100) \* 85|MAX_PROB / 100) * 80

@@ -16,9 +16,9 @@ pub mod setters;
 pub mod text;
 
 pub use auditor::{Auditor, Finding};
-pub use begun::{TextBegun, begin_either};
+pub use begun::{TextBegun, begin};
 pub use law::{
     clean_is_legal, clean_parts_are_legal, recorded_calls_are_clean, written_parts_are_told,
 };
 pub use setters::sets_probability;
-pub use text::{audit, audit_either, write_finding};
+pub use text::{audit, write_finding};

@@ -79,7 +79,7 @@ run_ends-so : {A : Type 0} (found : Option TraceFault) (history : List ℕ) (giv
 run_ends-so found history (Ok end) before now so = so
 run_ends-so found history (Err why) before now so = so
 
-run-told : (kind : Bool) (rows : List Row) (given : Result RunEnd TraceFault) (before now : Option (List ℕ)) → RunsBy kind rows given before now
+run-told : (kind : Bool) (rows : List Row) (given : Result RunEnd TraceFault) (before now : Option (List ℕ)) → RunsBy kind (2 ^ 32) rows given before now
     → run_ends_by kind rows (end_of given) before now
 run-told false rows (Ok end) before now ran = (ran.0, ran.2)
 run-told false rows (Err why) before now ran = ran
@@ -87,7 +87,7 @@ run-told true rows (Ok end) before now ran = (ran.0, ran.2)
 run-told true rows (Err why) before now ran = ran
 
 pub EndsRun-told : (known : Option (List ℕ)) (given : Result RunEnd TraceFault) (before now : Option (List ℕ))
-    → IfSome known (λ text. RunsEither (records_of text) given before now) → IfSome known (λ text. EndsRun text (end_of given) before now)
+    → IfSome known (λ text. RunsEither (2 ^ 32) (records_of text) given before now) → IfSome known (λ text. EndsRun text (end_of given) before now)
 EndsRun-told None given before now ran = tt
 EndsRun-told (Some text) given before now ran = run-told (is_resumed (records_of text)) (records_of text) given before now ran
 

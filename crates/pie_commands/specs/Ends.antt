@@ -64,9 +64,9 @@ run_ends found history Failed before now = ⊥
 
 -- .. a trace of these records that goes on from the middle of a history: what is written is as whatever history it goes on after has it
 abbrev pub excerpt_run_ends : List Row → End → Option (List ℕ) → Option (List ℕ) → Type 0
-excerpt_run_ends rows Done before now = (resumed_fault rows ≡ None) × WritesExcerpt rows before now
+excerpt_run_ends rows Done before now = (resumed_fault (2 ^ 32) rows ≡ None) × WritesExcerpt (2 ^ 32) rows before now
 excerpt_run_ends rows Differs before now = ⊥
-excerpt_run_ends rows (Fault why) before now = is_device why ≡ false → (resumed_fault rows ≡ Some why) × WritesExcerpt rows before now
+excerpt_run_ends rows (Fault why) before now = is_device why ≡ false → (resumed_fault (2 ^ 32) rows ≡ Some why) × WritesExcerpt (2 ^ 32) rows before now
 excerpt_run_ends rows Unable before now = now ≡ before
 excerpt_run_ends rows Failed before now = ⊥
 

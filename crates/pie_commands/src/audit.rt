@@ -9,7 +9,7 @@ use crate::end::{End, faulted};
 use crate::file_audits::audit_files;
 use crate::screen::{Screen, shows_progress};
 use clap::ArgMatches;
-use pie_audit::{Finding, audit_either, write_finding};
+use pie_audit::{Finding, write_finding};
 use pie_files::{NamedFiles, Watched};
 use pie_options::flag;
 use pie_trace::TraceFault;
@@ -57,7 +57,7 @@ fn audit_input<H: Clock, R: Read + Drop, W: Write, E: Write>(
     ensures { IfSome (R.remaining input) (λ text. EndsAudit text result (W.contents output.old) (W.contents output.new)) }
 {
     let watched = Watched::new(input, &mut *errors, rt, is_shown);
-    let found = audit_either(alloc, watched);
+    let found = pie_audit::audit(alloc, watched);
     ended(found, output, errors)
 }
 

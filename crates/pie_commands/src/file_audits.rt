@@ -7,7 +7,7 @@ ghost use Rattle.pie_commands.specs.JointEnds.{EndsOfFiles, finding_in, is_broke
 ghost use Rattle.pie_files.specs.Files.{ReadsNamed, left_for};
 
 use crate::end::{End, faulted};
-use pie_audit::{Finding, audit_either};
+use pie_audit::{Finding, audit};
 use pie_cut::{Joined, Joint, TextEnd, audit_joined};
 use pie_files::{NamedFiles, Watched, named_fault, reader_named};
 use pie_trace::TraceFault;
@@ -29,7 +29,7 @@ fn found_in<R: Read + Drop>(
     if are_joined {
         return audit_joined(alloc, reader, end);
     }
-    match audit_either(alloc, reader) {
+    match audit(alloc, reader) {
         Ok(finding) => Ok(Joined {
             finding,
             joint: None,

@@ -11,7 +11,7 @@ use crate::screen::{Screen, shows_progress};
 use clap::ArgMatches;
 use pie_files::{NamedFiles, Watched, reader_of};
 use pie_options::{file, flag};
-use pie_trace::{RunEnd, TraceFault, run_either};
+use pie_trace::{RunEnd, TraceFault, run_trace};
 use std::alloc::Global;
 use std::io;
 use std::io::{Read, Write};
@@ -53,7 +53,7 @@ fn run_input<H: Clock, R: Read + Drop, W: Write, E: Write>(
     ensures runs { IfSome (R.remaining input) (λ text. EndsRun text result (W.contents output.old) (W.contents output.new)) }
 {
     let watched = Watched::new(input, &mut *errors, rt, is_shown);
-    let given = run_either(alloc, watched, output);
+    let given = run_trace(alloc, watched, output);
     say_counts(options, &given, errors);
     ended(errors, given)
 }

@@ -6,10 +6,8 @@
 //! `run_trace_within` and `run_trace`, over any reader and writer that tell their bytes, where the answer is not `Read`,
 //! `Write` or `Memory`: Ok exactly where the text has no fault (clause `ends`, with the numbers, registers and statistics of the
 //! run), and else its first fault (`faults`); what was written is the history text (`writes`). They end over a reader that
-//! never ends.
-//!
-//! `run_either`: the same of a whole trace; of one that goes on from the middle of a history, for every history that comes to the numbers and
-//! packets with which it begins, what a run of the whole would write and tell from there on, where its tail is empty (`RunsExcerpt`).
+//! never ends. Of a trace that goes on from the middle of a history (`either`): for every history that comes to the numbers and packets with
+//! which it begins, what a run of the whole would write and tell from there on, where its tail is empty (`RunsExcerpt`).
 //!
 //! `history_texts_are_read_back`: what a run writes is read back as the same opening and events.
 //!
@@ -40,4 +38,4 @@ pub use migration_law::{
 };
 pub use pie_record::{Flaw, HistoryLines, Line, OpenFault, TraceFault, Version};
 pub use pie_text::write_history;
-pub use run::{RunEnd, run_either, run_trace, run_trace_within};
+pub use run::{RunEnd, run_trace, run_trace_within};

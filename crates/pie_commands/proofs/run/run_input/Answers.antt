@@ -8,7 +8,7 @@ use Rattle.pie_commands.proofs.run.run_input.Goals as goal
 pub returns-clause-runs : goal.returns-clause-runs
 returns-clause-runs g c =
     let before = g.W.Write.contents c.args.output.now in
-    let now = g.W.Write.contents c.run_either-given.new.writer in
-    rw c.ended.ensures (subst (λ (known : Option (List ℕ)). IfSome known (λ text. EndsRun text (end_of c.run_either-given.result) before now))
+    let now = g.W.Write.contents c.run_trace-given.new.writer in
+    rw c.ended.ensures (subst (λ (known : Option (List ℕ)). IfSome known (λ text. EndsRun text (end_of c.run_trace-given.result) before now))
     c.new-watched.ensures
-    (EndsRun-told (remaining_of g.R.Read.remaining c.new-watched.result) c.run_either-given.result before now c.run_either-given.ensures))
+    (EndsRun-told (remaining_of g.R.Read.remaining c.new-watched.result) c.run_trace-given.result before now c.run_trace-given.ensures.either))

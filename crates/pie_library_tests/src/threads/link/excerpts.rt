@@ -4,7 +4,7 @@ ghost use Rattle.std.specs.Prelude.{◌≡◌};
 
 use crate::at_link;
 use crate::books::arrive;
-use pie_audit::{Finding, audit_either};
+use pie_audit::{Finding, audit};
 use pie_book::{Choices, Command, Excerpt, Limits, Mode, Opening, Profile};
 use pie_excerpt::write_excerpt;
 use pie_link::{Caller, Link};
@@ -63,7 +63,7 @@ fn is_filled_twice(link: &Link, caller: &mut Caller, excerpt: &mut Excerpt) -> b
 
 // Whether a text has no event that differs.
 fn is_clean(alloc: Global, text: &[u8]) -> bool {
-    matches!(audit_either(alloc, text), Ok(Finding::Clean { .. }))
+    matches!(audit(alloc, text), Ok(Finding::Clean { .. }))
 }
 
 // Whether this is the excerpt's text, which is clean.

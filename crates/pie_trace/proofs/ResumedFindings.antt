@@ -1,15 +1,14 @@
 -- The audit of what a run writes of a trace that goes on finds it clean, with the events before it.
 use Rattle.std.proofs.Common.{◌≡◌, ◌≤◌, ◌+◌, ◌^◌, ℕ, List, ◌++◌, map, take, length, Bool, true, false, refl, sym, ap, subst, ◌∙◌, arith}
-use Rattle.std.specs.Prelude.{All, nat_lt, Option, Some, None, Result, Ok, Err, if◌then◌else◌}
+use Rattle.std.specs.Prelude.{All, nat_lt, Some, None, Result, Ok, Err, if◌then◌else◌}
 use Rattle.std.proofs.lemmas.Bool.Decides.{nat_tests}
 use Rattle.std.proofs.lemmas.List.Concat.{flat_map-append}
-use Rattle.pie_params.specs.Range.{first_bad}
 use Rattle.pie_event.specs.Ranges.{CommandFits}
 use Rattle.pie_event.specs.declared.command.Event.{Event}
 use Rattle.pie_event.specs.declared.opening.Opening.{Opening}
 use Rattle.pie_book.specs.Core.{Shows}
 use Rattle.pie_book.specs.Decision.{IsLegal}
-use Rattle.pie_book.specs.Run.{Progress, progress_after}
+use Rattle.pie_book.specs.Run.{progress_after}
 use Rattle.pie_record.specs.declared.fault.TraceFault.{TraceFault}
 use Rattle.pie_record.specs.declared.fault.TraceFault.TheVariants as fault
 use Rattle.pie_record.specs.declared.history_record.Line.{Line}

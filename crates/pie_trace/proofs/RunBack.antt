@@ -6,9 +6,7 @@ use Rattle.std.proofs.lemmas.Bool.{ltb-true}
 use Rattle.std.proofs.lemmas.Bool.Decides.{nat_tests}
 use Rattle.std.proofs.lemmas.List.Concat.{flat_map-cons}
 use Rattle.std.proofs.lemmas.List.Elements.{All-append, All-cons, All-nil}
-use Rattle.csv.specs.Records.{field_at}
 use Rattle.pie_params.specs.Range.{first_bad}
-use Rattle.pie_params.specs.declared.raw.Field.{Field}
 use Rattle.pie_params.specs.declared.raw.RawParams.{RawParams}
 use Rattle.pie_event.specs.declared.command.Command.{Command}
 use Rattle.pie_event.specs.declared.command.Event.{Event}
@@ -17,8 +15,6 @@ use Rattle.pie_event.specs.declared.opening.Mode.TheVariants.{Bounded, Rolling}
 use Rattle.pie_event.specs.declared.opening.Opening.{Opening}
 use Rattle.pie_event.specs.declared.refusal.FoldRefusal.{FoldRefusal}
 use Rattle.pie_event.specs.declared.refusal.FoldRefusal.TheVariants.{TooMany}
-use Rattle.pie_event.specs.declared.refusal.OpenRefusal.{OpenRefusal}
-use Rattle.pie_event.specs.declared.refusal.OpenRefusal.TheVariants as open_refusal
 use Rattle.pie_event.specs.declared.refusal.Refusal.{Refusal}
 use Rattle.pie_event.specs.declared.refusal.Refusal.TheVariants as refusal
 use Rattle.pie_book.specs.Book.{last_events}
@@ -30,7 +26,6 @@ use Rattle.pie_book.specs.Registers.{registers_after}
 use Rattle.pie_book.specs.Run.{Progress, event_of, fold_outcome, held_with_one, recorded, refused_or, start}
 use Rattle.pie_book.specs.Statistics.{stats_after}
 use Rattle.pie_record.specs.declared.fault.Flaw.{Flaw}
-use Rattle.pie_record.specs.declared.fault.OpenFault.TheVariants as open_fault
 use Rattle.pie_record.specs.declared.fault.TraceFault.{TraceFault}
 use Rattle.pie_record.specs.declared.fault.TraceFault.TheVariants as fault
 use Rattle.pie_record.specs.declared.trace_record.Request.{Request}
@@ -38,19 +33,18 @@ use Rattle.pie_record.specs.declared.trace_record.Request.TheVariants.{Ask, BadP
 use Rattle.pie_record.specs.declared.first_record.Draft.{Draft}
 use Rattle.pie_record.specs.declared.first_record.FirstKind.{FirstKind}
 use Rattle.pie_record.specs.declared.first_record.FirstKind.TheVariants as kinds
-use Rattle.pie_record.specs.declared.history_record.Line.{Line}
 use Rattle.pie_record.specs.declared.version.Version.{Version}
 use Rattle.pie_record.specs.Fault.{fault_at}
 use Rattle.pie_trace.specs.History.{before_fault, history_rows, history_text, record_fault, replies, requests_of, text_left}
-use Rattle.pie_record.specs.Opening.{Checked, checked_opening, opening_by, opening_in, opening_of, opening_read, refused_opening}
-use Rattle.pie_record.specs.Text.{HasField, Row, rows_text, text_of}
+use Rattle.pie_record.specs.Opening.{Checked, checked_opening, opening_by, opening_of, opening_read}
+use Rattle.pie_record.specs.Text.{Row, rows_text, text_of}
 use Rattle.pie_record.specs.Field.{is_kind}
 use Rattle.pie_record.specs.TraceRecord.{request_of}
 use Rattle.pie_record.specs.HistoryRecord.{line_of}
 use Rattle.pie_record.specs.Laws.{AnswersAreReadBack, RequestsAreWrittenAgain, TextsAreReadBack}
 use Rattle.pie_record.specs.ReadBack.{Begins, TellEach, TellsHistory}
 use Rattle.pie_trace.specs.RunLines.{line_told, lines_told, run_lines}
-use Rattle.pie_record.specs.FirstRecord.{first_fields, first_kind, holds_limits, kind_word, version_of}
+use Rattle.pie_record.specs.FirstRecord.{first_fields, first_kind, kind_word, version_of}
 use Rattle.pie_trace.specs.Reply.{Reply, after, history_row, reply, reply_to_command, reply_to_fold}
 use Rattle.pie_record.specs.Answer.{code_of}
 use Rattle.pie_trace.proofs.EndFacts.{history_text-read}

@@ -15,9 +15,7 @@ ghost use Rattle.pie_text.specs.Lost.{lost_row};
 ghost use Rattle.pie_audit.specs.Text.{IsFound, excerpt_fault, text_finding};
 
 use crate::law::history_texts_are_read_back;
-use pie_audit::{
-    clean_is_legal, clean_parts_are_legal, events_are_lines, written_parts_are_told,
-};
+use pie_audit::{clean_is_legal, clean_parts_are_legal, events_are_lines, written_parts_are_told};
 use pie_book::all_numbers_are_held;
 use pie_excerpt::beginnings_are_written_again;
 use pie_record::{

@@ -18,7 +18,8 @@ pub mod text;
 pub use auditor::{Auditor, Finding};
 pub use begun::{TextBegun, begin};
 pub use law::{
-    clean_is_legal, clean_parts_are_legal, recorded_calls_are_clean, written_parts_are_told,
+    clean_is_legal, clean_parts_are_legal, events_are_lines, recorded_calls_are_clean,
+    written_parts_are_told,
 };
 pub use setters::sets_probability;
 pub use text::{audit, write_finding};

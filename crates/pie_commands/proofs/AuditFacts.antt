@@ -1,5 +1,6 @@
 -- An audit of one file after another.
 use Rattle.std.proofs.Common.{◌≡◌, ◌∙◌, ℕ, List, [], ◌∷◌, ◌++◌, Bool, true, false, Option, refl, sym, ap}
+use Rattle.std.proofs.KnownBytes.{Appends-nil, Appends-trans}
 use Rattle.std.specs.Prelude.{◌||◌}
 use Rattle.std.specs.List.{flat_map, list_any}
 use Rattle.std.specs.Io.KnownBytes.{Appends}
@@ -8,7 +9,6 @@ use Rattle.std.proofs.lemmas.List.Elements.{All-nil, All-push}
 use Rattle.std.proofs.lemmas.List.Folds.{list_any-append}
 use Rattle.std.proofs.lemmas.Grind.{flat_map-append}
 use Rattle.clap.specs.Words.{Text}
-use Rattle.pie_record.proofs.Laws.{Appends-both, Appends-nothing}
 use Rattle.pie_audit.specs.declared.auditor.Finding.{Finding}
 use Rattle.pie_commands.specs.AuditEnds.{AuditsFiles, IsFound, Told, is_different, is_unfound, line_of, told_line}
 
@@ -32,7 +32,7 @@ audits-none input files before = record {
   told = [];
   in_order = refl;
   found = All-nil (IsFound input files);
-  written = Appends-nothing before;
+  written = Appends-nil before;
   any_unfound = refl;
   any_different = refl;
 }
@@ -45,7 +45,7 @@ audits-more input files names unfound different before mid now name told audits 
   told = audits.told ++ (name, told) ∷ [];
   in_order = map-append (λ (t : Told). t.0) audits.told ((name, told) ∷ []) ∙ ap (λ (all : List Text). all ++ name ∷ []) audits.in_order;
   found = All-push (IsFound input files) audits.told (name, told) audits.found is_found;
-  written = rw (lines-more audits.told (name, told)) (Appends-both before mid now (flat_map told_line audits.told)
+  written = rw (lines-more audits.told (name, told)) (Appends-trans before mid now (flat_map told_line audits.told)
       (line_of name told) audits.written written);
   any_unfound = any-more (λ (t : Told). is_unfound t.1) audits.told (name, told) unfound audits.any_unfound;
   any_different = any-more (λ (t : Told). is_different t.1) audits.told (name, told) different audits.any_different;

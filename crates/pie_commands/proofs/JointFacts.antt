@@ -1,13 +1,13 @@
 -- An audit of the files of one history, one after another.
 use Rattle.std.proofs.Common.{◌≡◌, ◌∙◌, ℕ, List, [], ◌∷◌, ◌++◌, Bool, false, Option, None, refl}
 use Rattle.std.proofs.Common.{subst, ap}
+use Rattle.std.proofs.KnownBytes.{Appends-nil, Appends-trans}
 use Rattle.std.specs.Prelude.{◌||◌}
 use Rattle.std.specs.List.{flat_map}
 use Rattle.std.specs.Io.KnownBytes.{Appends}
 use Rattle.std.proofs.lemmas.List.{append-nil, map-append}
 use Rattle.std.proofs.lemmas.Grind.{flat_map-append}
 use Rattle.clap.specs.Words.{Text}
-use Rattle.pie_record.proofs.Laws.{Appends-both, Appends-nothing}
 use Rattle.pie_cut.specs.declared.joined.Joined.{Joined}
 use Rattle.pie_cut.specs.Joined.{EndView}
 use Rattle.pie_commands.specs.declared.end.End.{End}
@@ -37,7 +37,7 @@ joins-none input files before = record {
   told = [];
   in_order = refl;
   joined = refl;
-  written = Appends-nothing before;
+  written = Appends-nil before;
   any_unfound = refl;
   any_broken = refl;
 }
@@ -51,7 +51,7 @@ joins-more input files names unfound broken end after before mid now name told j
   told = joins.told ++ (name, told) ∷ [];
   in_order = map-append (λ (t : ToldJoined). t.0) joins.told ((name, told) ∷ []) ∙ ap (λ (all : List Text). all ++ name ∷ []) joins.in_order;
   joined = joined-more input files None joins.told end (name, told) after joins.joined joint;
-  written = rw (lines-more joins.told (name, told)) (Appends-both before mid now (flat_map told_lines joins.told) (lines_of name told)
+  written = rw (lines-more joins.told (name, told)) (Appends-trans before mid now (flat_map told_lines joins.told) (lines_of name told)
       joins.written written);
   any_unfound = any-more (λ (t : ToldJoined). is_unfound (finding_in t.1)) joins.told (name, told) unfound joins.any_unfound;
   any_broken = any-more (λ (t : ToldJoined). is_broken t.1) joins.told (name, told) broken joins.any_broken;

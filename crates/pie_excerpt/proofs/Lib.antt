@@ -4,4 +4,5 @@ pub mod WrittenFacts
 mod Examples
 pub mod BeginningFacts
 pub mod AgainFacts
+mod AloneFacts
 pub mod GoesFacts

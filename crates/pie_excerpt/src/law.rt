@@ -6,8 +6,8 @@ ghost use Rattle.pie_event.specs.declared.opening.Opening.{Opening};
 ghost use Rattle.pie_book.specs.History.{waiting_after};
 ghost use Rattle.pie_book.specs.declared.standing.Standing.{Standing};
 ghost use Rattle.pie_queue.specs.declared.packet.Waiting.{Waiting};
-ghost use Rattle.pie_record.specs.Text.{Row};
-ghost use Rattle.pie_excerpt.specs.Beginning.{Beginning, GoesOn, is_resumed, resumed_of};
+ghost use Rattle.pie_record.specs.Text.{HasField, Row, records_of, rows_text};
+ghost use Rattle.pie_excerpt.specs.Beginning.{Beginning, BeginsWell, GoesOn, is_resumed, resumed_of};
 ghost use Rattle.pie_excerpt.specs.Fits.{ResumeFits, WaitingFits};
 ghost use Rattle.pie_excerpt.specs.Reading.{queued_of, resume_of};
 ghost use Rattle.pie_excerpt.specs.Rows.{queued_row, resume_row};
@@ -15,6 +15,7 @@ ghost use Rattle.pie_excerpt.specs.Written.{IsWritten, begun_at, resume_with};
 ghost use Rattle.pie_excerpt.specs.declared.resume.Resume.{Resume};
 
 use pie_book::packets_that_waited_are_taken;
+use pie_record::openings_are_checked;
 
 /// What a core stands on, and each packet that waits, is read back from its record as it was written, each register and statistic with it,
 /// whatever the numbers that their types hold (this project's own).
@@ -26,15 +27,22 @@ pub fn records_are_read_back()
     ensures queued { (w : Waiting) → WaitingFits w → queued_of (queued_row w) ≡ Ok (w.packet, w.since) }
 {}
 
-/// The records with which a text begins are its first and those with which the packets of its core are written: so who has the first and the
-/// core can write them all as they were read (this project's own).
+/// The records with which a text begins are its first and those with which the packets of its core are written (`again`): so who has the first and
+/// the core can write them all as they were read. They are read the same whatever follows them (`alone`), and written with others behind them they
+/// are read back with these (`text`). A beginning that reads well has an opening that a book accepts (`opens`; this project's own).
 ///
 /// It does nothing: its contract is the law.
-#[tactic(auto, using(crate::proofs::AgainFacts::begun_again))]
 pub fn beginnings_are_written_again()
-    ensures { (row : Row) (rows : List Row) (begun : Beginning) → resumed_of (row ∷ rows) ≡ Ok begun
+    ensures again { (row : Row) (rows : List Row) (begun : Beginning) → resumed_of (row ∷ rows) ≡ Ok begun
         → take begun.read (row ∷ rows) ≡ row ∷ map queued_row begun.core.waiting }
-{}
+    ensures alone { (rows more : List Row) (begun : Beginning) → resumed_of rows ≡ Ok begun
+        → resumed_of (take begun.read rows ++ more) ≡ Ok (record begun { left = more }) }
+    ensures text { (rows more : List Row) (begun : Beginning) → resumed_of rows ≡ Ok begun → All HasField more
+        → records_of (rows_text (take begun.read rows ++ more)) ≡ take begun.read rows ++ more }
+    ensures opens { (rows : List Row) (begun : Beginning) → resumed_of rows ≡ Ok begun → BeginsWell rows begun }
+{
+    openings_are_checked();
+}
 
 /// A text that begins with what was written of the numbers that stand for a history, and of the packets that waited after it, is one that goes on
 /// after that history, whatever follows (`goes_on`), and its beginning is read back as it was written (`read_back`; this project's own).

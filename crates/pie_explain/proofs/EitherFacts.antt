@@ -1,5 +1,6 @@
 -- What explaining a text of either kind answers and writes.
 use Rattle.std.proofs.Common.{◌≡◌, ◌∙◌, ◌+◌, ℕ, List, [], ◌++◌, Bool, true, false, refl, sym, ap, subst}
+use Rattle.std.proofs.KnownBytes.{Appends-nil}
 use Rattle.std.specs.Prelude.{Option, Some, None, Result, Ok, Err, IfSome, map}
 use Rattle.std.specs.Io.KnownBytes.{Appends}
 use Rattle.pie_event.specs.declared.command.Event.{Event}
@@ -12,7 +13,6 @@ use Rattle.pie_record.specs.declared.version.Version.TheVariants.{Three}
 use Rattle.pie_record.specs.Fault.{is_device}
 use Rattle.pie_record.specs.HistoryLines.{Coming, coming_after, coming_from, history_opening}
 use Rattle.pie_record.specs.Text.{Row, records_of}
-use Rattle.pie_record.proofs.Laws.{Appends-nothing}
 use Rattle.pie_excerpt.specs.Beginning.{Beginning, GoesOn, is_resumed, resumed_of}
 use Rattle.pie_audit.specs.Begun.{BegunBy, FaultedBy}
 use Rattle.pie_audit.specs.Text.{judged}
@@ -162,10 +162,10 @@ fault-tells : (which : Bool) (choice : Choice) (whole : List Explained → List 
 fault-tells false choice whole rows why old e = record {
   audited = λ told. rw e refl;
   answers = λ told. rw e refl;
-  writes = λ told. rw e (Appends-nothing old);
+  writes = λ told. rw e (Appends-nil old);
 }
 fault-tells true choice whole rows why old e = record {
-  faulted = λ other f told. (ap (λ (w : TraceFault). Err (Trace w)) (sym (same-fault rows why other e f)), Appends-nothing old);
+  faulted = λ other f told. (ap (λ (w : TraceFault). Err (Trace w)) (sym (same-fault rows why other e f)), Appends-nil old);
   audited = λ opening past goes tells told. absurd (no-fault rows goes.beginning why goes.resumed e);
   answers = λ opening past goes tells told. absurd (no-fault rows goes.beginning why goes.resumed e);
   writes = λ opening past goes tells told. absurd (no-fault rows goes.beginning why goes.resumed e);

@@ -1,7 +1,6 @@
 -- A text of an opening's record and of records that each tell a line is read back as that opening and those lines.
 use Rattle.std.proofs.Common.{◌≡◌, ◌≤◌, ◌<◌, ◌+◌, ◌^◌, ℕ, suc, List, [], ◌∷◌, ◌++◌, map, length, false, refl, sym, ap, subst, ◌∙◌, arith}
-use Rattle.std.specs.Prelude.{All, Bool, true, drop, nat_lt, Option, Some, None, Result, Ok, Err, IfSome, OnOk, if◌then◌else◌}
-use Rattle.std.specs.Io.KnownBytes.{Appends}
+use Rattle.std.specs.Prelude.{All, Bool, true, drop, nat_lt, Option, None, Ok, if◌then◌else◌}
 use Rattle.std.proofs.lemmas.Bool.Decides.{nat_tests}
 use Rattle.std.proofs.lemmas.List.Elements.{All-cons, All-head, All-nil, All-tail}
 use Rattle.csv.specs.Records.{field_at}
@@ -155,27 +154,6 @@ written-back opening events accepted set fit few =
     (history-told first.kind first.rest (map event_row events) opening (map Made events) opens (events-some events)
     (events-tell (version_of (kind_word first.kind ∷ first.rest)) events fit) (omega arith))
 
--- .. to a writer that held nothing
-pub contents-back : (before now : Option (List ℕ)) (text : List ℕ) (opening : Opening) (lines : List Line) → Appends before now text
-    → before ≡ Some [] → TellsHistory text opening lines
-    → IfSome now (λ held. TellsHistory held opening lines)
-contents-back None now text opening lines appends empty tells = cc
-contents-back (Some xs) None text opening lines appends empty tells = tt
-contents-back (Some xs) (Some ys) text opening lines appends empty tells =
-    let none : xs ≡ [] = cc in
-    let same : ys ≡ text = rw none at appends in
-    subst (λ (held : List ℕ). TellsHistory held opening lines) (sym same) tells
-
-pub history-back : (before now : Option (List ℕ)) (opening : Opening) (events : List Event) (result : Result (Unit {0}) TraceFault)
-    → ParamsFit opening.params → All EventFits events
-    → OnOk result (Appends before now (rows_text (written_rows opening events)))
-    → OnOk result (opening_refusal opening.limits opening.moment ≡ None → length events < 2 ^ 32 → before ≡ Some []
-    → IfSome now (λ text. TellsHistory text opening (map Made events)))
-history-back before now opening events (Err why) set fit written = tt
-history-back before now opening events (Ok done) set fit written = λ accepted few empty.
-    contents-back before now (rows_text (written_rows opening events)) opening (map Made events) written empty
-    (written-back opening events accepted set fit few)
-
 pub ltb-false : (a b : ℕ) → nat_lt a b ≡ false → b ≤ a
 ltb-false a b e = grind (arith, nat_tests)
 
@@ -184,3 +162,10 @@ pub told-field : (version : Version) (row : Row) (line : Line) → line_of versi
 unfolding line_of command_kind field_at
 told-field version [] line e = cc
 told-field version (field ∷ rest) line e = omega arith
+
+pub told-fields : (version : Version) (rows : List Row) (lines : List Line) → TellEach version rows lines → All HasField rows
+unfolding TellEach
+told-fields version [] lines tells = All-nil HasField
+told-fields version (row ∷ rows) [] tells = absurd tells
+told-fields version (row ∷ rows) (line ∷ lines) tells = All-cons HasField row rows (told-field version row line tells.0)
+    (told-fields version rows lines tells.1)

@@ -1,5 +1,5 @@
 -- The record of a line that was read, written again, is read as that line.
-use Rattle.std.proofs.Common.{◌≡◌, ◌≤◌, ◌<◌, ◌^◌, ◌+◌, ◌==◌, ℕ, List, [], ◌∷◌, Bool, true, false, length, refl, sym, ap, subst, ◌∙◌, arith}
+use Rattle.std.proofs.Common.{◌≡◌, ◌≤◌, ◌+◌, ◌==◌, ℕ, List, [], ◌∷◌, Bool, true, false, length, refl, subst, arith}
 use Rattle.std.proofs.Common.{if◌then◌else◌}
 use Rattle.std.specs.Prelude.{Option, Some, None, Result, Ok, Err, codes, ⊤}
 use Rattle.std.specs.Option.{ok_or, option_and_then}
@@ -10,7 +10,7 @@ use Rattle.pie_params.specs.declared.raw.Field.{Field}
 use Rattle.pie_params.specs.declared.raw.RawParams.{RawParams}
 use Rattle.pie_queue.specs.declared.packet.Packet.{Packet}
 use Rattle.pie_event.specs.Deed.{fits}
-use Rattle.pie_event.specs.Ranges.{AnswerFits, CommandFits, PacketFits, ParamsFit}
+use Rattle.pie_event.specs.Ranges.{AnswerFits, PacketFits, ParamsFit}
 use Rattle.pie_event.specs.declared.command.Answer.{Answer}
 use Rattle.pie_event.specs.declared.command.Answer.TheVariants.{Enqueued, Marked, DroppedEarly, DroppedBytes, DroppedPackets, Empty, Left, Updated}
 use Rattle.pie_event.specs.declared.command.Answer.TheVariants.{Done}
@@ -33,17 +33,16 @@ use Rattle.pie_record.specs.declared.words.Said.TheVariants as said
 use Rattle.pie_record.specs.Answer.{answer_fields}
 use Rattle.pie_record.specs.Clock.{clock_at, clock_in, clock_row, most_moment}
 use Rattle.pie_record.specs.Command.{arrival_at, asked_at, change_at, change_to, command_at, command_kind}
-use Rattle.pie_record.specs.Field.{and_then, is_kind, is_word, ecn_at, most_u128, most_u16, most_u32, most_u64, number_at, packet_at, params_at, word_at}
+use Rattle.pie_record.specs.Field.{and_then, is_kind, ecn_at, most_u128, most_u16, most_u32, most_u64, number_at, packet_at, params_at, word_at}
 use Rattle.pie_record.specs.HistoryRecord.{active_line, answer_at, clock_line, departure_at, event_line, has_length, line_by, line_for, line_of, note_line}
 use Rattle.pie_record.specs.HistoryRecord.{made, numbers_at, registers_at, shown_line, update_at, verdict_at, verdict_of}
-use Rattle.pie_record.specs.Number.{number}
 use Rattle.pie_record.specs.ReadBack.{EventFits, TellEach}
 use Rattle.pie_record.specs.Text.{Row}
 use Rattle.pie_record.specs.Words.{word_said}
 use Rattle.pie_record.specs.Write.{change_event, command_fields, event_row, line_rows, without_notes}
 use Rattle.pie_record.proofs.CommandFacts.{command-fits, command-kind, kind_of}
 use Rattle.pie_record.proofs.EventBack.{back_u16, back_u64, line-back}
-use Rattle.pie_record.proofs.FieldFacts.{Then, and_after, number_at-within}
+use Rattle.pie_record.proofs.FieldFacts.{and_after, number_at-within}
 use Rattle.pie_record.proofs.NumberFacts.{number-decimal}
 
 -- ---- what a line that was read holds

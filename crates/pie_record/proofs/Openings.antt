@@ -12,12 +12,7 @@ use Rattle.pie_record.specs.declared.fault.TraceFault.TheVariants as fault
 use Rattle.pie_record.specs.declared.first_record.Draft.{Draft}
 use Rattle.pie_record.specs.declared.first_record.FirstKind.{FirstKind}
 use Rattle.pie_record.specs.FirstRecord.{holds_limits}
-use Rattle.pie_record.specs.Opening.{checked_opening, opening_in, refused_opening}
-
-pub record Checked (draft : Draft) (opening : Opening) : Type 0 where
-  pub same : opening_in draft ≡ opening
-  pub accepted : opening_refusal draft.limits draft.moment ≡ None
-  pub in_range : first_bad draft.params ≡ None
+use Rattle.pie_record.specs.Opening.{Checked, checked_opening, refused_opening}
 
 pub checked : (kind : FirstKind) (draft : Draft) (opening : Opening) → checked_opening kind (first_bad draft.params) draft ≡ Ok opening
     → Checked draft opening

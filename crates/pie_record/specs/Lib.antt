@@ -15,3 +15,4 @@ pub mod Records
 pub mod Answer
 pub mod Write
 pub mod ReadBack
+pub mod Laws

@@ -9,7 +9,8 @@
 //! were read, and texts of others, to any writer, many at a time. Both take memory for one record and one page. A reader never answers `Write`, and
 //! a writer never `Read` (clauses `input` and `device`).
 //!
-//! Proofs of crates above cite the laws in `proofs/Laws.antt`, and no other lemma of this crate.
+//! What crates above want of these definitions are laws: `answers_are_read_back`, `requests_are_written_again`, `texts_are_read_back`,
+//! `openings_are_checked`.
 #![tactic(auto)]
 
 pub mod clock;
@@ -20,6 +21,7 @@ pub mod field;
 pub mod first_record;
 pub mod history_reader;
 pub mod history_record;
+pub mod law;
 pub mod long;
 pub mod number;
 pub mod records;
@@ -33,4 +35,7 @@ pub use command::BadChange;
 pub use fault::{ExcerptFault, Flaw, OpenFault, TraceFault};
 pub use history_reader::HistoryLines;
 pub use history_record::Line;
+pub use law::{
+    answers_are_read_back, openings_are_checked, requests_are_written_again, texts_are_read_back,
+};
 pub use version::Version;

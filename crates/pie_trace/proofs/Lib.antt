@@ -17,5 +17,6 @@ pub mod MigrateRun
 pub mod MigrateTrace
 pub mod ExamplesMigration
 pub mod RunFindings
+mod ResumedFindings
 pub mod MigrationFinding
 mod LostPart

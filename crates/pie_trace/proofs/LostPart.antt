@@ -12,7 +12,6 @@ use Rattle.pie_record.specs.declared.fault.Flaw.{Flaw}
 use Rattle.pie_record.specs.declared.fault.TraceFault.{TraceFault}
 use Rattle.pie_record.specs.declared.first_record.FirstKind.TheVariants as kinds
 use Rattle.pie_record.specs.declared.version.Version.TheVariants.{Three}
-use Rattle.pie_record.specs.Fault.{fault_at}
 use Rattle.pie_record.specs.HistoryLines.{fault_from}
 use Rattle.pie_record.specs.Opening.{checked_opening}
 use Rattle.pie_record.specs.Text.{Row}

@@ -1,12 +1,12 @@
 -- The history text of a trace is read back: its opening, the events of its run, and notes.
 use Rattle.std.proofs.Common.{◌≡◌, ◌≤◌, ◌<◌, ◌+◌, ◌-◌, ◌^◌, ◌==◌, ℕ, List, [], ◌∷◌, ◌++◌, length, Bool, true, false, refl, sym, ap, subst, ◌∙◌, arith}
 use Rattle.std.proofs.Common.{length-append, if◌then◌else◌}
-use Rattle.std.specs.Prelude.{All, nat_lt, take, Option, Some, None, Result, Ok, Err, codes}
+use Rattle.std.specs.Prelude.{All, drop, nat_lt, take, Option, Some, None, Result, Ok, Err, codes}
 use Rattle.std.proofs.lemmas.Bool.{ltb-true}
+use Rattle.std.proofs.lemmas.Bool.Decides.{nat_tests}
+use Rattle.std.proofs.lemmas.List.Concat.{flat_map-cons}
 use Rattle.std.proofs.lemmas.List.Elements.{All-append, All-cons, All-nil}
-use Rattle.csv.specs.Records.{field_at}
 use Rattle.pie_params.specs.Range.{first_bad}
-use Rattle.pie_params.specs.declared.raw.Field.{Field}
 use Rattle.pie_params.specs.declared.raw.RawParams.{RawParams}
 use Rattle.pie_event.specs.declared.command.Command.{Command}
 use Rattle.pie_event.specs.declared.command.Event.{Event}
@@ -15,8 +15,6 @@ use Rattle.pie_event.specs.declared.opening.Mode.TheVariants.{Bounded, Rolling}
 use Rattle.pie_event.specs.declared.opening.Opening.{Opening}
 use Rattle.pie_event.specs.declared.refusal.FoldRefusal.{FoldRefusal}
 use Rattle.pie_event.specs.declared.refusal.FoldRefusal.TheVariants.{TooMany}
-use Rattle.pie_event.specs.declared.refusal.OpenRefusal.{OpenRefusal}
-use Rattle.pie_event.specs.declared.refusal.OpenRefusal.TheVariants as open_refusal
 use Rattle.pie_event.specs.declared.refusal.Refusal.{Refusal}
 use Rattle.pie_event.specs.declared.refusal.Refusal.TheVariants as refusal
 use Rattle.pie_book.specs.Book.{last_events}
@@ -28,7 +26,6 @@ use Rattle.pie_book.specs.Registers.{registers_after}
 use Rattle.pie_book.specs.Run.{Progress, event_of, fold_outcome, held_with_one, recorded, refused_or, start}
 use Rattle.pie_book.specs.Statistics.{stats_after}
 use Rattle.pie_record.specs.declared.fault.Flaw.{Flaw}
-use Rattle.pie_record.specs.declared.fault.OpenFault.TheVariants as open_fault
 use Rattle.pie_record.specs.declared.fault.TraceFault.{TraceFault}
 use Rattle.pie_record.specs.declared.fault.TraceFault.TheVariants as fault
 use Rattle.pie_record.specs.declared.trace_record.Request.{Request}
@@ -36,29 +33,30 @@ use Rattle.pie_record.specs.declared.trace_record.Request.TheVariants.{Ask, BadP
 use Rattle.pie_record.specs.declared.first_record.Draft.{Draft}
 use Rattle.pie_record.specs.declared.first_record.FirstKind.{FirstKind}
 use Rattle.pie_record.specs.declared.first_record.FirstKind.TheVariants as kinds
-use Rattle.pie_record.specs.declared.history_record.Line.{Line}
 use Rattle.pie_record.specs.declared.version.Version.{Version}
 use Rattle.pie_record.specs.Fault.{fault_at}
 use Rattle.pie_trace.specs.History.{before_fault, history_rows, history_text, record_fault, replies, requests_of, text_left}
-use Rattle.pie_record.specs.Opening.{checked_opening, opening_by, opening_in, opening_of, opening_read, refused_opening}
-use Rattle.pie_record.specs.Text.{HasField, Row, rows_text}
+use Rattle.pie_record.specs.Opening.{Checked, checked_opening, opening_by, opening_of, opening_read}
+use Rattle.pie_record.specs.Text.{Row, rows_text, text_of}
 use Rattle.pie_record.specs.Field.{is_kind}
 use Rattle.pie_record.specs.TraceRecord.{request_of}
 use Rattle.pie_record.specs.HistoryRecord.{line_of}
+use Rattle.pie_record.specs.Laws.{AnswersAreReadBack, RequestsAreWrittenAgain, TextsAreReadBack}
 use Rattle.pie_record.specs.ReadBack.{Begins, TellEach, TellsHistory}
 use Rattle.pie_trace.specs.RunLines.{line_told, lines_told, run_lines}
-use Rattle.pie_record.specs.FirstRecord.{first_fields, first_kind, holds_limits, kind_word, version_of}
+use Rattle.pie_record.specs.FirstRecord.{first_fields, first_kind, kind_word, version_of}
 use Rattle.pie_trace.specs.Reply.{Reply, after, history_row, reply, reply_to_command, reply_to_fold}
 use Rattle.pie_record.specs.Answer.{code_of}
 use Rattle.pie_trace.proofs.EndFacts.{history_text-read}
-use Rattle.pie_record.proofs.Laws.{TellEach-cons, TellEach-none, clock-told, folded-note, answered-back, history-told, kind-word, ltb-false}
-use Rattle.pie_record.proofs.Laws.{refused-note}
-use Rattle.pie_record.proofs.Openings.{checked}
-use Rattle.pie_record.proofs.Laws.{request-fits, rows_text-cons, shown-note, tallied-note, told-field}
 use Rattle.pie_trace.proofs.HistoryFacts.{before_fault-later, flawed-record, long-record, requests_of-cons}
 
--- what pie_book promises of all histories
+-- what pie_book promises of all histories, and pie_record of all records
 pub record Held : Type 0 where
+  pub back : AnswersAreReadBack
+  pub again : RequestsAreWrittenAgain
+  pub texts : TextsAreReadBack
+  pub opens : (kind : FirstKind) (draft : Draft) (opening : Opening) → checked_opening kind (first_bad draft.params) draft ≡ Ok opening
+      → Checked draft opening
   pub params : (params : RawParams) → first_bad params ≡ None → ParamsFit params
   pub registers : (opening : Opening) (history : List Event) → opening_refusal opening.limits opening.moment ≡ None → ParamsFit opening.params
       → IsLegal opening history
@@ -115,10 +113,10 @@ ask-told version held number row caller command opening progress small opens sou
         (refused_or (or_full o full) (decision opening progress.history command))))
         ≡ Ok (line_told (Ask caller command) (reply_to_command (refused_or (or_full o full) (decision opening progress.history command))))
     by None false free =
-        answered-back version row caller command (decision opening progress.history command) reads (held.kinds opening progress.history command)
+        held.back.answered version row caller command (decision opening progress.history command) reads (held.kinds opening progress.history command)
         (held.answers opening progress.history command opens.accepted opens.params sound.legal sound.fit free)
-    by None true free = refused-note version number 5 small (omega arith)
-    by (Some why) full free = refused-note version number (code_of why) small (code-small why)
+    by None true free = held.back.refused version number 5 small (omega arith)
+    by (Some why) full free = held.back.refused version number (code_of why) small (code-small why)
 
 fold-enough : (progress : Progress) (n : ℕ) (events : List Event) → fold_outcome progress n ≡ Ok events → n ≤ progress.held
 fold-enough progress n events = by (nat_lt progress.held n) refl
@@ -126,7 +124,7 @@ fold-enough progress n events = by (nat_lt progress.held n) refl
     by : (few : Bool) → nat_lt progress.held n ≡ few → (if few then Err (TooMany progress.held) else Ok
         (take n (last_events progress.held progress.history))) ≡ Ok events → n ≤ progress.held
     by true f e = cc
-    by false f e = ltb-false progress.held n f
+    by false f e = grind (arith, nat_tests)
 
 fold-told : (version : Version) (held : Held) (number : ℕ) (row : Row) (n : ℕ) (opening : Opening) (progress : Progress) → number < 2 ^ 64
     → Opens opening → Sound opening progress
@@ -135,28 +133,28 @@ fold-told version held number row n opening progress small opens sound = by (fol
   where
     by : (o : Result (List Event) FoldRefusal) → fold_outcome progress n ≡ o
         → line_of version (history_row version number row (reply_to_fold n o)) ≡ Ok (line_told (Fold n) (reply_to_fold n o))
-    by (Err why) e = refused-note version number 6 small (omega arith)
+    by (Err why) e = held.back.refused version number 6 small (omega arith)
     by (Ok events) e =
         let enough = fold-enough progress n events e in
         let within = sound.held in
         let count = count-small held opening progress opens sound in
-        folded-note version n (omega arith)
+        held.back.folded version n (omega arith)
 
 record-told : (version : Version) (held : Held) (number : ℕ) (row : Row) (request : Request) (opening : Opening) (progress : Progress)
     → number < 2 ^ 64 → Opens opening → Sound opening progress → request_of version row ≡ Ok request
     → line_of version (history_row version number row (reply opening progress request)) ≡ Ok (line_told request (reply opening progress request))
 record-told version held number row (Ask caller command) opening progress small opens sound reads = ask-told version held number row caller command
     opening progress small opens sound reads
-record-told version held number row BadParams opening progress small opens sound reads = refused-note version number 7 small (omega arith)
+record-told version held number row BadParams opening progress small opens sound reads = held.back.refused version number 7 small (omega arith)
 record-told version held number row (Fold n) opening progress small opens sound reads = fold-told version held number row n opening progress small
     opens sound
 record-told version held number row Show opening progress small opens sound reads =
-    shown-note version (registers_after opening progress.history)
+    held.back.shown version (registers_after opening progress.history)
     (held.registers opening progress.history opens.accepted opens.params sound.legal sound.fit)
 record-told version held number row Tally opening progress small opens sound reads =
-    tallied-note version (stats_after opening progress.history)
+    held.back.tallied version (stats_after opening progress.history)
     (held.stats opening progress.history opens.accepted opens.params sound.legal sound.fit)
-record-told version held number row (Clock clock) opening progress small opens sound reads = clock-told version row clock reads
+record-told version held number row (Clock clock) opening progress small opens sound reads = held.back.clock version row clock reads
 
 -- where the run stands after it
 with-one : (mode : Mode) (most held : ℕ) → held_with_one mode most held ≤ held + 1
@@ -196,7 +194,7 @@ after-sound : (version : Version) (held : Held) (opening : Opening) (progress : 
     → request_of version row ≡ Ok request
     → Sound opening progress → Sound opening (after opening progress request)
 after-sound version held opening progress row (Ask caller command) reads sound = asked-sound held opening progress caller command
-    (request-fits version row caller command held.params reads) sound
+    (held.again.fits version row caller command held.params reads) sound
 after-sound version held opening progress row BadParams reads sound = sound
 after-sound version held opening progress row (Fold n) reads sound =
     let within = sound.held in
@@ -218,9 +216,9 @@ good version most number row e = by (nat_lt most number) (request_of version row
   where
     by : (late : Bool) (o : Result Request Flaw) → nat_lt most number ≡ late → request_of version row ≡ o → Good version most number row
     by true o l r = let wrong : None ≡ Some fault.TooLong = sym e ∙ long-record version most number row (ltb-true most number l) in cc
-    by false (Ok request) l r = record { request = request; reads = r; within = ltb-false most number l }
+    by false (Ok request) l r = record { request = request; reads = r; within = grind (arith, nat_tests) }
     by false (Err what) l r = let wrong : None ≡ Some (fault_at number what) = sym e
-        ∙ flawed-record version most number row what (ltb-false most number l) r in cc
+        ∙ flawed-record version most number row what (grind (arith, nat_tests)) r in cc
 
 abbrev pub RowsTold : Version → Opening → ℕ → Progress → List Row → List Request → Type 0
 RowsTold version opening number progress rows requests = TellEach version (history_rows version number rows (replies opening progress requests))
@@ -228,19 +226,16 @@ RowsTold version opening number progress rows requests = TellEach version (histo
 
 told-none : (version : Version) (opening : Opening) (number : ℕ) (progress : Progress)
     → RowsTold version opening number progress [] (requests_of version [])
-unfolding requests_of replies history_rows lines_told
-told-none version opening number progress = TellEach-none version
+unfolding requests_of replies history_rows lines_told TellEach
+told-none version opening number progress = tt
 
 told-one : (version : Version) (opening : Opening) (number : ℕ) (progress : Progress) (row : Row) (rows : List Row) (request : Request)
     (requests : List Request)
     → line_of version (history_row version number row (reply opening progress request)) ≡ Ok (line_told request (reply opening progress request))
     → RowsTold version opening (number + 1) (after opening progress request) rows requests
     → RowsTold version opening number progress (row ∷ rows) (request ∷ requests)
-unfolding replies history_rows lines_told
-told-one version opening number progress row rows request requests here later =
-    TellEach-cons version (history_row version number row (reply opening progress request))
-    (history_rows version (number + 1) rows (replies opening (after opening progress request) requests))
-    (line_told request (reply opening progress request)) (lines_told requests (replies opening (after opening progress request) requests)) here later
+unfolding replies history_rows lines_told TellEach
+told-one version opening number progress row rows request requests here later = (here, later)
 
 pub before-none : (version : Version) (most number : ℕ) → before_fault version most number [] ≡ []
 unfolding before_fault
@@ -305,13 +300,6 @@ rows-few version number [] given = omega arith
 rows-few version number (row ∷ rows) [] = omega arith
 rows-few version number (row ∷ rows) (reply ∷ given) = let more = rows-few version (number + 1) rows given in omega arith
 
-pub told-fields : (version : Version) (rows : List Row) (lines : List Line) → TellEach version rows lines → All HasField rows
-unfolding TellEach
-told-fields version [] lines tells = All-nil HasField
-told-fields version (row ∷ rows) [] tells = absurd tells
-told-fields version (row ∷ rows) (line ∷ lines) tells = All-cons HasField row rows (told-field version row line tells.0)
-    (told-fields version rows lines tells.1)
-
 -- ---- the first record
 
 pub record Opened (row : Row) (opening : Opening) : Type 0 where
@@ -319,38 +307,38 @@ pub record Opened (row : Row) (opening : Opening) : Type 0 where
   pub accepted : opening_refusal opening.limits opening.moment ≡ None
   pub in_range : first_bad opening.params ≡ None
 
-word-of : (row : Row) (kind : FirstKind) (word : List ℕ) → word ≡ kind_word kind → is_kind row word ≡ true → Begins row
-unfolding field_at
-word-of [] kind word same e = cc
-word-of (first ∷ rest) kind word same e =
-    let is = kind-word (first ∷ rest) word first rest refl e in
-    record { kind = kind; rest = rest; is = ap (λ (f : List ℕ). f ∷ rest) (is ∙ same) }
+word-of : Held → (row : Row) (kind : FirstKind) (word : List ℕ) → word ≡ kind_word kind → is_kind row word ≡ true → Begins row
+word-of held row kind word same e = record {
+  kind = kind;
+  rest = drop 1 row;
+  is = held.again.kind row word e ∙ ap (λ (f : List ℕ). f ∷ drop 1 row) same;
+}
 
-begins : (row : Row) (kind : FirstKind) → first_kind row ≡ Some kind → Begins row
+begins : Held → (row : Row) (kind : FirstKind) → first_kind row ≡ Some kind → Begins row
 unfolding first_kind
-begins row kind = by (is_kind row (codes "open")) (is_kind row (codes "rolling")) (is_kind row (codes "open2"))
+begins held row kind = by (is_kind row (codes "open")) (is_kind row (codes "rolling")) (is_kind row (codes "open2"))
     (is_kind row (codes "open3")) refl refl refl refl
   where
     by : (a b c d : Bool) → is_kind row (codes "open") ≡ a → is_kind row (codes "rolling") ≡ b → is_kind row (codes "open2") ≡ c
         → is_kind row (codes "open3") ≡ d
         → (if a then Some kinds.Open else if b then Some kinds.Rolling else if c then Some kinds.Open2 else if d then Some kinds.Open3 else None)
         ≡ Some kind → Begins row
-    by true b c d p q r s e = word-of row kinds.Open (codes "open") refl p
-    by false true c d p q r s e = word-of row kinds.Rolling (codes "rolling") refl q
-    by false false true d p q r s e = word-of row kinds.Open2 (codes "open2") refl r
-    by false false false true p q r s e = word-of row kinds.Open3 (codes "open3") refl s
+    by true b c d p q r s e = word-of held row kinds.Open (codes "open") refl p
+    by false true c d p q r s e = word-of held row kinds.Rolling (codes "rolling") refl q
+    by false false true d p q r s e = word-of held row kinds.Open2 (codes "open2") refl r
+    by false false false true p q r s e = word-of held row kinds.Open3 (codes "open3") refl s
     by false false false false p q r s e = cc
 
-pub opened : (row : Row) (opening : Opening) → opening_of row ≡ Ok opening → Opened row opening
+pub opened : Held → (row : Row) (opening : Opening) → opening_of row ≡ Ok opening → Opened row opening
 unfolding opening_of
-opened row opening = by (first_kind row) refl
+opened held row opening = by (first_kind row) refl
   where
     read : (kind : FirstKind) → first_kind row ≡ Some kind → (o : Result Draft Flaw) → opening_read kind o ≡ Ok opening
         → Opened row opening
     read kind is (Err what) e = cc
     read kind is (Ok draft) e =
-        let c = checked kind draft opening e in
-        subst (λ (o : Opening). Opened row o) c.same (record { begins = begins row kind is; accepted = c.accepted; in_range = c.in_range })
+        let c = held.opens kind draft opening e in
+        subst (λ (o : Opening). Opened row o) c.same (record { begins = begins held row kind is; accepted = c.accepted; in_range = c.in_range })
 
     by : (o : Option FirstKind) → first_kind row ≡ o → opening_by o row ≡ Ok opening → Opened row opening
     by None is e = cc
@@ -370,9 +358,10 @@ text-rows version most opening rows = refl
 pub text-whole : (most : ℕ) (row : Row) (rows : List Row) (opening : Opening) → 0 < most → opening_of row ≡ Ok opening
     → history_text most (row ∷ rows) ≡ rows_text (row ∷ history_rows (version_of row) 2 (before_fault (version_of row) most 2 rows)
     (replies opening start (requests_of (version_of row) (before_fault (version_of row) most 2 rows))))
+unfolding rows_text
 text-whole most row rows opening some opens =
     history_text-read most row rows some ∙ rw opens (rw (text-rows (version_of row) most opening rows)
-    (sym (rows_text-cons row (history_rows (version_of row) 2 (before_fault (version_of row) most 2 rows)
+    (sym (flat_map-cons text_of row (history_rows (version_of row) 2 (before_fault (version_of row) most 2 rows)
     (replies opening start (requests_of (version_of row) (before_fault (version_of row) most 2 rows)))))))
 
 run-begun : (held : Held) (most : ℕ) (kind : FirstKind) (rest : Row) (rows : List Row) (opening : Opening) → 0 < most → most ≤ 2 ^ 32
@@ -382,7 +371,7 @@ unfolding run_lines
 run-begun held most kind rest rows opening some few opens =
     let first : Row = kind_word kind ∷ rest in
     let version : Version = version_of (kind_word kind ∷ rest) in
-    let is = opened (kind_word kind ∷ rest) opening opens in
+    let is = opened held (kind_word kind ∷ rest) opening opens in
     let fit : Opens opening = record { accepted = is.accepted; params = held.params opening.params is.in_range } in
     let asked : List Request = requests_of version (before_fault version most 2 rows) in
     let given : List Reply = replies opening start asked in
@@ -391,13 +380,13 @@ run-begun held most kind rest rows opening some few opens =
     let count = before-few version most 2 rows (omega arith) in
     let fewer = rows-few version 2 (before_fault version most 2 rows) given in
     subst (λ (text : List ℕ). TellsHistory text opening (lines_told asked given)) (sym (text-whole most first rows opening some opens))
-    (history-told kind rest (history_rows version 2 (before_fault version most 2 rows) given) opening (lines_told asked given) opens
-    (told-fields version _ _ told) told (omega arith))
+    (held.texts.history kind rest (history_rows version 2 (before_fault version most 2 rows) given) opening (lines_told asked given) opens
+    (held.texts.fields version _ _ told) told (omega arith))
 
 pub run-told : (held : Held) (most : ℕ) (row : Row) (rows : List Row) (opening : Opening) → 0 < most → most ≤ 2 ^ 32 → opening_of row ≡ Ok opening
     → TellsHistory (history_text most (row ∷ rows)) opening (run_lines (version_of row) most opening rows)
 run-told held most row rows opening some few opens =
-    let is = opened row opening opens in
+    let is = opened held row opening opens in
     subst (λ (first : Row). TellsHistory (history_text most (first ∷ rows)) opening (run_lines (version_of first) most opening rows))
     (sym is.begins.is)
     (run-begun held most is.begins.kind is.begins.rest rows opening some few (ap opening_of (sym is.begins.is) ∙ opens))

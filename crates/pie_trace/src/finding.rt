@@ -1,16 +1,26 @@
 //! What a run writes, beside the audit of it.
-ghost use Rattle.std.specs.Prelude.{◌≡◌, ◌≢◌, ◌<◌, ◌≤◌, ◌^◌, ◌∷◌, ◌++◌, ℕ, List, length, None, Some, Ok};
+ghost use Rattle.std.specs.Prelude.{◌≡◌, ◌≢◌, ◌<◌, ◌≤◌, ◌^◌, ◌∷◌, ◌++◌, ℕ, All, List, length, None, Some, Ok};
+ghost use Rattle.pie_event.specs.Ranges.{CommandFits};
+ghost use Rattle.pie_event.specs.declared.command.Event.{Event};
 ghost use Rattle.pie_event.specs.declared.opening.Opening.{Opening};
+ghost use Rattle.pie_excerpt.specs.Beginning.{Beginning, GoesOn};
 ghost use Rattle.pie_trace.specs.declared.run.RunEnd.{RunEnd};
 ghost use Rattle.pie_trace.specs.History.{before_fault, end_of, fault_of, history_text, progress_at_end, requests_of};
+ghost use Rattle.pie_trace.specs.Resumed.{progress_resumed, resumed_end, resumed_fault, resumed_text, resumed_within};
 ghost use Rattle.pie_record.specs.FirstRecord.{version_of};
 ghost use Rattle.pie_record.specs.Opening.{opening_of};
 ghost use Rattle.pie_record.specs.Text.{Row, records_of};
 ghost use Rattle.pie_audit.specs.declared.auditor.Finding.TheVariants.{Clean};
 ghost use Rattle.pie_text.specs.Lost.{lost_row};
-ghost use Rattle.pie_audit.specs.Text.{excerpt_fault, text_finding};
+ghost use Rattle.pie_audit.specs.Text.{IsFound, excerpt_fault, text_finding};
 
 use crate::law::history_texts_are_read_back;
+use pie_audit::{clean_is_legal, clean_parts_are_legal, events_are_lines, written_parts_are_told};
+use pie_book::all_numbers_are_held;
+use pie_excerpt::beginnings_are_written_again;
+use pie_record::{
+    answers_are_read_back, openings_are_checked, requests_are_written_again, texts_are_read_back,
+};
 
 /// What a run writes is found clean: the finding of the history text of a trace is `Clean`, with as many events as the run recorded
 /// (`whole`). Where the trace has a fault, its history text is that of the records before it, and is found clean as far as it
@@ -24,7 +34,33 @@ pub fn runs_are_clean()
         → text_finding (records_of (history_text most (row ∷ rows)))
         ≡ Ok (Clean (length (progress_at_end opening (requests_of (version_of row) (before_fault (version_of row) most 2 rows))).history)) }
 {
+    all_numbers_are_held();
+    clean_is_legal();
     history_texts_are_read_back();
+}
+
+/// What a run writes of a trace that goes on from the middle of a history goes on after that history, whichever it is whose commands hold numbers of
+/// their types, and is found clean with it: the finding has the number of all events, those before among them (`whole`). Where the trace has a fault
+/// behind its beginning, its history text is that of the records before it, and is found clean as far as it goes (`up_to_fault`).
+///
+/// It does nothing: its contract is the law (this project's own).
+pub fn resumed_runs_are_clean()
+    ensures whole { (most : ℕ) (rows : List Row) (opening : Opening) (past : List Event) (end : RunEnd) → most ≤ 2 ^ 32 → GoesOn rows opening past
+        → All (λ event. CommandFits event.command) past → resumed_fault most rows ≡ None → resumed_end past rows ≡ Some end
+        → IsFound (resumed_text most past rows) opening past (Clean end.events) }
+    ensures up_to_fault { (most : ℕ) (rows : List Row) (opening : Opening) (past : List Event) (begun : Beginning) → most ≤ 2 ^ 32
+        → GoesOn rows opening past → All (λ event. CommandFits event.command) past → resumed_within most rows ≡ Ok begun
+        → IsFound (resumed_text most past rows) opening past (Clean (length (progress_resumed most past begun).history)) }
+{
+    all_numbers_are_held();
+    answers_are_read_back();
+    beginnings_are_written_again();
+    clean_parts_are_legal();
+    events_are_lines();
+    openings_are_checked();
+    requests_are_written_again();
+    texts_are_read_back();
+    written_parts_are_told();
 }
 
 /// Where a record of lost events stands among the records of a text, whoever reads that text as one that goes on from the middle of a history meets

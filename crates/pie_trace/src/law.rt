@@ -13,6 +13,9 @@ ghost use Rattle.pie_trace.specs.RunLines.{run_lines};
 ghost use Rattle.pie_record.specs.Text.{Row};
 
 use pie_book::all_numbers_are_held;
+use pie_record::{
+    answers_are_read_back, openings_are_checked, requests_are_written_again, texts_are_read_back,
+};
 
 /// What `run_trace` writes, `HistoryLines` reads: the history text of every trace whose first record opens a book tells that opening, the event
 /// of each command that was answered, the time of day where the trace told it, a note for each other record, and then its end with no fault. Where
@@ -24,6 +27,10 @@ pub fn history_texts_are_read_back()
         → TellsHistory (history_text most (row ∷ rows)) opening (run_lines (version_of row) most opening rows) }
 {
     all_numbers_are_held();
+    answers_are_read_back();
+    openings_are_checked();
+    requests_are_written_again();
+    texts_are_read_back();
 }
 
 /// A trace that goes on from the middle of a history is answered as the whole from there on: where a whole trace asks for some things, then lets

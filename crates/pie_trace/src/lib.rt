@@ -16,7 +16,8 @@
 //! `migrated_runs_are_runs_of_version_two`.
 //!
 //! Beside audits: `runs_are_clean` says that the history text of every trace is found clean, with as many events as the run recorded, and
-//! `migration_keeps_the_finding` that a history in version two is found what it was found before.
+//! `migration_keeps_the_finding` that a history in version two is found what it was found before. `resumed_runs_are_clean` says it of what a run writes
+//! of a trace that goes on, with the events before it.
 #![tactic(auto)]
 
 pub mod finding;
@@ -28,7 +29,7 @@ mod resumed;
 pub mod run;
 mod session;
 
-pub use finding::{lost_records_are_faults_of_parts, runs_are_clean};
+pub use finding::{lost_records_are_faults_of_parts, resumed_runs_are_clean, runs_are_clean};
 pub use law::{history_texts_are_read_back, resumed_runs_go_on_as_the_whole};
 pub use migration::migrate;
 pub use migration_finding::migration_keeps_the_finding;

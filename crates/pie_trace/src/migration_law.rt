@@ -8,6 +8,9 @@ ghost use Rattle.pie_record.specs.ReadBack.{TellsHistory};
 ghost use Rattle.pie_record.specs.Text.{Row, records_of};
 
 use pie_book::{all_numbers_are_held, profile_one_is_always_active};
+use pie_record::{
+    answers_are_read_back, openings_are_checked, requests_are_written_again, texts_are_read_back,
+};
 
 /// What `migrate` writes, `HistoryLines` reads: the migrated text of every history whose first record opens one is of version two,
 /// or of version three where the history is, and tells that opening, the lines before the history's first fault, and then its end
@@ -39,5 +42,9 @@ pub fn migrated_runs_are_runs_of_version_two()
         → migrated_text (2 ^ 32) (records_of (history_text most (row ∷ rows))) ≡ history_text most (first_in_two row ∷ rows) }
 {
     all_numbers_are_held();
+    answers_are_read_back();
+    openings_are_checked();
+    requests_are_written_again();
+    texts_are_read_back();
     profile_one_is_always_active();
 }

@@ -4,7 +4,7 @@ use Rattle.pie_audit.proofs.Written.{written-clean}
 use Rattle.pie_audit.proofs.law.recorded_calls_are_clean.Goals as goal
 
 pub returns-clause-clean : goal.returns-clause-clean
-returns-clause-clean c = written-clean
+returns-clause-clean c = written-clean c.texts_are_read_back.ensures
 
 pub returns-clause-goes_on : goal.returns-clause-goes_on
 returns-clause-goes_on c = λ opening history caller command good legal fit free. at-push (IsLegalAt opening) history _ legal (record {

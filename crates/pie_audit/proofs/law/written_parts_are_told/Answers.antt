@@ -9,27 +9,32 @@ use Rattle.pie_excerpt.specs.Rows.{queued_row, resume_row}
 use Rattle.pie_excerpt.specs.Written.{resume_of_excerpt}
 use Rattle.pie_audit.specs.declared.auditor.Finding.TheVariants.{Clean}
 use Rattle.pie_audit.specs.Text.{IsFound}
-use Rattle.pie_audit.proofs.PartText.{events-found, part-told}
+use Rattle.pie_audit.proofs.PartText.{Alone, events-found, part-told, told-found, written-told}
 use Rattle.pie_audit.proofs.law.written_parts_are_told.Goals as goal
 
-pub returns-clause-lines : goal.returns-clause-lines
-returns-clause-lines c = λ opening standing past set_by rows lines fit written some tells few.
-    part-told opening standing past set_by rows lines (c.beginnings_go_on.ensures.read_back opening standing past set_by rows fit written)
-    (c.beginnings_go_on.ensures.goes_on opening standing past set_by rows fit written) some tells few
-
-pub returns-clause-events : goal.returns-clause-events
-returns-clause-events c = λ opening standing past events set_by fit written fits legal few.
-    events-found opening standing past events set_by
-    (c.beginnings_go_on.ensures.read_back opening standing past set_by (map event_row events) fit written)
-    (c.beginnings_go_on.ensures.goes_on opening standing past set_by (map event_row events) fit written) fits legal few
-
-pub returns-clause-excerpts : goal.returns-clause-excerpts
-returns-clause-excerpts c = λ excerpt history ends fit written fits legal few.
-    let found = events-found excerpt.opening excerpt.standing ends.before excerpt.events None
-    (c.beginnings_go_on.ensures.read_back excerpt.opening excerpt.standing ends.before None (map event_row excerpt.events) fit written)
-    (c.beginnings_go_on.ensures.goes_on excerpt.opening excerpt.standing ends.before None (map event_row excerpt.events) fit written) fits
-    (subst (λ (h : List Event). IsLegal excerpt.opening h) ends.whole legal) few in
-    subst (λ (h : List Event). IsFound (rows_text (resume_row (resume_of_excerpt excerpt) ∷ (map queued_row excerpt.waiting ++ map event_row excerpt.events)))
-    excerpt.opening ends.before (Clean (length h))) (sym ends.whole)
-    (subst (λ (w : List Waiting). IsFound (rows_text (resume_row (resume_of_excerpt excerpt) ∷ (map queued_row w ++ map event_row excerpt.events)))
-    excerpt.opening ends.before (Clean (length (ends.before ++ excerpt.events)))) (sym ends.waiting) found)
+pub returns : goal.returns
+returns c =
+    let beginnings = c.beginnings_are_written_again.ensures in
+    let law : Alone = record { again = beginnings.again; alone = beginnings.alone; text = beginnings.text; opens = beginnings.opens } in
+    let texts = c.texts_are_read_back.ensures in
+    let goes = c.beginnings_go_on.ensures in
+    record {
+      lines = λ opening standing past set_by rows lines fit written some tells few.
+          written-told law texts opening standing past set_by rows lines (goes.read_back opening standing past set_by rows fit written)
+          (goes.goes_on opening standing past set_by rows fit written) tells few;
+      events = λ opening standing past events set_by fit written fits legal few.
+          events-found law texts opening standing past events set_by
+          (goes.read_back opening standing past set_by (map event_row events) fit written)
+          (goes.goes_on opening standing past set_by (map event_row events) fit written) fits legal few;
+      excerpts = λ excerpt history ends fit written fits legal few.
+          let found = events-found law texts excerpt.opening excerpt.standing ends.before excerpt.events None
+          (goes.read_back excerpt.opening excerpt.standing ends.before None (map event_row excerpt.events) fit written)
+          (goes.goes_on excerpt.opening excerpt.standing ends.before None (map event_row excerpt.events) fit written) fits
+          (subst (λ (h : List Event). IsLegal excerpt.opening h) ends.whole legal) few in
+          subst (λ (h : List Event). IsFound (rows_text (resume_row (resume_of_excerpt excerpt)
+          ∷ (map queued_row excerpt.waiting ++ map event_row excerpt.events))) excerpt.opening ends.before (Clean (length h))) (sym ends.whole)
+          (subst (λ (w : List Waiting). IsFound (rows_text (resume_row (resume_of_excerpt excerpt) ∷ (map queued_row w ++ map event_row excerpt.events)))
+          excerpt.opening ends.before (Clean (length (ends.before ++ excerpt.events)))) (sym ends.waiting) found);
+      behind = part-told law texts;
+      found = told-found;
+    }

@@ -1,8 +1,12 @@
 use Rattle.pie_trace.proofs.RunFindings.{run-clean, whole-clean}
 use Rattle.pie_trace.proofs.finding.runs_are_clean.Goals as goal
 
-pub returns-clause-whole : goal.returns-clause-whole
-returns-clause-whole c = whole-clean c.history_texts_are_read_back.ensures
-
-pub returns-clause-up_to_fault : goal.returns-clause-up_to_fault
-returns-clause-up_to_fault c = run-clean c.history_texts_are_read_back.ensures
+pub returns : goal.returns
+returns c =
+    let told = c.history_texts_are_read_back.ensures in
+    let clean = c.clean_is_legal.ensures.legal_is_clean in
+    let numbers = c.all_numbers_are_held.ensures in
+    record {
+      whole = whole-clean told clean numbers.legal_with_one_more numbers.legal_at_first;
+      up_to_fault = run-clean told clean numbers.legal_with_one_more numbers.legal_at_first;
+    }

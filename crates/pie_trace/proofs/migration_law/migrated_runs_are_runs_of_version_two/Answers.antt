@@ -6,6 +6,10 @@ pub returns : goal.returns
 returns c =
     let law = c.all_numbers_are_held.ensures in
     let held : Held = record {
+      back = c.answers_are_read_back.ensures;
+      again = c.requests_are_written_again.ensures;
+      texts = c.texts_are_read_back.ensures;
+      opens = c.openings_are_checked.ensures;
       params = law.params;
       registers = law.registers;
       stats = law.stats;

@@ -1,0 +1,13 @@
+-- What this crate's laws say of events: they are as lines that tell them.
+use Rattle.std.specs.Prelude.{◌≡◌, All, List, length, map}
+use Rattle.pie_event.specs.declared.command.Event.{Event}
+use Rattle.pie_record.specs.declared.history_record.Line.TheVariants.{Made}
+use Rattle.pie_record.specs.HistoryLines.{event_count}
+use Rattle.pie_audit.specs.Finding.{events_of}
+use Rattle.pie_audit.specs.Legal.{CanBeMade}
+
+-- what lines are that tell these events
+pub record EventsAreLines : Type 0 where
+  pub made : (events : List Event) → All CanBeMade (map Made events)
+  pub events : (events : List Event) → events_of (map Made events) ≡ events
+  pub count : (events : List Event) → event_count (map Made events) ≡ length events

@@ -1,0 +1,11 @@
+use Rattle.pie_excerpt.proofs.AgainFacts.{begun_again}
+use Rattle.pie_excerpt.proofs.AloneFacts.{begun-alone, begun-opens, begun-text}
+use Rattle.pie_excerpt.proofs.law.beginnings_are_written_again.Goals as goal
+
+pub returns : goal.returns
+returns c = record {
+  again = begun_again;
+  alone = begun-alone;
+  text = begun-text;
+  opens = begun-opens c.openings_are_checked.ensures;
+}

@@ -1,0 +1,14 @@
+use Rattle.pie_record.proofs.ClockBack.{clock-told}
+use Rattle.pie_record.proofs.EventBack.{answered-back}
+use Rattle.pie_record.proofs.NotesBack.{folded-note, refused-note, shown-note, tallied-note}
+use Rattle.pie_record.proofs.law.answers_are_read_back.Goals as goal
+
+pub returns : goal.returns
+returns c = record {
+  answered = answered-back;
+  refused = refused-note;
+  folded = folded-note;
+  shown = shown-note;
+  tallied = tallied-note;
+  clock = clock-told;
+}

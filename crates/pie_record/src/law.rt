@@ -1,0 +1,38 @@
+//! The laws of records and texts: what is written is read back, and what was read is written again.
+ghost use Rattle.std.specs.Prelude.{◌≡◌, Ok};
+ghost use Rattle.pie_event.specs.declared.opening.Opening.{Opening};
+ghost use Rattle.pie_params.specs.Range.{first_bad};
+ghost use Rattle.pie_record.specs.declared.first_record.Draft.{Draft};
+ghost use Rattle.pie_record.specs.declared.first_record.FirstKind.{FirstKind};
+ghost use Rattle.pie_record.specs.Opening.{Checked, checked_opening};
+ghost use Rattle.pie_record.specs.Laws.{AnswersAreReadBack, RequestsAreWrittenAgain, TextsAreReadBack};
+
+/// The history record of what a trace asked is read back as it was written: the event with its answer, the time of day, a note for all else.
+///
+/// It does nothing: its contract is the law (this project's own).
+pub fn answers_are_read_back()
+    ensures { AnswersAreReadBack }
+{}
+
+/// A record that asks a command, or tells the time of day, has just the fields with which that is written again.
+///
+/// It does nothing: its contract is the law (this project's own).
+pub fn requests_are_written_again()
+    ensures { RequestsAreWrittenAgain }
+{}
+
+/// A text of written records is read back as those records, and where each tells a line, as those lines, with no fault behind them. That of an
+/// opening and its events is a history of these.
+///
+/// It does nothing: its contract is the law (this project's own).
+pub fn texts_are_read_back()
+    ensures { TextsAreReadBack }
+{}
+
+/// The opening of a text that reads well is what its fields say, one that no book refuses, with parameters in their ranges.
+///
+/// It does nothing: its contract is the law (this project's own).
+pub fn openings_are_checked()
+    ensures { (kind : FirstKind) (draft : Draft) (opening : Opening) → checked_opening kind (first_bad draft.params) draft ≡ Ok opening
+        → Checked draft opening }
+{}

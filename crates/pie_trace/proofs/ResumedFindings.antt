@@ -1,0 +1,161 @@
+-- The audit of what a run writes of a trace that goes on finds it clean, with the events before it.
+use Rattle.std.proofs.Common.{◌≡◌, ◌≤◌, ◌+◌, ◌^◌, ℕ, List, ◌++◌, map, take, length, Bool, true, false, refl, sym, ap, subst, ◌∙◌, arith}
+use Rattle.std.specs.Prelude.{All, nat_lt, Some, None, Result, Ok, Err, if◌then◌else◌}
+use Rattle.std.proofs.lemmas.Bool.Decides.{nat_tests}
+use Rattle.std.proofs.lemmas.List.Concat.{flat_map-append}
+use Rattle.pie_event.specs.Ranges.{CommandFits}
+use Rattle.pie_event.specs.declared.command.Event.{Event}
+use Rattle.pie_event.specs.declared.opening.Opening.{Opening}
+use Rattle.pie_book.specs.Core.{Shows}
+use Rattle.pie_book.specs.Decision.{IsLegal}
+use Rattle.pie_book.specs.Run.{progress_after}
+use Rattle.pie_record.specs.declared.fault.TraceFault.{TraceFault}
+use Rattle.pie_record.specs.declared.fault.TraceFault.TheVariants as fault
+use Rattle.pie_record.specs.declared.history_record.Line.{Line}
+use Rattle.pie_record.specs.declared.history_record.Line.TheVariants.{Made}
+use Rattle.pie_record.specs.declared.version.Version.TheVariants.{Three}
+use Rattle.pie_record.specs.ReadBack.{TellEach}
+use Rattle.pie_record.specs.Text.{Row, records_of, rows_text, text_of}
+use Rattle.pie_excerpt.specs.Beginning.{Beginning, BeginsWell, GoesOn, or_fault, resumed_of}
+use Rattle.pie_audit.specs.declared.auditor.Finding.TheVariants.{Clean}
+use Rattle.pie_audit.specs.Finding.{events_of}
+use Rattle.pie_audit.specs.Laws.{EventsAreLines}
+use Rattle.pie_audit.specs.Legal.{AreLegal}
+use Rattle.pie_audit.specs.Text.{IsFound, TellsPart, excerpt_lines, whole_finding}
+use Rattle.pie_trace.specs.declared.run.RunEnd.{RunEnd}
+use Rattle.pie_trace.specs.History.{before_fault, end_from, first_fault, history_rows, replies, requests_of, steps_of, text_left}
+use Rattle.pie_trace.specs.Resumed.{end_resumed, fault_resumed, going_on, progress_resumed, resumed_end, resumed_fault, resumed_text, resumed_within, text_resumed}
+use Rattle.pie_trace.specs.Resumed.{within_most}
+use Rattle.pie_trace.specs.RunLines.{lines_told}
+use Rattle.pie_trace.proofs.RunBack.{Held, Opens, Sound, before-few, rows-few, rows-told}
+use Rattle.pie_trace.proofs.RunFindings.{AreRuns, before-all, lines-legal}
+
+-- what is wanted of the crates below
+pub record Below : Type 0 where
+  pub held : Held
+  pub opens : (rows : List Row) (begun : Beginning) → resumed_of rows ≡ Ok begun → BeginsWell rows begun
+  pub behind : (rows more : List Row) (begun : Beginning) (opening : Opening) (past : List Event) (lines : List Line) → resumed_of rows ≡ Ok begun
+      → GoesOn rows opening past → TellEach Three more lines → begun.read + length more ≤ 2 ^ 32
+      → TellsPart (rows_text (take begun.read rows ++ more)) opening past lines
+  pub clean : (rows : List Row) (opening : Opening) (past : List Event) → AreLegal opening (map Made past ++ excerpt_lines rows)
+      → whole_finding opening past rows ≡ Clean (length (events_of (map Made past ++ excerpt_lines rows)))
+  pub events : EventsAreLines
+
+-- ---- its beginning
+
+-- a beginning of no more records than are read
+record Within (most : ℕ) (rows : List Row) (b : Beginning) : Type 0 where
+  begun : resumed_of rows ≡ Ok b
+  few : b.read ≤ most
+
+within : (most : ℕ) (rows : List Row) (b : Beginning) → resumed_within most rows ≡ Ok b → Within most rows b
+within most rows b e = by (resumed_of rows) refl e
+  where
+    so : (c : Beginning) → resumed_of rows ≡ Ok c → (long : Bool) → nat_lt most c.read ≡ long → (if long then Err fault.TooLong else Ok c) ≡ Ok b
+        → Within most rows b
+    so c is true long e = cc
+    so c is false long e =
+        let same : c ≡ b = cc in
+        subst (λ (it : Beginning). Within most rows it) same (record { begun = is; few = grind (arith, nat_tests) })
+
+    by : (read : Result Beginning TraceFault) → resumed_of rows ≡ read → or_fault read (within_most most) ≡ Ok b → Within most rows b
+    by (Ok c) is e = so c is (nat_lt most c.read) refl e
+    by (Err why) is e = cc
+
+same-beginning : (read : Result Beginning TraceFault) (a b : Beginning) → read ≡ Ok a → read ≡ Ok b → a ≡ b
+same-beginning read a b e f = cc
+
+-- ---- its text
+
+text-resumed : (most : ℕ) (past : List Event) (rows : List Row) (b : Beginning) → resumed_within most rows ≡ Ok b
+    → resumed_text most past rows ≡ rows_text (take b.read rows
+    ++ history_rows Three (b.read + 1) (before_fault Three most (b.read + 1) b.left)
+    (replies b.opening (going_on past) (requests_of Three (before_fault Three most (b.read + 1) b.left))))
+unfolding resumed_text text_left rows_text
+text-resumed most past rows b e =
+    ap (λ (read : Result Beginning TraceFault). text_resumed most read past rows) e
+    ∙ sym (flat_map-append text_of (take b.read rows) (history_rows Three (b.read + 1) (before_fault Three most (b.read + 1) b.left)
+    (replies b.opening (going_on past) (requests_of Three (before_fault Three most (b.read + 1) b.left)))))
+
+-- legal lines are found clean
+told-clean : Below → (text : List ℕ) (opening : Opening) (past : List Event) (lines : List Line) (history : List Event)
+    → TellsPart text opening past lines → AreRuns opening (map Made past ++ lines) history → IsFound text opening past (Clean (length history))
+told-clean law text opening past lines history told runs =
+    let same : AreRuns opening (map Made past ++ excerpt_lines (records_of text)) history =
+    subst (λ (ls : List Line). AreRuns opening (map Made past ++ ls) history) (sym told.tells) runs in
+    record {
+      resumes = told.resumes;
+      goes = told.goes;
+      fault = told.fault;
+      finding = law.clean (records_of text) opening past same.legal ∙ ap (λ (events : List Event). Clean (length events)) same.events;
+    }
+
+pub resumed-clean : Below → (most : ℕ) (rows : List Row) (opening : Opening) (past : List Event) (b : Beginning) → most ≤ 2 ^ 32
+    → GoesOn rows opening past → All (λ event. CommandFits event.command) past → resumed_within most rows ≡ Ok b
+    → IsFound (resumed_text most past rows) opening past (Clean (length (progress_resumed most past b).history))
+resumed-clean law most rows opening past b few goes fit e =
+    let at = within most rows b e in
+    let same = same-beginning (resumed_of rows) goes.beginning b goes.resumed at.begun in
+    let opened : b.opening ≡ opening = subst (λ (it : Beginning). it.opening ≡ opening) same goes.opened in
+    let shows : Shows opening b.core past = subst (λ (it : Beginning). Shows opening it.core past) same goes.shown in
+    let legal : IsLegal b.opening past = subst (λ (o : Opening). IsLegal o past) (sym opened) shows.legal in
+    let well = law.opens rows b at.begun in
+    let opens : Opens b.opening = record { accepted = well.accepted; params = law.held.params b.opening.params well.in_range } in
+    let sound : Sound b.opening (going_on past) = record { legal = legal; fit = fit; held = omega arith } in
+    let good = before_fault Three most (b.read + 1) b.left in
+    let asked = requests_of Three (before_fault Three most (b.read + 1) b.left) in
+    let given = replies b.opening (going_on past) (requests_of Three (before_fault Three most (b.read + 1) b.left)) in
+    let more = history_rows Three (b.read + 1) good given in
+    let told : TellEach Three more (lines_told asked given) = rows-told Three law.held most b.opening (b.read + 1) (going_on past) b.left few opens
+    sound in
+    let within = at.few in
+    let count = before-few Three most (b.read + 1) b.left (omega (arith, within)) in
+    let fewer = rows-few Three (b.read + 1) good given in
+    let tells : TellsPart (rows_text (take b.read rows ++ more)) opening past (lines_told asked given) =
+    law.behind rows more b opening past (lines_told asked given) at.begun goes told (omega (arith, count, fewer, few)) in
+    let runs = lines-legal law.held.legal_with_one_more b.opening (going_on past) (map Made past) asked (law.events.made past)
+    (law.events.events past) legal in
+    subst (λ (text : List ℕ). IsFound text opening past (Clean (length (progress_resumed most past b).history)))
+    (sym (text-resumed most past rows b e))
+    (told-clean law (rows_text (take b.read rows ++ more)) opening past (lines_told asked given) (progress_resumed most past b).history tells
+    (subst (λ (o : Opening). AreRuns o (map Made past ++ lines_told asked given) (progress_resumed most past b).history) opened runs))
+
+-- ---- one without a fault
+
+-- it begins well, and ends with the numbers of the whole
+record Faultless (most : ℕ) (rows : List Row) (past : List Event) (end : RunEnd) : Type 0 where
+  b : Beginning
+  begun : resumed_within most rows ≡ Ok b
+  sound : first_fault Three most (b.read + 1) b.left ≡ None
+  count : end.events ≡ length (progress_after b.opening (going_on past) (steps_of (requests_of Three b.left))).history
+
+faultless : (most : ℕ) (rows : List Row) (past : List Event) (end : RunEnd) → resumed_fault most rows ≡ None → resumed_end past rows ≡ Some end
+    → Faultless most rows past end
+unfolding resumed_fault resumed_end
+faultless most rows past end sound ended = by (resumed_within most rows) refl sound
+  where
+    events-same : (made end : RunEnd) → Some made ≡ Some end → end.events ≡ made.events
+    events-same made end e = let same : made ≡ end = cc in sym (ap (λ (r : RunEnd). r.events) same)
+
+    by : (read : Result Beginning TraceFault) → resumed_within most rows ≡ read → fault_resumed most read ≡ None → Faultless most rows past end
+    by (Err why) is e = cc
+    by (Ok b) is e =
+        let at = within most rows b is in
+        let here : end_resumed (resumed_of rows) past ≡ Some end = ended in
+        record {
+          b = b;
+          begun = is;
+          sound = e;
+          count = events-same (end_from Three b.opening (going_on past) b.left) end (rw at.begun at here);
+        }
+
+pub resumed-whole : Below → (most : ℕ) (rows : List Row) (opening : Opening) (past : List Event) (end : RunEnd) → most ≤ 2 ^ 32
+    → GoesOn rows opening past → All (λ event. CommandFits event.command) past → resumed_fault most rows ≡ None → resumed_end past rows ≡ Some end
+    → IsFound (resumed_text most past rows) opening past (Clean end.events)
+resumed-whole law most rows opening past end few goes fit sound ended =
+    let f = faultless most rows past end sound ended in
+    let all = before-all Three most (f.b.read + 1) f.b.left f.sound in
+    subst (λ (n : ℕ). IsFound (resumed_text most past rows) opening past (Clean n)) (sym f.count)
+    (subst (λ (rest : List Row). IsFound (resumed_text most past rows) opening past
+    (Clean (length (progress_after f.b.opening (going_on past) (steps_of (requests_of Three rest))).history))) all
+    (resumed-clean law most rows opening past f.b few goes fit f.begun))

@@ -5,3 +5,4 @@ pub mod Legal
 pub mod Begun
 pub mod Setters
 pub mod Start
+pub mod Following

@@ -13,7 +13,7 @@ from pathlib import Path
 ROOT = Path(__file__).resolve().parent.parent.parent
 NAME = os.path.relpath(__file__, ROOT)
 CITED = re.compile(r"\bRattle\.(\w+)\.proofs\b")
-LEFT = {"pie_aqm": 7, "pie_audit": 6, "pie_book": 15, "pie_commands": 7, "pie_cut": 53, "pie_excerpt": 6, "pie_explain": 14,
+LEFT = {"pie_aqm": 7, "pie_audit": 6, "pie_book": 15, "pie_commands": 7, "pie_cut": 39, "pie_excerpt": 6, "pie_explain": 6,
         "pie_guarantees": 23, "pie_storm": 8, "pie_summary": 6, "pie_text": 4, "pie_trace": 24}
 
 

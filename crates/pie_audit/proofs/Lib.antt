@@ -7,4 +7,5 @@ pub mod SetterFacts
 mod Examples
 pub mod Written
 mod PastFacts
+mod FollowingFacts
 pub mod PartText

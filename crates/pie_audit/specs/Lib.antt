@@ -6,3 +6,4 @@ pub mod Begun
 pub mod Setters
 pub mod Start
 pub mod Laws
+pub mod Following

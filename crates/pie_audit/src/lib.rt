@@ -11,15 +11,16 @@
 
 pub mod auditor;
 pub mod begun;
+pub mod following;
 pub mod law;
-pub mod setters;
+mod setters;
 pub mod text;
 
 pub use auditor::{Auditor, Finding};
 pub use begun::{TextBegun, begin};
+pub use following::{Follower, lines_that_agree_have_few_events};
 pub use law::{
     clean_is_legal, clean_parts_are_legal, events_are_lines, recorded_calls_are_clean,
     written_parts_are_told,
 };
-pub use setters::sets_probability;
 pub use text::{audit, write_finding};

@@ -14,7 +14,7 @@ use crate::end::{End, failed, faulted};
 use crate::moments::{NO_ORDER, bound_of, in_order};
 use crate::screen::{Screen, shows_progress};
 use clap::ArgMatches;
-use pie_cut::{CutFault, Span, cut_either, cut_every, last_number};
+use pie_cut::{CutFault, Span, cut_every, last_number};
 use pie_files::{NamedFiles, Watched, fault, named_fault, reader_of};
 use pie_options::{file, number};
 use pie_trace::TraceFault;
@@ -146,7 +146,7 @@ fn cut_out<R: Read + Drop, W: Write>(
     ensures { IfSome (R.remaining reader) (λ text. CutsInto pieces (records_of text) result (W.contents output.old) (W.contents output.new)) }
 {
     match pieces {
-        Pieces::One(span) => cut_either(alloc, reader, output, span),
+        Pieces::One(span) => pie_cut::cut(alloc, reader, output, span),
         Pieces::Every(every) => cut_every(alloc, reader, output, every),
     }
 }

@@ -13,7 +13,7 @@ use crate::end::{End, failed, faulted};
 use crate::moments::{NO_ORDER, bound_of, in_order, moment, moment_of};
 use crate::screen::{Screen, shows_progress};
 use clap::ArgMatches;
-use pie_explain::{Choice, ExplainFault, Form, Which, explain_either};
+use pie_explain::{Choice, ExplainFault, Form, Which};
 use pie_files::{NamedFiles, Watched, fault, reader_of};
 use pie_options::{file, flag, number};
 use pie_summary::Summary;
@@ -185,9 +185,9 @@ fn tell<R: Read + Drop, W: Write>(
             every,
             packets,
         };
-        explain_either(alloc, input, output, choice, summaries)
+        pie_explain::explain(alloc, input, output, choice, summaries)
     } else {
-        explain_either(alloc, input, output, choice, form)
+        pie_explain::explain(alloc, input, output, choice, form)
     }
 }
 

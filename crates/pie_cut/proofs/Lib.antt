@@ -1,9 +1,9 @@
 mod PlaceFacts
-mod FollowFacts
+mod MeetFacts
 mod PartFacts
 mod CutFacts
 mod EndFacts
-mod EitherFacts
+mod ToldFacts
 mod LineReading
 mod SegmentFacts
 mod SegmentEnds

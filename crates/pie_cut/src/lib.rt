@@ -2,26 +2,25 @@
 //! waited then, and the events up to the last one that is wanted. Times of day go along: the last that was told before, and those between the
 //! events.
 //!
-//! `cut_either` reads a history, or a text that goes on from the middle of one, as an audit does, and decides each event again up to the last
+//! `cut` reads a history, or a text that goes on from the middle of one, as an audit does, and decides each event again up to the last
 //! that is wanted. `cut_every` cuts all of it into excerpts of so many events each. The definitions that the contracts cite stand in `specs/`:
-//! wherever no reader, writer or memory failed, `cut_either` answers exactly what `answer_since` says of the text, and has written exactly the
+//! wherever no reader, writer or memory failed, `cut` answers exactly what `answer_since` says of the text, and has written exactly the
 //! excerpt (`IsCut`); of a text that resumes, what the whole history gives from there on (`CutsEither`).
 #![tactic(auto)]
 
 mod alike;
 mod beginning;
 mod cutter;
-mod either;
 pub mod fault;
-mod follower;
 pub mod joined;
 mod last;
 mod law;
+mod meeting;
 mod part;
 mod segments;
 pub mod span;
 
-pub use either::cut_either;
+pub use cutter::cut;
 pub use fault::CutFault;
 pub use joined::{Joined, Joint, TextEnd, audit_joined, texts_that_follow_are_one_history};
 pub use last::last_number;

@@ -1,17 +1,16 @@
 -- How explaining a history ends, and what it has written.
-use Rattle.std.proofs.Common.{◌≡◌, ◌==◌, ℕ, List, [], ◌++◌, length, Bool, true, false, inl, inr, refl, sym, ap, ◌∙◌, subst, append_assoc}
+use Rattle.std.proofs.Common.{◌≡◌, ◌==◌, ℕ, List, ◌++◌, length, Bool, true, false, inl, inr, refl, sym, ap, ◌∙◌, subst, append_assoc}
 use Rattle.std.specs.Prelude.{Option, Some, None, Result, Ok, Err, IfSome, IfErr, OnOk, ◌&&◌, nat_le, nat_lt, if◌then◌else◌}
 use Rattle.std.specs.Io.KnownBytes.{Appends, append_known}
 use Rattle.pie_event.specs.declared.opening.Opening.{Opening}
 use Rattle.pie_record.specs.declared.fault.TraceFault.{TraceFault}
 use Rattle.pie_record.specs.declared.history_record.Line.{Line}
 use Rattle.pie_record.specs.Fault.{IsWrite, is_device, closed}
-use Rattle.pie_record.specs.HistoryLines.{Coming, coming_after, history_lines, history_opening, later_fault}
-use Rattle.pie_record.specs.Text.{records_of}
+use Rattle.pie_record.specs.HistoryLines.{Coming}
 use Rattle.pie_audit.specs.declared.auditor.Finding.{Finding}
 use Rattle.pie_audit.specs.declared.auditor.Finding.TheVariants.{Clean, Differs}
 use Rattle.pie_audit.specs.Auditor.{Audits, AuditorView}
-use Rattle.pie_audit.specs.Text.{judged, text_finding}
+use Rattle.pie_audit.specs.Text.{judged}
 use Rattle.pie_record.specs.HistoryLines.{event_count}
 use Rattle.pie_audit.specs.Finding.{finding, finding_by, first_difference}
 use Rattle.pie_explanation.specs.declared.explanation.Explained.{Explained}
@@ -22,14 +21,12 @@ use Rattle.pie_explanation.specs.declared.choice.Choice.{Choice}
 use Rattle.pie_explanation.specs.declared.which.Which.{Which}
 use Rattle.pie_explanation.specs.declared.which.Which.TheVariants.{Number, Tag, Lost, Marked, All}
 use Rattle.pie_event.specs.declared.setter.Setter.{Setter}
-use Rattle.pie_explain.specs.Answer.{Follows, Heard, IsAsAudited, IsTold, Told, answer, answer_by, answer_since, answered, none_picked}
+use Rattle.pie_explain.specs.Answer.{Heard, IsAsAudited, IsTold, Told, answer_by, answer_since, answered, none_picked}
 use Rattle.pie_explanation.specs.Choice.{is_whole}
-use Rattle.pie_explain.specs.Output.{output}
 use Rattle.pie_explanation.specs.Report.{Grows}
-use Rattle.pie_audit.specs.Start.{Start, TellsSetter, from_opening}
+use Rattle.pie_audit.specs.Start.{Start, from_opening}
 use Rattle.pie_explain.specs.Since.{explanations_since}
 use Rattle.pie_explain.proofs.LineFacts.{since-opening}
-use Rattle.pie_audit.proofs.SetterFacts.{setter-none}
 
 -- what waits on the page is ended, and written out
 appends-ended : (old mid now : Option (List ℕ)) (page ended text more : List ℕ) → Appends old (append_known mid page) text → ended ≡ page ++ more
@@ -49,13 +46,12 @@ appends-whole old mid now page ended tale whole h grows w =
     subst (λ (l : List ℕ). Appends old now l) (sym grows.turned) (appends-ended old mid now page ended tale grows.more h grows.grown w)
 
 -- how many were explained counts only where none differs
-answered-same : (start : Start) (opening : Opening) (choice : Choice) (lines : List Line) (auditor : AuditorView) (set_by : Setter)
-    (explained : ℕ) → Follows start opening choice lines auditor set_by explained
+answered-same : (start : Start) (opening : Opening) (choice : Choice) (lines : List Line) (differs : Option ℕ) (explained : ℕ)
+    → differs ≡ first_difference opening lines → (differs ≡ None → explained ≡ length (explanations_since start opening choice lines))
     → answered choice start.events explained (finding opening lines)
     ≡ answered choice start.events (length (explanations_since start opening choice lines)) (finding opening lines)
 unfolding finding
-answered-same start opening choice lines auditor set_by explained follows = by (first_difference opening lines)
-    (λ none. follows.counted (follows.audits.differs ∙ none))
+answered-same start opening choice lines differs explained is counted = by (first_difference opening lines) (λ none. counted (is ∙ none))
   where
     by : (o : Option ℕ) → (o ≡ None → explained ≡ length (explanations_since start opening choice lines))
         → answered choice start.events explained (finding_by o (event_count lines))
@@ -123,7 +119,7 @@ coming-heard start opening choice tale whole shows first all auditor set_by expl
     let last : (ended : List ℕ) × Grows (tale shown) (whole shown) page ended × Appends mid now ended = rw both.1 at (wrote shown done.0.shown) in
     record {
       answers = rw done.1 (ends lines done.0.follows.audits
-          ∙ answered-same start opening choice lines auditor set_by explained done.0.follows);
+          ∙ answered-same start opening choice lines auditor.differs explained done.0.follows.audits.differs done.0.counted);
       writes = appends-whole old mid now page last.0 (tale shown) (whole shown) done.0.written last.1 last.2;
     }
 
@@ -184,7 +180,7 @@ since-audited start opening choice lines None = as-audited (Ok (finding opening 
     (length (explanations_since start opening choice lines)) (finding opening lines) refl
 
 -- what was told says what the audit says
-told-audited : (start : Start) (opening : Opening) (choice : Choice) (whole : List Explained → List ℕ) (first : List Line) (all : Coming)
+pub told-audited : (start : Start) (opening : Opening) (choice : Choice) (whole : List Explained → List ℕ) (first : List Line) (all : Coming)
     (result : Result ℕ ExplainFault) (old now : Option (List ℕ))
     → (IsTold result → Told start opening choice whole first all result old now)
     → IsAsAudited (judged opening (first ++ all.lines) all.fault) result
@@ -212,14 +208,6 @@ abbrev pub Promises : Start → Opening → Choice → (List Explained → List 
     → Option (List ℕ) → Type 0
 Promises start opening choice whole first coming result old now =
     IfSome coming (λ all. IsTold result → Told start opening choice whole first all result old now)
-
-pub promises-audited : (start : Start) (opening : Opening) (choice : Choice) (whole : List Explained → List ℕ) (first : List Line)
-    (coming : Option Coming) (result : Result ℕ ExplainFault) (old now : Option (List ℕ))
-    → Promises start opening choice whole first coming result old now
-    → IfSome coming (λ all. IsAsAudited (judged opening (first ++ all.lines) all.fault) result)
-promises-audited start opening choice whole first None result old now p = tt
-promises-audited start opening choice whole first (Some all) result old now p =
-    told-audited start opening choice whole first all result old now p
 
 pub heard-promises : (start : Start) (opening : Opening) (choice : Choice) (tale whole : List Explained → List ℕ)
     (shows : List Explained → Type 0) (first : List Line) (coming : Option Coming) (auditor : AuditorView) (set_by : Setter) (explained : ℕ)
@@ -252,44 +240,8 @@ fault-promises start opening choice tale whole shows first (Some all) auditor se
 
 -- ---- of a text that opens
 
--- how a text was opened
-abbrev pub Opens : Opening → Option Coming → List ℕ → Type 0
-Opens opening coming text = (history_opening (records_of text) ≡ Ok opening) × (coming ≡ Some (coming_after 4294967296 (records_of text)))
-
 -- of a text that opens, each event is one of the text
 pub answer-opening : (opening : Opening) (choice : Choice) (lines : List Line) (fault : Option TraceFault)
     → answer_since from_opening choice opening lines fault ≡ answer_by choice opening lines fault
 answer-opening opening choice lines (Some why) = refl
 answer-opening opening choice lines None = rw (since-opening opening choice lines) refl
-
--- what a call of `explain` promises of a text that opens: that of the lines that come
-pub opened-answers : (opening : Opening) (choice : Choice) (whole : List Explained → List ℕ) (known : Option (List ℕ)) (coming : Option Coming)
-    (result : Result ℕ ExplainFault) (old now : Option (List ℕ))
-    → IfSome known (λ text. Opens opening coming text) → Promises from_opening opening choice whole [] coming result old now
-    → IfSome known (λ text. IsTold result → result ≡ answer choice (records_of text))
-opened-answers opening choice whole None coming result old now opens p = tt
-opened-answers opening choice whole (Some text) coming result old now opens p = λ told.
-    let promised : Promises from_opening opening choice whole [] (Some (coming_after 4294967296 (records_of text))) result old now =
-    rw opens.1 at p in
-    rw opens.0 ((promised told).answers
-    ∙ answer-opening opening choice (history_lines 4294967296 (records_of text)) (later_fault 4294967296 (records_of text)))
-
-pub opened-writes : (opening : Opening) (choice : Choice) (whole : List Explained → List ℕ) (known : Option (List ℕ)) (coming : Option Coming)
-    (result : Result ℕ ExplainFault) (old now : Option (List ℕ))
-    → IfSome known (λ text. Opens opening coming text) → Promises from_opening opening choice whole [] coming result old now
-    → IfSome known (λ text. IsTold result → Appends old now (output whole choice (records_of text)))
-opened-writes opening choice whole None coming result old now opens p = tt
-opened-writes opening choice whole (Some text) coming result old now opens p = λ told.
-    let promised : Promises from_opening opening choice whole [] (Some (coming_after 4294967296 (records_of text))) result old now =
-    rw opens.1 at p in
-    let lines : List Line = history_lines 4294967296 (records_of text) in
-    rw opens.0 (subst (λ (all : List Explained). Appends old now (whole all)) (since-opening opening choice lines) (promised told).writes)
-
-pub opened-audited : (opening : Opening) (known : Option (List ℕ)) (coming : Option Coming) (result : Result ℕ ExplainFault)
-    → IfSome known (λ text. Opens opening coming text) → IfSome coming (λ all. IsAsAudited (judged opening all.lines all.fault) result)
-    → IfSome known (λ text. IsAsAudited (text_finding (records_of text)) result)
-opened-audited opening None coming result opens p = tt
-opened-audited opening (Some text) coming result opens p =
-    let all : Coming = coming_after 4294967296 (records_of text) in
-    let said : IsAsAudited (judged opening all.lines all.fault) result = rw opens.1 at p in
-    rw opens.0 said

@@ -1,6 +1,6 @@
 -- Texts that go on from the middle of a history: what they tell, worked out by hand.
 use Rattle.std.specs.Prelude.{ℕ, ◌≡◌, ◌&&◌, nat_le, nat_lt, Bool, true, false, Some, None, refl}
-use Rattle.std.proofs.Common.{arith, ◌∙◌}
+use Rattle.std.proofs.Common.{arith}
 use Rattle.std.proofs.lemmas.Bool.Decides.{nat_tests}
 use Rattle.pie_explain.specs.declared.fault.ExplainFault.TheVariants.{Earlier, NoEvent}
 use Rattle.pie_event.specs.declared.setter.Setter.TheVariants.{Event, Opening, Untold}

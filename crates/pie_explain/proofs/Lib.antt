@@ -1,5 +1,5 @@
 mod Examples
 pub mod EndFacts
-pub mod EitherFacts
+pub mod TextFacts
 pub mod ExplainFacts
 pub mod LineFacts

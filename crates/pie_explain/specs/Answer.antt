@@ -12,7 +12,8 @@ use Rattle.pie_record.specs.Text.{Row}
 use Rattle.pie_audit.specs.declared.auditor.Finding.{Finding}
 use Rattle.pie_audit.specs.declared.auditor.Finding.TheVariants.{Clean}
 use Rattle.pie_audit.specs.declared.auditor.Finding.TheVariants as finding
-use Rattle.pie_audit.specs.Auditor.{Audits, AuditorView}
+use Rattle.pie_audit.specs.Auditor.{AuditorView}
+use Rattle.pie_audit.specs.Following.{Follows}
 use Rattle.pie_record.specs.HistoryLines.{event_count}
 use Rattle.pie_audit.specs.Finding.{finding as finding_of}
 use Rattle.pie_explanation.specs.declared.explanation.Explained.{Explained}
@@ -24,8 +25,7 @@ use Rattle.pie_explanation.specs.declared.which.Which.{Which}
 use Rattle.pie_explanation.specs.declared.which.Which.TheVariants.{Number, Tag, Lost, Marked, All}
 use Rattle.pie_explanation.specs.Choice.{is_whole}
 use Rattle.pie_explain.specs.Explanations.{explanations}
-use Rattle.pie_audit.specs.Setters.{setter_after, setter_by}
-use Rattle.pie_audit.specs.Start.{Start, setter_told}
+use Rattle.pie_audit.specs.Start.{Start}
 use Rattle.pie_explain.specs.Since.{explanations_since}
 
 -- why an event is not explained that is none of those of a text: so many were before it, and so many are up to its end
@@ -88,20 +88,13 @@ IsAsAudited audited (Err NoneWithin) = (events : ℕ) × (audited ≡ Ok (Clean 
 
 -- ---- how far explaining has come
 
--- these lines were looked at, of which a text has those after its beginning: where none differs, what set the probability is known, and how
--- many events were explained
-pub record Follows (start : Start) (opening : Opening) (choice : Choice) (lines : List Line) (auditor : AuditorView) (set_by : Setter)
-    (explained : ℕ) : Type 0 where
-  pub audits : Audits opening auditor lines
-  pub since : start.events ≤ event_count lines
-  pub setter : auditor.differs ≡ None → set_by ≡ setter_told start (setter_by (setter_after opening lines))
-  pub counted : auditor.differs ≡ None → explained ≡ length (explanations_since start opening choice lines)
-  pub few : auditor.differs ≡ None → explained ≤ event_count lines
-
--- .. and these were shown their chosen events, of which the tale joined what was there before
+-- these lines were looked at, of which a text has those after its beginning, and were shown their chosen events, of which the tale joined what was
+-- there before; where none differs, these were counted
 pub record Explains (start : Start) (opening : Opening) (choice : Choice) (tale : List Explained → List ℕ) (shows : List Explained → Type 0)
     (lines : List Line) (auditor : AuditorView) (set_by : Setter) (explained : ℕ) (before now : Option (List ℕ)) : Type 0 where
-  pub follows : Follows start opening choice lines auditor set_by explained
+  pub follows : Follows start opening lines auditor set_by
+  pub counted : auditor.differs ≡ None → explained ≡ length (explanations_since start opening choice lines)
+  pub few : auditor.differs ≡ None → explained ≤ event_count lines
   pub shown : shows (explanations_since start opening choice lines)
   pub written : Appends before now (tale (explanations_since start opening choice lines))
 

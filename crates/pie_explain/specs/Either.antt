@@ -1,5 +1,5 @@
 -- What explaining a text answers and writes: a whole history, or one that goes on from the middle of a history.
-use Rattle.std.specs.Prelude.{ℕ, ◌≡◌, List, [], ◌++◌, Bool, true, false, Option, Result, Ok, Err, map}
+use Rattle.std.specs.Prelude.{ℕ, ◌≡◌, List, [], ◌++◌, Bool, true, false, Option, Result, Err, map}
 use Rattle.std.specs.Io.KnownBytes.{Appends}
 use Rattle.pie_event.specs.declared.command.Event.{Event}
 use Rattle.pie_event.specs.declared.opening.Opening.{Opening}

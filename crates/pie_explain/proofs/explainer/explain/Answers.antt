@@ -1,22 +1,14 @@
-use Rattle.std.specs.Prelude.{[]}
-use Rattle.pie_explain.proofs.EndFacts.{opened-answers, opened-audited, opened-writes}
-use Rattle.pie_audit.proofs.SetterFacts.{tells-opening}
+use Rattle.pie_explain.proofs.TextFacts.{text-fault, text-tells}
 use Rattle.pie_explain.proofs.explainer.explain.Goals as goal
 
-pub returns : goal.returns
-returns g c =
-    let opening = c.in-Ok.opened.1 in
-    let known = g.R.Read.remaining c.args.reader in
-    let coming = c.in-Ok.opened.0.coming in
-    let accepted = c.in-Ok-open_with.ensures.allowed in
-    let shows = c.in-Ok-open_with.ensures.shows in
-    let whole = g.P.Report.whole c.args.report in
-    let old = g.W.Write.contents c.args.writer.now in
-    let now = g.W.Write.contents c.explain_after.new.writer in
-    let told = c.explain_after.ensures.told opening [] accepted shows (tells-opening opening) in
-    record {
-      audited = opened-audited opening known coming c.explain_after.result c.in-Ok.ensures.opens
-          (c.explain_after.ensures.audited opening [] accepted shows (tells-opening opening));
-      answers = opened-answers opening c.args.choice whole known coming c.explain_after.result old now c.in-Ok.ensures.opens told;
-      writes = opened-writes opening c.args.choice whole known coming c.explain_after.result old now c.in-Ok.ensures.opens told;
-    }
+pub returns-in-Err : goal.returns-in-Err
+returns-in-Err g c =
+    text-fault c.args.choice (g.P.Report.whole c.args.report) (g.R.Read.remaining c.args.reader) c.in-Err.why
+    (g.W.Write.contents c.args.writer.now) c.in-Err.ensures.faults
+
+pub returns-in-Ok : goal.returns-in-Ok
+returns-in-Ok g c =
+    let begun = c.in-Ok.begun in
+    text-tells c.args.choice (g.P.Report.whole c.args.report) (g.R.Read.remaining c.args.reader) begun.opening begun.core begun.set_by
+    begun.lines.coming c.explain_begun.result (g.W.Write.contents c.args.writer.now) (g.W.Write.contents c.explain_begun.new.writer)
+    c.in-Ok.ensures.begun c.in-Ok.ensures.accepted c.explain_begun.ensures

@@ -1,4 +1,4 @@
-use Rattle.std.proofs.Common.{◌≡◌, ◌∙◌, ◌≤◌, arith, List, length, max, inl, inr, refl}
+use Rattle.std.proofs.Common.{◌≡◌, ◌∙◌, arith, inl, inr, refl}
 use Rattle.std.specs.Prelude.{Err, Ok}
 use Rattle.std.specs.Io.KnownBytes.{append_known}
 use Rattle.pie_record.specs.declared.fault.TraceFault.{TraceFault}
@@ -23,7 +23,7 @@ lines-init g c = record {
   before = refl;
   stands = λ start opening first before explains.
       stands-start start opening c.args.explainer.now.choice (g.P.Report.so_far c.args.explainer.now.report)
-      (g.P.Report.shows c.args.explainer.now.report c.args.explainer.now.state) first c.args.explainer.now.auditor c.args.explainer.now.set_by
+      (g.P.Report.shows c.args.explainer.now.report c.args.explainer.now.state) first c.args.explainer.now.follower.auditor c.args.explainer.now.follower.set_by
       c.args.explainer.now.explained before (append_known (g.W.Write.contents c.args.writer.now) c.args.explainer.now.page) c.args.lines.now
       c.args.lines.now.coming refl explains;
 }
@@ -44,12 +44,12 @@ lines-preserved g c =
       waits = let few = c.in-Ok.ensures.waits in omega (arith, few);
       before = c.in-Ok.ensures.kept.2 ∙ was.before;
       stands = λ start opening first before explains.
-          IfSome-map {P = λ all. ExplainAt start opening choice tale shows first all c.lines.lines one.auditor one.set_by one.explained before
+          IfSome-map {P = λ all. ExplainAt start opening choice tale shows first all c.lines.lines one.follower.auditor one.follower.set_by one.explained before
           (append_known (g.W.Write.contents c.lines.writer) one.page)}
-          {Q = λ all. ExplainAt start opening choice tale shows_later first all c.next_line.new.self later.auditor later.set_by later.explained
+          {Q = λ all. ExplainAt start opening choice tale shows_later first all c.next_line.new.self later.follower.auditor later.follower.set_by later.explained
           before (append_known (g.W.Write.contents c.hear.new.writer) later.page)} c.args.lines.now.coming
-          (λ all stands. stands-heard start opening choice tale shows shows_later first all c.lines.lines c.next_line.new.self one.auditor
-          later.auditor one.set_by later.set_by one.explained later.explained before
+          (λ all stands. stands-heard start opening choice tale shows shows_later first all c.lines.lines c.next_line.new.self one.follower.auditor
+          later.follower.auditor one.follower.set_by later.follower.set_by one.explained later.explained before
           (append_known (g.W.Write.contents c.lines.writer) one.page) (append_known (g.W.Write.contents c.hear.new.writer) later.page)
           c.in-Ok-Some.line stands (rw c.in-Ok-Some.field-0-is at (c.in-Ok-Some.ensures.gives was.going))
           (λ seen it. rw (was.choice, was.report) at (c.in-Ok.ensures.explains start opening seen before (rw (was.choice, was.report) it))))
@@ -67,11 +67,11 @@ returns-in-Ok-None g c =
       kept = (was.choice, was.report, was.before);
       read = tt;
       heard = λ start opening first before explains.
-          IfSome-map {P = λ all. ExplainAt start opening choice tale shows first all c.lines.lines one.auditor one.set_by one.explained before
+          IfSome-map {P = λ all. ExplainAt start opening choice tale shows first all c.lines.lines one.follower.auditor one.follower.set_by one.explained before
           (append_known (g.W.Write.contents c.lines.writer) one.page)}
-          {Q = λ all. Heard start opening choice tale shows first all (Ok (tt {0})) one.auditor one.set_by one.explained before
+          {Q = λ all. Heard start opening choice tale shows first all (Ok (tt {0})) one.follower.auditor one.follower.set_by one.explained before
           (append_known (g.W.Write.contents c.lines.writer) one.page)} c.args.lines.now.coming
-          (λ all stands. heard-all start opening choice tale shows first all c.lines.lines c.next_line.new.self.coming one.auditor one.set_by
+          (λ all stands. heard-all start opening choice tale shows first all c.lines.lines c.next_line.new.self.coming one.follower.auditor one.follower.set_by
           one.explained before (append_known (g.W.Write.contents c.lines.writer) one.page) stands
           (rw c.in-Ok-None.field-0-is at (c.in-Ok-None.ensures.gives was.going)))
           (was.stands start opening first before explains);
@@ -89,11 +89,11 @@ returns-in-Err g c =
       kept = (was.choice, was.report, was.before);
       read = λ _. c.in-Err.ensures.course was.going;
       heard = λ start opening first before explains.
-          IfSome-map {P = λ all. ExplainAt start opening choice tale shows first all c.lines.lines one.auditor one.set_by one.explained before
+          IfSome-map {P = λ all. ExplainAt start opening choice tale shows first all c.lines.lines one.follower.auditor one.follower.set_by one.explained before
           (append_known (g.W.Write.contents c.lines.writer) one.page)}
-          {Q = λ all. Heard start opening choice tale shows first all (Err c.in-Err.why) one.auditor one.set_by one.explained before
+          {Q = λ all. Heard start opening choice tale shows first all (Err c.in-Err.why) one.follower.auditor one.follower.set_by one.explained before
           (append_known (g.W.Write.contents c.lines.writer) one.page)} c.args.lines.now.coming
-          (λ all stands. heard-fault start opening choice tale shows first all c.lines.lines c.next_line.new.self.coming one.auditor one.set_by
+          (λ all stands. heard-fault start opening choice tale shows first all c.lines.lines c.next_line.new.self.coming one.follower.auditor one.follower.set_by
           one.explained before (append_known (g.W.Write.contents c.lines.writer) one.page) c.in-Err.why stands
           (c.in-Err.ensures.gives was.going))
           (was.stands start opening first before explains);
@@ -113,11 +113,11 @@ returns-in-Err-hear g c =
       kept = (c.in-Err-hear.ensures.kept.0 ∙ was.choice, c.in-Err-hear.ensures.kept.1 ∙ was.report, c.in-Err-hear.ensures.kept.2 ∙ was.before);
       read = λ is. absurd (no-read c.in-Err-hear.why c.in-Err-hear.ensures.device is);
       heard = λ start opening first before explains.
-          IfSome-map {P = λ all. ExplainAt start opening choice tale shows first all c.lines.lines one.auditor one.set_by one.explained before
+          IfSome-map {P = λ all. ExplainAt start opening choice tale shows first all c.lines.lines one.follower.auditor one.follower.set_by one.explained before
           (append_known (g.W.Write.contents c.lines.writer) one.page)}
-          {Q = λ all. Heard start opening choice tale shows_later first all (Err c.in-Err-hear.why) later.auditor later.set_by later.explained
+          {Q = λ all. Heard start opening choice tale shows_later first all (Err c.in-Err-hear.why) later.follower.auditor later.follower.set_by later.explained
           before (append_known (g.W.Write.contents c.hear.new.writer) later.page)} c.args.lines.now.coming
-          (λ all stands. heard-device start opening choice tale shows_later first all later.auditor later.set_by later.explained before
+          (λ all stands. heard-device start opening choice tale shows_later first all later.follower.auditor later.follower.set_by later.explained before
           (append_known (g.W.Write.contents c.hear.new.writer) later.page) c.in-Err-hear.why c.in-Err-hear.ensures.device)
           (was.stands start opening first before explains);
       waits = tt;

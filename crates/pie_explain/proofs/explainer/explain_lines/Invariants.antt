@@ -14,15 +14,15 @@ invariant-lines g l = record {
   choice : l.explainer.choice ≡ l.fn.explainer.choice;
   report : l.explainer.report ≡ l.fn.explainer.report;
   waits : length l.explainer.page ≤ max (length l.fn.explainer.page) 31999;
-  before : l.explainer.before ≡ l.fn.explainer.before;
+  before : l.explainer.follower.before ≡ l.fn.explainer.follower.before;
   stands : (start : Start) (opening : Opening) (first : List Line) (before : Option (List ℕ))
       → Explains start opening l.fn.explainer.choice (g.P.Report.so_far l.fn.explainer.report)
       (g.P.Report.shows l.fn.explainer.report l.fn.explainer.state) first
-      l.fn.explainer.auditor l.fn.explainer.set_by l.fn.explainer.explained before
+      l.fn.explainer.follower.auditor l.fn.explainer.follower.set_by l.fn.explainer.explained before
       (append_known (g.W.Write.contents l.fn.writer) l.fn.explainer.page)
       → IfSome l.fn.lines.coming (λ all. ExplainAt start opening l.fn.explainer.choice (g.P.Report.so_far l.fn.explainer.report)
       (g.P.Report.shows l.fn.explainer.report l.explainer.state)
-      first all l.lines l.explainer.auditor l.explainer.set_by l.explainer.explained before
+      first all l.lines l.explainer.follower.auditor l.explainer.follower.set_by l.explainer.explained before
       (append_known (g.W.Write.contents l.writer) l.explainer.page));
 }
 

@@ -11,6 +11,7 @@ pub mod peace;
 pub mod probability;
 pub mod rates;
 pub mod spacing;
+pub mod threads;
 pub mod worked;
 
 pub use bursts::{allowances_begin_whole, bursts_are_let_in_so_long};
@@ -29,4 +30,5 @@ pub use probability::{
 };
 pub use rates::the_rate_lies_between_its_samples;
 pub use spacing::{picks_are_far_apart, picks_are_not_too_far_apart, picks_start_anew};
+pub use threads::links_are_lawful;
 pub use worked::{bursts_may_meet_an_early_drop_so_soon, limits_may_be_lowered_below_the_queue};

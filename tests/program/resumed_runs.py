@@ -69,7 +69,8 @@ def check_far(seed, whole, n, chance):
     last = len(whole.events)
     more = chance.choice((2**32 - last, 2**32 - n - 1, 2**32, 2**40 - n - 1, 2**40, 2**47 - last))
     (first, *packets) = resumed_at(whole, n, False)
-    beginning = [[*first[:10], 2**47, *first[11:29], n + more, *first[30:]], *packets]
+    k = len(first) - 60  # (one field more where the decay is told)
+    beginning = [[*first[: 10 + k], 2**47, *first[11 + k : 29 + k], n + more, *first[30 + k :]], *packets]
     rows = [*beginning, *(record_of(caller, command) for caller, command, _ in whole.events[n:])]
     text = "".join(map(text_of, [*beginning, *history_rows(whole, n)]))
     got = ran(rows)

@@ -72,7 +72,8 @@ if command -v cargo > /dev/null && command -v cc > /dev/null && [ "$(rustc --ver
     printf '%s\n' '[package]' 'name = "program"' 'version = "0.1.0"' 'edition = "2021"' '[dependencies]' \
         'juniperbowls = { path = "../juniperbowls" }' > "$work/program/Cargo.toml"
     printf '%s\n' 'fn main() -> Result<(), Box<dyn std::error::Error>> {' \
-        '    let pie = juniperbowls::State::open(&juniperbowls::Params::for_rate(100_000_000), 5)?;' \
+        '    let mut opening = juniperbowls::Opening::for_rate(100_000_000);' '    opening.moment = 5;' \
+        '    let pie = juniperbowls::State::open(&opening)?;' \
         '    println!("{} {}", juniperbowls::VERSION, pie.due());' '    Ok(())' '}' > "$work/program/src/main.rs"
     expect "a Rust program over PIE_C_PREFIX" "$version 15000005" env PIE_C_PREFIX="$prefix" CARGO_TARGET_DIR="$work/target" \
         cargo run --quiet --offline --manifest-path "$work/program/Cargo.toml"

@@ -43,7 +43,7 @@ fi
 changed=0
 for seed in 1 2 3 4 5 6 7 8 9 10 11 12 13 14 15 16; do
     "$work/events" $seed 3000 > "$work/history" || exit 1
-    events=$(grep -c -v -E '^(open|clock|refused)' "$work/history")
+    events=$(grep -c -v -E '^(open|rolling|clock|refused)' "$work/history")
     found=$("$program" audit < "$work/history")
     if [ "$found" != "clean,$events" ]; then
         echo "bindings/c/audit.sh: the random events of seed $seed are not clean: $found"

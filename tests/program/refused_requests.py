@@ -132,7 +132,7 @@ def outputs_refused(library, met, name, words, given):
                 is_kept = got[:2] == (1, b"") and left.pop("made", None) == older
                 check(is_whole or is_kept, name, "-o", forced, place, on, "another file, or", got[0], got[2][:200])
                 # (of what was written something is left under the other name, which is told; after a link that was made it may be all)
-                is_told = got[2].endswith(f"pie: {made}.partial: this has what was written until then\n".encode())
+                is_told = f"pie: {made}.partial: this has what was written until then\n".encode() in got[2]
                 check(all(want.startswith(text) for text in left.values()), name, "-o", place, on, "no beginning of the text is left")
                 check(set(left) <= {"made.partial"} and (is_whole or is_told or not any(left.values())), name, "-o", place, on, got[2], list(left))
             check(place > 4, name, "-o", forced, "met", place - 1, "requests alone")

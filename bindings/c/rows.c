@@ -108,10 +108,10 @@ static int parameters(void) {
     CHECK(open_usual(&state, &params, LATEST + 1) == PIE_BAD_PARAMS && same(&state, &before));
     params.target = 2;
     CHECK(open_usual(&state, &params, LATEST + 1) == PIE_BAD_MOMENT && same(&state, &before));
-    CHECK(open_with(&state, &params, LATEST + 1, 3, 16) == PIE_BAD_MOMENT && same(&state, &before));
-    CHECK(open_with(&state, &params, 0, 0, 16) == PIE_BAD_PROFILE && same(&state, &before));
+    CHECK(open_with(&state, &params, LATEST + 1, 3, 32) == PIE_BAD_MOMENT && same(&state, &before));
+    CHECK(open_with(&state, &params, 0, 0, 32) == PIE_BAD_PROFILE && same(&state, &before));
     CHECK(open_with(&state, &params, 0, 3, 0) == PIE_BAD_PROFILE && same(&state, &before));
-    CHECK(open_with(&state, &params, 0, 1, 16) == PIE_BAD_CHOICES && same(&state, &before));
+    CHECK(open_with(&state, &params, 0, 1, 32) == PIE_BAD_CHOICES && same(&state, &before));
     CHECK(open_with(&state, &params, 0, 2, (uint64_t)1 << 32) == PIE_BAD_CHOICES && same(&state, &before));
     CHECK(open_usual(&state, &params, LATEST) == PIE_DONE && state.moment == LATEST && state.last == LATEST);
     CHECK(state.burst == 150000000 && state.params.target == 2);
@@ -124,7 +124,7 @@ static int parameters(void) {
         *(k < 2 ? &bad.packets : k < 4 ? &bad.tail : k < 6 ? &bad.events : &bad.mode) =
             k == 1 || k == 3 ? (1u << 20) + 1 : k == 5 ? ((uint64_t)1 << 47) + 1 : k == 6 ? 2 : k == 7 ? ((uint64_t)1 << 32) + 1 : 0;
         CHECK(pie_open(&state, &bad) == PIE_BAD_LIMITS && same(&state, &before));
-        bad.choices = 16;
+        bad.choices = 32;
         CHECK(pie_open(&state, &bad) == PIE_BAD_CHOICES && same(&state, &before));
     }
     opening.packets = opening.tail = opening.events = 1, opening.mode = PIE_BOUNDED;

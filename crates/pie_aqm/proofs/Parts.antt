@@ -8,12 +8,11 @@ use Rattle.pie_aqm.specs.Types.{Departure, Begun, Estimate, Picking, Choice, Enq
 use Rattle.pie_aqm.specs.Held.{Held}
 use Rattle.pie_rate.specs.Estimate as Rate
 use Rattle.pie_rate.specs.Step.{after_departure, opened_by, step_from}
-use Rattle.pie_rate.proofs.Steps.{closes, counts, idle, opened}
 use Rattle.pie_early.specs.Decision.{accu_after, choice_of, counted, is_considered}
-use Rattle.pie_early.specs.Events.{EarlyEvent, arrival}
+use Rattle.pie_early.specs.Events.{EarlyEvent, arrival, cleared}
 use Rattle.pie_early.specs.History as Early
 use Rattle.pie_early.proofs.Arrivals.{shows_arrival}
-use Rattle.pie_early.proofs.Laws.{shows-clear, shows-unconsidered}
+use Rattle.pie_early.proofs.Laws.{shows-next}
 use Rattle.pie_event.specs.declared.verdict.Verdict.TheVariants.{DroppedBytes, DroppedPackets}
 use Rattle.pie_aqm.specs.History.{considered_where, verdict_shown}
 use Rattle.pie_aqm.specs.Steps.{accu_left, chosen, no_estimate, offered, verdict}
@@ -39,10 +38,10 @@ early-step h a events shown = by (nat_lt h.params.limit_bytes (a.queued + a.size
         (if active then choice_of h.elements h.params h.control (offered a) h.accu else Enqueue))
         (active && is_considered h.params h.control a.queued) (counted h.elements h.params h.control (offered a)) h.elements.picking ∷ [])
         (if over then 0 else if full then 0 else if active then accu_after h.elements h.params h.control (offered a) h.accu else h.accu)
-    by true full active = shows-clear events h.accu shown
-    by false true active = shows-clear events h.accu shown
+    by true full active = shows-next events h.accu cleared shown
+    by false true active = shows-next events h.accu cleared shown
     by false false false =
-        shows-unconsidered events h.accu shown false (counted h.elements h.params h.control (offered a)) h.elements.picking refl
+        shows-next events h.accu (arrival false (counted h.elements h.params h.control (offered a)) h.elements.picking Enqueue) shown
     by false false true =
         rw (shown-chosen (choice_of h.elements h.params h.control (offered a) h.accu) (is_considered h.params h.control a.queued)
         (counted h.elements h.params h.control (offered a)) h.elements.picking)
@@ -50,27 +49,6 @@ early-step h a events shown = by (nat_lt h.params.limit_bytes (a.queued + a.size
         shown)
 
 -- ---- the departure rate
-
-opened-same : (t : ℕ) (ds : List Departure) (d : Departure) → opened_by t d ≡ opened t ds d
-opened-same t ds d = by (nat_lt d.bytes_left t) refl
-  where
-    by : (b : Bool) → nat_lt d.bytes_left t ≡ b → (if b then None else Some (record { start = d.moment; count = 0 })) ≡ opened t ds d
-    by true less = rw (lt-leb t d.bytes_left (ltb-true d.bytes_left t less)) refl
-    by false enough = rw (le-leb t d.bytes_left (ltb d.bytes_left t enough)) refl
-
--- after one more departure
-pub rate-step : (t : ℕ) (ds : List Departure) (e : Estimate) (d : Departure) → t ≤ 65536 → Rate.Shows t ds e
-    → Rate.Shows t (ds ++ d ∷ []) (after_departure t e d)
-rate-step t ds e d small shown = by e.begun refl
-  where
-    cycle-by : (cycle : Begun) → e.begun ≡ Some cycle → (b : Bool) → nat_lt (cycle.count + d.size) t ≡ b
-        → Rate.Shows t (ds ++ d ∷ []) (step_from t e.average d (Some cycle))
-    cycle-by cycle is true less = rw less (counts t ds d e cycle is (ltb-true (cycle.count + d.size) t less) shown)
-    cycle-by cycle is false full = rw (full, opened-same t ds d) (closes t ds d e cycle small is (ltb (cycle.count + d.size) t full) shown)
-
-    by : (o : Option Begun) → e.begun ≡ o → Rate.Shows t (ds ++ d ∷ []) (step_from t e.average d o)
-    by None is = rw (opened-same t ds d) (idle t ds d e is shown)
-    by (Some cycle) is = cycle-by cycle is (nat_lt (cycle.count + d.size) t) refl
 
 pub nothing-shown : (t : ℕ) → Rate.Shows t [] no_estimate
 unfolding average samples cycles cycles_from begun first_opening first_position

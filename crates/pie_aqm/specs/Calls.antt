@@ -1,5 +1,5 @@
 -- The calls on a controller: what each leaves, and what it adds to what the controller was shown.
-use Rattle.std.specs.Prelude.{◌≡◌, ℕ, ◌^◌, ◌<◌, None}
+use Rattle.std.specs.Prelude.{◌≡◌, ℕ, ◌^◌, ◌<◌, ◌≤◌, None, ⊤}
 use Rattle.pie_aqm.specs.Types.{RawParams, Arrival}
 use Rattle.pie_aqm.specs.Held.{Held}
 use Rattle.pie_params.specs.Range.{first_bad}
@@ -42,3 +42,8 @@ IsTaken (Pass moment) = moment < 2 ^ 60
 IsTaken (Update queued moment) = moment < 2 ^ 60
 IsTaken (Restart moment) = moment < 2 ^ 60
 IsTaken (Change params moment) = (moment < 2 ^ 60) × (first_bad params ≡ None)
+
+-- a departure is measured at a threshold that may be set
+abbrev pub HasThreshold : Held → Call → Type 0
+HasThreshold h (Depart size left since moment) = h.params.dq_threshold ≤ 65536
+HasThreshold h call = ⊤

@@ -10,15 +10,12 @@ use Rattle.pie_aqm.specs.Held.{Held}
 use Rattle.pie_rate.specs.Average.{average}
 use Rattle.pie_rate.specs.Cycles.{begun}
 use Rattle.pie_rate.specs.Estimate.{Estimate, begun_at}
-use Rattle.pie_rate.specs.Estimate as Rate
 use Rattle.pie_control.specs.Delay.{delay_of}
 use Rattle.pie_control.specs.Events.{ControlEvent, update_at, idled, reset}
 use Rattle.pie_control.specs.History.{probability, last_delay, last_moment, burst_allowance, is_calm_after}
-use Rattle.pie_control.specs.History as Control
 use Rattle.pie_early.specs.Decision.{counted_as, is_considered}
 use Rattle.pie_early.specs.Events.{EarlyEvent, arrival, cleared}
 use Rattle.pie_early.specs.History.{accumulated}
-use Rattle.pie_early.specs.History as Early
 use Rattle.pie_event.specs.declared.verdict.Verdict.TheVariants.{Enqueued, Marked, DroppedEarly, DroppedBytes, DroppedPackets}
 use Rattle.pie_aqm.specs.Events.{ControllerEvent, Opened, Arrived, Departed, Updated, Reset, Changed, moment_of, params_set}
 use Rattle.pie_aqm.specs.Places.{Place, places, greatest, last_or}
@@ -249,13 +246,5 @@ held_of opened events = record {
 }
 
 -- opened so, a controller that was then shown these events holds this
-pub record Shows (opened : Opened) (events : List ControllerEvent) (held : Held) : Type 0 where
-  pub profile : held.profile ≡ opened.profile
-  pub elements : held.elements ≡ opened.elements
-  pub params : held.params ≡ params_of opened events
-  pub moment : held.moment ≡ now_of opened events
-  pub active : held.active ≡ active_of opened events
-  pub rate : Rate.Shows (params_of opened events).dq_threshold (departures_shown opened events) held.rate
-  pub waited : held.waited ≡ waited_of opened events
-  pub control : Control.Shows opened.params opened.moment (updates_shown opened events) held.control
-  pub early : Early.Shows (arrivals_shown opened events) held.accu
+unfoldable pub Shows : Opened → List ControllerEvent → Held → Type 0
+Shows opened events held = held ≡ held_of opened events

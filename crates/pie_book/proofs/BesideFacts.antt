@@ -6,6 +6,7 @@ use Rattle.pie_aqm.specs.Calls.{Call, after_call}
 use Rattle.pie_book.specs.Types.{Held, Command, Event, Opening}
 use Rattle.pie_aqm.specs.Places.{Place, places}
 use Rattle.pie_aqm.proofs.InRange.{threshold-holds}
+use Rattle.pie_aqm.proofs.Laws.{has_threshold}
 use Rattle.pie_aqm.proofs.Places.{place_of, places-push}
 use Rattle.pie_book.specs.Beside.{IsOpening, IsStep, after_calls, call_at, calls_of, held_after_calls, opened_by}
 use Rattle.pie_book.specs.Call.{call_of}
@@ -13,8 +14,8 @@ use Rattle.pie_book.specs.Core.{CoreView, Shows, closed, refusal_of}
 use Rattle.pie_book.specs.Decision.{IsLegal, answer_by, decision, refusal_by_rule}
 use Rattle.pie_book.specs.History.{waiting_after}
 use Rattle.pie_event.specs.Ranges.{CommandFits}
-use Rattle.pie_book.specs.Step.{call_in}
-use Rattle.pie_book.proofs.CoreFacts.{after_event, event-shows, held-is, next-decided}
+use Rattle.pie_book.specs.Step.{after_command, call_in}
+use Rattle.pie_book.proofs.CoreFacts.{held-is, next-decided, next-shows}
 use Rattle.pie_book.proofs.LegalFacts.{Stays, first-shows, first_core, run_of}
 
 pub opening_beside : (opening : Opening) → IsOpening opening (opened_by opening)
@@ -27,8 +28,9 @@ pub step_beside : (opening : Opening) (core : CoreView) (history : List Event) �
     (after_call core.held (call_of core.waiting core.packets command))
 step_beside opening core history shows caller command good free = record {
   decided = next-decided opening core history shows command;
-  core_after = closed (after_event core command);
-  shows = event-shows opening core history shows caller command (λ packet moment is left. (threshold-holds core.held.params good).1) free;
+  core_after = closed (after_command core command);
+  shows = next-shows opening core history shows caller command
+      (has_threshold core.held (call_in core command) (threshold-holds core.held.params good).1) free;
   holds = refl;
 }
 

@@ -1,23 +1,23 @@
 -- What a core holds, where it shows a history, is what looking back over the history gives; and it shows the history with one event more
 -- after each command.
-use Rattle.std.proofs.Common.{◌≡◌, ◌≤◌, ◌<◌, ◌+◌, ℕ, List, [], ◌∷◌, ◌++◌, map, length, drop, Bool, true, false, refl, ap, ◌∙◌, sym, arith}
+use Rattle.std.proofs.Common.{◌≡◌, ◌≤◌, ◌<◌, ◌+◌, ℕ, List, [], ◌∷◌, ◌++◌, map, length, Bool, true, false, refl, ap, ◌∙◌, sym, arith}
 use Rattle.std.proofs.Common.{length-append, max, None, Some, All, if◌then◌else◌}
-use Rattle.std.specs.Option.{is_some, option_to_list}
+use Rattle.std.specs.Option.{is_some}
 use Rattle.std.proofs.lemmas.List.{append-nil, append_assoc, map-append}
-use Rattle.std.proofs.lemmas.List.Elements.{All-append, All-cons, All-head, All-nil, All-tail}
+use Rattle.std.proofs.lemmas.List.Elements.{All-cons, All-head, All-nil, All-push, All-tail}
 use Rattle.std.proofs.lemmas.List.Sums.{sum_by-append}
 use Rattle.pie_book.specs.Types.{Packet, Waiting, One, Arrival, Verdict, Held, Command, Arrive, Depart, Update, Reset, SetParams, Answer, Enqueued}
-use Rattle.pie_book.specs.Types.{Event, Mode, Opening, Stats, Registers}
+use Rattle.pie_book.specs.Types.{Event, Mode, Opening}
 use Rattle.pie_queue.specs.Queue.{bytes_of}
 use Rattle.pie_event.specs.declared.verdict.Verdict.TheVariants as verdict
-use Rattle.pie_aqm.specs.Calls.{after_call, shown_by}
+use Rattle.pie_aqm.specs.Calls.{HasThreshold, after_call, shown_by}
 use Rattle.pie_aqm.specs.Steps.{cause}
 use Rattle.pie_aqm.specs.Events.{Arrived}
 use Rattle.pie_aqm.specs.History as Controller
 use Rattle.pie_aqm.specs.Places.{Place, places, after, greatest}
 use Rattle.pie_aqm.specs.Steps as Steps
 use Rattle.pie_aqm.specs.Steps.{anew, bytes_with, judged, now_at}
-use Rattle.pie_aqm.proofs.Laws.{Shows-arrive, Shows-change, Shows-depart, Shows-pass, Shows-reset-call, Shows-update, Shows_opened, held_is}
+use Rattle.pie_aqm.proofs.Laws.{Shows_call, Shows_opened, held_is}
 use Rattle.pie_aqm.proofs.Looks.{one_is_active}
 use Rattle.pie_aqm.proofs.Places.{place_of, places-push}
 use Rattle.pie_book.specs.Beside.{opened_by}
@@ -27,16 +27,16 @@ use Rattle.pie_event.specs.Verdict.{answer_of}
 use Rattle.pie_book.specs.Cause.{cause_after}
 use Rattle.pie_book.specs.Core.{CoreView, Shows, closed, counted, refusal_of, registers_of, with_queue}
 use Rattle.pie_book.specs.Decision.{IsLegal, IsLegalAt, answer_by, answer_to_departure, decision, refusal_by_rule, refusal_with}
-use Rattle.pie_event.specs.Deed.{Deed, admission, arrival_deed, deed, departure, departure_deed, fits, handed_in, set, updated, was_reset, with_ce}
+use Rattle.pie_event.specs.Deed.{Deed, arrival_deed, deed, departure, departure_deed, fits, handed_in, with_ce}
 use Rattle.pie_book.specs.Estimates.{active_after, delay_after, delay_answered, due_after, held_after}
 use Rattle.pie_book.specs.History.{admitted, bytes_after, departed_count, effective_moment, waiting_after}
 use Rattle.pie_book.specs.Registers.{registers_after}
 use Rattle.pie_book.specs.Run.{event_of}
 use Rattle.pie_book.specs.Shown.{arriving_size, event_shown, oldest_since, opened_of, shown, shown_at}
 use Rattle.pie_book.specs.Statistics.{age_of_oldest, largest_delay, largest_queue, no_stats, stats_after, waited}
-use Rattle.pie_book.specs.Step.{HasThreshold, after_command, answer_in, call_in, with_event}
-use Rattle.pie_book.proofs.HistoryFacts.{departed-push, effective_moment-push, waiting_after-push, waiting_next}
-use Rattle.pie_book.proofs.StatisticsFacts.{counted-arrival, counted-departure, stats_after-push}
+use Rattle.pie_book.specs.Step.{after_command, answer_in, call_in, waiting_next}
+use Rattle.pie_book.proofs.HistoryFacts.{departed-push, effective_moment-push, waiting_after-push}
+use Rattle.pie_book.proofs.StatisticsFacts.{stats_after-push}
 
 -- ---- legal histories
 
@@ -106,62 +106,33 @@ pub one_is_active_after : (opening : Opening) (history : List Event) → opening
 unfolding held_after Controller.held_of
 one_is_active_after opening history one = one_is_active (opened_of opening) (shown opening history) one
 
--- the registers of these numbers and of what the controller holds
-abbrev registers_by : ℕ → ℕ → List Waiting → Held → Registers
-registers_by count moment waiting h = record {
-  count = count;
-  moment = moment;
-  packets = length waiting;
-  bytes = bytes_of waiting;
-  prob = h.control.prob;
-  old = h.control.old_delay;
-  accu = h.accu;
-  burst = h.control.burst;
-  last = h.control.last;
-  average = h.rate.average;
-  measuring = is_some h.rate.begun;
-  params = h.params;
-  active = h.active;
-}
-
 module _ (opening : Opening) (core : CoreView) (history : List Event) (shows : Shows opening core history) where
   pub held-is : core.held ≡ held_after opening history
   unfolding held_after
   held-is = held_is (opened_of opening) (shown opening history) core.held shows.controller
 
   pub delay-is : Steps.delay_in core.held (bytes_of core.waiting) ≡ delay_after opening history
-  delay-is =
-      ap (λ (h : Held). Steps.delay_in h (bytes_of core.waiting)) held-is
-      ∙ ap (λ (w : List Waiting). Steps.delay_in (held_after opening history) (bytes_of w)) shows.waiting
+  delay-is = λ i. Steps.delay_in (held-is i) (bytes_of (shows.waiting i))
 
   answered-is : Steps.delay_answered core.held (bytes_of core.waiting) ≡ delay_answered opening history
-  answered-is =
-      ap (λ (h : Held). Steps.delay_answered h (bytes_of core.waiting)) held-is
-      ∙ ap (λ (w : List Waiting). Steps.delay_answered (held_after opening history) (bytes_of w)) shows.waiting
+  answered-is = λ i. Steps.delay_answered (held-is i) (bytes_of (shows.waiting i))
 
   pub registers_is : registers_of core ≡ registers_after opening history
   unfolding registers_after
-  registers_is =
-      ap (λ (h : Held). registers_by core.count core.held.moment core.waiting h) held-is
-      ∙ ap (λ (n : ℕ). registers_by n core.held.moment core.waiting (held_after opening history)) shows.count
-      ∙ ap (λ (m : ℕ). registers_by (length history) m core.waiting (held_after opening history)) shows.moment
-      ∙ ap (λ (w : List Waiting). registers_by (length history) (effective_moment opening history) w (held_after opening history)) shows.waiting
+  registers_is = λ i. registers_of (record core { count = shows.count i; held = record (held-is i) { moment = shows.moment i }; waiting = shows.waiting i })
 
   pub refusal-is : (command : Command) → refusal_of core command ≡ refusal_by_rule opening history command
-  refusal-is command =
-      ap (λ (h : Held). refusal_with core.held.moment (Steps.due h) core.count core.events command) held-is
-      ∙ ap (λ (m : ℕ). refusal_with m (due_after opening history) core.count core.events command) shows.moment
-      ∙ ap (λ (n : ℕ). refusal_with (effective_moment opening history) (due_after opening history) n core.events command) shows.count
-      ∙ ap (λ (n : ℕ). refusal_with (effective_moment opening history) (due_after opening history) (length history) n command) shows.events
+  refusal-is command = λ i. refusal_with (shows.moment i) (Steps.due (held-is i)) (shows.count i) (shows.events i) command
 
   -- it answers the decision
   pub next-decided : (command : Command) → answer_in core command ≡ decision opening history command
-  next-decided command = rw (held-is, shows.waiting, shows.packets) refl
+  next-decided command = λ i. answer_by (held-is i) (shows.waiting i) (shows.packets i) command
 
   pub cause-is : (moment : ℕ) (packet : Packet) (word : ℕ)
       → Some (cause core.held (arrival_of core.waiting core.packets packet word) (length core.waiting))
       ≡ cause_after opening history (Arrive moment packet word)
-  cause-is moment packet word = rw (held-is, shows.waiting, shows.packets) refl
+  cause-is moment packet word =
+      λ i. Some (cause (held-is i) (arrival_of (shows.waiting i) (shows.packets i) packet word) (length (shows.waiting i)))
 
 -- ---- with no event
 
@@ -211,14 +182,7 @@ arrival-shown packet now waiting moment verdict.Enqueued = ap (λ (n : ℕ). Arr
     (bytes-more waiting (record { packet = packet; since = now }))
 arrival-shown packet now waiting moment verdict.Marked = ap (λ (n : ℕ). Arrived verdict.Marked packet.size (bytes_of waiting) n moment)
     (bytes-more waiting (record { packet = with_ce packet; since = now }))
-arrival-shown packet now waiting moment v = ap (λ (w : List Waiting). Arrived v packet.size (bytes_of waiting) (bytes_of w) moment) (append-nil waiting)
-
-departure-shown : (now : ℕ) (h : Held) (waiting : List Waiting) (moment : ℕ)
-    → event_shown (departure_deed (answer_to_departure waiting)) 0 (oldest_since waiting) (bytes_of waiting)
-    (bytes_of (waiting_next waiting now (departure_deed (answer_to_departure waiting)))) moment
-    ≡ shown_by h (departure_call waiting moment)
-departure-shown now h [] moment = refl
-departure-shown now h (oldest ∷ others) moment = refl
+arrival-shown packet now waiting moment v = refl
 
 -- each command's event is what its call shows the controller
 command-shown : (core : CoreView) (now : ℕ) (command : Command)
@@ -227,20 +191,25 @@ command-shown : (core : CoreView) (now : ℕ) (command : Command)
     ≡ shown_by core.held (call_in core command)
 command-shown core now (Arrive moment packet word) =
     arrival-shown packet now core.waiting moment (Steps.verdict core.held (arrival_of core.waiting core.packets packet word))
-command-shown core now (Depart moment) = departure-shown now core.held core.waiting moment
+command-shown core now (Depart moment) = by core.waiting
+  where
+    by : (waiting : List Waiting) → event_shown (departure_deed (answer_to_departure waiting)) 0 (oldest_since waiting) (bytes_of waiting)
+        (bytes_of (waiting_next waiting now (departure_deed (answer_to_departure waiting)))) moment
+        ≡ shown_by core.held (departure_call waiting moment)
+    by [] = refl
+    by (oldest ∷ others) = refl
 command-shown core now _ = refl
 
 -- the effective moment after a call
 moment-next : (core : CoreView) (command : Command) → (after_call core.held (call_in core command)).moment ≡ now_at core.held (handed_in command)
-moment-next core (Arrive moment packet word) = by (Steps.turns_on h (bytes_with (Steps.verdict h a) a.queued a.size))
+moment-next core (Arrive moment packet word) =
+    by (Steps.turns_on core.held (bytes_with (Steps.verdict core.held (arrival_of core.waiting core.packets packet word))
+    (bytes_of core.waiting) packet.size))
   where
-    h : Held
-    h = core.held
+    judgement : Held
+    judgement = judged core.held (arrival_of core.waiting core.packets packet word) moment
 
-    a : Arrival
-    a = arrival_of core.waiting core.packets packet word
-
-    by : (on : Bool) → (if on then record (anew (judged h a moment)) { active = true } else judged h a moment).moment ≡ max core.held.moment moment
+    by : (on : Bool) → (if on then record (anew judgement) { active = true } else judgement).moment ≡ max core.held.moment moment
     by true = refl
     by false = refl
 moment-next core (Depart moment) = by core.waiting
@@ -257,117 +226,42 @@ shown-push opening history event =
     ap (λ (ps : List (Place Event)). map (shown_at opening) ps) (places-push history event)
     ∙ map-append (shown_at opening) (places history) (place_of history event ∷ [])
 
--- a core after a command, by what that did: the same as command by command
-abbrev pub after_event : CoreView → Command → CoreView
-after_event core command =
-    let d = deed command (answer_in core command) in
-    let now = now_at core.held (handed_in command) in
-    with_event core (after_call core.held (call_in core command)) (waiting_next core.waiting now d) d
-    (Steps.delay_answered core.held (bytes_of core.waiting)) (age_of_oldest now core.waiting)
-
-joined-is : (waiting : List Waiting) (now : ℕ) (packet : Packet) (v : Verdict)
-    → waiting ++ option_to_list (admission now (arrival_deed packet (answer_of v))) ≡ waiting_next waiting now (arrival_deed packet (answer_of v))
-joined-is waiting now packet verdict.Enqueued = refl
-joined-is waiting now packet _ = refl
-
-left-is : (waiting : List Waiting) (now : ℕ) → drop 1 waiting ≡ waiting_next waiting now (departure_deed (answer_to_departure waiting))
-left-is [] now = refl
-left-is (oldest ∷ others) now = refl
-
-after-is : (core : CoreView) (command : Command) → after_command core command ≡ after_event core command
-after-is core (Arrive moment packet word) =
-    let a : Arrival = arrival_of core.waiting core.packets packet word in
-    let h : Held = Steps.arrived core.held a moment in
-    let d : Deed = arrival_deed packet (answer_of (Steps.verdict core.held a)) in
-    let now : ℕ = max core.held.moment moment in
-    ap (λ (w : List Waiting). with_event core h w d 0 0) (joined-is core.waiting now packet (Steps.verdict core.held a))
-    ∙ ap (λ (s : Stats). record (with_event core h (waiting_next core.waiting now d) d 0 0) { stats = s })
-    (counted-arrival core.stats packet (answer_of (Steps.verdict core.held a)) (Steps.delay_answered core.held (bytes_of core.waiting))
-    (age_of_oldest now core.waiting))
-after-is core (Depart moment) =
-    let h : Held = after_call core.held (departure_call core.waiting moment) in
-    let d : Deed = departure_deed (answer_to_departure core.waiting) in
-    let now : ℕ = max core.held.moment moment in
-    ap (λ (w : List Waiting). with_event core h w d 0 (age_of_oldest now core.waiting)) (left-is core.waiting now)
-    ∙ ap (λ (s : Stats). record (with_event core h (waiting_next core.waiting now d) d 0 (age_of_oldest now core.waiting)) { stats = s })
-    (counted-departure core.stats (answer_to_departure core.waiting) (Steps.delay_answered core.held (bytes_of core.waiting))
-    (age_of_oldest now core.waiting))
-after-is core (Update moment) =
-    ap (λ (w : List Waiting). with_event core (Steps.updated core.held (bytes_of core.waiting) moment) w updated
-    (Steps.delay_answered core.held (bytes_of core.waiting)) 0)
-    (sym (append-nil core.waiting))
-after-is core (Reset moment) = ap (λ (w : List Waiting). with_event core (Steps.reset core.held moment) w was_reset 0 0)
-    (sym (append-nil core.waiting))
-after-is core (SetParams moment params) = ap (λ (w : List Waiting). with_event core (Steps.changed core.held params moment) w (set params) 0 0)
-    (sym (append-nil core.waiting))
-
 module _ (opening : Opening) (core : CoreView) (history : List Event) (shows : Shows opening core history) where
-  called : (command : Command) → HasThreshold core command (answer_in core command)
-      → Controller.Shows (opened_of opening) (shown opening history ++ shown_by core.held (call_in core command) ∷ [])
-      (after_call core.held (call_in core command))
-  called (Arrive moment packet word) small =
-      Shows-arrive (opened_of opening) (shown opening history) core.held shows.controller (arrival_of core.waiting core.packets packet word) moment
-  called (Depart moment) small = by core.waiting refl
-    where
-      by : (waiting : List Waiting) → core.waiting ≡ waiting
-          → Controller.Shows (opened_of opening) (shown opening history ++ shown_by core.held (departure_call waiting moment) ∷ [])
-          (after_call core.held (departure_call waiting moment))
-      by [] none = Shows-pass (opened_of opening) (shown opening history) core.held shows.controller moment
-      by (oldest ∷ others) waits =
-          Shows-depart (opened_of opening) (shown opening history) core.held shows.controller oldest.packet.size (bytes_of others) oldest.since moment
-          (small oldest.packet moment refl (ap answer_to_departure waits))
-  called (Update moment) small = Shows-update (opened_of opening) (shown opening history) core.held shows.controller (bytes_of core.waiting) moment
-  called (Reset moment) small = Shows-reset-call (opened_of opening) (shown opening history) core.held shows.controller moment
-  called (SetParams moment params) small = Shows-change (opened_of opening) (shown opening history) core.held shows.controller params moment
-
-  pub event-shows : (caller : ℕ) (command : Command) → HasThreshold core command (answer_in core command) → refusal_of core command ≡ None
-      → Shows opening (closed (after_event core command)) (history ++ event_of caller command (answer_in core command) ∷ [])
-  event-shows caller command small free =
+  pub next-shows : (caller : ℕ) (command : Command) → HasThreshold core.held (call_in core command) → refusal_of core command ≡ None
+      → Shows opening (closed (after_command core command)) (history ++ event_of caller command (answer_in core command) ∷ [])
+  next-shows caller command small free =
       let event : Event = event_of caller command (answer_in core command) in
+      let all : List Event = history ++ event ∷ [] in
       let d : Deed = deed command (answer_in core command) in
       let now : ℕ = now_at core.held (handed_in command) in
-      let stats_by : Stats → ℕ → ℕ → List Waiting → List Waiting
-      → Stats = λ s delay moment before left. with_queue (counted s d delay (age_of_oldest moment before)) (bytes_of left) in
-      let after : effective_moment opening (history ++ event ∷ []) ≡ now =
-      effective_moment-push opening history event ∙ ap (λ (m : ℕ). max m (handed_in command)) (sym shows.moment) in
-      let waiting : waiting_after opening (history ++ event ∷ []) ≡ waiting_next core.waiting now d =
-      waiting_after-push opening history event (departed-of-legal opening history shows.legal)
-      ∙ ap (λ (w : List Waiting). waiting_next w (max (effective_moment opening history) (handed_in command)) d) (sym shows.waiting)
-      ∙ ap (λ (m : ℕ). waiting_next core.waiting (max m (handed_in command)) d) (sym shows.moment) in
-      let told : shown_at opening (place_of history event) ≡ shown_by core.held (call_in core command) =
-      ap (λ (w : List Waiting). event_shown d (arriving_size command) (oldest_since w) (bytes_of w) (bytes_after opening (history ++ event ∷ []))
-      (handed_in command)) (sym shows.waiting)
-      ∙ ap (λ (w : List Waiting). event_shown d (arriving_size command) (oldest_since core.waiting) (bytes_of core.waiting) (bytes_of w)
-      (handed_in command)) waiting
-      ∙ command-shown core now command in
+      let moment : now ≡ effective_moment opening (history ++ event ∷ []) =
+      ap (λ (m : ℕ). max m (handed_in command)) shows.moment ∙ sym (effective_moment-push opening history event) in
+      let next : waiting_next core.waiting now d ≡ waiting_next (waiting_after opening history) (max (effective_moment opening history)
+      (handed_in command)) d = λ i. waiting_next (shows.waiting i) (max (shows.moment i) (handed_in command)) d in
+      let waiting : waiting_next core.waiting now d ≡ waiting_after opening (history ++ event ∷ []) =
+      next ∙ sym (waiting_after-push opening history event (departed-of-legal opening history shows.legal)) in
+      let told : event_shown d (arriving_size command) (oldest_since core.waiting) (bytes_of core.waiting)
+      (bytes_of (waiting_next core.waiting now d)) (handed_in command) ≡ shown_at opening (place_of history event) =
+      λ i. event_shown d (arriving_size command) (oldest_since (shows.waiting i)) (bytes_of (shows.waiting i)) (bytes_of (waiting i))
+      (handed_in command) in
+      let counts : with_queue (counted core.stats d (Steps.delay_answered core.held (bytes_of core.waiting)) (age_of_oldest now core.waiting))
+      (bytes_of (waiting_next core.waiting now d))
+      ≡ with_queue (counted (stats_after opening history) d (delay_answered opening history)
+      (age_of_oldest (effective_moment opening (history ++ event ∷ [])) (waiting_after opening history))) (bytes_after opening (history ++ event ∷ [])) =
+      λ i. with_queue (counted (shows.stats i) d (answered-is opening core history shows i) (age_of_oldest (moment i) (shows.waiting i)))
+      (bytes_of (waiting i)) in
       record {
         legal = rw (places-push history event)
-            (All-append (IsLegalAt opening) (places history) (place_of history event ∷ []) shows.legal
-            (All-cons (IsLegalAt opening) (place_of history event) []
-            (record {
+            (All-push (IsLegalAt opening) (places history) (place_of history event) shows.legal (record {
               taken = sym (refusal-is opening core history shows command) ∙ free;
               answered = next-decided opening core history shows command;
-            }) (All-nil (IsLegalAt opening))));
+            }));
         packets = shows.packets;
         events = shows.events;
         count = rw (shows.count, length-append history (event ∷ [])) refl;
-        moment = moment-next core command ∙ sym after;
-        waiting = sym waiting;
-        controller = rw (shown-push opening history event, told) (called command small);
-        stats = sym (stats_after-push opening history event
-            ∙ ap (λ (s : Stats). stats_by s (delay_answered opening history) (effective_moment opening (history ++ event ∷ []))
-            (waiting_after opening history) (waiting_after opening (history ++ event ∷ [])))
-            (sym shows.stats)
-            ∙ ap (λ (n : ℕ). stats_by core.stats n (effective_moment opening (history ++ event ∷ [])) (waiting_after opening history)
-            (waiting_after opening (history ++ event ∷ [])))
-            (sym (answered-is opening core history shows))
-            ∙ ap (λ (m : ℕ). stats_by core.stats (Steps.delay_answered core.held (bytes_of core.waiting)) m (waiting_after opening history)
-            (waiting_after opening (history ++ event ∷ []))) after
-            ∙ ap (λ (w : List Waiting). stats_by core.stats (Steps.delay_answered core.held (bytes_of core.waiting)) now w
-            (waiting_after opening (history ++ event ∷ []))) (sym shows.waiting)
-            ∙ ap (λ (w : List Waiting). stats_by core.stats (Steps.delay_answered core.held (bytes_of core.waiting)) now core.waiting w) waiting);
+        moment = moment-next core command ∙ moment;
+        waiting = waiting;
+        controller = rw (shown-push opening history event, ← told, command-shown core now command)
+            (Shows_call (opened_of opening) (shown opening history) core.held shows.controller (call_in core command) small);
+        stats = counts ∙ sym (stats_after-push opening history event);
       }
-
-  pub next-shows : (caller : ℕ) (command : Command) → HasThreshold core command (answer_in core command) → refusal_of core command ≡ None
-      → Shows opening (closed (after_command core command)) (history ++ event_of caller command (answer_in core command) ∷ [])
-  next-shows caller command small free = rw (after-is core command) (event-shows caller command small free)

@@ -3,23 +3,22 @@
 use Rattle.std.proofs.Common.{ap, refl, ℕ, ◌≡◌, List, [], ◌∷◌, ◌++◌, take, Some, None, true, map, drop, All}
 use Rattle.std.proofs.lemmas.List.Elements.{All-cons, All-head, All-nil, All-take}
 use Rattle.pie_queue.specs.declared.ecn.Ecn.TheVariants.{Ce}
-use Rattle.pie_control.specs.Delay.{delay_of}
 use Rattle.pie_params.specs.Elements.{usual}
 use Rattle.pie_book.specs.Types.{One, Arrive, Depart, Update, Enqueued, Marked, Empty, Left, Updated, Event, Bounded, Rolling, Opening, Stats}
 use Rattle.pie_event.specs.declared.refusal.Refusal.TheVariants.{Size, TooSoon}
-use Rattle.pie_event.specs.Deed.{Deed, deed_of, queued, marked, dropped_early, dropped_bytes, dropped_packets, departed, found_none, updated}
+use Rattle.pie_event.specs.Deed.{Deed, queued, marked, dropped_early, dropped_bytes, dropped_packets, departed, found_none, updated}
 use Rattle.pie_event.specs.Deed.{was_reset, set, nothing}
-use Rattle.pie_queue.specs.Queue.{bytes_of}
 use Rattle.pie_aqm.specs.Places.{Place, places}
-use Rattle.pie_aqm.specs.Steps.{delay_in, no_estimate}
+use Rattle.pie_aqm.specs.History as Controller
+use Rattle.pie_aqm.specs.Steps.{no_estimate}
 use Rattle.pie_book.specs.Registers.{registers_after}
-use Rattle.pie_book.specs.Statistics.{stats_after, no_stats}
+use Rattle.pie_book.specs.Statistics.{no_stats}
 use Rattle.pie_book.specs.Decision.{IsLegal, IsLegalAt, decision, refusal_by_rule}
-use Rattle.pie_book.specs.Core.{CoreView, Shows, registers_of, refusal_of, counted, with_queue}
+use Rattle.pie_book.specs.Core.{CoreView, Shows, registers_of, refusal_of, counted}
 use Rattle.pie_book.specs.Book.{BookView, Tells, last_events, without_last, tail_with}
 use Rattle.pie_book.proofs.Examples.{limits, opened, opened_with, packet, waits, event, place, three, arrival, departure_of_it, late_departure}
 use Rattle.pie_book.proofs.Examples.{worked}
-use Rattle.pie_book.proofs.ExamplesMarks.{no_burst, some_burst, opening, two_departed, first_update, updated_thrice, mark, change, restart, twelve}
+use Rattle.pie_book.proofs.ExamplesMarks.{no_burst, some_burst, opening, change, restart, twelve}
 use Rattle.pie_book.proofs.ExamplesMarks.{fourteen, parts, tallied}
 use Rattle.pie_book.proofs.LegalFacts.{first_core, first-shows}
 
@@ -105,7 +104,7 @@ core_at_fourteen = record core_at_twelve {
 }
 
 twelve-shown : Shows opening core_at_twelve twelve
-unfolding worked
+unfolding worked Controller.Shows
 twelve-shown = record {
   legal = twelve-legal;
   packets = refl;
@@ -113,22 +112,12 @@ twelve-shown = record {
   count = refl;
   moment = refl;
   waiting = refl;
-  controller = record {
-    profile = refl;
-    elements = refl;
-    params = refl;
-    moment = refl;
-    active = refl;
-    rate = record { average = refl; begun = refl };
-    waited = refl;
-    control = record { prob = refl; old_delay = refl; burst = refl; last = refl };
-    early = record { accu = refl };
-  };
+  controller = refl;
   stats = refl;
 }
 
 fourteen-shown : Shows opening core_at_fourteen fourteen
-unfolding worked
+unfolding worked Controller.Shows
 fourteen-shown = record {
   legal = fourteen-legal;
   packets = refl;
@@ -136,17 +125,7 @@ fourteen-shown = record {
   count = refl;
   moment = refl;
   waiting = refl;
-  controller = record {
-    profile = refl;
-    elements = refl;
-    params = refl;
-    moment = refl;
-    active = refl;
-    rate = record { average = refl; begun = refl };
-    waited = refl;
-    control = record { prob = refl; old_delay = refl; burst = refl; last = refl };
-    early = record { accu = refl };
-  };
+  controller = refl;
   stats = refl;
 }
 
@@ -154,11 +133,6 @@ fourteen-shown = record {
 cores-registers : (registers_of core_at_twelve ≡ registers_after opening twelve) × (registers_of core_at_fourteen ≡ registers_after opening fourteen)
 unfolding worked
 cores-registers = (refl, refl)
-
-cores-delay : (delay_in core_at_twelve.held (bytes_of core_at_twelve.waiting) ≡ 2976562)
-    × (delay_in core_at_fourteen.held (bytes_of core_at_fourteen.waiting) ≡ 0)
-unfolding delay_of
-cores-delay = (refl, refl)
 
 -- the next update is due at 1001003
 cores-refusal : map (λ moment. refusal_of (record core_at_twelve { held = record core_at_twelve.held { moment = moment } }) (Update 0))
@@ -202,18 +176,6 @@ kept-told = record {
   snapshot = twelve-shown;
 }
 
--- .. and with all of them folded
-emptied-told : Tells (record (folded_book fourteen 14 12 (first_core opening) core_at_twelve) { tail = [] }) fourteen
-emptied-told = record {
-  before = [];
-  whole = refl;
-  split = refl;
-  tail = refl;
-  running = fourteen-shown;
-  base = first-shows opening;
-  snapshot = twelve-shown;
-}
-
 -- the tail's events are the last ones, in order, and the checkpoint's the others
 tails : (last_events 0 three ≡ []) × (last_events 2 three ≡ departure_of_it ∷ late_departure ∷ []) × (last_events 3 three ≡ three)
 tails = (refl, refl, refl)
@@ -228,25 +190,6 @@ tails_with_one : (tail_with (opened_with Rolling (limits 4 2 100) no_burst) (arr
     × (tail_with (opened_with Bounded (limits 4 3 100) no_burst) (arrival ∷ departure_of_it ∷ []) late_departure ≡ three)
     × (tail_with (opened_with Rolling (limits 4 1 100) no_burst) (arrival ∷ []) late_departure ≡ late_departure ∷ [])
 tails_with_one = (refl, refl, refl, refl)
-
--- the statistics with one event more are those of the longer history
-
-counted-mark : with_queue (counted (stats_after opening updated_thrice) (deed_of mark) 0 0) 2548 ≡ stats_after opening (updated_thrice ++ mark ∷ [])
-unfolding worked
-counted-mark = refl
-
-counted-update : with_queue (counted (stats_after opening two_departed) (deed_of first_update) 2000000 0) 2048
-    ≡ stats_after opening (two_departed ++ first_update ∷ [])
-unfolding worked
-counted-update = refl
-
-counted-departure : with_queue (counted (stats_after opening (take 5 fourteen)) (departed (packet 2 1024)) 0 1001000) 2048
-    ≡ stats_after opening two_departed
-unfolding worked
-counted-departure = refl
-
-counted-last : with_queue (counted (with_queue (counted (tallied 0 0) (deed_of change) 0 0) 3048) (deed_of restart) 0 0) 3048 ≡ tallied 1 1
-counted-last = refl
 
 -- what each event adds, in one row: arrivals, queued, marked, dropped early, by bytes, by packets, departed, its bytes, none found, updates, resets,
 -- changes, largest delay, waited

@@ -84,64 +84,6 @@ ok answer = was_asked (Ok answer)
 abbrev no : Refusal → Outcome
 no why = was_asked (Err why)
 
--- one arrival and two departures, the second of an empty queue
-three-answers : outcomes (opened 4 16 100) start (arrives 10 7 1500 ∷ departs 25 ∷ departs 30 ∷ [])
-    ≡ ok Enqueued ∷ ok (Left (packet 7 1500)) ∷ ok Empty ∷ []
-unfolding worked
-three-answers = refl
-
--- a queue that is near its byte limit of 262144: four packets of 65535 bytes are 262140. Where the ring is full as well, too many bytes are told
--- first
-abbrev four_large : List Step
-four_large = arrives 0 1 65535 ∷ arrives 0 2 65535 ∷ arrives 0 3 65535 ∷ arrives 0 4 65535 ∷ []
-
-abbrev four_enqueued : List Outcome
-four_enqueued = ok Enqueued ∷ ok Enqueued ∷ ok Enqueued ∷ ok Enqueued ∷ []
-
-full_ring : outcomes (opened 4 16 100) start (four_large ++ arrives 0 5 5 ∷ arrives 0 6 4 ∷ [])
-    ≡ four_enqueued ++ ok DroppedBytes ∷ ok DroppedPackets ∷ []
-unfolding worked
-full_ring = refl
-
--- with one more place in the ring the limit is met exactly, and then passed by one byte
-exact_limit : outcomes (opened 5 16 100) start (four_large ++ arrives 0 5 5 ∷ arrives 0 6 4 ∷ arrives 0 7 1 ∷ [])
-    ≡ four_enqueued ++ ok DroppedBytes ∷ ok Enqueued ∷ ok DroppedBytes ∷ []
-unfolding worked
-exact_limit = refl
-
--- a refused update leaves no trace, and an accepted one with an empty queue has no delay
-an_update : outcomes (opened 4 16 100) start (departs 9 ∷ departs 5 ∷ asked 2 (Update 14999999) ∷ asked 2 (Update 15000000)
-    ∷ departs 1152921504606846976 ∷ [])
-    ≡ ok Empty ∷ ok Empty ∷ no (TooSoon 15000000) ∷ ok (Updated 0 0 150000000) ∷ no Moment ∷ []
-unfolding worked
-an_update = refl
-
--- a lower limit of 1000 bytes, and a burst allowance of 20 that holds from the reset on
-abbrev lower_limit : RawParams
-lower_limit = nine 15000000 15000000 20 125 1250 1024 1000 100000000000 16384
-
-abbrev changed : List Event
-changed = event 1 (SetParams 7 lower_limit) Done ∷ event 1 (Arrive 6 (packet 1 1001) 0) DroppedBytes ∷ event 1 (Reset 8) Done ∷ []
-
-abbrev from_five : Opening
-from_five = record (opened 4 16 100) { moment = 5 }
-
-changed-answers : progress_after from_five start (asked 1 (SetParams 7 lower_limit) ∷ arrives 6 1 1001 ∷ asked 1 (Reset 8) ∷ [])
-    ≡ record { history = changed; held = 3 }
-unfolding worked
-changed-answers = refl
-
-changed-parts : (parts_after from_five (event 1 (SetParams 7 lower_limit) Done ∷ [])
-    ≡ record { prob = 0; old_delay = 0; burst = 150000000; last = 5 })
-    × (parts_after from_five changed ≡ record { prob = 0; old_delay = 0; burst = 20; last = 5 })
-unfolding worked
-changed-parts = (refl, refl)
-
--- a tail drop clears what was accumulated, and so does a reset
-changed-early : early_events from_five changed ≡ cleared ∷ cleared ∷ []
-unfolding worked
-changed-early = refl
-
 -- a tail of two events: the third arrival waits for a fold, and a fold of three is one too many
 abbrev first_event : Event
 first_event = event 1 (Arrive 1 (packet 1 100) 0) Enqueued
@@ -164,32 +106,6 @@ folds = refl
 folds-progress : (progress_after (opened 4 2 100) start with_folds ≡ record { history = first_event ∷ second_event ∷ third_event ∷ []; held = 0 })
 unfolding worked
 folds-progress = refl
-
--- a rolling book takes the third, and its fold has the last two
-abbrev rolls : List Step
-rolls = arrives 1 1 100 ∷ arrives 2 2 100 ∷ arrives 3 3 100 ∷ folded 3 ∷ folded 2 ∷ []
-
-rolls-answers : outcomes (rolling 4 2 100) start rolls
-    ≡ ok Enqueued ∷ ok Enqueued ∷ ok Enqueued ∷ was_folded (Err (TooMany 2)) ∷ was_folded (Ok (second_event ∷ third_event ∷ [])) ∷ []
-unfolding worked
-rolls-answers = refl
-
-rolls-held : progress_after (rolling 4 2 100) start (arrives 1 1 100 ∷ arrives 2 2 100 ∷ arrives 3 3 100 ∷ [])
-    ≡ record { history = first_event ∷ second_event ∷ third_event ∷ []; held = 2 }
-unfolding worked
-rolls-held = refl
-
--- a book for two events refuses the third, rolling or not
-few_events : (outcomes (opened 4 4 2) start (departs 1 ∷ departs 1 ∷ departs 1 ∷ []) ≡ ok Empty ∷ ok Empty ∷ no Exhausted ∷ [])
-    × (outcomes (rolling 4 2 2) start (departs 1 ∷ departs 1 ∷ departs 1 ∷ []) ≡ ok Empty ∷ ok Empty ∷ no Exhausted ∷ [])
-unfolding worked
-few_events = (refl, refl)
-
--- a refused command leaves no trace: neither its event nor its moment
-refused_moment : progress_after (opened 4 16 100) start (departs 9 ∷ departs 1152921504606846976 ∷ arrives 99 1 0 ∷ asked 2 (Depart 5) ∷ [])
-    ≡ record { history = event 1 (Depart 9) Empty ∷ event 2 (Depart 5) Empty ∷ []; held = 2 }
-unfolding worked
-refused_moment = refl
 
 -- the steps without their folds, and the answers to them: up to the first that says that the tail is full, they are those of a run with no fold
 unfolded : (without_folds (arrives 1 1 100 ∷ folded 1 ∷ departs 2 ∷ folded 0 ∷ [])

@@ -8,6 +8,7 @@ use Rattle.pie_aqm.specs.Calls.{after_call}
 use Rattle.pie_aqm.specs.Steps as Steps
 use Rattle.pie_aqm.specs.Steps.{anew, bytes_with, judged}
 use Rattle.pie_aqm.proofs.InRange.{threshold-holds}
+use Rattle.pie_aqm.proofs.Laws.{has_threshold}
 use Rattle.pie_aqm.proofs.Places.{place_of}
 use Rattle.pie_book.specs.Call.{arrival_of, departure_call}
 use Rattle.pie_book.specs.Core.{CoreView, Shows, closed, refusal_of}
@@ -15,8 +16,9 @@ use Rattle.pie_book.specs.Decision.{IsLegal, IsLegalAt}
 use Rattle.pie_event.specs.Ranges.{CommandFits}
 use Rattle.pie_book.specs.Run.{event_of}
 use Rattle.pie_book.specs.Statistics.{no_stats}
-use Rattle.pie_book.specs.Step.{answer_in, call_in}
-use Rattle.pie_book.proofs.CoreFacts.{Shows-opened, after_event, at_place, event-shows, next-decided, refusal-is}
+use Rattle.pie_book.specs.Standing.{IsNext}
+use Rattle.pie_book.specs.Step.{after_command, answer_in, call_in}
+use Rattle.pie_book.proofs.CoreFacts.{Shows-opened, at_place, next-decided, next-shows, refusal-is}
 
 -- a core as it opens
 abbrev pub first_core : Opening → CoreView
@@ -49,9 +51,28 @@ good-next core (Depart moment) good fit = by core.waiting
     by : (waiting : List Waiting) → first_bad (after_call core.held (departure_call waiting moment)).params ≡ None
     by [] = good
     by (oldest ∷ others) = good
-good-next core (Update moment) good fit = good
-good-next core (Reset moment) good fit = good
 good-next core (SetParams moment params) good fit = fit.1.in_range
+good-next core _ good fit = good
+
+-- ---- one event more
+
+-- what is legal after a history is the next of a core that shows the history
+pub next-legal : (opening : Opening) (core : CoreView) (history : List Event) (event : Event) → Shows opening core history
+    → IsLegalAt opening (place_of history event) → IsNext core event
+next-legal opening core history event shows here = record {
+  taken = refusal-is opening core history shows event.command ∙ here.taken;
+  answered = here.answered ∙ sym (next-decided opening core history shows event.command);
+}
+
+-- .. which then shows the history with it
+pub next-core : (opening : Opening) (core : CoreView) (history : List Event) (event : Event) → Shows opening core history
+    → first_bad core.held.params ≡ None → IsNext core event → Shows opening (closed (after_command core event.command)) (history ++ event ∷ [])
+next-core opening core history event shows good next =
+    let same : event_of event.caller event.command (answer_in core event.command) ≡ event =
+    ap (λ (answer : Answer). event_of event.caller event.command answer) (sym next.answered) in
+    subst (λ (e : Event). Shows opening (closed (after_command core event.command)) (history ++ e ∷ [])) same
+    (next-shows opening core history shows event.caller event.command
+    (has_threshold core.held (call_in core event.command) (threshold-holds core.held.params good).1) next.taken)
 
 -- ---- a whole history
 
@@ -66,24 +87,18 @@ pub record IsRun (P : List Event → CoreView → Type 0) (opening : Opening) (h
 abbrev pub Stays : (List Event → CoreView → Type 0) → Opening → Type 0
 Stays P opening = (core : CoreView) (history : List Event) (event : Event) → Shows opening core history → P history core → CommandFits event.command
     → refusal_of core event.command ≡ None
-    → P (history ++ event ∷ []) (closed (after_event core event.command))
+    → P (history ++ event ∷ []) (closed (after_command core event.command))
 
 module _ (P : List Event → CoreView → Type 0) (opening : Opening) (stays : Stays P opening) where
   run-next : (history : List Event) (event : Event) → IsRun P opening history → IsLegalAt opening (place_of history event)
       → CommandFits event.command → IsRun P opening (history ++ event ∷ [])
   run-next history event run here fit =
-      let core = run.core in
-      let free = refusal-is opening core history run.shows event.command ∙ here.taken in
-      let same : event_of event.caller event.command (answer_in core event.command) ≡ event =
-      ap (λ (answer : Answer). event_of event.caller event.command answer)
-      (next-decided opening core history run.shows event.command ∙ sym here.answered) in
+      let next = next-legal opening run.core history event run.shows here in
       record {
-        core = closed (after_event core event.command);
-        shows = subst (λ (e : Event). Shows opening (closed (after_event core event.command)) (history ++ e ∷ [])) same
-            (event-shows opening core history run.shows event.caller event.command
-            (λ packet moment is left. (threshold-holds core.held.params run.good).1) free);
-        good = good-next core event.command run.good fit;
-        holds = stays core history event run.shows run.holds fit free;
+        core = closed (after_command run.core event.command);
+        shows = next-core opening run.core history event run.shows run.good next;
+        good = good-next run.core event.command run.good fit;
+        holds = stays run.core history event run.shows run.holds fit next.taken;
       }
 
   run-all : (before rest : List Event) → IsRun P opening before → IsLegal opening (before ++ rest) → All (λ event. CommandFits event.command) rest

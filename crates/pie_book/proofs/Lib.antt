@@ -13,9 +13,7 @@ pub mod BesideFacts
 pub mod ExcerptFacts
 pub mod QueuedFacts
 pub mod Examples
-pub mod ExamplesRates
 pub mod ExamplesMarks
 pub mod ExamplesCauses
 pub mod ExamplesBooks
 pub mod ExamplesRuns
-mod ExamplesActivity

@@ -5,8 +5,8 @@ use Rattle.std.specs.Option.{is_some, option_map_or}
 use Rattle.std.specs.List.{filter_map}
 use Rattle.std.proofs.lemmas.List.{map-append}
 use Rattle.std.proofs.lemmas.List.Sums.{sum_by_push}
-use Rattle.pie_book.specs.Types.{Packet, Answer, Enqueued, Left, Event, Opening, Stats}
-use Rattle.pie_event.specs.Deed.{Deed, deed_of, departure, is_arrival, is_update, sets_params, arrival_deed, departure_deed}
+use Rattle.pie_book.specs.Types.{Packet, Event, Opening}
+use Rattle.pie_event.specs.Deed.{Deed, deed_of, departure, is_arrival, is_update, sets_params}
 use Rattle.pie_book.specs.History.{effective_moment, waiting_after, bytes_after}
 use Rattle.pie_book.specs.Estimates.{delay_answered}
 use Rattle.pie_book.specs.Statistics.{count_of, is_queued, is_marked, is_dropped_early, is_dropped_bytes, is_dropped_packets, is_departure}
@@ -14,7 +14,7 @@ use Rattle.pie_book.specs.Statistics.{is_found_none, is_reset, bytes_departed, a
 use Rattle.pie_book.specs.Statistics.{stats_after}
 use Rattle.pie_book.specs.Core.{counted, with_queue}
 use Rattle.pie_aqm.specs.Places.{Place, places, up_to, greatest}
-use Rattle.pie_aqm.proofs.Places.{place_of, places-push, from_places-push, greatest-push, greatest-push_option}
+use Rattle.pie_aqm.proofs.Places.{place_of, places-push, from_places-push, greatest-push, with_one}
 
 -- one more, where there is one
 more_of : (b : Bool) (n m : ℕ) → n + cond b m 0 ≡ (if b then n + m else n)
@@ -54,7 +54,12 @@ largest_delay-push : (opening : Opening) (history : List Event) (event : Event)
 unfolding largest_delay
 largest_delay-push opening history event =
     ap greatest (from_places-push (delay_at opening) history event)
-    ∙ greatest-push_option (filter_map (delay_at opening) (places history)) (is_update (deed_of event)) (delay_answered opening history)
+    ∙ by (filter_map (delay_at opening) (places history)) (is_update (deed_of event)) (delay_answered opening history)
+  where
+    by : (delays : List ℕ) (b : Bool) (delay : ℕ)
+        → greatest (with_one delays (if b then Some delay else None)) ≡ (if b then max (greatest delays) delay else greatest delays)
+    by delays true delay = greatest-push delays delay
+    by delays false delay = refl
 
 waited-push : (opening : Opening) (history : List Event) (event : Event)
     → waited opening (history ++ event ∷ [])
@@ -94,15 +99,3 @@ stats_after-push opening history event =
       largest_delay-push opening history event,
       waited-push opening history event,
     ) refl
-
--- the delay and the wait of an arrival count for nothing
-pub counted-arrival : (s : Stats) (packet : Packet) (answer : Answer) (delay wait : ℕ)
-    → counted s (arrival_deed packet answer) 0 0 ≡ counted s (arrival_deed packet answer) delay wait
-counted-arrival s packet Enqueued delay wait = refl
-counted-arrival s packet _ delay wait = refl
-
--- .. and the delay of a departure
-pub counted-departure : (s : Stats) (answer : Answer) (delay wait : ℕ)
-    → counted s (departure_deed answer) 0 wait ≡ counted s (departure_deed answer) delay wait
-counted-departure s (Left oldest) delay wait = refl
-counted-departure s _ delay wait = refl

@@ -1,11 +1,11 @@
 //! What each command makes of a core: its controller makes one call, its queue takes the packet in or lets the oldest go, and its
 //! tally counts what was done.
-ghost use Rattle.std.specs.Prelude.{◌≡◌, ◌==◌, ◌≤◌, ◌<◌, ◌^◌, ◌+◌, ◌++◌, length, true, false};
-ghost use Rattle.std.specs.Option.{option_to_list};
+ghost use Rattle.std.specs.Prelude.{◌≡◌, ◌==◌, ◌≤◌, ◌<◌, ◌^◌, ◌+◌, length, true, false};
 ghost use Rattle.pie_queue.specs.Queue.{IsSize, bytes_of};
 ghost use Rattle.pie_event.specs.Verdict.{is_queued};
-ghost use Rattle.pie_book.specs.Types.{Arrive, Depart, Update, Reset, SetParams, Left};
-ghost use Rattle.pie_event.specs.Deed.{admission, arrival_deed};
+ghost use Rattle.pie_aqm.specs.Calls.{HasThreshold};
+ghost use Rattle.pie_book.specs.Types.{Arrive, Depart, Update, Reset, SetParams};
+ghost use Rattle.pie_event.specs.Deed.{arrival_deed};
 ghost use Rattle.pie_book.specs.Run.{event_of};
 
 use crate::deciding_core::Core;
@@ -16,9 +16,9 @@ use pie_params::Params;
 use pie_queue::{Ecn, Packet};
 
 impl Core {
-    ghost use Rattle.pie_book.specs.Call.{arrival_of};
+    ghost use Rattle.pie_book.specs.Call.{arrival_of, departure_call};
     ghost use Rattle.pie_event.specs.Verdict.{answer_of};
-    ghost use Rattle.pie_book.specs.Step.{after_command, answer_in};
+    ghost use Rattle.pie_book.specs.Step.{after_command, answer_in, waiting_next};
 
     /// The verdict on an arriving packet, which is queued where it says so.
     #[inline(always)]
@@ -68,10 +68,7 @@ impl Core {
         requires size { IsSize packet.size }
         requires room { is_queued verdict ≡ true → (length self.old.waiting == self.old.packets) ≡ false }
         requires bytes { is_queued verdict ≡ true → bytes_of self.old.waiting + packet.size ≤ 2 ^ 30 }
-        ensures { self.new ≡ record self.old {
-          waiting = self.old.waiting ++ option_to_list (admission now
-              (arrival_deed packet (answer_of verdict)));
-        } }
+        ensures { self.new ≡ record self.old { waiting = waiting_next self.old.waiting now (arrival_deed packet (answer_of verdict)) } }
     {
         match verdict {
             Verdict::Enqueued => {
@@ -95,7 +92,7 @@ impl Core {
         requires room { self.old.count < self.old.events }
         ensures event { result ≡ event_of caller (Depart moment) (answer_in self.old (Depart moment)) }
         ensures after { self.new ≡ after_command self.old (Depart moment) }
-        ensures threshold { (packet : Packet) → answer_in self.old (Depart moment) ≡ Left packet → self.old.held.params.dq_threshold ≤ 65536 }
+        ensures threshold { HasThreshold self.old.held (departure_call self.old.waiting moment) }
     {
         let Some(oldest) = self.queue.take() else {
             self.controller.pass(moment);

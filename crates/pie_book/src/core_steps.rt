@@ -13,7 +13,8 @@ use pie_queue::MAX_SIZE;
 
 impl Core {
     ghost use Rattle.pie_book.specs.Core.{Shows, closed, refusal_of};
-    ghost use Rattle.pie_book.specs.Step.{HasThreshold, after_command, answer_in};
+    ghost use Rattle.pie_aqm.specs.Calls.{HasThreshold};
+    ghost use Rattle.pie_book.specs.Step.{after_command, answer_in, call_in};
 
     /// Decides a command of a caller, and counts it as an event. It takes no memory.
     ///
@@ -91,7 +92,7 @@ impl Core {
         requires moment { moment ≡ handed_in command }
         ensures event { result ≡ event_of caller command (answer_in self.old command) }
         ensures after { self.new ≡ after_command self.old command }
-        ensures threshold { HasThreshold self.old command (answer_in self.old command) }
+        ensures threshold { HasThreshold self.old.held (call_in self.old command) }
     {
         match command {
             Command::Arrive { packet, word, .. } => self.arrive(caller, moment, packet, word),

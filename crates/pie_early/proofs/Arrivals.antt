@@ -4,13 +4,14 @@ use Rattle.std.proofs.lemmas.Bool.Decides.{nat_tests}
 use Rattle.pie_params.specs.declared.raw.RawParams.{RawParams}
 use Rattle.pie_params.specs.declared.elements.Picking.{Picking}
 use Rattle.pie_params.specs.declared.elements.Picking.TheVariants.{Derandomized, Random}
+use Rattle.pie_params.specs.Elements.{accumulates}
 use Rattle.pie_control.specs.Parts.{Parts}
 use Rattle.pie_queue.specs.declared.ecn.Ecn.{Ecn}
 use Rattle.pie_early.specs.Decision.{accu_at, always_picked, choice_at, is_considered, is_picked, joined, picked_choice}
 use Rattle.pie_early.specs.declared.early.Choice.TheVariants.{Enqueue}
 use Rattle.pie_early.specs.Events.{EarlyEvent, arrival}
 use Rattle.pie_early.specs.History.{Shows}
-use Rattle.pie_early.proofs.Laws.{shows-alone, shows-unconsidered, shows-zero, shows-grown, shows-pick}
+use Rattle.pie_early.proofs.Laws.{shows-next}
 use Rattle.pie_early.proofs.Picking.{below_always, is_pick-picked_choice, picked_zero_at}
 
 zero_is : (n : ℕ) → (n == 0) ≡ true → n ≡ 0
@@ -48,12 +49,6 @@ joined_below : (picking : Picking) (prob held word : ℕ) → 0 < prob → is_pi
 joined_below Derandomized prob held word some g h = below_always prob (held + prob) word some g
 joined_below Random prob held word some g h = h
 
--- what is shown with it
-shows_joined : (picking : Picking) (prob held : ℕ) (events : List EarlyEvent) → Shows events held → 0 < prob
-    → Shows (events ++ arrival true prob picking Enqueue ∷ []) (joined picking held prob)
-shows_joined Derandomized prob held events shown some = shows-grown events held shown true prob refl some
-shows_joined Random prob held events shown some = shows-alone events held shown prob some
-
 module _ (picking : Picking) (params : RawParams) (control : Parts) (prob bytes word held : ℕ) where
   -- it stays below 8.5
   below_by : (b z p : Bool) → is_considered params control bytes ≡ b → (prob == 0) ≡ z → is_picked picking prob (held + prob) word ≡ p
@@ -71,14 +66,18 @@ module _ (picking : Picking) (params : RawParams) (control : Parts) (prob bytes 
       → is_picked picking prob (held + prob) word ≡ p → Shows events held
       → Shows (events ++ arrival (is_considered params control bytes) prob picking (choice_at picking params control prob bytes ecn word held) ∷ [])
       (accu_at picking params control prob bytes word held)
-  shows_by events ecn false z p e f g shown = rw e (shows-unconsidered events held shown false prob picking refl)
+  shows_by events ecn false z p e f g shown = rw e (shows-next events held (arrival false prob picking Enqueue) shown)
   shows_by events ecn true true p e f g shown =
-      let zero = zero_is prob f in
-      rw (e, f, picked_zero_at picking prob (held + prob) word zero) (shows-zero events held shown true prob picking refl zero)
+      rw (e, f, picked_zero_at picking prob (held + prob) word (zero_is prob f)) (rw f at (shows-next events held (arrival true prob picking Enqueue) shown))
   shows_by events ecn true false true e f g shown =
-      rw (e, f, g) (shows-pick events held shown true prob picking (picked_choice params control.prob ecn)
-      (is_pick-picked_choice params control.prob ecn))
-  shows_by events ecn true false false e f g shown = rw (e, f, g) (shows_joined picking prob held events shown (some_is prob f))
+      rw (e, f, g) (rw (is_pick-picked_choice params control.prob ecn) at
+      (shows-next events held (arrival true prob picking (picked_choice params control.prob ecn)) shown))
+  shows_by events ecn true false false e f g shown = rw (e, f, g) (by picking (rw f at (shows-next events held (arrival true prob picking Enqueue) shown)))
+    where
+      by : (way : Picking) → Shows (events ++ arrival true prob picking Enqueue ∷ []) (if accumulates way then held + prob else held)
+          → Shows (events ++ arrival true prob picking Enqueue ∷ []) (joined way held prob)
+      by Derandomized shows = shows
+      by Random shows = shows
 
   pub shows_arrival : (events : List EarlyEvent) (ecn : Ecn) → Shows events held
       → Shows (events ++ arrival (is_considered params control bytes) prob picking (choice_at picking params control prob bytes ecn word held) ∷ [])

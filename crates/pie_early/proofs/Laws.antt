@@ -1,18 +1,15 @@
 -- How the accumulated probability changes when one more event joins the list at its end.
 use Rattle.std.proofs.Common.{◌≡◌, ℕ, zero, suc, ◌+◌, ◌-◌, ◌*◌, ◌<◌, Bool, true, false, cond, not, List, [], ◌∷◌, ◌++◌, length, drop, filter}
-use Rattle.std.proofs.Common.{replicate, refl, sym, ap, ◌∙◌, arith, zero-add, add-one, append_assoc, add-zero, ◌&&◌, eqb}
-use Rattle.std.specs.Prelude.{sum_by}
+use Rattle.std.proofs.Common.{replicate, refl, sym, ap, ◌∙◌, arith, zero-add, add-one, append_assoc, add-zero}
+use Rattle.std.specs.Prelude.{sum_by, if◌then◌else◌}
 use Rattle.std.specs.List.{after_last, suffix_len}
 use Rattle.std.proofs.lemmas.List.{drop-append-le, drop_all, length_push, reverse-append, replicate_more}
-use Rattle.std.proofs.lemmas.Bool.{ne_eqb, or_left}
+use Rattle.std.proofs.lemmas.Bool.{ne_eqb}
 use Rattle.std.proofs.lemmas.List.Elements.{filter-append}
 use Rattle.std.proofs.lemmas.List.Sums.{sum_by-append, suffix_len-le-length}
-use Rattle.pie_params.specs.declared.elements.Picking.{Picking}
-use Rattle.pie_params.specs.declared.elements.Picking.TheVariants.{Derandomized, Random}
-use Rattle.pie_early.specs.Decision.{is_pick}
-use Rattle.pie_early.specs.declared.early.Choice.{Choice}
+use Rattle.pie_params.specs.declared.elements.Picking.TheVariants.{Derandomized}
 use Rattle.pie_early.specs.declared.early.Choice.TheVariants.{Enqueue}
-use Rattle.pie_early.specs.Events.{EarlyEvent, arrival, cleared, is_clearing, joins, prob_of}
+use Rattle.pie_early.specs.Events.{EarlyEvent, arrival, is_clearing, joins, prob_of}
 use Rattle.pie_early.specs.History.{accumulated, Shows}
 
 suffix_len-push : {X : Type 0} (p : X → Bool) (xs : List X) (x : X) → suffix_len p (xs ++ x ∷ []) ≡ cond (p x) (1 + suffix_len p xs) 0
@@ -70,36 +67,17 @@ accumulated-run before clearing (suc n) prob e some =
     ∙ ap (λ k. k + prob) (accumulated-run before clearing n prob e some) ∙ omega arith)
 
 -- what is held after one more event
-module _ (events : List EarlyEvent) (held : ℕ) (shown : Shows events held) where
-  pub shows-clear : Shows (events ++ cleared ∷ []) 0
-  shows-clear = record { accu = sym (accumulated-clearing events cleared refl) }
+abbrev pub accu_next : ℕ → EarlyEvent → ℕ
+accu_next held event = if is_clearing event then 0 else if joins event then held + prob_of event else held
 
-  pub shows-unconsidered : (considered : Bool) (prob : ℕ) (picking : Picking) → considered ≡ false
-      → Shows (events ++ arrival considered prob picking Enqueue ∷ []) held
-  shows-unconsidered considered prob picking e = rw e (record {
-    accu = shown.accu ∙ sym (add-zero (accumulated events)) ∙ sym (accumulated-push events (arrival false prob picking Enqueue) refl);
-  })
+pub shows-next : (events : List EarlyEvent) (held : ℕ) (event : EarlyEvent) → Shows events held → Shows (events ++ event ∷ []) (accu_next held event)
+shows-next events held event shown = record { accu = by (is_clearing event) refl }
+  where
+    grown : (b : Bool) → (if b then held + prob_of event else held) ≡ accumulated events + cond b (prob_of event) 0
+    grown true = ap (λ n. n + prob_of event) shown.accu
+    grown false = shown.accu ∙ sym (add-zero (accumulated events))
 
-  pub shows-zero : (considered : Bool) (prob : ℕ) (picking : Picking) → considered ≡ true → prob ≡ 0
-      → Shows (events ++ arrival considered prob picking Enqueue ∷ []) 0
-  shows-zero considered prob picking e z = rw (e, z) (record { accu = sym (accumulated-clearing events (arrival true 0 picking Enqueue) refl) })
-
-  -- where probabilities don't accumulate
-  pub shows-alone : (prob : ℕ) → 0 < prob → Shows (events ++ arrival true prob Random Enqueue ∷ []) held
-  shows-alone prob some = record {
-    accu = shown.accu ∙ sym (add-zero (accumulated events))
-        ∙ sym (accumulated-push events (arrival true prob Random Enqueue) (ne_eqb prob 0 (λ z. omega arith)));
-  }
-
-  pub shows-grown : (considered : Bool) (prob : ℕ) → considered ≡ true → 0 < prob
-      → Shows (events ++ arrival considered prob Derandomized Enqueue ∷ []) (held + prob)
-  shows-grown considered prob e some = rw e (record {
-    accu = ap (λ k. k + prob) shown.accu ∙ sym (accumulated-push events (arrival true prob Derandomized Enqueue) (ne_eqb prob 0 (λ z. omega arith)));
-  })
-
-  pub shows-pick : (considered : Bool) (prob : ℕ) (picking : Picking) (choice : Choice) → is_pick choice ≡ true
-      → Shows (events ++ arrival considered prob picking choice ∷ []) 0
-  shows-pick considered prob picking choice e = record {
-    accu = sym (accumulated-clearing events (arrival considered prob picking choice)
-        (or_left (is_pick choice) (considered && eqb prob 0) e));
-  }
+    by : (clears : Bool) → is_clearing event ≡ clears
+        → (if clears then 0 else if joins event then held + prob_of event else held) ≡ accumulated (events ++ event ∷ [])
+    by true is = sym (accumulated-clearing events event is)
+    by false is = grown (joins event) ∙ sym (accumulated-push events event is)

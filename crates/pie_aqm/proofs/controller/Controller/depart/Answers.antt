@@ -2,7 +2,7 @@ use Rattle.std.proofs.Common.{◌≡◌, arith}
 use Rattle.pie_aqm.specs.Calls.{Depart, after_call}
 use Rattle.pie_aqm.specs.Held.{held_by}
 use Rattle.pie_aqm.proofs.InRange.{threshold-holds}
-use Rattle.pie_aqm.proofs.Laws.{Shows-depart, moved, uncapped}
+use Rattle.pie_aqm.proofs.Laws.{Shows_call, moved, uncapped}
 use Rattle.pie_aqm.proofs.Sounds.{Sound_call, stays_sound}
 use Rattle.pie_aqm.proofs.controller.Controller.depart.Goals as goal
 
@@ -28,4 +28,4 @@ pub returns-clause-shows : goal.returns-clause-shows
 returns-clause-shows c opened events shows =
     let a = c.args in
     moved _ _ _ _ (returns-clause-after c)
-    (Shows-depart opened events a.self.now shows a.size a.left a.since a.moment (returns-clause-threshold c))
+    (Shows_call opened events a.self.now shows (Depart a.size a.left a.since a.moment) (returns-clause-threshold c))

@@ -10,7 +10,7 @@ returns-clause-after c =
       now,
       c.arrive-verdict.ensures.after,
       c.arrived.ensures.count,
-      c.arrived.ensures.stats c.args.packet,
+      c.arrived.ensures.stats c.args.packet _ _,
       c.arrive-verdict.ensures.verdict,
       c.arrival-arrival.ensures,
       ← c.self.view_is,

@@ -4,4 +4,4 @@ use Rattle.pie_control.proofs.control.Control.idle.Goals as goal
 
 pub returns-clause-shows : goal.returns-clause-shows
 returns-clause-shows c opening start events shows =
-    Shows-idled opening start events c.args.moment c.args.self.now _ shows (search rules)
+    Shows-idled opening start events c.args.self.now _ shows c.args.moment (search rules)

@@ -4,5 +4,5 @@ use Rattle.pie_control.proofs.control.Control.reset.Goals as goal
 
 pub returns-clause-shows : goal.returns-clause-shows
 returns-clause-shows c opening start events shows =
-    Shows-reset opening start events c.args.params.now c.args.self.now _ shows
+    Shows-reset opening start events c.args.self.now _ shows c.args.params.now
     (search rules) (search rules) (search rules) (search rules)

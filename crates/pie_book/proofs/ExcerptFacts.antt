@@ -20,19 +20,16 @@ module _ (opening : Opening) where
   unfolding Follows
   follows_legal core history [] shows good fit = (λ follows. rw (append-nil history) shows.legal, λ legal. tt)
   follows_legal core history (event ∷ rest) shows good fit =
-      let joined : (history ++ event ∷ []) ++ rest ≡ history ++ (event ∷ rest) = append_assoc history (event ∷ []) rest in (
+      let joined : (history ++ event ∷ []) ++ rest ≡ history ++ (event ∷ rest) = append_assoc history (event ∷ []) rest in
+      let later : IsNext core event → Follows (closed (after_command core event.command)) rest ↔ IsLegal opening ((history ++ event ∷ []) ++ rest) =
+      λ next. follows_legal (closed (after_command core event.command)) (history ++ event ∷ []) rest
+      (next-core opening core history event shows good next)
+      (good-next core event.command good (All-head (λ e. CommandFits e.command) event rest fit)) (All-tail (λ e. CommandFits e.command) event rest fit) in (
         λ follows. subst (λ (h : List Event). IsLegal opening h) joined ((later follows.0).0 follows.1),
         λ legal.
             let next = next-legal opening core history event shows (at_place (IsLegalAt opening) history event rest legal) in
             (next, (later next).1 (subst (λ (h : List Event). IsLegal opening h) (sym joined) legal)),
       )
-    where
-      later : IsNext core event
-          → Follows (closed (after_command core event.command)) rest ↔ IsLegal opening ((history ++ event ∷ []) ++ rest)
-      later next = follows_legal (closed (after_command core event.command)) (history ++ event ∷ []) rest
-          (next-core opening core history event shows good next)
-          (good-next core event.command good (All-head (λ e. CommandFits e.command) event rest fit))
-          (All-tail (λ e. CommandFits e.command) event rest fit)
 
 pub excerpt_is_legal : (opening : Opening) (standing : Standing) (history excerpt : List Event) → StandsFor opening standing history
     → first_bad standing.controller.params ≡ None → All (λ event. CommandFits event.command) excerpt

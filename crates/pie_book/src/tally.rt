@@ -96,7 +96,7 @@ impl Tally {
         requires count { self.old.count < 2 ^ 47 }
         requires size { packet.size ≤ 65535 }
         requires waited { waited ≤ 2 ^ 60 }
-        ensures { (delay : ℕ) → self.new ≡ record { count = self.old.count + 1; stats = counted self.old.stats (departed packet) delay waited } }
+        ensures { self.new ≡ record { count = self.old.count + 1; stats = counted self.old.stats (departed packet) 0 waited } }
     {
         self.count += 1;
         self.stats.left += 1;
@@ -107,7 +107,7 @@ impl Tally {
     /// One more departure that found no packet.
     pub(crate) fn found_none(&mut self)
         requires { self.old.count < 2 ^ 47 }
-        ensures { (delay wait : ℕ) → self.new ≡ record { count = self.old.count + 1; stats = counted self.old.stats found_none delay wait } }
+        ensures { self.new ≡ record { count = self.old.count + 1; stats = counted self.old.stats found_none 0 0 } }
     {
         self.count += 1;
         self.stats.empty += 1;
@@ -116,7 +116,7 @@ impl Tally {
     /// One more update, with this delay.
     pub(crate) fn updated(&mut self, delay: u64)
         requires { self.old.count < 2 ^ 47 }
-        ensures { (wait : ℕ) → self.new ≡ record { count = self.old.count + 1; stats = counted self.old.stats updated delay wait } }
+        ensures { self.new ≡ record { count = self.old.count + 1; stats = counted self.old.stats updated delay 0 } }
     {
         self.count += 1;
         self.stats.updates += 1;
@@ -126,7 +126,7 @@ impl Tally {
     /// One more reset.
     pub(crate) fn was_reset(&mut self)
         requires { self.old.count < 2 ^ 47 }
-        ensures { (delay wait : ℕ) → self.new ≡ record { count = self.old.count + 1; stats = counted self.old.stats was_reset delay wait } }
+        ensures { self.new ≡ record { count = self.old.count + 1; stats = counted self.old.stats was_reset 0 0 } }
     {
         self.count += 1;
         self.stats.resets += 1;
@@ -136,7 +136,7 @@ impl Tally {
     pub(crate) fn changed(&mut self)
         requires { self.old.count < 2 ^ 47 }
         ensures count { self.new.count ≡ self.old.count + 1 }
-        ensures stats { (params : RawParams) (delay wait : ℕ) → self.new.stats ≡ counted self.old.stats (set params) delay wait }
+        ensures stats { (params : RawParams) → self.new.stats ≡ counted self.old.stats (set params) 0 0 }
     {
         self.count += 1;
         self.stats.changes += 1;

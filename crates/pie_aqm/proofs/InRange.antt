@@ -1,15 +1,9 @@
 -- Parameters that are in their ranges.
-use Rattle.std.proofs.Common.{◌≡◌, ◌≤◌, ℕ, true, false, arith}
-use Rattle.std.specs.Prelude.{None, nat_le, nat_lt}
+use Rattle.std.proofs.Common.{◌≡◌, ◌≤◌, arith}
+use Rattle.std.specs.Prelude.{None}
 use Rattle.std.proofs.lemmas.Bool.Decides.{nat_tests}
 use Rattle.pie_params.specs.declared.raw.RawParams.{RawParams}
 use Rattle.pie_params.specs.Range.{IsInRange, first_bad}
-
-pub leb : (a b : ℕ) → nat_le a b ≡ true → a ≤ b
-leb a b e = grind (arith, nat_tests)
-
-pub ltb : (a b : ℕ) → nat_lt a b ≡ false → b ≤ a
-ltb a b e = grind (arith, nat_tests)
 
 pub in-range : (params : RawParams) → first_bad params ≡ None → IsInRange params
 in-range params e = record {

@@ -1,13 +1,11 @@
 -- What one more call does to what each part holds, whichever list it shows.
 use Rattle.std.proofs.Common.{◌≡◌, ◌≤◌, ◌+◌, ◌&&◌, ℕ, List, [], ◌∷◌, ◌++◌, Bool, true, false, refl, if◌then◌else◌}
-use Rattle.std.specs.Prelude.{nat_lt, Option, Some, None}
-use Rattle.std.proofs.lemmas.Bool.{le-leb, lt-leb, ltb-true}
+use Rattle.std.specs.Prelude.{nat_lt}
 use Rattle.pie_rate.specs.Average.{average, samples}
 use Rattle.pie_rate.specs.Cycles.{begun, cycles, cycles_from, first_opening, first_position}
-use Rattle.pie_aqm.specs.Types.{Departure, Begun, Estimate, Picking, Choice, Enqueue, Mark, Drop, Arrival}
+use Rattle.pie_aqm.specs.Types.{Estimate, Picking, Choice, Enqueue, Mark, Drop, Arrival}
 use Rattle.pie_aqm.specs.Held.{Held}
 use Rattle.pie_rate.specs.Estimate as Rate
-use Rattle.pie_rate.specs.Step.{after_departure, opened_by, step_from}
 use Rattle.pie_early.specs.Decision.{accu_after, choice_of, counted, is_considered}
 use Rattle.pie_early.specs.Events.{EarlyEvent, arrival, cleared}
 use Rattle.pie_early.specs.History as Early
@@ -16,7 +14,6 @@ use Rattle.pie_early.proofs.Laws.{shows-next}
 use Rattle.pie_event.specs.declared.verdict.Verdict.TheVariants.{DroppedBytes, DroppedPackets}
 use Rattle.pie_aqm.specs.History.{considered_where, verdict_shown}
 use Rattle.pie_aqm.specs.Steps.{accu_left, chosen, no_estimate, offered, verdict}
-use Rattle.pie_aqm.proofs.InRange.{ltb}
 
 -- ---- early drop
 

@@ -1,26 +1,13 @@
 -- No number of a controller can't be believed exactly where all are sound.
 use Rattle.std.proofs.Common.{◌≡◌, ◌≤◌, ◌<◌, ◌^◌, ◌∙◌, ℕ, zero, suc, Bool, true, false, refl, arith, ◌↔◌, ap, sym, not, List, [], ◌∷◌, find, slice_get}
-use Rattle.std.specs.Prelude.{Option, Some, None, nat_le, nat_lt, is_none}
-use Rattle.std.proofs.lemmas.Bool.Decides.{nat_tests}
+use Rattle.std.specs.Prelude.{Option, Some, None, is_none}
+use Rattle.std.proofs.lemmas.Bool.{le-leb, leb-true, lt-ltb, ltb-true}
 use Rattle.pie_params.specs.Range.{first_bad}
 use Rattle.pie_aqm.specs.Types.{Begun, Profile, One, Two}
 use Rattle.pie_aqm.specs.Held.{Held, IsSound, IsWithin}
 use Rattle.pie_aqm.specs.Sound.{began_by, counts_below, first_unsound, fits_profile, is_sound_at, looked_at}
 use Rattle.pie_event.specs.declared.register.Register.{Register}
 use Rattle.pie_event.specs.declared.register.Register.TheVariants as register
-
--- a test that holds
-at-most : (a b : ℕ) → nat_le a b ≡ true → a ≤ b
-at-most a b e = grind (arith, nat_tests)
-
-below : (a b : ℕ) → nat_lt a b ≡ true → a < b
-below a b e = grind (arith, nat_tests)
-
-is-at-most : (a b : ℕ) → a ≤ b → nat_le a b ≡ true
-is-at-most a b e = grind (arith, nat_tests)
-
-is-below : (a b : ℕ) → a < b → nat_lt a b ≡ true
-is-below a b e = grind (arith, nat_tests)
 
 none-is : {X : Type 0} (o : Option X) → is_none o ≡ true → o ≡ None
 none-is None e = refl
@@ -29,15 +16,15 @@ none-is (Some x) e = cc
 -- the cycle
 cycle-from : (threshold now : ℕ) (o : Option Begun) → began_by now o ≡ true → counts_below threshold o ≡ true → IsWithin threshold now o
 cycle-from threshold now None b c = tt
-cycle-from threshold now (Some cycle) b c = (at-most cycle.start now b, below cycle.count threshold c)
+cycle-from threshold now (Some cycle) b c = (leb-true cycle.start now b, ltb-true cycle.count threshold c)
 
 began-to : (threshold now : ℕ) (o : Option Begun) → IsWithin threshold now o → began_by now o ≡ true
 began-to threshold now None w = refl
-began-to threshold now (Some cycle) w = is-at-most cycle.start now w.0
+began-to threshold now (Some cycle) w = le-leb cycle.start now w.0
 
 counts-to : (threshold now : ℕ) (o : Option Begun) → IsWithin threshold now o → counts_below threshold o ≡ true
 counts-to threshold now None w = refl
-counts-to threshold now (Some cycle) w = is-below cycle.count threshold w.1
+counts-to threshold now (Some cycle) w = lt-ltb cycle.count threshold w.1
 
 active-from : (profile : Profile) (active : Bool) → fits_profile profile active ≡ true → profile ≡ One → active ≡ true
 active-from One active fits one = fits
@@ -69,15 +56,15 @@ sound_from h none =
     let at : (i : ℕ) (r : Register) → slice_get looked_at i ≡ Some r → is_sound_at h r ≡ true = λ i r there. passes-at (is_sound_at h) looked_at i r none there in
     record {
       params = none-is (first_bad h.params) (at 0 register.Params refl);
-      moment = let m = at-most h.moment 1152921504606846975 (at 1 register.Moment refl) in omega arith;
-      prob = at-most h.control.prob (10 ^ 12) (at 2 register.Prob refl);
-      old_delay = at-most h.control.old_delay (2 ^ 40) (at 3 register.OldDelay refl);
-      burst = at-most h.control.burst (10 ^ 12) (at 5 register.Burst refl);
-      last = at-most h.control.last h.moment (at 6 register.Last refl);
-      accu = below h.accu 8_500_000_000_000 (at 4 register.Accu refl);
-      average = let m = at-most h.rate.average 1152921504606846975 (at 7 register.Average refl) in omega arith;
+      moment = let m = leb-true h.moment 1152921504606846975 (at 1 register.Moment refl) in omega arith;
+      prob = leb-true h.control.prob (10 ^ 12) (at 2 register.Prob refl);
+      old_delay = leb-true h.control.old_delay (2 ^ 40) (at 3 register.OldDelay refl);
+      burst = leb-true h.control.burst (10 ^ 12) (at 5 register.Burst refl);
+      last = leb-true h.control.last h.moment (at 6 register.Last refl);
+      accu = ltb-true h.accu 8_500_000_000_000 (at 4 register.Accu refl);
+      average = let m = leb-true h.rate.average 1152921504606846975 (at 7 register.Average refl) in omega arith;
       cycle = cycle-from h.params.dq_threshold h.moment h.rate.begun (at 8 register.CycleStart refl) (at 9 register.CycleCount refl);
-      waited = at-most h.waited (2 ^ 40) (at 10 register.Waited refl);
+      waited = leb-true h.waited (2 ^ 40) (at 10 register.Waited refl);
       active = active-from h.profile h.active (at 11 register.Active refl);
     }
 
@@ -88,16 +75,16 @@ sound_to h s =
     let a = s.average in
     rw (
       ap is_none s.params,
-      is-at-most h.moment 1152921504606846975 (omega arith),
-      is-at-most h.control.prob (10 ^ 12) s.prob,
-      is-at-most h.control.old_delay (2 ^ 40) s.old_delay,
-      is-below h.accu 8_500_000_000_000 s.accu,
-      is-at-most h.control.burst (10 ^ 12) s.burst,
-      is-at-most h.control.last h.moment s.last,
-      is-at-most h.rate.average 1152921504606846975 (omega arith),
+      le-leb h.moment 1152921504606846975 (omega arith),
+      le-leb h.control.prob (10 ^ 12) s.prob,
+      le-leb h.control.old_delay (2 ^ 40) s.old_delay,
+      lt-ltb h.accu 8_500_000_000_000 s.accu,
+      le-leb h.control.burst (10 ^ 12) s.burst,
+      le-leb h.control.last h.moment s.last,
+      le-leb h.rate.average 1152921504606846975 (omega arith),
       began-to h.params.dq_threshold h.moment h.rate.begun s.cycle,
       counts-to h.params.dq_threshold h.moment h.rate.begun s.cycle,
-      is-at-most h.waited (2 ^ 40) s.waited,
+      le-leb h.waited (2 ^ 40) s.waited,
       active-to h.profile h.active s.active,
     ) refl
 

@@ -5,8 +5,6 @@ use Rattle.pie_params.specs.Range.{first_bad}
 use Rattle.pie_aqm.specs.Calls.{Call, after_call}
 use Rattle.pie_book.specs.Types.{Held, Command, Event, Opening}
 use Rattle.pie_aqm.specs.Places.{Place, places}
-use Rattle.pie_aqm.proofs.InRange.{threshold-holds}
-use Rattle.pie_aqm.proofs.Laws.{has_threshold}
 use Rattle.pie_aqm.proofs.Places.{place_of, places-push}
 use Rattle.pie_book.specs.Beside.{IsOpening, IsStep, after_calls, call_at, calls_of, held_after_calls, opened_by}
 use Rattle.pie_book.specs.Call.{call_of}
@@ -16,7 +14,7 @@ use Rattle.pie_book.specs.History.{waiting_after}
 use Rattle.pie_event.specs.Ranges.{CommandFits}
 use Rattle.pie_book.specs.Step.{after_command, call_in}
 use Rattle.pie_book.proofs.CoreFacts.{held-is, next-decided, next-shows}
-use Rattle.pie_book.proofs.LegalFacts.{Stays, first-shows, first_core, run_of}
+use Rattle.pie_book.proofs.LegalFacts.{Stays, first-shows, first_core, run_of, threshold-of}
 
 pub opening_beside : (opening : Opening) â†’ IsOpening opening (opened_by opening)
 opening_beside opening = record { core = first_core opening; shows = first-shows opening; holds = refl }
@@ -29,8 +27,7 @@ pub step_beside : (opening : Opening) (core : CoreView) (history : List Event) â
 step_beside opening core history shows caller command good free = record {
   decided = next-decided opening core history shows command;
   core_after = closed (after_command core command);
-  shows = next-shows opening core history shows caller command
-      (has_threshold core.held (call_in core command) (threshold-holds core.held.params good).1) free;
+  shows = next-shows opening core history shows caller command (threshold-of core command good) free;
   holds = refl;
 }
 

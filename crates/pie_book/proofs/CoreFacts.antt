@@ -6,7 +6,7 @@ use Rattle.std.specs.Option.{is_some}
 use Rattle.std.proofs.lemmas.List.{append-nil, append_assoc, map-append}
 use Rattle.std.proofs.lemmas.List.Elements.{All-cons, All-head, All-nil, All-push, All-tail}
 use Rattle.std.proofs.lemmas.List.Sums.{sum_by-append}
-use Rattle.pie_book.specs.Types.{Packet, Waiting, One, Arrival, Verdict, Held, Command, Arrive, Depart, Update, Reset, SetParams, Answer, Enqueued}
+use Rattle.pie_book.specs.Types.{Packet, Waiting, One, Verdict, Held, Command, Arrive, Depart, Answer, Enqueued}
 use Rattle.pie_book.specs.Types.{Event, Mode, Opening}
 use Rattle.pie_queue.specs.Queue.{bytes_of}
 use Rattle.pie_event.specs.declared.verdict.Verdict.TheVariants as verdict
@@ -28,7 +28,7 @@ use Rattle.pie_book.specs.Cause.{cause_after}
 use Rattle.pie_book.specs.Core.{CoreView, Shows, closed, counted, refusal_of, registers_of, with_queue}
 use Rattle.pie_book.specs.Decision.{IsLegal, IsLegalAt, answer_by, answer_to_departure, decision, refusal_by_rule, refusal_with}
 use Rattle.pie_event.specs.Deed.{Deed, arrival_deed, deed, departure, departure_deed, fits, handed_in, with_ce}
-use Rattle.pie_book.specs.Estimates.{active_after, delay_after, delay_answered, due_after, held_after}
+use Rattle.pie_book.specs.Estimates.{active_after, delay_after, delay_answered, held_after}
 use Rattle.pie_book.specs.History.{admitted, bytes_after, departed_count, effective_moment, waiting_after}
 use Rattle.pie_book.specs.Registers.{registers_after}
 use Rattle.pie_book.specs.Run.{event_of}

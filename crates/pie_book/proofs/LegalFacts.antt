@@ -3,8 +3,8 @@ use Rattle.std.proofs.Common.{◌≡◌, ℕ, List, [], ◌∷◌, ◌++◌, Boo
 use Rattle.std.proofs.lemmas.List.{append-nil, append_assoc}
 use Rattle.std.proofs.lemmas.List.Elements.{All-head, All-tail}
 use Rattle.pie_params.specs.Range.{first_bad}
-use Rattle.pie_book.specs.Types.{Waiting, Arrival, Held, Command, Arrive, Depart, Update, Reset, SetParams, Answer, Event, Opening}
-use Rattle.pie_aqm.specs.Calls.{after_call}
+use Rattle.pie_book.specs.Types.{Waiting, Arrival, Held, Command, Arrive, Depart, SetParams, Answer, Event, Opening}
+use Rattle.pie_aqm.specs.Calls.{HasThreshold, after_call}
 use Rattle.pie_aqm.specs.Steps as Steps
 use Rattle.pie_aqm.specs.Steps.{anew, bytes_with, judged}
 use Rattle.pie_aqm.proofs.InRange.{threshold-holds}
@@ -54,6 +54,9 @@ good-next core (Depart moment) good fit = by core.waiting
 good-next core (SetParams moment params) good fit = fit.1.in_range
 good-next core _ good fit = good
 
+pub threshold-of : (core : CoreView) (command : Command) → first_bad core.held.params ≡ None → HasThreshold core.held (call_in core command)
+threshold-of core command good = has_threshold core.held (call_in core command) (threshold-holds core.held.params good).1
+
 -- ---- one event more
 
 -- what is legal after a history is the next of a core that shows the history
@@ -71,8 +74,7 @@ next-core opening core history event shows good next =
     let same : event_of event.caller event.command (answer_in core event.command) ≡ event =
     ap (λ (answer : Answer). event_of event.caller event.command answer) (sym next.answered) in
     subst (λ (e : Event). Shows opening (closed (after_command core event.command)) (history ++ e ∷ [])) same
-    (next-shows opening core history shows event.caller event.command
-    (has_threshold core.held (call_in core event.command) (threshold-holds core.held.params good).1) next.taken)
+    (next-shows opening core history shows event.caller event.command (threshold-of core event.command good) next.taken)
 
 -- ---- a whole history
 

@@ -1,8 +1,9 @@
 -- The packets that wait after a legal history are taken, one by one, by a core that goes on from what they wait at.
 use Rattle.std.proofs.Common.{◌≡◌, ◌≤◌, ◌<◌, ◌+◌, ◌-◌, ◌==◌, ℕ, suc, List, [], ◌∷◌, ◌++◌, length, false, refl, sym, subst, ap}
 use Rattle.std.proofs.Common.{◌∙◌, arith, length-append, All, None}
-use Rattle.std.specs.Prelude.{nat_le, nat_lt, slice_get}
+use Rattle.std.specs.Prelude.{nat_lt, slice_get}
 use Rattle.std.specs.Option.{option_map_or}
+use Rattle.std.proofs.lemmas.Bool.{le-ltb, lt-leb}
 use Rattle.std.proofs.lemmas.Bool.Decides.{nat_tests}
 use Rattle.std.proofs.lemmas.List.Elements.{All-cons, All-head, All-nil, All-tail}
 use Rattle.std.proofs.lemmas.List.Sums.{sum_by-append, sum_by-cons}
@@ -71,12 +72,6 @@ size-good size is =
     let small : nat_lt 65535 size ≡ false = grind (arith, nat_tests) in
     rw (none, small) refl
 
-not-below : (a b : ℕ) → b ≤ a → nat_lt a b ≡ false
-not-below a b e = grind (arith, nat_tests)
-
-not-within : (a b : ℕ) → b < a → nat_le a b ≡ false
-not-within a b e = grind (arith, nat_tests)
-
 pub next_is_taken : (opening : Opening) (standing : Standing) (history : List Event) (before : List Waiting) (next : Waiting) (after : List Waiting)
     → first_bad opening.params ≡ None → All (λ event. CommandFits event.command) history → StandsFor opening standing history
     → waiting_after opening history ≡ before ++ next ∷ after
@@ -96,18 +91,18 @@ next_is_taken opening standing history before next after good fit stands is =
     let ordered = newest-by before next.since (before-next before next after whole.order) in
     let size = (at-next WaitingHolds before next after whole.packets).size in
     rw (
-      not-within standing.packets (length before) room,
+      lt-leb standing.packets (length before) room,
       size-good next.packet.size size,
-      not-below standing.bytes (bytes_of before + next.packet.size) fits,
-      not-below standing.controller.moment next.since early,
-      not-below next.since (newest_since before) ordered,
+      le-ltb standing.bytes (bytes_of before + next.packet.size) fits,
+      le-ltb standing.controller.moment next.since early,
+      le-ltb next.since (newest_since before) ordered,
     ) refl
 
 pub none_is_missed : (opening : Opening) (standing : Standing) (history : List Event) → StandsFor opening standing history
     → end_refusal (begun_with (core_of opening.limits standing (waiting_after opening history)) standing) ≡ None
 none_is_missed opening standing history stands =
     let all : nat_lt (length (waiting_after opening history)) standing.packets ≡ false =
-    not-below (length (waiting_after opening history)) standing.packets (omega (arith, stands.packets)) in
+    le-ltb (length (waiting_after opening history)) standing.packets (omega (arith, stands.packets)) in
     let whole : nat_lt (bytes_of (waiting_after opening history)) standing.bytes ≡ false =
-    not-below (bytes_of (waiting_after opening history)) standing.bytes (omega (arith, stands.bytes)) in
+    le-ltb (bytes_of (waiting_after opening history)) standing.bytes (omega (arith, stands.bytes)) in
     rw (all, whole) refl

@@ -1,74 +1,42 @@
 //! Why a book was not opened, why a command was not taken, and why nothing was folded.
 
-use std::fmt;
 use thiserror::Error;
 
 /// Why a book was not opened (this project's own). The refusals are looked for in this order.
 #[derive(Clone, Copy, Debug, PartialEq, Eq, Error)]
 pub enum OpenRefusal {
     /// A limit is out of its range.
+    #[error("limits out of range")]
     BadLimits,
     /// The opening moment is above `2^60 - 1`.
+    #[error("moment out of range")]
     Moment,
     /// There was no memory for the queue and the tail.
+    #[error("out of memory")]
     Memory,
-}
-
-impl OpenRefusal {
-    /// The refusal in words.
-    fn text(self) -> &'static str {
-        match self {
-            OpenRefusal::BadLimits => "limits out of range",
-            OpenRefusal::Moment => "moment out of range",
-            OpenRefusal::Memory => "out of memory",
-        }
-    }
-}
-
-impl fmt::Display for OpenRefusal {
-    fn fmt<W: fmt::Write>(&self, f: &mut fmt::Formatter<W>) -> fmt::Result {
-        f.write_str(self.text())
-    }
 }
 
 /// Why a command was not taken (this project's own); the book is as it was. The refusals are looked for in this order.
 #[derive(Clone, Copy, Debug, PartialEq, Eq, Error)]
 pub enum Refusal {
     /// The moment handed in is above `2^60 - 1`.
+    #[error("moment out of range")]
     Moment,
     /// The arriving packet's size is outside 1 to 65535 bytes.
+    #[error("packet size out of range")]
     Size,
     /// The update's effective moment is before the due moment.
+    #[error("the update is due at {due}")]
     TooSoon {
         /// The moment of the last update, or of the opening, and `t_update` after it, in nanoseconds.
         due: u64,
     },
     /// The book has recorded as many events as its limits allow in all.
+    #[error("no more events")]
     Exhausted,
     /// The tail of a bounded book holds as many events as its limits allow.
+    #[error("the tail is full")]
     HistoryFull,
-}
-
-impl Refusal {
-    /// The refusal in words, where they are fixed.
-    fn text(self) -> &'static str {
-        match self {
-            Refusal::Moment => "moment out of range",
-            Refusal::Size => "packet size out of range",
-            Refusal::TooSoon { .. } => "",
-            Refusal::Exhausted => "no more events",
-            Refusal::HistoryFull => "the tail is full",
-        }
-    }
-}
-
-impl fmt::Display for Refusal {
-    fn fmt<W: fmt::Write>(&self, f: &mut fmt::Formatter<W>) -> fmt::Result {
-        match *self {
-            Refusal::TooSoon { due } => write!(f, "the update is due at {due}"),
-            other => f.write_str(other.text()),
-        }
-    }
 }
 
 /// Why nothing was folded (this project's own); the book is as it was. The refusals are looked for in this order.

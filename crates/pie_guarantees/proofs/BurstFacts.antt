@@ -4,13 +4,13 @@ use Rattle.std.proofs.Common.{if◌then◌else◌, arith, subst, max, All}
 use Rattle.std.proofs.lemmas.List.{append_assoc}
 use Rattle.std.proofs.lemmas.List.Elements.{All-cons, All-head, All-nil, All-tail}
 use Rattle.std.proofs.lemmas.List.Sums.{sum_by_push, sum_by-append}
+use Rattle.std.proofs.lemmas.Bool.{ltb-false}
 use Rattle.pie_queue.specs.Queue.{bytes_of}
 use Rattle.pie_event.specs.Deed.{deed, deed_of, is_update}
 use Rattle.pie_aqm.specs.Calls.{after_call}
 use Rattle.pie_aqm.specs.Held.{Held, IsSound}
 use Rattle.pie_aqm.specs.Steps as Steps
-use Rattle.pie_aqm.specs.Steps.{anew, bytes_with, is_calm, judged, now_at}
-use Rattle.pie_aqm.proofs.InRange.{ltb}
+use Rattle.pie_aqm.specs.Steps.{anew, bytes_with, is_calm, judged}
 use Rattle.pie_book.specs.Types.{RawParams, Waiting, Arrival, Command, Arrive, Depart, Update, Reset, SetParams, Answer, Enqueued, Event, Opening}
 use Rattle.pie_book.specs.Call.{arrival_of, call_of, departure_call}
 use Rattle.pie_book.specs.Decision.{is_too_soon}
@@ -156,7 +156,7 @@ module _ (burst least most start last : ℕ) where
       by [] = none-more n (after_call h (departure_call [] moment)) now
       by (oldest ∷ others) = none-more n (after_call h (departure_call (oldest ∷ others) moment)) now
   call-holds n h waiting packets (Update moment) old set due =
-      updated-holds n h (bytes_of waiting) moment old (ltb (max h.moment moment) (h.control.last + h.params.t_update) due)
+      updated-holds n h (bytes_of waiting) moment old (ltb-false (max h.moment moment) (h.control.last + h.params.t_update) due)
   call-holds n h waiting packets (Reset moment) old set due =
       none-more n (Steps.reset h moment) (renewed burst least most start last n h.params h.control.burst h.control.last h.moment old moment)
   call-holds n h waiting packets (SetParams moment params) old set due =

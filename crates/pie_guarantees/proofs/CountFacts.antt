@@ -2,7 +2,7 @@
 use Rattle.std.proofs.Common.{◌≡◌, ◌≤◌, ◌+◌, ◌*◌, ◌==◌, ◌^◌, ℕ, List, [], ◌∷◌, ◌++◌, map, Bool, true, false, refl, sym, ap, ◌∙◌, cond}
 use Rattle.std.proofs.Common.{◌⊎◌, inl, inr, if◌then◌else◌, nat_lt, length, arith, subst, All, Some, None, Option}
 use Rattle.std.specs.Prelude.{sum_by}
-use Rattle.std.specs.Option.{option_to_list}
+use Rattle.std.proofs.lemmas.Bool.{ltb-false}
 use Rattle.std.proofs.lemmas.List.{append-nil, append_assoc, length-map, map-append}
 use Rattle.std.proofs.lemmas.List.Elements.{filter_map-append}
 use Rattle.std.proofs.lemmas.List.Sums.{sum_by_push, sum_by-cons}
@@ -15,8 +15,7 @@ use Rattle.pie_early.specs.declared.early.Choice.TheVariants as choice
 use Rattle.pie_aqm.specs.Calls.{after_call}
 use Rattle.pie_aqm.specs.Held.{Held}
 use Rattle.pie_aqm.specs.Steps as Steps
-use Rattle.pie_aqm.proofs.InRange.{ltb}
-use Rattle.pie_aqm.proofs.Places.{filter_map-push}
+use Rattle.pie_aqm.proofs.Places.{filter_map-push, with_one}
 use Rattle.pie_book.specs.Types.{Packet, Waiting, Verdict, Command, Arrive, Depart, Update, Reset, SetParams, Answer, Enqueued}
 use Rattle.pie_book.specs.Types.{Marked, DroppedEarly, DroppedBytes, DroppedPackets, Empty, Left, Event, Opening}
 use Rattle.pie_book.specs.Call.{arrival_of, call_of}
@@ -25,7 +24,7 @@ use Rattle.pie_book.specs.Estimates.{held_after, params_after}
 use Rattle.pie_book.specs.History.{bytes_after, effective_moment, waiting_after}
 use Rattle.pie_book.specs.Statistics.{count_of, is_dropped_bytes, is_dropped_early, is_dropped_packets, is_marked, is_queued}
 use Rattle.pie_book.proofs.CoreFacts.{answer-fits, held-is}
-use Rattle.pie_book.proofs.HistoryFacts.{waiting_next}
+use Rattle.pie_book.specs.Step.{waiting_next}
 use Rattle.pie_book.proofs.LegalFacts.{first-shows, first_core}
 use Rattle.pie_guarantees.specs.Counts.{Carries, SetsLimit, bytes_departed, hands_in, packet_queued, packets_departed, packets_handed_in}
 use Rattle.pie_guarantees.specs.Counts.{packets_queued, packets_waiting, time_of}
@@ -96,12 +95,12 @@ packets-of : List Waiting → List Packet
 packets-of waiting = map (λ (entry : Waiting). entry.packet) waiting
 
 queued-push : (before : List Event) (event : Event)
-    → packets_queued (before ++ event ∷ []) ≡ packets_queued before ++ option_to_list (packet_queued (deed_of event))
+    → packets_queued (before ++ event ∷ []) ≡ with_one (packets_queued before) (packet_queued (deed_of event))
 unfolding packets_queued
 queued-push before event = filter_map-push (λ (e : Event). packet_queued (deed_of e)) before event
 
 departed-push : (before : List Event) (event : Event)
-    → packets_departed (before ++ event ∷ []) ≡ packets_departed before ++ option_to_list (departure (deed_of event))
+    → packets_departed (before ++ event ∷ []) ≡ with_one (packets_departed before) (departure (deed_of event))
 unfolding packets_departed
 departed-push before event = filter_map-push (λ (e : Event). departure (deed_of e)) before event
 
@@ -110,47 +109,30 @@ deed-is : (opening : Opening) (before : List Event) (event : Event) → IsStep o
     → deed_of event ≡ deed event.command (answer_by (held_after opening before) (waiting_after opening before) opening.limits.packets event.command)
 deed-is opening before event step = ap (λ (a : Answer). deed event.command a) step.here.answered
 
-none-new : (gone all : List Packet) (waiting : List Waiting) → gone ++ packets-of waiting ≡ all
-    → (gone ++ []) ++ packets-of (waiting ++ []) ≡ all ++ []
-none-new gone all waiting e = rw (append-nil gone, append-nil all, append-nil waiting) e
-
 one-new : (gone all : List Packet) (waiting : List Waiting) (new : Waiting) → gone ++ packets-of waiting ≡ all
-    → (gone ++ []) ++ packets-of (waiting ++ new ∷ []) ≡ all ++ new.packet ∷ []
+    → gone ++ packets-of (waiting ++ new ∷ []) ≡ all ++ new.packet ∷ []
 unfolding packets-of
 one-new gone all waiting new e =
-    rw (
-      append-nil gone,
-      map-append (λ (entry : Waiting). entry.packet) waiting (new ∷ []),
-      ← append_assoc gone (packets-of waiting)
-          (new.packet ∷ []),
-    )
+    rw (map-append (λ (entry : Waiting). entry.packet) waiting (new ∷ []), ← append_assoc gone (packets-of waiting) (new.packet ∷ []))
     (ap (λ (ps : List Packet). ps ++ new.packet ∷ []) e)
 
 in-order : (h : Held) (waiting : List Waiting) (packets : ℕ) (command : Command) (now : ℕ) (gone all : List Packet)
     → gone ++ packets-of waiting ≡ all
-    → (gone ++ option_to_list (departure (deed command (answer_by h waiting packets command))))
+    → with_one gone (departure (deed command (answer_by h waiting packets command)))
     ++ packets-of (waiting_next waiting now (deed command (answer_by h waiting packets command)))
-    ≡ all ++ option_to_list (packet_queued (deed command (answer_by h waiting packets command)))
+    ≡ with_one all (packet_queued (deed command (answer_by h waiting packets command)))
 unfolding packets-of
 in-order h waiting packets (Arrive moment packet word) now gone all e = by (Steps.verdict h (arrival_of waiting packets packet word))
   where
-    by : (v : Verdict) → (gone ++ option_to_list (departure (deed (Arrive moment packet word) (answer_of v))))
+    by : (v : Verdict) → with_one gone (departure (deed (Arrive moment packet word) (answer_of v)))
         ++ packets-of (waiting_next waiting now (deed (Arrive moment packet word) (answer_of v)))
-        ≡ all ++ option_to_list (packet_queued (deed (Arrive moment packet word) (answer_of v)))
+        ≡ with_one all (packet_queued (deed (Arrive moment packet word) (answer_of v)))
     by verdict.Enqueued = one-new gone all waiting (record { packet = packet; since = now }) e
     by verdict.Marked = one-new gone all waiting (record { packet = with_ce packet; since = now }) e
-    by verdict.DroppedEarly = none-new gone all waiting e
-    by verdict.DroppedBytes = none-new gone all waiting e
-    by verdict.DroppedPackets = none-new gone all waiting e
-in-order h [] packets (Depart moment) now gone all e = none-new gone all [] e
-in-order h (oldest ∷ others) packets (Depart moment) now gone all e = rw (
-  append-nil all,
-  append_assoc gone (oldest.packet ∷ [])
-      (packets-of others),
-) e
-in-order h waiting packets (Update moment) now gone all e = none-new gone all waiting e
-in-order h waiting packets (Reset moment) now gone all e = none-new gone all waiting e
-in-order h waiting packets (SetParams moment params) now gone all e = none-new gone all waiting e
+    by _ = e
+in-order h [] packets (Depart moment) now gone all e = e
+in-order h (oldest ∷ others) packets (Depart moment) now gone all e = rw (append_assoc gone (oldest.packet ∷ []) (packets-of others)) e
+in-order h waiting packets _ now gone all e = e
 
 Ordered : Opening → List Event → Type 0
 Ordered opening history = packets_departed history ++ packets_waiting opening history ≡ packets_queued history
@@ -181,9 +163,6 @@ in_the_ring opening history lawful =
     let it = stands_at opening history [] (rw (append-nil history) lawful) in
     subst (λ (w : List Waiting). length w ≤ opening.limits.packets) it.shows.waiting it.room
 
-bytes-none : (waiting : List Waiting) → bytes_of (waiting ++ []) ≡ bytes_of waiting
-bytes-none waiting = rw (append-nil waiting) refl
-
 bytes-one : (waiting : List Waiting) (new : Waiting) → bytes_of (waiting ++ new ∷ []) ≡ bytes_of waiting + new.packet.size
 bytes-one waiting new = sum_by_push (λ (entry : Waiting). entry.packet.size) waiting new
 
@@ -204,8 +183,8 @@ bounded h waiting packets (Arrive moment packet word) now =
     v : Bool → Bool → Choice → Verdict
     v over full choice = if over then verdict.DroppedBytes else if full then verdict.DroppedPackets else Steps.chosen choice
 
-    same : Bounded h.params.limit_bytes (bytes_of waiting) (bytes_of (waiting ++ [])) None
-    same = record { or = inl (omega (arith, bytes-none waiting)); queue = λ packet is. cc }
+    same : Bounded h.params.limit_bytes (bytes_of waiting) (bytes_of waiting) None
+    same = record { or = inl (omega arith); queue = λ packet is. cc }
 
     more : (new : Waiting) → new.packet.size ≡ packet.size → bytes_of waiting + packet.size ≤ h.params.limit_bytes
         → Bounded h.params.limit_bytes (bytes_of waiting) (bytes_of (waiting ++ new ∷ [])) (Some new.packet)
@@ -220,10 +199,10 @@ bounded h waiting packets (Arrive moment packet word) now =
         (if over then verdict.DroppedBytes else if full then verdict.DroppedPackets else Steps.chosen choice))))
     by true full o choice = same
     by false true o choice = same
-    by false false o choice.Enqueue = more (record { packet = packet; since = now }) refl (ltb h.params.limit_bytes
+    by false false o choice.Enqueue = more (record { packet = packet; since = now }) refl (ltb-false h.params.limit_bytes
         (bytes_of waiting + packet.size) o)
     by false false o choice.Mark = more (record { packet = with_ce packet; since = now }) refl
-        (ltb h.params.limit_bytes (bytes_of waiting + packet.size) o)
+        (ltb-false h.params.limit_bytes (bytes_of waiting + packet.size) o)
     by false false o choice.Drop = same
 bounded h [] packets (Depart moment) now = record { or = inl (omega arith); queue = λ packet is. cc }
 bounded h (oldest ∷ others) packets (Depart moment) now =
@@ -232,9 +211,7 @@ bounded h (oldest ∷ others) packets (Depart moment) now =
           (arith, first));
       queue = λ packet is. cc;
     }
-bounded h waiting packets (Update moment) now = record { or = inl (omega (arith, bytes-none waiting)); queue = λ packet is. cc }
-bounded h waiting packets (Reset moment) now = record { or = inl (omega (arith, bytes-none waiting)); queue = λ packet is. cc }
-bounded h waiting packets (SetParams moment params) now = record { or = inl (omega (arith, bytes-none waiting)); queue = λ packet is. cc }
+bounded h waiting packets _ now = record { or = inl (omega arith); queue = λ packet is. cc }
 
 bounded-at : (opening : Opening) (before : List Event) (event : Event) → IsStep opening before event
     → Bounded (held_after opening before).params.limit_bytes (bytes_after opening before) (bytes_after opening (before ++ event ∷ []))

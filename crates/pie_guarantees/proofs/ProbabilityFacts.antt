@@ -15,7 +15,7 @@ use Rattle.pie_aqm.specs.Calls.{after_call}
 use Rattle.pie_aqm.specs.Held.{Held}
 use Rattle.pie_aqm.specs.History.{held_of}
 use Rattle.pie_aqm.specs.Steps as Steps
-use Rattle.pie_aqm.specs.Steps.{anew, bytes_with, judged, wakes}
+use Rattle.pie_aqm.specs.Steps.{anew, bytes_with, judged}
 use Rattle.pie_aqm.proofs.InRange.{in-range}
 use Rattle.pie_book.specs.Types.{RawParams, Waiting, Arrival, Command, Arrive, Depart, Update, Reset, SetParams, Answer, Enqueued, Event, Opening}
 use Rattle.pie_book.specs.Call.{arrival_of, call_of, departure_call}

@@ -18,11 +18,11 @@ use Rattle.pie_event.specs.declared.verdict.Verdict.TheVariants as verdict
 use Rattle.pie_aqm.specs.Calls.{after_call}
 use Rattle.pie_aqm.specs.Held.{Held}
 use Rattle.pie_aqm.specs.Steps as Steps
-use Rattle.pie_aqm.specs.Steps.{anew, bytes_with, chosen, judged, offered}
+use Rattle.pie_aqm.specs.Steps.{anew, bytes_with, chosen, judged}
 use Rattle.pie_book.specs.Types.{Packet, Waiting, Arrival, Verdict, Command, Arrive, Depart, Update, Reset, SetParams, Answer, Event, Opening}
 use Rattle.pie_book.specs.Call.{arrival_of, call_of}
 use Rattle.pie_book.specs.Decision.{answer_by}
-use Rattle.pie_book.specs.Estimates.{active_after, held_after}
+use Rattle.pie_book.specs.Estimates.{held_after}
 use Rattle.pie_book.specs.Estimates as Book
 use Rattle.pie_book.specs.History.{waiting_after}
 use Rattle.pie_book.specs.Shown.{arriving_size}

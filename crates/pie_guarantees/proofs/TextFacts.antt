@@ -5,11 +5,11 @@ use Rattle.std.specs.List.{filter_map}
 use Rattle.std.specs.Prelude.{Option, Some, None, Result, Ok, Err, ⊤}
 use Rattle.std.proofs.lemmas.Bool.Decides.{nat_tests}
 use Rattle.std.proofs.lemmas.List.Elements.{All-cons, All-head, All-nil, All-tail}
+use Rattle.std.proofs.lemmas.Bool.{ltb-false}
 use Rattle.pie_params.specs.Range.{first_bad}
 use Rattle.pie_params.specs.declared.raw.Field.{Field}
 use Rattle.pie_params.specs.declared.raw.RawParams.{RawParams}
 use Rattle.pie_event.specs.Opening.{opening_refusal}
-use Rattle.pie_aqm.proofs.InRange.{ltb}
 use Rattle.pie_book.specs.Types.{Command, Arrive, Depart, Update, Reset, SetParams, Answer, Event, Opening}
 use Rattle.pie_record.specs.declared.command.Asked.{Asked}
 use Rattle.pie_record.specs.declared.command.Asked.TheVariants as asked
@@ -229,7 +229,7 @@ told-sets version most number row l e = by (nat_lt most number) refl
     by true is =
         let over : most < number = grind (arith, nat_tests) in
         let wrong = told_by-long version most number row over in cc
-    by false is = inner (ltb most number is) (line_of version row) refl
+    by false is = inner (ltb-false most number is) (line_of version row) refl
 
 lines-set : (version : Version) (most number : ℕ) (rows : List Row) → All LineSets (lines_from version most number rows)
 lines-set version most number [] = rw (lines_from-none version most number) (All-nil LineSets)

@@ -1,5 +1,0 @@
-use Rattle.std.proofs.Common.{rules}
-use Rattle.pie_aqm.proofs.raw.RawController.set_params.Goals as goal
-
-pub returns : goal.returns
-returns c = search rules

@@ -1,9 +1,11 @@
 -- The definitions on worked rows. Each line computes: what is held after each call, and that looking back over the events gives the same.
 use Rattle.std.proofs.Common.{◌≡◌, ℕ, ◌+◌, ◌^◌, List, [], ◌∷◌, ◌++◌, Bool, true, false, Option, Some, None, refl}
-use Rattle.pie_aqm.specs.Types.{RawParams, Elements, Stamp, Begun, Two, Arrival}
+use Rattle.pie_aqm.specs.{RawParams, Elements, Stamp, Begun, Two, Arrival, ControllerEvent, Opened, Arrive, Call, Change, Depart, Restart, Update}
+use Rattle.pie_aqm.specs.{after_call, shown_by, active_of, arrivals_shown, control_of, delay_noted, departures_of, departures_shown, early_of}
+use Rattle.pie_aqm.specs.{held_of, is_active, noted, noted_after, now_of, params_of, updates_shown, waited_noted, waited_of, greatest, last_or}
+use Rattle.pie_aqm.specs.{places, accu_left, delay_answered, due, opened, verdict}
 use Rattle.pie_params.specs.Elements.{usual}
 use Rattle.pie_aqm.specs.Held.{Held}
-use Rattle.pie_aqm.specs.Events.{ControllerEvent, Opened}
 use Rattle.pie_queue.specs.declared.ecn.Ecn.TheVariants.{NotEct}
 use Rattle.pie_rate.specs.Average.{average, samples}
 use Rattle.pie_rate.specs.Cycles.{begun, cycles, cycles_from, first_closing, first_cycle, first_opening, first_position}
@@ -13,11 +15,6 @@ use Rattle.pie_control.specs.Next.{raw_step, tuning_divisor, tuned_step, decayed
 use Rattle.pie_early.specs.Decision.{is_considered, is_picked}
 use Rattle.pie_early.specs.History.{accumulated}
 use Rattle.pie_event.specs.declared.verdict.Verdict.TheVariants.{DroppedBytes, DroppedPackets}
-use Rattle.pie_aqm.specs.Calls.{Arrive, Call, Change, Depart, Restart, Update, after_call, shown_by}
-use Rattle.pie_aqm.specs.History.{active_of, arrivals_shown, control_of, delay_noted, departures_of, departures_shown, early_of, held_of}
-use Rattle.pie_aqm.specs.History.{is_active, noted, noted_after, now_of, params_of, updates_shown, waited_noted, waited_of}
-use Rattle.pie_aqm.specs.Places.{greatest, last_or, places}
-use Rattle.pie_aqm.specs.Steps.{accu_left, delay_answered, due, opened, verdict}
 
 -- 3072 bytes reach a third of the limit
 abbrev small : RawParams

@@ -1,7 +1,13 @@
 -- A controller that shows some events shows one more after each call.
 use Rattle.std.proofs.Common.{◌≡◌, ◌≤◌, ◌-◌, ℕ, List, [], ◌∷◌, ◌++◌, Bool, true, false, refl, sym, subst, ◌∙◌, arith, if◌then◌else◌}
 use Rattle.std.specs.Prelude.{max, min, ◌&&◌, Some, None, unwrap_or}
-use Rattle.pie_aqm.specs.Types.{RawParams, Elements, Departure, departure, Estimate, Parts, Profile, One, Two, Arrival}
+use Rattle.pie_aqm.specs.{RawParams, Elements, Departure, departure, Estimate, Parts, Profile, One, Two, Arrival, Arrive, Call, Change, Depart}
+use Rattle.pie_aqm.specs.{HasThreshold, Pass, Restart, Update, after_call, shown_by, ControllerEvent, Opened, Arrived, Departed, Updated, Reset}
+use Rattle.pie_aqm.specs.{Changed, moment_of, params_set, Shows, active_of, change_by, updates_shown, control_of, control_shown, delay_noted}
+use Rattle.pie_aqm.specs.{departures_shown, departures_of, arrivals_shown, early_of, early_shown, estimate_of, held_of, is_active, is_calm_noted}
+use Rattle.pie_aqm.specs.{now_of, noted, noted_after, params_of, parts_of, waited_noted, waited_of, greatest, last_or, places, anew, bytes_with}
+use Rattle.pie_aqm.specs.{capped, control_after, control_updated, delay_in, departed, is_calm, judged, keeps_wait, measures, no_estimate, opened}
+use Rattle.pie_aqm.specs.{opens_active, passed, renewed, stays_active, turns_on, updated, verdict, wait_of}
 use Rattle.pie_aqm.specs.Held.{Held}
 use Rattle.pie_rate.specs.Estimate as Rate
 use Rattle.pie_rate.specs.Step.{after_departure}
@@ -12,14 +18,6 @@ use Rattle.pie_control.proofs.Laws.{Shows-idled, Shows-reset, Shows-updated}
 use Rattle.pie_early.specs.Events.{cleared}
 use Rattle.pie_early.specs.History as Early
 use Rattle.pie_early.proofs.Laws.{shows-next}
-use Rattle.pie_aqm.specs.Calls.{Arrive, Call, Change, Depart, HasThreshold, Pass, Restart, Update, after_call, shown_by}
-use Rattle.pie_aqm.specs.Events.{ControllerEvent, Opened, Arrived, Departed, Updated, Reset, Changed, moment_of, params_set}
-use Rattle.pie_aqm.specs.History.{Shows, active_of, change_by, updates_shown, control_of, control_shown, delay_noted}
-use Rattle.pie_aqm.specs.History.{departures_shown, departures_of, arrivals_shown, early_of, early_shown, estimate_of, held_of, is_active}
-use Rattle.pie_aqm.specs.History.{is_calm_noted, now_of, noted, noted_after, params_of, parts_of, waited_noted, waited_of}
-use Rattle.pie_aqm.specs.Places.{greatest, last_or, places}
-use Rattle.pie_aqm.specs.Steps.{anew, bytes_with, capped, control_after, control_updated, delay_in, departed, is_calm, judged, keeps_wait}
-use Rattle.pie_aqm.specs.Steps.{measures, no_estimate, opened, opens_active, passed, renewed, stays_active, turns_on, updated, verdict, wait_of}
 use Rattle.pie_aqm.proofs.Looks.{active-push, active_next, control-push, departures-push, departures_next, early-push, events-noted, moment-push}
 use Rattle.pie_aqm.proofs.Looks.{params-push, turned_on, waited-push, waited_next}
 use Rattle.pie_aqm.proofs.Parts.{early-step, nothing-shown}

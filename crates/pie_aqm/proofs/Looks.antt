@@ -3,15 +3,12 @@ use Rattle.std.proofs.Common.{◌≡◌, ℕ, List, [], ◌∷◌, ◌++◌, map
 use Rattle.std.specs.Prelude.{max, Option, Some, None, unwrap_or, if◌then◌else◌}
 use Rattle.std.specs.List.{filter_map, after_last}
 use Rattle.std.proofs.lemmas.List.{append-nil, append_assoc, map-append}
-use Rattle.pie_aqm.specs.Types.{RawParams, Departure, ControlEvent, EarlyEvent, Profile, One, Two}
-use Rattle.pie_aqm.specs.Events.{ControllerEvent, Opened, moment_of, params_set}
-use Rattle.pie_aqm.specs.History.{Noted, active_of, change_at, change_by, clears_rate, clears_rate_at, clears_wait, clears_wait_at, control_at}
-use Rattle.pie_aqm.specs.History.{updates_shown, control_of, wait_at, wait_shown, waited_noted, waited_of}
-use Rattle.pie_aqm.specs.History.{control_shown, delay_noted, departure_at, departure_shown, departures_shown, departures_of, early_at}
-use Rattle.pie_aqm.specs.History.{arrivals_shown, early_of, early_shown, events_of, is_active, is_active_in, is_calm_noted, now_of, note}
-use Rattle.pie_aqm.specs.History.{noted, noted_after, params_of, parts_of, turns_on_by}
-use Rattle.pie_aqm.specs.Places.{Place, last_or, places}
-use Rattle.pie_aqm.specs.Steps.{keeps_wait, measures}
+use Rattle.pie_aqm.specs.{RawParams, Departure, ControlEvent, EarlyEvent, Profile, One, Two, ControllerEvent, Opened, moment_of, params_set, Noted}
+use Rattle.pie_aqm.specs.{active_of, change_at, change_by, clears_rate, clears_rate_at, clears_wait, clears_wait_at, control_at, updates_shown}
+use Rattle.pie_aqm.specs.{control_of, wait_at, wait_shown, waited_noted, waited_of, control_shown, delay_noted, departure_at, departure_shown}
+use Rattle.pie_aqm.specs.{departures_shown, departures_of, early_at, arrivals_shown, early_of, early_shown, events_of, is_active, is_active_in}
+use Rattle.pie_aqm.specs.{is_calm_noted, now_of, note, noted, noted_after, params_of, parts_of, turns_on_by, Place, last_or, places, keeps_wait}
+use Rattle.pie_aqm.specs.{measures}
 use Rattle.pie_aqm.proofs.Places.{filter_map-push, from_places-push, greatest-push, last_or-one, place_of, since-push, with_one}
 
 -- ---- the moment and the parameters

@@ -3,7 +3,8 @@ use Rattle.std.proofs.Common.{◌≡◌, ◌≤◌, ◌+◌, ◌&&◌, ℕ, List
 use Rattle.std.specs.Prelude.{nat_lt}
 use Rattle.pie_rate.specs.Average.{average, samples}
 use Rattle.pie_rate.specs.Cycles.{begun, cycles, cycles_from, first_opening, first_position}
-use Rattle.pie_aqm.specs.Types.{Estimate, Picking, Choice, Enqueue, Mark, Drop, Arrival}
+use Rattle.pie_aqm.specs.{Estimate, Picking, Choice, Enqueue, Mark, Drop, Arrival, considered_where, verdict_shown, accu_left, chosen, no_estimate}
+use Rattle.pie_aqm.specs.{offered, verdict}
 use Rattle.pie_aqm.specs.Held.{Held}
 use Rattle.pie_rate.specs.Estimate as Rate
 use Rattle.pie_early.specs.Decision.{accu_after, choice_of, counted, is_considered}
@@ -12,8 +13,6 @@ use Rattle.pie_early.specs.History as Early
 use Rattle.pie_early.proofs.Arrivals.{shows_arrival}
 use Rattle.pie_early.proofs.Laws.{shows-next}
 use Rattle.pie_event.specs.declared.verdict.Verdict.TheVariants.{DroppedBytes, DroppedPackets}
-use Rattle.pie_aqm.specs.History.{considered_where, verdict_shown}
-use Rattle.pie_aqm.specs.Steps.{accu_left, chosen, no_estimate, offered, verdict}
 
 -- ---- early drop
 

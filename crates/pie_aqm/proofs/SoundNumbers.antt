@@ -3,9 +3,8 @@ use Rattle.std.proofs.Common.{◌≡◌, ◌≤◌, ◌<◌, ◌^◌, ◌∙◌,
 use Rattle.std.specs.Prelude.{Option, Some, None, is_none}
 use Rattle.std.proofs.lemmas.Bool.{le-leb, leb-true, lt-ltb, ltb-true}
 use Rattle.pie_params.specs.Range.{first_bad}
-use Rattle.pie_aqm.specs.Types.{Begun, Profile, One, Two}
-use Rattle.pie_aqm.specs.Held.{Held, IsSound, IsWithin}
-use Rattle.pie_aqm.specs.Sound.{began_by, counts_below, first_unsound, fits_profile, is_sound_at, looked_at}
+use Rattle.pie_aqm.specs.{Begun, Profile, One, Two, IsSound, IsWithin, began_by, counts_below, first_unsound, fits_profile, is_sound_at, looked_at}
+use Rattle.pie_aqm.specs.Held.{Held}
 use Rattle.pie_event.specs.declared.register.Register.{Register}
 use Rattle.pie_event.specs.declared.register.Register.TheVariants as register
 

@@ -6,3 +6,12 @@ pub mod Steps
 pub mod Events
 pub mod History
 pub mod Calls
+
+unfoldable pub use Types.*
+unfoldable pub use Places.*
+unfoldable pub use Held.*
+unfoldable pub use Sound.*
+unfoldable pub use Steps.*
+unfoldable pub use Events.*
+unfoldable pub use History.*
+unfoldable pub use Calls.*

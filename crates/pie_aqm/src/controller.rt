@@ -1,21 +1,14 @@
 //! The controller and its calls: those of plain numbers that are in their ranges.
 ghost use Rattle.std.specs.Prelude.{◌≡◌, ◌+◌, ◌^◌, ◌≤◌, ◌↔◌, List, [], ◌∷◌, ◌++◌, true, false, None, Some, IsOk, IfOk, IfErr};
-ghost use Rattle.pie_aqm.specs.Calls.{Arrive, Change, Depart, Pass, Restart, Update, shown_by};
-ghost use Rattle.pie_aqm.specs.Events.{ControllerEvent, Opened};
-ghost use Rattle.pie_aqm.specs.Held.{IsSound, held_by};
-ghost use Rattle.pie_aqm.specs.History.{Shows};
-ghost use Rattle.pie_aqm.specs.Sound.{first_unsound};
-ghost use Rattle.pie_aqm.specs.Steps.{arrived, cause, changed, delay_answered, delay_in, departed, due, is_too_soon, opened, passed, reset, updated};
+ghost use Rattle.pie_aqm.specs.{Arrive, Change, Depart, Pass, Restart, Update, shown_by, ControllerEvent, Opened, IsSound, held_by, Shows};
+ghost use Rattle.pie_aqm.specs.{first_unsound, arrived, cause, changed, delay_answered, delay_in, departed, due, is_too_soon, opened, passed, reset};
+ghost use Rattle.pie_aqm.specs.{updated, verdict};
 ghost use Rattle.pie_event.specs.Cause.{verdict_of};
 ghost use Rattle.pie_event.specs.Verdict.{is_queued};
-ghost use Rattle.pie_aqm.specs.Steps.{verdict};
 
 use crate::{Arrival, Cause, Profile, RawController, Register, Verdict};
-use pie_control::Control;
-use pie_early::Early;
 use pie_fixed::Nanos;
 use pie_params::{Elements, Params};
-use pie_rate::Rate;
 use std::marker::Model;
 
 /// A PIE controller beside a queue that its caller owns.
@@ -27,7 +20,8 @@ pub struct Controller {
 }
 
 impl Model for Controller {
-    ghost use Rattle.pie_aqm.specs.Held.{Held, IsSound, held_by};
+    ghost use Rattle.pie_aqm.specs.{IsSound, held_by};
+    ghost use Rattle.pie_aqm.specs.Held.{Held};
 
     ghost Value = { Held };
 
@@ -203,37 +197,5 @@ impl Controller {
         ensures { result ≡ self.now.moment }
     {
         Nanos::of_units(self.raw.moment)
-    }
-
-    /// Whether the controller works: always in profile one (RFC 8033, section 5.3).
-    #[inline(always)]
-    pub fn is_active(&self) -> bool
-        ensures { result ≡ self.now.active }
-    {
-        self.raw.active
-    }
-
-    /// The estimate of the departure rate.
-    #[inline(always)]
-    pub fn rate(&self) -> Rate
-        ensures { result ≡ self.now.rate }
-    {
-        Rate::from_raw(self.raw.rate)
-    }
-
-    /// The control law's registers.
-    #[inline(always)]
-    pub fn control(&self) -> Control
-        ensures { result ≡ self.now.control }
-    {
-        Control::from_raw(self.raw.control)
-    }
-
-    /// Early drop's accumulated probability.
-    #[inline(always)]
-    pub fn early(&self) -> Early
-        ensures { result ≡ self.now.accu }
-    {
-        Early::from_units(self.raw.accu)
     }
 }

@@ -1,12 +1,9 @@
 //! Laws: what a controller holds stays in its ranges, and is what looking back gives.
 ghost use Rattle.std.specs.Prelude.{◌≡◌, ◌≤◌, ◌<◌, ◌^◌, ◌++◌, ◌∷◌, [], ℕ, List, None};
-ghost use Rattle.pie_aqm.specs.Types.{RawParams, Elements, Profile};
-ghost use Rattle.pie_aqm.specs.Events.{ControllerEvent, Opened};
+ghost use Rattle.pie_aqm.specs.{RawParams, Elements, Profile, ControllerEvent, Opened, Call, IsTaken, after_call, shown_by, IsSound, Shows, held_of};
+ghost use Rattle.pie_aqm.specs.{opened};
 ghost use Rattle.pie_params.specs.Range.{first_bad};
-ghost use Rattle.pie_aqm.specs.Calls.{Call, IsTaken, after_call, shown_by};
-ghost use Rattle.pie_aqm.specs.Held.{Held, IsSound};
-ghost use Rattle.pie_aqm.specs.History.{Shows, held_of};
-ghost use Rattle.pie_aqm.specs.Steps.{opened};
+ghost use Rattle.pie_aqm.specs.Held.{Held};
 
 /// What a controller holds is sound at its opening, and stays so at each call whose moment and parameters are in their ranges: each
 /// number is in its range, nothing was later than now, and in profile one it is active (this project's own).

@@ -1,9 +1,8 @@
 //! The controller's rules over plain numbers.
 ghost use Rattle.std.specs.Prelude.{◌≡◌, ◌+◌, ◌^◌, ◌<◌, ◌≤◌, ℕ, IfSome, max, min, true, false};
 ghost use Rattle.pie_event.specs.Cause.{verdict_of};
-ghost use Rattle.pie_aqm.specs.Held.{IsSound, held_by};
-ghost use Rattle.pie_aqm.specs.Steps.{accu_left, anew, arrived, capped, cause, changed, count_kept_open, delay_answered, delay_in, departed, due, is_too_soon};
-ghost use Rattle.pie_aqm.specs.Steps.{is_unmeasured, measures, opened, passed, reset, updated, verdict, wait_of, with_count};
+ghost use Rattle.pie_aqm.specs.{IsSound, held_by, accu_left, anew, arrived, capped, cause, changed, count_kept_open, delay_answered, delay_in};
+ghost use Rattle.pie_aqm.specs.{departed, due, is_too_soon, is_unmeasured, measures, opened, passed, reset, updated, verdict, wait_of, with_count};
 ghost use Rattle.pie_event.specs.Verdict.{is_queued};
 
 use crate::profile::opens_active;

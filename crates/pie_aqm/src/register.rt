@@ -1,7 +1,6 @@
 //! Which of the numbers that a controller holds can't be believed.
 ghost use Rattle.std.specs.Prelude.{◌≡◌, ◌↔◌, None};
-ghost use Rattle.pie_aqm.specs.Held.{IsSound, held_by};
-ghost use Rattle.pie_aqm.specs.Sound.{first_unsound, is_sound_at};
+ghost use Rattle.pie_aqm.specs.{IsSound, held_by, first_unsound, is_sound_at};
 
 use crate::{Profile, RawController};
 use pie_control::MAX_DELAY;

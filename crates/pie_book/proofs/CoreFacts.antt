@@ -1,13 +1,16 @@
 -- What a core holds, where it shows a history, is what looking back over the history gives; and it shows the history with one event more
 -- after each command.
-use Rattle.std.proofs.Common.{◌≡◌, ◌≤◌, ◌<◌, ◌+◌, ℕ, List, [], ◌∷◌, ◌++◌, map, length, Bool, true, false, refl, ap, ◌∙◌, sym, arith}
-use Rattle.std.proofs.Common.{length-append, max, None, Some, All, if◌then◌else◌}
-use Rattle.std.specs.Option.{is_some}
-use Rattle.std.proofs.lemmas.List.{append-nil, append_assoc, map-append}
+use Rattle.std.proofs.Common.{◌≡◌, ◌≤◌, ◌<◌, ◌+◌, ℕ, List, [], ◌∷◌, ◌++◌, map, length, Bool, true, false, refl, ap, ◌∙◌, sym, arith, length-append}
+use Rattle.std.proofs.Common.{max, None, Some, All, if◌then◌else◌, is_some, append-nil, append_assoc}
+use Rattle.std.proofs.lemmas.List.{map-append}
 use Rattle.std.proofs.lemmas.List.Elements.{All-cons, All-head, All-nil, All-push, All-tail}
 use Rattle.std.proofs.lemmas.List.Sums.{sum_by-append}
-use Rattle.pie_book.specs.Types.{Packet, Waiting, One, Verdict, Held, Command, Arrive, Depart, Answer, Enqueued}
-use Rattle.pie_book.specs.Types.{Event, Mode, Opening}
+use Rattle.pie_book.specs.{Packet, Waiting, One, Verdict, Held, Command, Arrive, Depart, Answer, Enqueued, Event, Mode, Opening, opened_by}
+use Rattle.pie_book.specs.{arrival_of, departure_call, cause_after, CoreView, Shows, closed, counted, refusal_of, registers_of, with_queue, IsLegal}
+use Rattle.pie_book.specs.{IsLegalAt, answer_by, answer_to_departure, decision, refusal_by_rule, refusal_with, active_after, delay_after}
+use Rattle.pie_book.specs.{delay_answered, held_after, admitted, bytes_after, departed_count, effective_moment, waiting_after, registers_after}
+use Rattle.pie_book.specs.{event_of, arriving_size, event_shown, oldest_since, opened_of, shown, shown_at, age_of_oldest, largest_delay}
+use Rattle.pie_book.specs.{largest_queue, no_stats, stats_after, waited, after_command, answer_in, call_in, waiting_next}
 use Rattle.pie_queue.specs.Queue.{bytes_of}
 use Rattle.pie_event.specs.declared.verdict.Verdict.TheVariants as verdict
 use Rattle.pie_aqm.specs.Calls.{HasThreshold, after_call, shown_by}
@@ -20,21 +23,9 @@ use Rattle.pie_aqm.specs.Steps.{anew, bytes_with, judged, now_at}
 use Rattle.pie_aqm.proofs.Laws.{Shows_call, Shows_opened, held_is}
 use Rattle.pie_aqm.proofs.Looks.{one_is_active}
 use Rattle.pie_aqm.proofs.Places.{place_of, places-push}
-use Rattle.pie_book.specs.Beside.{opened_by}
-use Rattle.pie_book.specs.Call.{arrival_of, departure_call}
 use Rattle.pie_event.specs.Opening.{opening_of}
 use Rattle.pie_event.specs.Verdict.{answer_of}
-use Rattle.pie_book.specs.Cause.{cause_after}
-use Rattle.pie_book.specs.Core.{CoreView, Shows, closed, counted, refusal_of, registers_of, with_queue}
-use Rattle.pie_book.specs.Decision.{IsLegal, IsLegalAt, answer_by, answer_to_departure, decision, refusal_by_rule, refusal_with}
 use Rattle.pie_event.specs.Deed.{Deed, arrival_deed, deed, departure, departure_deed, fits, handed_in, with_ce}
-use Rattle.pie_book.specs.Estimates.{active_after, delay_after, delay_answered, held_after}
-use Rattle.pie_book.specs.History.{admitted, bytes_after, departed_count, effective_moment, waiting_after}
-use Rattle.pie_book.specs.Registers.{registers_after}
-use Rattle.pie_book.specs.Run.{event_of}
-use Rattle.pie_book.specs.Shown.{arriving_size, event_shown, oldest_since, opened_of, shown, shown_at}
-use Rattle.pie_book.specs.Statistics.{age_of_oldest, largest_delay, largest_queue, no_stats, stats_after, waited}
-use Rattle.pie_book.specs.Step.{after_command, answer_in, call_in, waiting_next}
 use Rattle.pie_book.proofs.HistoryFacts.{departed-push, effective_moment-push, waiting_after-push}
 use Rattle.pie_book.proofs.StatisticsFacts.{stats_after-push}
 

@@ -4,8 +4,10 @@ use Rattle.std.specs.Prelude.{ℕ, ◌≡◌, List, [], ◌∷◌, Some, None, t
 use Rattle.std.proofs.Common.{refl}
 use Rattle.pie_params.specs.Profile.{default_profile}
 use Rattle.pie_params.specs.Elements.{usual}
-use Rattle.pie_book.specs.Types.{RawParams, Packet, Waiting, One, Command, Arrive, Depart, Update, Reset, SetParams, Answer, Enqueued, Marked}
-use Rattle.pie_book.specs.Types.{DroppedEarly, DroppedBytes, DroppedPackets, Empty, Left, Updated, Done, Event, Mode, Bounded, Opening}
+use Rattle.pie_book.specs.{RawParams, Packet, Waiting, One, Command, Arrive, Depart, Update, Reset, SetParams, Answer, Enqueued, Marked, DroppedEarly}
+use Rattle.pie_book.specs.{DroppedBytes, DroppedPackets, Empty, Left, Updated, Done, Event, Mode, Bounded, Opening, registers_after, answers}
+use Rattle.pie_book.specs.{outcomes, progress_after, largest_queue, largest_delay, stats_after, waited, held_after, params_after, effective_moment}
+use Rattle.pie_book.specs.{admitted, departed_count, waiting_after, bytes_after, opened_of, shown}
 use Rattle.pie_queue.specs.declared.ecn.Ecn.TheVariants.{NotEct, Ect0, Ce}
 use Rattle.pie_rate.specs.Departures.{Departure}
 use Rattle.pie_control.specs.Events.{ControlEvent}
@@ -13,7 +15,7 @@ use Rattle.pie_early.specs.Events.{EarlyEvent}
 use Rattle.pie_event.specs.declared.opening.Limits.{Limits}
 use Rattle.pie_event.specs.declared.refusal.OpenRefusal.TheVariants as open_refusal
 use Rattle.pie_event.specs.Opening.{are_in_range, are_of_version_two, opening_refusal}
-use Rattle.pie_event.specs.Deed.{Deed, deed, fits, handed_in, admission, departure, is_update, queued, marked, dropped_early, dropped_bytes}
+use Rattle.pie_event.specs.Deed.{Deed, deed, fits, handed_in, admission, departure, queued, marked, dropped_early, dropped_bytes}
 use Rattle.pie_event.specs.Deed.{dropped_packets, departed, found_none, updated, was_reset, set, nothing}
 use Rattle.pie_aqm.specs.History.{active_of, arrivals_shown, control_of, delay_noted, departures_of, departures_shown, early_of, held_of}
 use Rattle.pie_aqm.specs.History.{waited_noted, waited_of}
@@ -29,12 +31,6 @@ use Rattle.pie_early.specs.History.{accumulated}
 use Rattle.pie_aqm.specs.Steps.{cause}
 use Rattle.pie_early.specs.Cause.{considered_cause, early_cause}
 use Rattle.pie_aqm.specs.Steps.{verdict}
-use Rattle.pie_book.specs.Registers.{registers_after}
-use Rattle.pie_book.specs.Run.{answers, outcomes, progress_after}
-use Rattle.pie_book.specs.Statistics.{largest_queue, largest_delay, stats_after, waited}
-use Rattle.pie_book.specs.Estimates.{held_after, params_after}
-use Rattle.pie_book.specs.History.{effective_moment, admitted, departed_count, waiting_after, bytes_after}
-use Rattle.pie_book.specs.Shown.{opened_of, shown}
 
 -- all that a theorem on a worked history computes with
 unfoldable pub worked : Type 0
@@ -139,12 +135,6 @@ admissions : map (admission 9) all_deeds
     ∷ None ∷ []
 admissions = refl
 
-departing : map departure all_deeds ≡ None ∷ None ∷ None ∷ None ∷ None ∷ Some (packet 7 60) ∷ None ∷ None ∷ None ∷ None ∷ None ∷ []
-departing = refl
-
-updating : map is_update all_deeds ≡ false ∷ false ∷ false ∷ false ∷ false ∷ false ∷ false ∷ true ∷ false ∷ false ∷ false ∷ []
-updating = refl
-
 -- one arrival and two departures, the second of an empty queue
 
 abbrev pub arrival : Event
@@ -162,26 +152,9 @@ three = arrival ∷ departure_of_it ∷ late_departure ∷ []
 abbrev pub place : List Event → Event → Place Event
 place before event = record { before = before; event = event }
 
-three-places : places three ≡ place [] arrival ∷ place (arrival ∷ []) departure_of_it ∷ place (arrival ∷ departure_of_it ∷ []) late_departure ∷ []
-unfolding places
-three-places = refl
-
-three-places-up_to : map up_to (places three) ≡ (arrival ∷ []) ∷ (arrival ∷ departure_of_it ∷ []) ∷ three ∷ []
-unfolding places
-three-places-up_to = refl
-
--- the packet stays among those that were queued, and waits only until it departs
-three-admitted : admitted (opened 4 16 100) three ≡ waits (packet 7 1500) 10 ∷ []
-unfolding worked
-three-admitted = refl
-
 three-departed : (departed_count (arrival ∷ []) ≡ 0) × (departed_count three ≡ 1)
 unfolding departed_count
 three-departed = (refl, refl)
-
-three-waiting : (waiting_after (opened 4 16 100) (arrival ∷ []) ≡ waits (packet 7 1500) 10 ∷ []) × (waiting_after (opened 4 16 100) three ≡ [])
-unfolding worked
-three-waiting = (refl, refl)
 
 -- a moment that falls back counts as the greatest before it, from the opening moment on
 
@@ -193,11 +166,6 @@ falling-moments : (map (λ place. effective_moment (opened 4 16 100) (up_to plac
     × (effective_moment (record (opened 4 16 100) { moment = 20 }) [] ≡ 20)
 unfolding worked
 falling-moments = (refl, refl, refl)
-
--- the packet waits since the effective moment of its arrival
-falling-waiting : waiting_after (opened 4 16 100) falling ≡ waits (packet 1 100) 9 ∷ []
-unfolding worked
-falling-waiting = refl
 
 -- the first packet in is the first out; what was dropped never waits, and what was marked waits with CE
 
@@ -221,10 +189,6 @@ other_params = nine 2 1 50 850000 0 1 100000 (1000000000000) 1024
 
 abbrev changing : List Event
 changing = event 1 (SetParams 1 other_params) Done ∷ event 1 (Depart 2) Empty ∷ event 1 (SetParams 3 default_profile) Done ∷ []
-
-changing-params : map (λ place. params_after (opened 4 16 100) place.before) (places changing) ≡ default_profile ∷ other_params ∷ other_params ∷ []
-unfolding worked
-changing-params = refl
 
 changed-params : params_after (opened_with Bounded (limits 4 16 100) other_params) changing ≡ default_profile
 unfolding worked

@@ -4,18 +4,15 @@ use Rattle.std.proofs.Common.{ap, refl, ℕ, ◌≡◌, List, [], ◌∷◌, ◌
 use Rattle.std.proofs.lemmas.List.Elements.{All-cons, All-head, All-nil, All-take}
 use Rattle.pie_queue.specs.declared.ecn.Ecn.TheVariants.{Ce}
 use Rattle.pie_params.specs.Elements.{usual}
-use Rattle.pie_book.specs.Types.{One, Arrive, Depart, Update, Enqueued, Marked, Empty, Left, Updated, Event, Bounded, Rolling, Opening, Stats}
+use Rattle.pie_book.specs.{One, Arrive, Depart, Update, Enqueued, Marked, Empty, Left, Updated, Event, Bounded, Rolling, Opening, Stats}
+use Rattle.pie_book.specs.{registers_after, no_stats, IsLegal, IsLegalAt, decision, refusal_by_rule, CoreView, Shows, registers_of, refusal_of}
+use Rattle.pie_book.specs.{counted, BookView, Tells, last_events, without_last, tail_with}
 use Rattle.pie_event.specs.declared.refusal.Refusal.TheVariants.{Size, TooSoon}
 use Rattle.pie_event.specs.Deed.{Deed, queued, marked, dropped_early, dropped_bytes, dropped_packets, departed, found_none, updated}
 use Rattle.pie_event.specs.Deed.{was_reset, set, nothing}
 use Rattle.pie_aqm.specs.Places.{Place, places}
 use Rattle.pie_aqm.specs.History as Controller
 use Rattle.pie_aqm.specs.Steps.{no_estimate}
-use Rattle.pie_book.specs.Registers.{registers_after}
-use Rattle.pie_book.specs.Statistics.{no_stats}
-use Rattle.pie_book.specs.Decision.{IsLegal, IsLegalAt, decision, refusal_by_rule}
-use Rattle.pie_book.specs.Core.{CoreView, Shows, registers_of, refusal_of, counted}
-use Rattle.pie_book.specs.Book.{BookView, Tells, last_events, without_last, tail_with}
 use Rattle.pie_book.proofs.Examples.{limits, opened, opened_with, packet, waits, event, place, three, arrival, departure_of_it, late_departure}
 use Rattle.pie_book.proofs.Examples.{worked}
 use Rattle.pie_book.proofs.ExamplesMarks.{no_burst, some_burst, opening, change, restart, twelve}

@@ -7,14 +7,13 @@ use Rattle.pie_event.specs.declared.cause.Cause.{Cause}
 use Rattle.pie_event.specs.declared.cause.Cause.TheVariants.{NoRoomInBytes, NoRoomInPackets, Inactive, BurstAllowed, LowDelay, ShortQueue}
 use Rattle.pie_event.specs.declared.cause.Cause.TheVariants.{NoProbability, LittleAccumulated, PickedBySum, PickedByWord, WordNotBelow}
 use Rattle.pie_event.specs.declared.cause.Fate.TheVariants.{Marked, NotCapable, NotBelow}
-use Rattle.pie_book.specs.Types.{Two, Arrive, Depart, Update, Reset, SetParams, Event, Bounded, Opening}
+use Rattle.pie_book.specs.{Two, Arrive, Depart, Update, Reset, SetParams, Event, Bounded, Opening, cause_after}
 use Rattle.pie_event.specs.declared.command.Answer.TheVariants as answer
 use Rattle.pie_early.specs.Cause.{considered_cause, early_cause}
 use Rattle.pie_params.specs.Elements.{usual}
 use Rattle.pie_early.specs.declared.decision.Offered.{Offered}
-use Rattle.pie_book.specs.Cause.{cause_after}
 use Rattle.pie_book.proofs.Examples.{limits, opened_with, packet, event, worked}
-use Rattle.pie_book.proofs.ExamplesMarks.{opening, parts, two_departed, updated_thrice, mark, drop_of_one, lone}
+use Rattle.pie_book.proofs.ExamplesMarks.{opening, parts, two_departed}
 
 -- ---- at single numbers: the default parameters, 3000 bytes that wait, an old delay of 15 ms, no burst allowance
 
@@ -35,11 +34,6 @@ the_greatest_word : map (λ accu. at 100000000000 accu NotEct greatest_word) (0 
     ∷ WordNotBelow 8300000000000 100000000000 greatest_word ∷ PickedBySum 8400000000000 100000000000 NotCapable ∷ []
 unfolding early_cause considered_cause
 the_greatest_word = refl
-
--- from 8.5 on the word has no part in it, not even the least
-the_least_word_at_the_end : at 100000000000 8400000000000 NotEct 0 ≡ PickedBySum 8400000000000 100000000000 NotCapable
-unfolding early_cause considered_cause
-the_least_word_at_the_end = refl
 
 -- the least word picks at 0.9; a packet is marked where it may be and the probability is below 0.1
 the_least_word : (at 100000000000 800000000000 NotEct 0 ≡ PickedByWord 800000000000 100000000000 0 NotCapable)
@@ -99,14 +93,6 @@ full_queues : (cause_after (room_for 4) four (Arrive 0 (packet 5 5) 0) ≡ Some 
     × (cause_after (room_for 5) four (Arrive 0 (packet 5 4) 0) ≡ Some (BurstAllowed 150000000))
 unfolding worked
 full_queues = (refl, refl, refl, refl)
-
--- a mark, an early drop and a lone packet that is let through, each by its word: the numbers are those of before the event
-marks_and_drops : (cause_after opening updated_thrice mark.command ≡ Some (PickedByWord 0 903954174169 0 (Marked 1000000000000)))
-    × (cause_after opening (updated_thrice ++ mark ∷ []) drop_of_one.command ≡ Some (PickedByWord 0 903954174169 0 NotCapable))
-    × (cause_after opening (updated_thrice ++ mark ∷ drop_of_one ∷ []) lone.command ≡ Some (WordNotBelow 0 903954174169 greatest_word))
-    × (cause_after opening two_departed (Arrive 1001000 (packet 5 1) 0) ≡ Some (LowDelay 0 2 0))
-unfolding worked
-marks_and_drops = (refl, refl, refl, refl)
 
 -- what is no arrival has no such cause
 no_arrivals : map (cause_after opening two_departed) (Depart 1 ∷ Update 1 ∷ Reset 1 ∷ SetParams 1 default_profile ∷ [])

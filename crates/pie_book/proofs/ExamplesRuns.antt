@@ -2,14 +2,13 @@
 use Rattle.std.proofs.Common.{Bool, refl, ℕ, ◌≡◌, List, [], ◌∷◌, ◌++◌, Some, None, Ok, Err, true, false, map}
 use Rattle.pie_params.specs.Profile.{default_profile}
 use Rattle.pie_params.specs.Elements.{usual}
-use Rattle.pie_book.specs.Types.{One, Held, Command, Arrive, Depart, Update, Reset, SetParams, Answer, Enqueued, DroppedBytes}
-use Rattle.pie_book.specs.Types.{DroppedPackets, Empty, Done, Event, Rolling, Opening, Refusal}
+use Rattle.pie_book.specs.{One, Held, Command, Arrive, Depart, Update, Reset, SetParams, Answer, Enqueued, DroppedBytes, DroppedPackets, Empty, Done}
+use Rattle.pie_book.specs.{Event, Rolling, Opening, Refusal, answer_by, refusal_by_rule, refusal_after, asked, folded, Outcome, was_asked, was_folded}
+use Rattle.pie_book.specs.{outcomes, progress_after, start, without_folds, answers, before_full}
 use Rattle.pie_event.specs.declared.refusal.Refusal.TheVariants.{Moment, Size, TooSoon, Exhausted, HistoryFull}
 use Rattle.pie_event.specs.declared.refusal.FoldRefusal.TheVariants.{TooMany}
 use Rattle.pie_aqm.specs.Steps as Steps
-use Rattle.pie_book.specs.Decision.{answer_by, refusal_by_rule, refusal_after}
-use Rattle.pie_book.specs.Run.{Step, asked, folded, Outcome, was_asked, was_folded, outcomes, progress_after, start, without_folds, answers}
-use Rattle.pie_book.specs.Run.{before_full}
+use Rattle.pie_book.specs.Run.{Step}
 use Rattle.pie_book.proofs.Examples.{limits, opened, opened_with, packet, waits, event, three, worked}
 
 abbrev pub rolling : ℕ → ℕ → ℕ → Opening

@@ -1,15 +1,10 @@
 -- What one more event at the end of a history does to the moment and the packets that wait.
 use Rattle.std.proofs.Common.{◌≡◌, ◌≤◌, ◌<◌, ◌+◌, ℕ, List, [], ◌∷◌, ◌++◌, map, length, drop, Bool, true, false, cond, refl, sym, ap, ◌∙◌, arith}
-use Rattle.std.proofs.Common.{length-append, max}
-use Rattle.std.specs.Prelude.{Option, Some, None}
-use Rattle.std.specs.Option.{is_some}
-use Rattle.std.specs.List.{filter_map}
-use Rattle.std.proofs.lemmas.List.{map-append, drop-append-le, drop-drop, length-drop}
+use Rattle.std.proofs.Common.{length-append, max, Option, Some, None, is_some, filter_map, drop-drop, length-drop}
+use Rattle.std.proofs.lemmas.List.{map-append, drop-append-le}
 use Rattle.std.proofs.lemmas.List.Sums.{sum_by_push}
-use Rattle.pie_book.specs.Types.{Waiting, Event, Opening}
+use Rattle.pie_book.specs.{Waiting, Event, Opening, effective_moment, admitted_at, admitted, departed_count, waiting_after, waiting_next}
 use Rattle.pie_event.specs.Deed.{Deed, handed_in, deed_of, admission, departure, departed, marked, queued}
-use Rattle.pie_book.specs.History.{effective_moment, admitted_at, admitted, departed_count, waiting_after}
-use Rattle.pie_book.specs.Step.{waiting_next}
 use Rattle.pie_aqm.proofs.Places.{from_places-push, greatest-push, with_one}
 use Rattle.pie_aqm.specs.Places.{places}
 

@@ -3,21 +3,15 @@ use Rattle.std.proofs.Common.{◌≡◌, ℕ, List, [], ◌∷◌, ◌++◌, Boo
 use Rattle.std.proofs.lemmas.List.{append-nil, append_assoc}
 use Rattle.std.proofs.lemmas.List.Elements.{All-head, All-tail}
 use Rattle.pie_params.specs.Range.{first_bad}
-use Rattle.pie_book.specs.Types.{Waiting, Arrival, Held, Command, Arrive, Depart, SetParams, Answer, Event, Opening}
+use Rattle.pie_book.specs.{Waiting, Arrival, Held, Command, Arrive, Depart, SetParams, Answer, Event, Opening, arrival_of, departure_call, CoreView}
+use Rattle.pie_book.specs.{Shows, closed, refusal_of, IsLegal, IsLegalAt, event_of, no_stats, IsNext, after_command, answer_in, call_in}
 use Rattle.pie_aqm.specs.Calls.{HasThreshold, after_call}
 use Rattle.pie_aqm.specs.Steps as Steps
 use Rattle.pie_aqm.specs.Steps.{anew, bytes_with, judged}
 use Rattle.pie_aqm.proofs.InRange.{threshold-holds}
 use Rattle.pie_aqm.proofs.Laws.{has_threshold}
 use Rattle.pie_aqm.proofs.Places.{place_of}
-use Rattle.pie_book.specs.Call.{arrival_of, departure_call}
-use Rattle.pie_book.specs.Core.{CoreView, Shows, closed, refusal_of}
-use Rattle.pie_book.specs.Decision.{IsLegal, IsLegalAt}
 use Rattle.pie_event.specs.Ranges.{CommandFits}
-use Rattle.pie_book.specs.Run.{event_of}
-use Rattle.pie_book.specs.Statistics.{no_stats}
-use Rattle.pie_book.specs.Standing.{IsNext}
-use Rattle.pie_book.specs.Step.{after_command, answer_in, call_in}
 use Rattle.pie_book.proofs.CoreFacts.{Shows-opened, at_place, next-decided, next-shows, refusal-is}
 
 -- a core as it opens

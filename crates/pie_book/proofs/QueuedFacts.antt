@@ -1,20 +1,17 @@
 -- The packets that wait after a legal history are taken, one by one, by a core that goes on from what they wait at.
-use Rattle.std.proofs.Common.{◌≡◌, ◌≤◌, ◌<◌, ◌+◌, ◌-◌, ◌==◌, ℕ, suc, List, [], ◌∷◌, ◌++◌, length, false, refl, sym, subst, ap}
-use Rattle.std.proofs.Common.{◌∙◌, arith, length-append, All, None}
-use Rattle.std.specs.Prelude.{nat_lt, slice_get}
+use Rattle.std.proofs.Common.{◌≡◌, ◌≤◌, ◌<◌, ◌+◌, ◌-◌, ◌==◌, ℕ, suc, List, [], ◌∷◌, ◌++◌, length, false, refl, sym, subst, ap, ◌∙◌, arith}
+use Rattle.std.proofs.Common.{length-append, All, None, nat_lt, slice_get, le-ltb}
 use Rattle.std.specs.Option.{option_map_or}
-use Rattle.std.proofs.lemmas.Bool.{le-ltb, lt-leb}
+use Rattle.std.proofs.lemmas.Bool.{lt-leb}
 use Rattle.std.proofs.lemmas.Bool.Decides.{nat_tests}
 use Rattle.std.proofs.lemmas.List.Elements.{All-cons, All-head, All-nil, All-tail}
 use Rattle.std.proofs.lemmas.List.Sums.{sum_by-append, sum_by-cons}
 use Rattle.pie_params.specs.Range.{first_bad}
 use Rattle.pie_queue.specs.Queue.{IsSize, bytes_of}
-use Rattle.pie_book.specs.Types.{Waiting, Event, Opening}
+use Rattle.pie_book.specs.{Waiting, Event, Opening, IsLegal, is_bad_size, effective_moment, waiting_after, StandsFor, begun_with, core_of}
+use Rattle.pie_book.specs.{end_refusal, newest_since, queue_refusal}
 use Rattle.pie_book.specs.declared.standing.Standing.{Standing}
-use Rattle.pie_book.specs.Decision.{IsLegal, is_bad_size}
-use Rattle.pie_book.specs.History.{effective_moment, waiting_after}
 use Rattle.pie_event.specs.Ranges.{CommandFits}
-use Rattle.pie_book.specs.Standing.{StandsFor, begun_with, core_of, end_refusal, newest_since, queue_refusal}
 use Rattle.pie_book.proofs.LegalFacts.{run_of}
 use Rattle.pie_book.proofs.RangeFacts.{ArrivedBy, ArrivedFrom, InOrder, IsQueued, Queues, WaitingHolds, queued-none, queues-next}
 

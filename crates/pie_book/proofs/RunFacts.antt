@@ -1,9 +1,7 @@
 -- Folds change no answer: up to the first that says that the tail is full, the answers of a run are those that the rules give
 -- its commands, whatever was folded.
 use Rattle.std.proofs.Common.{◌≡◌, ◌≤◌, ◌+◌, ◌==◌, ℕ, List, [], ◌∷◌, ◌++◌, Bool, true, false, cond, take, refl, sym, ap, ◌∙◌, arith, one-add, min}
-use Rattle.std.proofs.Common.{not, Option, Some, None, Result, Ok, Err}
-use Rattle.std.specs.List.{filter_map}
-use Rattle.std.proofs.lemmas.List.{take-take}
+use Rattle.std.proofs.Common.{not, Option, Some, None, Result, Ok, Err, filter_map, take-take}
 use Rattle.pie_book.specs.Types.{Command, Answer, Event, Mode, Bounded, Rolling, Opening, Refusal}
 use Rattle.pie_book.specs.Decision.{decision, refusal_by_rule, or_full, is_refused_full}
 use Rattle.pie_book.specs.Run.{Step, asked, folded, Progress, Asked, event_of, refused_or, recorded, held_after_fold, outcomes, answer_of, answers}

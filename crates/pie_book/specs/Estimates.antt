@@ -1,7 +1,6 @@
 -- What the controller holds after a history: what looking back over all that it was shown gives (RFC 8033, sections 4.1, 4.2, 4.4 and
 -- 5.1 to 5.5).
-use Rattle.std.specs.Prelude.{ℕ, Bool, List}
-use Rattle.std.specs.Option.{is_some}
+use Rattle.std.specs.Prelude.{ℕ, Bool, List, is_some}
 use Rattle.pie_book.specs.Types.{RawParams, Held, Event, Opening}
 use Rattle.pie_control.specs.Parts.{Parts}
 use Rattle.pie_aqm.specs.History.{held_of}

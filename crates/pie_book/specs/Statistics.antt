@@ -1,7 +1,6 @@
 -- The statistics after a history: counts, sums and greatest values over all its events.
-use Rattle.std.specs.Prelude.{ℕ, ◌-◌, Bool, true, false, List, [], ◌∷◌, map, Option, Some, None, count_by, sum_by, if◌then◌else◌}
-use Rattle.std.specs.List.{filter_map}
-use Rattle.std.specs.Option.{is_some, option_map_or}
+use Rattle.std.specs.Prelude.{ℕ, ◌-◌, Bool, true, false, List, [], ◌∷◌, map, Option, Some, None, count_by, sum_by, if◌then◌else◌, filter_map, is_some}
+use Rattle.std.specs.Option.{option_map_or}
 use Rattle.pie_book.specs.Types.{Packet, Waiting, Event, Opening, Stats}
 use Rattle.pie_aqm.specs.Places.{Place, places, up_to, greatest}
 use Rattle.pie_event.specs.Deed.{Deed, deed_of, departure, is_arrival, is_update, sets_params, queued, marked, dropped_early, dropped_bytes}

@@ -1,15 +1,10 @@
 //! The law of a controller beside a queue that is not the core's.
-ghost use Rattle.std.specs.Prelude.{◌≡◌, ℕ, List, All, None};
+ghost use Rattle.std.specs.Prelude.{◌≡◌, ℕ, List, All, None, nat_lt};
 ghost use Rattle.pie_params.specs.Range.{first_bad};
 ghost use Rattle.pie_aqm.specs.Calls.{after_call};
 ghost use Rattle.pie_aqm.specs.Steps.{due, due_of, now_at};
-ghost use Rattle.std.specs.Prelude.{nat_lt};
-ghost use Rattle.pie_book.specs.Types.{Command, Update, Event, Opening};
-ghost use Rattle.pie_book.specs.Beside.{IsOpening, IsStep, held_after_calls, opened_by};
-ghost use Rattle.pie_book.specs.Call.{call_of};
-ghost use Rattle.pie_book.specs.Core.{CoreView, Shows, refusal_of};
-ghost use Rattle.pie_book.specs.Decision.{IsLegal, answer_by, decision, is_too_soon, refusal_by_rule};
-ghost use Rattle.pie_book.specs.History.{waiting_after};
+ghost use Rattle.pie_book.specs.{Command, Update, Event, Opening, IsOpening, IsStep, held_after_calls, opened_by, call_of, CoreView, Shows};
+ghost use Rattle.pie_book.specs.{refusal_of, IsLegal, answer_by, decision, is_too_soon, refusal_by_rule, waiting_after};
 ghost use Rattle.pie_event.specs.Ranges.{CommandFits};
 
 /// A controller beside a queue that its caller owns decides as a core does, in both profiles. At its opening it holds what a core

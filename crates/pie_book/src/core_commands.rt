@@ -4,9 +4,8 @@ ghost use Rattle.std.specs.Prelude.{◌≡◌, ◌==◌, ◌≤◌, ◌<◌, ◌
 ghost use Rattle.pie_queue.specs.Queue.{IsSize, bytes_of};
 ghost use Rattle.pie_event.specs.Verdict.{is_queued};
 ghost use Rattle.pie_aqm.specs.Calls.{HasThreshold};
-ghost use Rattle.pie_book.specs.Types.{Arrive, Depart, Update, Reset, SetParams};
+ghost use Rattle.pie_book.specs.{Arrive, Depart, Update, Reset, SetParams, event_of};
 ghost use Rattle.pie_event.specs.Deed.{arrival_deed};
-ghost use Rattle.pie_book.specs.Run.{event_of};
 
 use crate::deciding_core::Core;
 use crate::recorded::{Happened, Recorded};
@@ -16,9 +15,8 @@ use pie_params::Params;
 use pie_queue::{Ecn, Packet};
 
 impl Core {
-    ghost use Rattle.pie_book.specs.Call.{arrival_of, departure_call};
+    ghost use Rattle.pie_book.specs.{arrival_of, departure_call, after_command, answer_in, waiting_next};
     ghost use Rattle.pie_event.specs.Verdict.{answer_of};
-    ghost use Rattle.pie_book.specs.Step.{after_command, answer_in, waiting_next};
 
     /// The verdict on an arriving packet, which is queued where it says so.
     #[inline(always)]
@@ -124,13 +122,13 @@ impl Core {
     {
         let delay = self.controller.update(self.queue.bytes(), moment);
         self.tally.updated(delay);
-        let control = self.controller.control();
+        let control = self.controller.raw().control;
         Recorded::of(Happened::Updated {
             caller,
             moment: moment.units(),
             delay,
-            prob: control.prob().units(),
-            burst: control.burst(),
+            prob: control.prob,
+            burst: control.burst,
         })
     }
 

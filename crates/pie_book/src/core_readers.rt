@@ -1,19 +1,14 @@
 //! What a core tells of itself.
 ghost use Rattle.std.specs.Prelude.{◌≡◌, List, slice_get, IfSome};
 ghost use Rattle.pie_event.specs.Cause.{verdict_of};
-ghost use Rattle.pie_book.specs.Types.{Event, Opening};
-ghost use Rattle.pie_book.specs.Cause.{cause_after};
-ghost use Rattle.pie_book.specs.Decision.{decision};
-ghost use Rattle.pie_book.specs.Estimates.{delay_after};
-ghost use Rattle.pie_book.specs.Registers.{registers_after};
-ghost use Rattle.pie_book.specs.Statistics.{stats_after};
+ghost use Rattle.pie_book.specs.{Event, Opening, cause_after, decision, delay_after, registers_after, stats_after};
 
 use crate::deciding_core::Core;
 use crate::{Cause, Command, Registers, Stats};
 use pie_queue::Waiting;
 
 impl Core {
-    ghost use Rattle.pie_book.specs.Core.{Shows};
+    ghost use Rattle.pie_book.specs.{Shows};
     ghost use Rattle.pie_event.specs.Verdict.{answer_of};
 
     /// What would decide this command here, where it is an arrival: the first case of the rules that holds, with the numbers
@@ -41,22 +36,21 @@ impl Core {
     pub fn registers(&self) -> Registers
         ensures { (opening : Opening) (history : List Event) → Shows opening self.now history → result ≡ registers_after opening history }
     {
-        let control = self.controller.control();
-        let rate = self.controller.rate();
+        let raw = self.controller.raw();
         Registers {
             count: self.tally.count(),
-            moment: self.controller.moment().units(),
+            moment: raw.moment,
             packets: self.queue.len() as u64,
             bytes: self.queue.bytes(),
-            prob: control.prob().units(),
-            old: control.old(),
-            accu: self.controller.early().accu().units(),
-            burst: control.burst(),
-            last: control.last().units(),
-            average: rate.average(),
-            measuring: rate.is_measuring(),
+            prob: raw.control.prob,
+            old: raw.control.old_delay,
+            accu: raw.accu,
+            burst: raw.control.burst,
+            last: raw.control.last,
+            average: raw.rate.average,
+            measuring: raw.rate.begun.is_some(),
             params: self.controller.params(),
-            active: self.controller.is_active(),
+            active: raw.active,
         }
     }
 

@@ -1,9 +1,7 @@
 //! A core decides a command.
 ghost use Rattle.std.specs.Prelude.{◌≡◌, ◌<◌, ◌++◌, ◌∷◌, [], List, None, Some, IfOk, IfErr, OnErr};
-ghost use Rattle.pie_book.specs.Types.{Event, Opening};
+ghost use Rattle.pie_book.specs.{Event, Opening, decision, refusal_by_rule, event_of, refused_or};
 ghost use Rattle.pie_event.specs.Deed.{handed_in};
-ghost use Rattle.pie_book.specs.Decision.{decision, refusal_by_rule};
-ghost use Rattle.pie_book.specs.Run.{event_of, refused_or};
 
 use crate::deciding_core::Core;
 use crate::recorded::Recorded;
@@ -12,9 +10,8 @@ use pie_fixed::Nanos;
 use pie_queue::MAX_SIZE;
 
 impl Core {
-    ghost use Rattle.pie_book.specs.Core.{Shows, closed, refusal_of};
+    ghost use Rattle.pie_book.specs.{Shows, closed, refusal_of, after_command, answer_in, call_in};
     ghost use Rattle.pie_aqm.specs.Calls.{HasThreshold};
-    ghost use Rattle.pie_book.specs.Step.{after_command, answer_in, call_in};
 
     /// Decides a command of a caller, and counts it as an event. It takes no memory.
     ///

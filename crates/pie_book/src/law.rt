@@ -1,10 +1,8 @@
 //! Laws: folds change no answer, profile one is always active, and the registers are what looking back gives.
 ghost use Rattle.std.specs.Prelude.{◌≡◌, List, true};
-ghost use Rattle.pie_book.specs.Types.{One, Event, Rolling, Opening};
-ghost use Rattle.pie_book.specs.Core.{CoreView, Shows, registers_of};
-ghost use Rattle.pie_book.specs.Registers.{registers_after};
-ghost use Rattle.pie_book.specs.Estimates.{active_after};
-ghost use Rattle.pie_book.specs.Run.{Step, answers, without_folds, AreSameUntilFull};
+ghost use Rattle.pie_book.specs.{One, Event, Rolling, Opening, CoreView, Shows, registers_of, registers_after, active_after, answers, without_folds};
+ghost use Rattle.pie_book.specs.{AreSameUntilFull};
+ghost use Rattle.pie_book.specs.Run.{Step};
 
 /// Where two runs from one opening have the same commands in the same order, and differ in their folds alone, all
 /// commands are answered the same in both: in a rolling book always, and in a bounded one up to the first answer

@@ -1,14 +1,10 @@
 //! What looking back gives is held by the fields that show it.
 ghost use Rattle.std.specs.Prelude.{◌≡◌, ◌++◌, ◌∷◌, [], ℕ, List, All, None, true};
-ghost use Rattle.pie_book.specs.Types.{RawParams, Command, Event, Opening};
+ghost use Rattle.pie_book.specs.{RawParams, Command, Event, Opening, IsLegal, decision, refusal_by_rule, registers_after, event_of, stats_after};
 ghost use Rattle.pie_params.specs.Range.{first_bad};
-ghost use Rattle.pie_book.specs.Decision.{IsLegal, decision, refusal_by_rule};
 ghost use Rattle.pie_event.specs.Deed.{fits};
 ghost use Rattle.pie_event.specs.Opening.{opening_refusal};
 ghost use Rattle.pie_event.specs.Ranges.{AnswerFits, CommandFits, ParamsFit, RegistersFit, StatsFit};
-ghost use Rattle.pie_book.specs.Registers.{registers_after};
-ghost use Rattle.pie_book.specs.Run.{event_of};
-ghost use Rattle.pie_book.specs.Statistics.{stats_after};
 
 /// After every legal history, from an opening that a book accepts, each register, statistic and answer is a number that its
 /// field's type holds, and a legal history with one more decided command is legal (this project's own).

@@ -1,9 +1,8 @@
 //! How many events there were, and their statistics, added up.
 ghost use Rattle.std.specs.Prelude.{◌≡◌, ◌+◌, ◌<◌, ◌≤◌, ◌^◌, ℕ};
-ghost use Rattle.pie_book.specs.Types.{RawParams, Packet};
+ghost use Rattle.pie_book.specs.{RawParams, Packet, counted, with_queue};
 ghost use Rattle.pie_event.specs.Deed.{arrival_deed, found_none, updated, was_reset, departed, set};
 ghost use Rattle.pie_event.specs.Verdict.{answer_of};
-ghost use Rattle.pie_book.specs.Core.{counted, with_queue};
 
 use crate::Stats;
 use pie_aqm::Verdict;
@@ -19,7 +18,7 @@ pub(crate) struct Tally {
 }
 
 impl Model for Tally {
-    ghost use Rattle.pie_book.specs.Tally.{TallyView, IsReached};
+    ghost use Rattle.pie_book.specs.{TallyView, IsReached};
 
     ghost Value = { TallyView };
 
@@ -29,8 +28,7 @@ impl Model for Tally {
 }
 
 impl Tally {
-    ghost use Rattle.pie_book.specs.Tally.{TallyView, IsReached};
-    ghost use Rattle.pie_book.specs.Statistics.{no_stats};
+    ghost use Rattle.pie_book.specs.{TallyView, IsReached, no_stats};
 
     /// No event yet.
     pub(crate) fn empty() -> Tally

@@ -9,10 +9,8 @@ use Rattle.pie_params.specs.Elements.{usual}
 use Rattle.pie_params.specs.declared.elements.Decay.TheVariants.{Half}
 use Rattle.pie_params.specs.declared.elements.Elements.{Elements}
 use Rattle.pie_params.specs.declared.elements.Step.TheVariants.{Uncapped}
-use Rattle.pie_control.specs.Delay.{delay_of}
-use Rattle.pie_control.specs.Events.{ControlEvent, idled, reset, update_at}
-use Rattle.pie_control.specs.History.{probability, last_delay, last_moment, granted_burst, burst_allowance, is_calm_after}
-use Rattle.pie_control.specs.Next.{raw_step, tuning_divisor, tuned_step, decayed, next}
+use Rattle.pie_control.specs.{delay_of, ControlEvent, idled, reset, update_at, probability, last_delay, last_moment, granted_burst, burst_allowance}
+use Rattle.pie_control.specs.{is_calm_after, raw_step, tuning_divisor, tuned_step, decayed, next}
 
 -- the constants: the greatest delay, which clauses and definitions name, is 2 ^ 40 nanoseconds, the cap begins
 -- at a tenth, and the largest step is two hundredths

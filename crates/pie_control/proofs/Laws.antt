@@ -4,10 +4,8 @@ use Rattle.std.proofs.lemmas.List.{reverse-append}
 use Rattle.std.proofs.lemmas.List.Sums.{sum_by-cons}
 use Rattle.pie_params.specs.declared.raw.RawParams.{RawParams}
 use Rattle.pie_params.specs.declared.elements.Elements.{Elements}
-use Rattle.pie_control.specs.Events.{ControlEvent, updated, idled, reset, Update, update_at, updates_after_reset}
-use Rattle.pie_control.specs.History.{probability, last_delay, last_moment, granted_burst, burst_allowance, burst_after, ends_calm, is_calm}
-use Rattle.pie_control.specs.History.{updates_after_refill, burst_after_refill, Shows}
-use Rattle.pie_control.specs.Next.{next}
+use Rattle.pie_control.specs.{ControlEvent, updated, idled, reset, Update, update_at, updates_after_reset, probability, last_delay, last_moment}
+use Rattle.pie_control.specs.{granted_burst, burst_allowance, burst_after, ends_calm, is_calm, updates_after_refill, burst_after_refill, Shows, next}
 use Rattle.pie_control.specs.Parts.{Parts}
 
 -- seen from the newest, the event added at the end comes first

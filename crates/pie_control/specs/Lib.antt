@@ -3,3 +3,9 @@ pub mod Next
 pub mod Parts
 pub mod Events
 pub mod History
+
+unfoldable pub use Delay.*
+unfoldable pub use Next.*
+unfoldable pub use Parts.*
+unfoldable pub use Events.*
+unfoldable pub use History.*

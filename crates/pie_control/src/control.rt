@@ -1,10 +1,8 @@
 ghost use Rattle.std.specs.Prelude.{◌≡◌, ℕ, ◌^◌, ◌≤◌, List, [], ◌∷◌, ◌++◌, if◌then◌else◌};
 ghost use Rattle.pie_params.specs.declared.raw.RawParams.{RawParams};
 ghost use Rattle.pie_control.specs.declared.update.TheConstants.{MAX_DELAY};
-ghost use Rattle.pie_control.specs.Events.{ControlEvent, idled, reset, update_at};
-ghost use Rattle.pie_control.specs.History.{Shows, burst_after, ends_calm, granted_burst, is_calm_after};
-ghost use Rattle.pie_control.specs.Next.{next};
-ghost use Rattle.pie_control.specs.Parts.{IsWithin, parts_of};
+ghost use Rattle.pie_control.specs.{ControlEvent, idled, reset, update_at, Shows, burst_after, ends_calm, granted_burst, is_calm_after, next};
+ghost use Rattle.pie_control.specs.{IsWithin, parts_of};
 
 use crate::raw::RawControl;
 use pie_fixed::{Nanos, Prob};
@@ -19,7 +17,8 @@ pub struct Control {
 }
 
 impl Model for Control {
-    ghost use Rattle.pie_control.specs.Parts.{IsWithin, Parts, parts_of};
+    ghost use Rattle.pie_control.specs.{IsWithin, parts_of};
+    ghost use Rattle.pie_control.specs.Parts.{Parts};
 
     ghost Value = { Parts };
 
@@ -63,15 +62,6 @@ impl Control {
                 last: last.units(),
             },
         }
-    }
-
-    /// A controller with these numbers, which are in their ranges.
-    #[inline(always)]
-    pub fn from_raw(raw: RawControl) -> Self
-        requires { IsWithin (parts_of raw) }
-        ensures { result ≡ parts_of raw }
-    {
-        Control { raw }
     }
 
     /// Makes an update: the next probability from the given delay and the old one, by the elements' step

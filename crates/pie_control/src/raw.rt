@@ -2,9 +2,7 @@
 ghost use Rattle.std.specs.Prelude.{◌≡◌, ◌^◌, ◌≤◌};
 ghost use Rattle.pie_params.specs.Range.{IsInRange};
 ghost use Rattle.pie_control.specs.declared.update.TheConstants.{MAX_DELAY};
-ghost use Rattle.pie_control.specs.History.{burst_after, ends_calm};
-ghost use Rattle.pie_control.specs.Next.{next};
-ghost use Rattle.pie_control.specs.Parts.{parts_of};
+ghost use Rattle.pie_control.specs.{burst_after, ends_calm, next, parts_of};
 
 use crate::update::{are_below_half, next};
 use pie_params::{Elements, RawParams};

@@ -2,8 +2,7 @@ ghost use Rattle.std.specs.Prelude.{◌≡◌, ℕ, ◌+◌, ◌^◌, ◌<◌, �
 ghost use Rattle.std.specs.Int.{int_min};
 ghost use Rattle.pie_fixed.specs.declared.TheConstants.{ONE};
 ghost use Rattle.pie_params.specs.Range.{IsInRange};
-ghost use Rattle.pie_control.specs.Delay.{delay_of};
-ghost use Rattle.pie_control.specs.Next.{are_below_half, decayed, decays, next, raw_step, tuned_step, tuning_divisor};
+ghost use Rattle.pie_control.specs.{delay_of, are_below_half, decayed, decays, next, raw_step, tuned_step, tuning_divisor};
 ghost use Rattle.pie_params.specs.Elements.{is_capped, usual};
 ghost use Rattle.pie_params.specs.declared.elements.Step.TheVariants.{Capped};
 

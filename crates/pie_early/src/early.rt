@@ -62,15 +62,6 @@ impl Early {
         Early { accu: 0 }
     }
 
-    /// Early drop with so many units of `10^-12` accumulated, below 8.5.
-    #[inline(always)]
-    pub fn from_units(accu: u64) -> Self
-        requires { accu < ALWAYS_PICKED }
-        ensures { result ≡ accu }
-    {
-        Early { accu }
-    }
-
     /// Decides on an arriving packet that is no tail drop (RFC 8033, sections 4.1, 5.1 and 5.4; the
     /// comparison by a random word of 64 bits is this project's own).
     ///

@@ -2,9 +2,7 @@
 use Rattle.std.proofs.Common.{◌≡◌, ℕ, ◌≤◌, eqb, List, [], ◌∷◌, ◌++◌, refl, sym, ◌∙◌, arith, fold, map, ◌↔◌}
 use Rattle.std.proofs.lemmas.List.Sums.{fold-append}
 use Rattle.std.proofs.lemmas.Bool.{ne_eqb, cond-false}
-use Rattle.pie_rate.specs.Departures.{Departure}
-use Rattle.pie_rate.specs.Cycles.{Cycle, cycles}
-use Rattle.pie_rate.specs.Average.{sample_of, samples, averaged, average_of, average, with_sample}
+use Rattle.pie_rate.specs.{Departure, Cycle, cycles, sample_of, samples, averaged, average_of, average, with_sample}
 
 -- each sample is at least 1
 abbrev pub NoneZero : List ℕ → Type 0

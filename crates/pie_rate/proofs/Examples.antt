@@ -3,11 +3,9 @@ use Rattle.std.specs.Prelude.{◌≡◌, ℕ, List, [], ◌∷◌, Some, None, r
 use Rattle.std.specs.Prelude.{map}
 use Rattle.std.specs.List.{range_with_len}
 use Rattle.pie_rate.specs.declared.raw.TheConstants.{MAX_THRESHOLD}
-use Rattle.pie_rate.specs.Departures.{Departure, departure}
-use Rattle.pie_rate.specs.Cycles.{Cycle, cycles, begun, first_position, first_opening, first_closing, first_cycle, cycles_from}
-use Rattle.pie_rate.specs.Average.{average, averaged, samples}
+use Rattle.pie_rate.specs.{Departure, departure, Cycle, cycles, begun, first_position, first_opening, first_closing, first_cycle, cycles_from}
+use Rattle.pie_rate.specs.{average, averaged, samples, after_departure}
 use Rattle.pie_rate.specs.Estimate.{Estimate}
-use Rattle.pie_rate.specs.Step.{after_departure}
 
 -- the weights of a sample and of the average before it are parts of 65536: the greatest threshold gives
 -- the sample alone, half of it the middle, the smallest one part in 64

@@ -8,9 +8,8 @@ use Rattle.std.proofs.lemmas.List.{append-nil, map-append, drop-append-le, get_o
 use Rattle.std.proofs.lemmas.List.Sums.{sum_by_push}
 use Rattle.std.proofs.lemmas.List.Folds.{find-append}
 use Rattle.std.proofs.Math.Numerals.{add-one}
-use Rattle.pie_rate.specs.Departures.{Departure, departure_at, bytes_of, bytes_after, bytes_after_to}
-use Rattle.pie_rate.specs.Average.{sample_of, samples}
-use Rattle.pie_rate.specs.Cycles.{Cycle, first_position, first_opening, first_closing, first_cycle, cycles_from, cycles, last_closed, begun}
+use Rattle.pie_rate.specs.{Departure, departure_at, bytes_of, bytes_after, bytes_after_to, sample_of, samples, Cycle, first_position, first_opening}
+use Rattle.pie_rate.specs.{first_closing, first_cycle, cycles_from, cycles, last_closed, begun}
 
 -- one more number at the end of a range
 range-push : (a n : ℕ) → range_with_len a (suc n) ≡ range_with_len a n ++ (a + n) ∷ []

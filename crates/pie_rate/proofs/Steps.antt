@@ -4,13 +4,11 @@ use Rattle.std.proofs.Common.{sym, ap, ◌∙◌, arith, max, map}
 use Rattle.std.specs.Prelude.{option_map, nat_le, nat_lt, if◌then◌else◌, IfSome}
 use Rattle.std.proofs.lemmas.List.{append-nil, drop_all, length_push}
 use Rattle.std.proofs.lemmas.Bool.{le-leb, lt-leb}
-use Rattle.pie_rate.specs.Departures.{Departure, departure_at, bytes_after}
-use Rattle.pie_rate.specs.Cycles.{Cycle, begun}
+use Rattle.pie_rate.specs.{Departure, departure_at, bytes_after, Cycle, begun, averaged, sample_of, samples, average_of, average, with_sample, Begun}
+use Rattle.pie_rate.specs.{IsWithin, Shows, begun_at, after_departure, opened_by, step_from}
 use Rattle.std.proofs.lemmas.Bool.Decides.{nat_tests}
 use Rattle.std.specs.Option.{ForSome}
-use Rattle.pie_rate.specs.Average.{averaged, sample_of, samples, average_of, average, with_sample}
-use Rattle.pie_rate.specs.Estimate.{Begun, Estimate, IsWithin, Shows, begun_at}
-use Rattle.pie_rate.specs.Step.{after_departure, opened_by, step_from}
+use Rattle.pie_rate.specs.Estimate.{Estimate}
 use Rattle.pie_rate.proofs.Laws.{added, opens, begins, begun-push, begun-within, samples-push, departure_at-push_old, departure_at-push_new}
 use Rattle.pie_rate.proofs.Laws.{bytes_after-push}
 use Rattle.pie_rate.proofs.Averages.{NoneZero-samples, average_of-push}

@@ -2,8 +2,8 @@
 //! bytes departs (RFC 8033, section 5.2).
 //!
 //! If a `Rate` summarizes departures d1 to dn, `departed(d)` makes it summarize d1 to dn and d (clause `shows`).
-//! `average` and `is_measuring` are the look-back over that list. `from_parts` makes an estimate in any
-//! state, and `departed` says what it becomes whichever departures it shows (`step`).
+//! `average` and `is_measuring` are the look-back over that list, and `departed` says what an estimate becomes whichever departures
+//! it shows (`step`).
 #![tactic(auto)]
 
 mod rate;

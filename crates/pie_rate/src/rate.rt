@@ -1,12 +1,8 @@
 //! The estimate of the departure rate.
 ghost use Rattle.std.specs.Prelude.{◌≡◌, ◌^◌, ◌<◌, ◌≤◌, ◌↔◌, ℕ, List, [], ◌∷◌, ◌++◌, None, IsTrue, IsSome, IfSome};
-ghost use Rattle.pie_rate.specs.Average.{average};
-ghost use Rattle.pie_rate.specs.Cycles.{cycles, begun, first_closing};
-ghost use Rattle.pie_rate.specs.Departures.{Departure, departure};
+ghost use Rattle.pie_rate.specs.{average, cycles, begun, first_closing, Departure, departure, IsWithin, Shows, estimate_of, after_departure};
 ghost use Rattle.std.specs.Prelude.{option_map};
 ghost use Rattle.std.specs.Option.{ForSome};
-ghost use Rattle.pie_rate.specs.Estimate.{IsWithin, Shows, estimate_of};
-ghost use Rattle.pie_rate.specs.Step.{after_departure};
 
 use crate::raw::{RawCycle, RawRate};
 use pie_fixed::Nanos;
@@ -24,7 +20,8 @@ pub struct Rate {
 
 impl Model for Rate {
     ghost use Rattle.std.proofs.Common.{ap};
-    ghost use Rattle.pie_rate.specs.Estimate.{Estimate, IsWithin, estimate_of, raw_of, raw_of-estimate_of};
+    ghost use Rattle.pie_rate.specs.{IsWithin, estimate_of, raw_of, raw_of-estimate_of};
+    ghost use Rattle.pie_rate.specs.Estimate.{Estimate};
 
     ghost Value = { Estimate };
 
@@ -46,15 +43,6 @@ impl Rate {
         Rate {
             raw: RawRate::cleared(),
         }
-    }
-
-    /// An estimate with these numbers, which are in their ranges.
-    #[inline(always)]
-    pub fn from_raw(raw: RawRate) -> Rate
-        requires { IsWithin (estimate_of raw) }
-        ensures { result ≡ estimate_of raw }
-    {
-        Rate { raw }
     }
 
     /// Takes in one departure: the packet's size and the bytes remaining in the queue after it, its

@@ -1,8 +1,5 @@
 ghost use Rattle.std.specs.Prelude.{◌≡◌, ◌+◌, ◌-◌, ◌<◌, ◌≤◌, None, SomeIff, max};
-ghost use Rattle.pie_rate.specs.Average.{with_sample};
-ghost use Rattle.pie_rate.specs.Departures.{departure};
-ghost use Rattle.pie_rate.specs.Estimate.{estimate_of};
-ghost use Rattle.pie_rate.specs.Step.{after_departure};
+ghost use Rattle.pie_rate.specs.{with_sample, departure, estimate_of, after_departure};
 
 /// The greatest threshold, in bytes: a new sample's weight in the average is its threshold in so many, and the average's is the rest
 /// (RFC 8033, section 5.2).

@@ -1,6 +1,5 @@
 use Rattle.std.proofs.Common.{◌≡◌, arith}
-use Rattle.pie_aqm.specs.Calls.{Depart, after_call}
-use Rattle.pie_aqm.specs.Held.{held_by}
+use Rattle.pie_aqm.specs.{Depart, after_call, held_by}
 use Rattle.pie_aqm.proofs.InRange.{threshold-holds}
 use Rattle.pie_aqm.proofs.Laws.{Shows_call, moved, uncapped}
 use Rattle.pie_aqm.proofs.Sounds.{Sound_call, stays_sound}

@@ -1,6 +1,5 @@
 use Rattle.std.proofs.Common.{ap}
-use Rattle.pie_rate.specs.Average.{average, samples}
-use Rattle.pie_rate.specs.Cycles.{cycles, cycles_from, begun, first_opening, first_position}
+use Rattle.pie_rate.specs.{average, samples, cycles, cycles_from, begun, first_opening, first_position}
 use Rattle.pie_rate.specs.Estimate.{Estimate}
 use Rattle.pie_rate.proofs.rate.Rate.cleared.Goals as goal
 

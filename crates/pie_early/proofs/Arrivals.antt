@@ -1,5 +1,5 @@
 -- What an arrival leaves of the accumulated probability, and what early drop shows after it.
-use Rattle.std.proofs.Common.{◌≡◌, ℕ, ◌+◌, ◌<◌, ◌==◌, ◌||◌, not, if◌then◌else◌, Bool, true, false, List, [], ◌∷◌, ◌++◌, refl, arith}
+use Rattle.std.proofs.Common.{◌≡◌, ℕ, ◌+◌, ◌<◌, ◌==◌, ◌||◌, if◌then◌else◌, Bool, true, false, List, [], ◌∷◌, ◌++◌, refl, arith}
 use Rattle.std.proofs.lemmas.Bool.Decides.{nat_tests}
 use Rattle.pie_params.specs.declared.raw.RawParams.{RawParams}
 use Rattle.pie_params.specs.declared.elements.Picking.{Picking}
@@ -19,29 +19,6 @@ zero_is n e = grind (arith, nat_tests)
 
 some_is : (n : ℕ) → (n == 0) ≡ false → 0 < n
 some_is n e = grind (arith, nat_tests)
-
-module _ (picking : Picking) (params : RawParams) (control : Parts) (prob bytes word held : ℕ) where
-  abbrev considered : Bool
-  considered = is_considered params control bytes
-
-  abbrev picked_now : Bool
-  picked_now = is_picked picking prob (held + prob) word
-
-  -- it is 0 after a picked arrival, and else grown
-  pub accu-picked : is_considered params control bytes ≡ true → is_picked picking prob (held + prob) word ≡ true
-      → 0 ≡ accu_at picking params control prob bytes word held
-  accu-picked e g = by (prob == 0)
-    where
-      by : (z : Bool) → 0 ≡ (if not (is_considered params control bytes) then held else if z || is_picked picking prob
-          (held + prob) word then 0 else joined picking held prob)
-      by true = rw e refl
-      by false = rw (e, g) refl
-
-  pub accu-unpicked : is_considered params control bytes ≡ true → 0 < prob → is_picked picking prob (held + prob) word ≡ false
-      → joined picking held prob ≡ accu_at picking params control prob bytes word held
-  accu-unpicked e some g =
-      let z : (prob == 0) ≡ false = grind (arith, nat_tests) in
-      rw (e, z, g) refl
 
 -- with one that isn't picked it stays below 8.5
 joined_below : (picking : Picking) (prob held word : ℕ) → 0 < prob → is_picked picking prob (held + prob) word ≡ false → held < always_picked

@@ -110,14 +110,5 @@ module _ (picking : Picking) (params : RawParams) (control : Parts) (prob bytes 
             (picked_from picking prob (accu + prob) word (record { some = p.some_prob; enough = p.enough; by = p.by_sum_or_word })),
       )
 
-  -- the choice on each way through the code
-  pub choice-unpicked : is_considered params control bytes ≡ true → is_picked picking prob (accu + prob) word ≡ false
-      → Enqueue ≡ choice_at picking params control prob bytes ecn word accu
-  choice-unpicked e p = rw (e, p) refl
-
-  pub choice-picked : is_considered params control bytes ≡ true → is_picked picking prob (accu + prob) word ≡ true
-      → picked_choice params control.prob ecn ≡ choice_at picking params control prob bytes ecn word accu
-  choice-picked e p = rw (e, p) refl
-
 pub picked_zero_at : (picking : Picking) (prob sum word : ℕ) → prob ≡ 0 → is_picked picking prob sum word ≡ false
 picked_zero_at picking prob sum word z = rw z (picked-zero picking sum word)

@@ -1,7 +1,8 @@
-ghost use Rattle.std.specs.Prelude.{◌≡◌, ◌+◌, ◌*◌, ◌^◌, ◌<◌, ◌≤◌, ℕ, nat_lt, false};
+ghost use Rattle.std.specs.Prelude.{◌≡◌, ◌+◌, ◌*◌, ◌^◌, ◌<◌, ◌≤◌, ℕ, nat_lt, false, if◌then◌else◌};
 ghost use Rattle.pie_control.specs.Parts.{parts_of};
 ghost use Rattle.pie_params.specs.declared.elements.Size.TheVariants.{Scaled};
-ghost use Rattle.pie_event.specs.Cause.{verdict_of};
+ghost use Rattle.pie_event.specs.Cause.{verdict_of, verdict_on_picked};
+ghost use Rattle.pie_event.specs.declared.verdict.Verdict.TheVariants.{Enqueued};
 ghost use Rattle.pie_early.specs.Cause.{considered_cause, early_cause, fate_of};
 ghost use Rattle.pie_early.specs.Decision.{accu_after, choice_of, chosen, counted_as, is_below, is_considered, is_picked, picked_choice};
 
@@ -39,6 +40,7 @@ pub struct Decision {
 ///
 /// No numbers make a sum or a product overflow, so the answer is the rule's for all of them.
 #[inline(always)]
+#[tactic(auto, using(std::proofs::lemmas::Bool::Decides::nat_tests), unfolding(crate::specs::Decision::is_picked))]
 pub fn decide(
     params: &RawParams,
     elements: Elements,
@@ -176,19 +178,6 @@ pub fn cause(
     ensures cause { result ≡ early_cause elements params.now (parts_of control.now) offered accu }
     ensures verdict { verdict_of result ≡ chosen (choice_of elements params.now (parts_of control.now) offered accu) }
 {
-    first_case(params, elements, control, offered, accu)
-}
-
-/// The same.
-fn first_case(
-    params: &RawParams,
-    elements: Elements,
-    control: &RawControl,
-    offered: Offered,
-    accu: u64,
-) -> Cause
-    ensures { result ≡ early_cause elements params.now (parts_of control.now) offered accu }
-{
     if !is_considered(params, control, offered.bytes) {
         return unconsidered_cause(params, control, offered);
     }
@@ -201,7 +190,8 @@ fn first_case(
 #[tactic(auto, using(std::proofs::lemmas::Bool::Decides::nat_tests), unfolding(crate::specs::Decision::is_considered, crate::specs::Cause::early_cause))]
 fn unconsidered_cause(params: &RawParams, control: &RawControl, offered: Offered) -> Cause
     requires { is_considered params.now (parts_of control.now) offered.bytes ≡ false }
-    ensures { (elements : Elements) (accu : ℕ) → result ≡ early_cause elements params.now (parts_of control.now) offered accu }
+    ensures cause { (elements : Elements) (accu : ℕ) → result ≡ early_cause elements params.now (parts_of control.now) offered accu }
+    ensures verdict { verdict_of result ≡ Enqueued }
 {
     if control.burst > 0 {
         Cause::BurstAllowed {
@@ -223,7 +213,8 @@ fn unconsidered_cause(params: &RawParams, control: &RawControl, offered: Offered
 
 /// Why a picked packet is marked or dropped (RFC 8033, section 5.1).
 fn fate_of(params: &RawParams, prob: u64, ecn: Ecn) -> Fate
-    ensures { result ≡ fate_of params.now prob ecn }
+    ensures fate { result ≡ fate_of params.now prob ecn }
+    ensures verdict { verdict_on_picked result ≡ chosen (picked_choice params.now prob ecn) }
 {
     let threshold = params.mark_ecnth;
     if !ecn.capable() {
@@ -236,9 +227,10 @@ fn fate_of(params: &RawParams, prob: u64, ecn: Ecn) -> Fate
 }
 
 /// What decides an arrival that is considered, where the probability counts as this one. A sum that no `u64` holds is above 8.5.
-#[tactic(auto, using(std::proofs::lemmas::Bool::Decides::nat_tests), unfolding(crate::specs::Cause::considered_cause))]
+#[tactic(auto, using(std::proofs::lemmas::Bool::Decides::nat_tests), unfolding(crate::specs::Cause::considered_cause, crate::specs::Decision::is_picked))]
 fn considered_cause(picking: Picking, prob: u64, accu: u64, fate: Fate, word: u64) -> Cause
-    ensures { result ≡ considered_cause picking prob accu fate word }
+    ensures cause { result ≡ considered_cause picking prob accu fate word }
+    ensures verdict { verdict_of result ≡ (if is_picked picking prob (accu + prob) word then verdict_on_picked fate else Enqueued) }
 {
     let sum = match picking {
         Picking::Random => NEVER_PICKED,

@@ -1,10 +1,11 @@
-use Rattle.std.proofs.Common.{ap, ◌∙◌}
+use Rattle.std.proofs.Common.{sym, ◌∙◌}
 use Rattle.pie_control.specs.Parts.{parts_of}
-use Rattle.pie_event.specs.Cause.{verdict_of}
-use Rattle.pie_early.proofs.Causes.{verdict_of_cause}
+use Rattle.pie_early.proofs.Causes.{cause-considered}
 use Rattle.pie_early.proofs.decision.cause.Goals as goal
 
-pub returns-clause-verdict : goal.returns-clause-verdict
-returns-clause-verdict c =
+pub returns-clause-cause : goal.returns-clause-cause
+returns-clause-cause c =
     let a = c.args in
-    ap verdict_of c.first_case.ensures ∙ verdict_of_cause a.elements a.params.now (parts_of a.control.now) a.offered a.accu
+    rw (c.considered_cause.ensures.cause, c.counted_as-prob.ensures.value, c.fate_of-fate.ensures.fate)
+    (sym (cause-considered a.elements a.params.now (parts_of a.control.now) a.offered a.accu
+    (sym c.is_considered.ensures ∙ c.if-not-is_considered.false)))

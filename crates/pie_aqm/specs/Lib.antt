@@ -6,7 +6,6 @@ pub mod Steps
 pub mod Events
 pub mod History
 pub mod Calls
-
 unfoldable pub use Types.*
 unfoldable pub use Places.*
 unfoldable pub use Held.*

@@ -54,7 +54,9 @@ fn make_updates(params: &Params, start: Nanos, updates: &[Input]) -> u64 {
             control.update(params, Elements::usual(), update.delay, update.moment);
         }
         sum = sum.wrapping_add(control.prob().units());
-        sum = sum.wrapping_add(control.old()).wrapping_add(control.burst());
+        sum = sum
+            .wrapping_add(control.old())
+            .wrapping_add(control.burst());
     }
     sum
 }

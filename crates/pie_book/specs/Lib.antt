@@ -16,7 +16,6 @@ pub mod Step
 pub mod Beside
 pub mod Standing
 pub mod Excerpt
-
 unfoldable pub use Types.*
 unfoldable pub use History.*
 unfoldable pub use Shown.*

@@ -3,7 +3,6 @@ pub mod Next
 pub mod Parts
 pub mod Events
 pub mod History
-
 unfoldable pub use Delay.*
 unfoldable pub use Next.*
 unfoldable pub use Parts.*

@@ -3,7 +3,6 @@ pub mod Cycles
 pub mod Average
 pub mod Estimate
 pub mod Step
-
 unfoldable pub use Departures.*
 unfoldable pub use Cycles.*
 unfoldable pub use Average.*

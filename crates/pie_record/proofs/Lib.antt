@@ -8,11 +8,8 @@ mod Appended
 mod TextBack
 mod FieldFacts
 mod CommandFacts
-mod FieldsBack
-mod EventBack
 pub mod OpeningBack
 mod HistoryBack
-mod NotesBack
 mod ClockBack
 mod LinesBack
 mod ExamplesLines

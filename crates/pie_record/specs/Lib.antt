@@ -16,3 +16,4 @@ pub mod Answer
 pub mod Write
 pub mod ReadBack
 pub mod Laws
+pub mod Worked

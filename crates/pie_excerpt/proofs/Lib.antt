@@ -4,5 +4,4 @@ pub mod WrittenFacts
 mod Examples
 pub mod BeginningFacts
 pub mod AgainFacts
-mod AloneFacts
 pub mod GoesFacts

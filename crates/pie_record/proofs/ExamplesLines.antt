@@ -95,26 +95,6 @@ kinds-lines : lines_of (
 unfolding worked_text
 kinds-lines = refl
 
--- the fault of a record of a history
-faults-in : map (λ last. fault_in (codes "open,0,4,16,100\ndepart,1,1,empty\n" ++ last)) (
-    codes "open,0,4,16,100\n"
-    ∷ codes "fold,1\n"
-    ∷ codes "depart,1,1\n"
-    ∷ codes "depart,1,1,left\n"
-    ∷ codes "depart,1,1,empty,7,1500,not\n"
-    ∷ codes "arrive,1,10,7,1500,ect0,0,empty\n"
-    ∷ codes "update,1,1,1,1,-1\n"
-    ∷ codes "reset,1,1,empty\n"
-    ∷ codes "params,1,2,1,1,1,1,1,1,1,1,1,made\n"
-    ∷ codes "shown,1,2,3,4,5,6,7,8,9,10,2\n"
-    ∷ codes "tallied,1,2,3,4,5,6,7,8,9,10,11,12,13,18446744073709551616,1\n"
-    ∷ codes "tallied,1,2,3,4,5,6,7,8,9,10,11,12,13,14,340282366920938463463374607431768211456\n"
-    ∷ [])
-    ≡ Some (fault.Kind 3) ∷ Some (fault.Kind 3) ∷ Some (fault.Fields 3) ∷ Some (fault.Word 3) ∷ Some (fault.Word 3) ∷ Some (fault.Word 3)
-    ∷ Some (fault.Number 3) ∷ Some (fault.Word 3) ∷ Some (fault.Word 3) ∷ Some (fault.Number 3) ∷ Some (fault.Number 3) ∷ Some (fault.Number 3) ∷ []
-unfolding worked_text
-faults-in = refl
-
 -- lines before a fault stand; a record past the greatest number is that fault
 faulty-lines : (lines_of (codes "open,0,4,16,100\nrefused,1,1\ndep\nrefused,1,1\n") ≡ Note ∷ [])
     × (lines_from version.One 3 2 (records_of (codes "refused,1,1\nrefused,1,1\ndep\n")) ≡ Note ∷ Note ∷ [])
@@ -126,14 +106,8 @@ faulty-lines = (refl, refl, refl, refl, refl)
 
 -- `shown` has one field more in version two; a later `open2` is no kind
 shown-lines : map (λ last. fault_in (codes "open2,2,bounded,0,4,16,100\n" ++ last)) (
-    codes "shown,1,2,3,4,5,6,7,8,9,10,1,0\n"
-    ∷ codes "shown,1,2,3,4,5,6,7,8,9,10,0,1\n"
-    ∷ codes "shown,1,2,3,4,5,6,7,8,9,10,1\n"
-    ∷ codes "shown,1,2,3,4,5,6,7,8,9,10,1,2\n"
-    ∷ codes "shown,1,2,3,4,5,6,7,8,9,10,2,1\n"
-    ∷ codes "open2,2,bounded,0,4,16,100\n"
-    ∷ [])
-    ≡ None ∷ None ∷ Some (fault.Fields 2) ∷ Some (fault.Number 2) ∷ Some (fault.Number 2) ∷ Some (fault.Kind 2) ∷ []
+    codes "shown,1,2,3,4,5,6,7,8,9,10,1,0\n" ∷ codes "shown,1,2,3,4,5,6,7,8,9,10,1,2\n" ∷ codes "open2,2,bounded,0,4,16,100\n" ∷ [])
+    ≡ None ∷ Some (fault.Number 2) ∷ Some (fault.Kind 2) ∷ []
 unfolding worked_text
 shown-lines = refl
 

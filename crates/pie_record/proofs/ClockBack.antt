@@ -1,14 +1,9 @@
 -- The last time of day that some lines tell.
-use Rattle.std.proofs.Common.{◌≡◌, List, [], ◌∷◌, ◌++◌, map, refl, ap, ◌∙◌}
-use Rattle.std.specs.Prelude.{Option, Some, None}
+use Rattle.pie_record.proofs.Names.{◌≡◌, List, [], ◌∷◌, ◌++◌, map, refl, ap, ◌∙◌, Option, Some, None, filter_map-append, Event, Clock, Line}
+use Rattle.pie_record.proofs.Names.{clock_told, latest_clock}
 use Rattle.std.specs.List.{cons_option, filter_map, last_or}
 use Rattle.std.specs.Option.{option_or}
-use Rattle.std.proofs.lemmas.List.Elements.{filter_map-append}
-use Rattle.pie_event.specs.declared.command.Event.{Event}
-use Rattle.pie_record.specs.declared.clock.Clock.{Clock}
-use Rattle.pie_record.specs.declared.history_record.Line.{Line}
 use Rattle.pie_record.specs.declared.history_record.Line.TheVariants as line
-use Rattle.pie_record.specs.HistoryLines.{clock_told, latest_clock}
 
 last-push : {A : Type 0} (d : Option A) (xs : List A) (o : Option A) → last_or d (xs ++ cons_option o []) ≡ option_or o (last_or d xs)
 last-push d [] None = refl

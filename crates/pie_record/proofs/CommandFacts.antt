@@ -1,35 +1,18 @@
 -- A record that asks a command, or tells the time of day, has just the fields with which that is written, and numbers of their types.
-use Rattle.std.proofs.Common.{◌≡◌, ◌≤◌, ◌<◌, ◌+◌, ◌==◌, ◌^◌, ℕ, List, [], ◌∷◌, ◌++◌, drop, length, Bool, true, decimal, refl, sym, ap, subst, ◌∙◌}
-use Rattle.std.proofs.Common.{arith, if◌then◌else◌, map}
-use Rattle.std.specs.Prelude.{⊤, Option, Some, None, Result, Ok, Err, codes}
-use Rattle.std.proofs.lemmas.Bool.{eqb-true}
-use Rattle.csv.specs.Records.{field_at}
-use Rattle.pie_params.specs.Range.{first_bad}
-use Rattle.pie_params.specs.declared.raw.Field.{Field}
-use Rattle.pie_params.specs.declared.raw.RawParams.{RawParams}
-use Rattle.pie_event.specs.declared.command.Command.{Command}
-use Rattle.pie_event.specs.declared.command.Command.TheVariants.{Arrive, Depart, Update, Reset, SetParams}
-use Rattle.pie_event.specs.Ranges.{CommandFits, ParamsFit}
-use Rattle.pie_record.specs.declared.clock.Clock.{Clock}
-use Rattle.pie_record.specs.declared.command.Asked.{Asked}
+use Rattle.pie_record.proofs.Names.{◌≡◌, ◌≤◌, ◌<◌, ◌+◌, ◌==◌, ◌^◌, ℕ, List, [], ◌∷◌, ◌++◌, drop, length, Bool, true, decimal, refl, sym, ap, subst}
+use Rattle.pie_record.proofs.Names.{◌∙◌, arith, if◌then◌else◌, map, ⊤, Option, Some, None, Result, Ok, Err, codes, eqb-true, field_at, first_bad}
+use Rattle.pie_record.proofs.Names.{Field, RawParams, Command, Arrive, Depart, Update, Reset, SetParams, CommandFits, ParamsFit, Clock, Asked}
+use Rattle.pie_record.proofs.Names.{CommandKind, Flaw, Version, Three, clock_at, clock_in, clock_row, most_moment, arrival_at, asked_at, change_at}
+use Rattle.pie_record.proofs.Names.{change_to, command_at, command_kind, command_length, is_kind, most_u16, most_u64, number_at, packet_at, params_at}
+use Rattle.pie_record.proofs.Names.{number, NineFit, alone, clock_request, command_request, fold_request, request_by, request_for, request_of, Row}
+use Rattle.pie_record.proofs.Names.{command_fields, nine_of}
 use Rattle.pie_record.specs.declared.command.Asked.TheVariants as asked
 use Rattle.pie_record.specs.declared.command.BadChange.{BadChange}
-use Rattle.pie_record.specs.declared.command.CommandKind.{CommandKind}
 use Rattle.pie_record.specs.declared.command.CommandKind.TheVariants as kind
-use Rattle.pie_record.specs.declared.fault.Flaw.{Flaw}
 use Rattle.pie_record.specs.declared.fault.Flaw.TheVariants as flaw
 use Rattle.pie_record.specs.declared.trace_record.Request.{Request}
 use Rattle.pie_record.specs.declared.trace_record.Request.TheVariants as request
-use Rattle.pie_record.specs.declared.version.Version.{Version}
-use Rattle.pie_record.specs.declared.version.Version.TheVariants.{One, Two, Three}
-use Rattle.pie_record.specs.Clock.{clock_at, clock_in, clock_row, most_moment}
-use Rattle.pie_record.specs.Command.{arrival_at, asked_at, change_at, change_to, command_at, command_kind, command_length}
-use Rattle.pie_record.specs.Field.{is_kind, most_u16, most_u64, number_at, packet_at, params_at}
-use Rattle.pie_record.specs.Number.{number}
-use Rattle.pie_record.specs.ReadBack.{NineFit}
-use Rattle.pie_record.specs.TraceRecord.{alone, clock_request, command_request, fold_request, request_by, request_for, request_of}
-use Rattle.pie_record.specs.Text.{Row}
-use Rattle.pie_record.specs.Write.{command_fields, nine_of}
+use Rattle.pie_record.specs.declared.version.Version.TheVariants.{One, Two}
 use Rattle.pie_record.proofs.FieldFacts.{Has, HasAll, and_after, back_ecn, back_u32, back_u64, has-all, number-then, ok-same, one-way, packet-read}
 use Rattle.pie_record.proofs.FieldFacts.{ParamsRead, params-back, params-read, no-flaw, tested, word-has}
 use Rattle.pie_record.proofs.NumberFacts.{number-back}

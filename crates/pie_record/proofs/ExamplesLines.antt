@@ -1,38 +1,16 @@
 -- What records of a history say, and the records that a history is written as: each theorem computes.
-use Rattle.std.specs.Prelude.{◌≡◌, ℕ, List, [], ◌∷◌, ◌++◌, Option, Some, None, Result, Ok, Err, codes, map, refl}
-use Rattle.pie_params.specs.Elements.{usual}
-use Rattle.pie_params.specs.Profile.{default_profile}
-use Rattle.pie_params.specs.declared.elements.Elements.{Elements}
-use Rattle.pie_params.specs.declared.elements.Decay.TheVariants.{Half}
-use Rattle.pie_params.specs.declared.elements.Delay.TheVariants.{Stamp}
-use Rattle.pie_params.specs.declared.elements.Picking.TheVariants.{Random}
-use Rattle.pie_params.specs.declared.elements.Size.TheVariants.{Scaled}
-use Rattle.pie_params.specs.declared.elements.Step.TheVariants.{Uncapped}
-use Rattle.pie_params.specs.declared.raw.RawParams.{RawParams}
-use Rattle.pie_queue.specs.declared.ecn.Ecn.{Ecn}
+use Rattle.pie_record.proofs.Names.{Option, Some, None, Result, Ok, Err, codes, usual, default_profile, Elements, Half, Stamp, Random, Scaled}
+use Rattle.pie_record.proofs.Names.{Uncapped, RawParams, Ecn, Packet, Answer, Enqueued, Marked, DroppedEarly, DroppedBytes, DroppedPackets, Empty}
+use Rattle.pie_record.proofs.Names.{Left, Updated, Done, Command, Arrive, Depart, Update, Reset, SetParams, Event, Mode, Bounded, Rolling, Opening}
+use Rattle.pie_record.proofs.Names.{Profile, One, Two, TraceFault, Line, Made, Unmakeable, Note, rows_text, records_of, fault_from, history_lines}
+use Rattle.pie_record.proofs.Names.{history_opening, later_fault, latest_clock, lines_from, opening_row, written_rows}
+use Rattle.std.specs.Prelude.{◌≡◌, ℕ, List, [], ◌∷◌, ◌++◌, map, refl}
 use Rattle.pie_queue.specs.declared.ecn.Ecn.TheVariants as ecn
-use Rattle.pie_queue.specs.declared.packet.Packet.{Packet}
-use Rattle.pie_event.specs.declared.command.Answer.{Answer}
-use Rattle.pie_event.specs.declared.command.Answer.TheVariants.{Enqueued, Marked, DroppedEarly, DroppedBytes, DroppedPackets, Empty, Left, Updated}
-use Rattle.pie_event.specs.declared.command.Answer.TheVariants.{Done}
-use Rattle.pie_event.specs.declared.command.Command.{Command}
-use Rattle.pie_event.specs.declared.command.Command.TheVariants.{Arrive, Depart, Update, Reset, SetParams}
-use Rattle.pie_event.specs.declared.command.Event.{Event}
-use Rattle.pie_event.specs.declared.opening.Mode.{Mode}
-use Rattle.pie_event.specs.declared.opening.Mode.TheVariants.{Bounded, Rolling}
-use Rattle.pie_event.specs.declared.opening.Opening.{Opening}
-use Rattle.pie_event.specs.declared.profile.Profile.{Profile}
-use Rattle.pie_event.specs.declared.profile.Profile.TheVariants.{One, Two}
 use Rattle.pie_record.specs.declared.fault.OpenFault.TheVariants as open_fault
-use Rattle.pie_record.specs.declared.fault.TraceFault.{TraceFault}
 use Rattle.pie_record.specs.declared.fault.TraceFault.TheVariants as fault
-use Rattle.pie_record.specs.declared.history_record.Line.{Line}
-use Rattle.pie_record.specs.declared.history_record.Line.TheVariants.{Clock, Made, Unmakeable, Note}
+use Rattle.pie_record.specs.declared.history_record.Line.TheVariants.{Clock}
 use Rattle.pie_record.specs.declared.version.Version.TheVariants as version
-use Rattle.pie_record.specs.Text.{rows_text, records_of}
-use Rattle.pie_record.specs.HistoryLines.{fault_from, history_lines, history_opening, later_fault, latest_clock, lines_from}
 use Rattle.pie_record.specs.Worked.{worked_text}
-use Rattle.pie_record.specs.Write.{opening_row, written_rows}
 
 -- ---- reading
 

@@ -1,35 +1,14 @@
 -- A text of an opening's record and of records that each tell a line is read back as that opening and those lines.
-use Rattle.std.proofs.Common.{◌≡◌, ◌≤◌, ◌<◌, ◌+◌, ◌^◌, ℕ, suc, List, [], ◌∷◌, ◌++◌, map, length, false, refl, sym, ap, subst, ◌∙◌, arith}
-use Rattle.std.specs.Prelude.{All, Bool, true, drop, nat_lt, Option, None, Ok, if◌then◌else◌}
+use Rattle.pie_record.proofs.Names.{◌≡◌, ◌≤◌, ◌<◌, ◌+◌, ◌^◌, ℕ, suc, List, [], ◌∷◌, ◌++◌, map, length, false, refl, sym, ap, subst, ◌∙◌, arith, All}
+use Rattle.pie_record.proofs.Names.{nat_lt, Option, None, Ok, All-cons, All-head, All-nil, All-tail, field_at, Command, Arrive, Depart, Update, Reset}
+use Rattle.pie_record.proofs.Names.{SetParams, Event, Mode, Bounded, Rolling, Opening, Profile, One, Two, opening_refusal, TraceFault, FirstKind}
+use Rattle.pie_record.proofs.Names.{Line, Made, Version, opening_of, HasField, rows_text, Row, command_kind, line_of, kind_word, version_of, Coming}
+use Rattle.pie_record.proofs.Names.{after_opening, coming_after, coming_from, fault_from, history_opening, history_version, lines_from, told_by}
+use Rattle.pie_record.proofs.Names.{ParamsFit, Begins, EventFits, TellEach, TellsHistory, command_fields, earlier_row, event_row, is_earlier}
+use Rattle.pie_record.proofs.Names.{opening_row, version_three_row, written_rows, mode_word, profile_number}
+use Rattle.std.specs.Prelude.{Bool, true, drop, if◌then◌else◌}
 use Rattle.std.proofs.lemmas.List.{length-map}
-use Rattle.std.proofs.lemmas.List.Elements.{All-cons, All-head, All-nil, All-tail}
-use Rattle.csv.specs.Records.{field_at}
-use Rattle.pie_event.specs.declared.command.Command.{Command}
-use Rattle.pie_event.specs.declared.command.Command.TheVariants.{Arrive, Depart, Update, Reset, SetParams}
-use Rattle.pie_event.specs.declared.command.Event.{Event}
-use Rattle.pie_event.specs.declared.opening.Mode.{Mode}
-use Rattle.pie_event.specs.declared.opening.Mode.TheVariants.{Bounded, Rolling}
-use Rattle.pie_event.specs.declared.opening.Opening.{Opening}
-use Rattle.pie_event.specs.declared.profile.Profile.{Profile}
-use Rattle.pie_event.specs.declared.profile.Profile.TheVariants.{One, Two}
-use Rattle.pie_event.specs.Opening.{opening_refusal}
-use Rattle.pie_record.specs.declared.fault.TraceFault.{TraceFault}
-use Rattle.pie_record.specs.declared.first_record.FirstKind.{FirstKind}
 use Rattle.pie_record.specs.declared.first_record.FirstKind.TheVariants as kinds
-use Rattle.pie_record.specs.declared.history_record.Line.{Line}
-use Rattle.pie_record.specs.declared.history_record.Line.TheVariants.{Made}
-use Rattle.pie_record.specs.declared.version.Version.{Version}
-use Rattle.pie_record.specs.Opening.{opening_of}
-use Rattle.pie_record.specs.Text.{HasField, rows_text, Row}
-use Rattle.pie_record.specs.Command.{command_kind}
-use Rattle.pie_record.specs.HistoryRecord.{line_of}
-use Rattle.pie_record.specs.FirstRecord.{kind_word, version_of}
-use Rattle.pie_record.specs.HistoryLines.{Coming, after_opening, coming_after, coming_from, fault_from, history_opening, history_version, lines_from}
-use Rattle.pie_record.specs.HistoryLines.{told_by}
-use Rattle.pie_event.specs.Ranges.{ParamsFit}
-use Rattle.pie_record.specs.ReadBack.{Begins, EventFits, TellEach, TellsHistory}
-use Rattle.pie_record.specs.Write.{command_fields, earlier_row, event_row, is_earlier, opening_row, version_three_row, written_rows}
-use Rattle.pie_record.specs.Words.{mode_word, profile_number}
 use Rattle.pie_record.proofs.HistoryFacts.{told_by-line}
 use Rattle.pie_record.proofs.LinesBack.{event-back}
 use Rattle.pie_record.proofs.OpeningBack.{opening-back}

@@ -1,3 +1,4 @@
+mod Names
 mod NumberFacts
 mod RowFacts
 mod RecordFacts

@@ -1,47 +1,21 @@
 -- The record of an opening is read back as that opening.
-use Rattle.std.proofs.Common.{◌≡◌, ◌≤◌, ◌<◌, ◌+◌, ◌^◌, ◌==◌, ◌&&◌, ℕ, List, [], ◌∷◌, ◌++◌, map, Bool, true, false, decimal, refl, sym, ap, ◌∙◌}
-use Rattle.std.proofs.Common.{arith, if◌then◌else◌}
-use Rattle.std.specs.Prelude.{Some, None, Result, Ok}
-use Rattle.std.proofs.lemmas.Bool.{and_parts, eqb-true}
-use Rattle.csv.specs.Records.{field_at}
-use Rattle.pie_params.specs.Elements.{accumulates, is_capped, usual}
-use Rattle.pie_params.specs.Profile.{default_profile}
-use Rattle.pie_params.specs.declared.elements.Elements.{Elements}
+use Rattle.pie_record.proofs.Names.{◌≡◌, ◌≤◌, ◌<◌, ◌+◌, ◌^◌, ◌==◌, ◌&&◌, ℕ, List, [], ◌∷◌, ◌++◌, map, Bool, true, false, decimal, refl, sym, ap, ◌∙◌}
+use Rattle.pie_record.proofs.Names.{arith, if◌then◌else◌, Some, None, Result, Ok, and_parts, eqb-true, field_at, accumulates, is_capped, usual}
+use Rattle.pie_record.proofs.Names.{default_profile, Elements, Half, Zero, Rate, Stamp, Derandomized, Random, Scaled, Unscaled, Capped, Uncapped}
+use Rattle.pie_record.proofs.Names.{RawParams, first_bad, Mode, Bounded, Rolling, Opening, Profile, One, Two, are_of_version_two, last_moment}
+use Rattle.pie_record.proofs.Names.{opening_refusal, ParamsFit, Flaw, TraceFault, Draft, FirstKind, chosen_at, decay_at, draft_at, elements_at}
+use Rattle.pie_record.proofs.Names.{first_fields, first_kind, holds_limits, limits_at, profile_of, version_one_fields, version_three_fields}
+use Rattle.pie_record.proofs.Names.{version_two_fields, which_of, opening_of, opening_read, params_at, LimitsFit, NineFit, Row, delay_word, mode_word}
+use Rattle.pie_record.proofs.Names.{picking_word, profile_number, size_word, step_word, are_default, are_usual, chosen_row, earlier_row, is_earlier}
+use Rattle.pie_record.proofs.Names.{is_usual_decay, is_usual_delay, is_usual_size, nine_of, opening_row, version_three_row}
 use Rattle.pie_params.specs.declared.elements.Decay.{Decay}
-use Rattle.pie_params.specs.declared.elements.Decay.TheVariants.{Half, Zero}
 use Rattle.pie_params.specs.declared.elements.Delay.{Delay}
-use Rattle.pie_params.specs.declared.elements.Delay.TheVariants.{Rate, Stamp}
 use Rattle.pie_params.specs.declared.elements.Picking.{Picking}
-use Rattle.pie_params.specs.declared.elements.Picking.TheVariants.{Derandomized, Random}
 use Rattle.pie_params.specs.declared.elements.Size.{Size}
-use Rattle.pie_params.specs.declared.elements.Size.TheVariants.{Scaled, Unscaled}
 use Rattle.pie_params.specs.declared.elements.Step.{Step}
-use Rattle.pie_params.specs.declared.elements.Step.TheVariants.{Capped, Uncapped}
-use Rattle.pie_params.specs.declared.raw.RawParams.{RawParams}
-use Rattle.pie_params.specs.Range.{first_bad}
 use Rattle.pie_event.specs.declared.opening.Choices.{Choices}
 use Rattle.pie_event.specs.declared.opening.Limits.{Limits}
-use Rattle.pie_event.specs.declared.opening.Mode.{Mode}
-use Rattle.pie_event.specs.declared.opening.Mode.TheVariants.{Bounded, Rolling}
-use Rattle.pie_event.specs.declared.opening.Opening.{Opening}
-use Rattle.pie_event.specs.declared.profile.Profile.{Profile}
-use Rattle.pie_event.specs.declared.profile.Profile.TheVariants.{One, Two}
-use Rattle.pie_event.specs.Opening.{are_of_version_two, last_moment, opening_refusal}
-use Rattle.pie_event.specs.Ranges.{ParamsFit}
-use Rattle.pie_record.specs.declared.fault.Flaw.{Flaw}
-use Rattle.pie_record.specs.declared.fault.TraceFault.{TraceFault}
-use Rattle.pie_record.specs.declared.first_record.Draft.{Draft}
-use Rattle.pie_record.specs.declared.first_record.FirstKind.{FirstKind}
 use Rattle.pie_record.specs.declared.first_record.FirstKind.TheVariants as kinds
-use Rattle.pie_record.specs.FirstRecord.{chosen_at, decay_at, draft_at, elements_at, first_fields, first_kind, holds_limits, limits_at, profile_of}
-use Rattle.pie_record.specs.FirstRecord.{version_one_fields, version_three_fields, version_two_fields, which_of}
-use Rattle.pie_record.specs.Opening.{opening_of, opening_read}
-use Rattle.pie_record.specs.Field.{params_at}
-use Rattle.pie_record.specs.ReadBack.{LimitsFit, NineFit}
-use Rattle.pie_record.specs.Text.{Row}
-use Rattle.pie_record.specs.Words.{delay_word, mode_word, picking_word, profile_number, size_word, step_word}
-use Rattle.pie_record.specs.Write.{are_default, are_usual, chosen_row, earlier_row, is_earlier, is_usual_decay, is_usual_delay, is_usual_size, nine_of}
-use Rattle.pie_record.specs.Write.{opening_row, version_three_row}
 use Rattle.pie_record.proofs.CommandFacts.{nine-of-fits}
 use Rattle.pie_record.proofs.FieldFacts.{back_u32, back_u64, params-back}
 

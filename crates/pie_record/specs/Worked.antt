@@ -1,9 +1,6 @@
 -- What theorems that compute unfold: the reading and the writing of texts and their records.
-use Rattle.std.specs.Prelude.{⊤}
-use Rattle.std.specs.Fmt.{digits}
+use Rattle.pie_record.specs.Names.{⊤, digits, records_from, strip_bom, field_at}
 use Rattle.csv.specs.Machine.{next_record}
-use Rattle.csv.specs.Reading.{records_from, strip_bom}
-use Rattle.csv.specs.Records.{field_at}
 use Rattle.csv.specs.Writing.{fields_text, is_blank}
 use Rattle.pie_record.specs.Answer.{answer_fields}
 use Rattle.pie_record.specs.Clock.{clock_at, clock_in}

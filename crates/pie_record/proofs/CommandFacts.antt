@@ -1,10 +1,10 @@
 -- A record that asks a command, or tells the time of day, has just the fields with which that is written, and numbers of their types.
-use Rattle.pie_record.proofs.Names.{◌≡◌, ◌≤◌, ◌<◌, ◌+◌, ◌==◌, ◌^◌, ℕ, List, [], ◌∷◌, ◌++◌, drop, length, Bool, true, decimal, refl, sym, ap, subst}
-use Rattle.pie_record.proofs.Names.{◌∙◌, arith, if◌then◌else◌, map, ⊤, Option, Some, None, Result, Ok, Err, codes, eqb-true, field_at, first_bad}
+use Rattle.pie_record.proofs.Names.{◌≡◌, ◌≤◌, ◌<◌, ◌==◌, ◌^◌, ℕ, List, [], ◌∷◌, ◌++◌, drop, length, true, decimal, refl, sym, ap, subst}
+use Rattle.pie_record.proofs.Names.{◌∙◌, arith, map, ⊤, Option, Some, None, Result, Ok, codes, eqb-true, field_at, first_bad}
 use Rattle.pie_record.proofs.Names.{Field, RawParams, Command, Arrive, Depart, Update, Reset, SetParams, CommandFits, ParamsFit, Clock, Asked}
 use Rattle.pie_record.proofs.Names.{CommandKind, Flaw, Version, Three, clock_at, clock_in, clock_row, most_moment, arrival_at, asked_at, change_at}
 use Rattle.pie_record.proofs.Names.{change_to, command_at, command_kind, command_length, is_kind, most_u16, most_u64, number_at, packet_at, params_at}
-use Rattle.pie_record.proofs.Names.{number, NineFit, alone, clock_request, command_request, fold_request, request_by, request_for, request_of, Row}
+use Rattle.pie_record.proofs.Names.{number, NineFit, alone, command_request, fold_request, request_by, request_for, request_of, Row}
 use Rattle.pie_record.proofs.Names.{command_fields, nine_of}
 use Rattle.pie_record.specs.declared.command.Asked.TheVariants as asked
 use Rattle.pie_record.specs.declared.command.BadChange.{BadChange}

@@ -1,13 +1,13 @@
 -- A line that was read holds numbers of their types; a record that was written is read as its line.
-use Rattle.pie_record.proofs.Names.{◌≡◌, ◌≤◌, ◌<◌, ◌+◌, ◌==◌, ◌^◌, ℕ, List, [], ◌∷◌, ◌++◌, map, Bool, true, false, length, decimal, refl, sym, ap}
-use Rattle.pie_record.proofs.Names.{subst, ◌∙◌, arith, if◌then◌else◌, Option, Some, None, Result, Ok, Err, codes, ⊤, bytes_eq, field_at, first_bad}
-use Rattle.pie_record.proofs.Names.{RawParams, Packet, AnswerFits, CommandFits, ParamsFit, RegistersFit, StatsFit, Answer, Enqueued, Marked}
+use Rattle.pie_record.proofs.Names.{◌≡◌, ◌<◌, ◌+◌, ◌==◌, ◌^◌, ℕ, List, [], ◌∷◌, ◌++◌, Bool, true, false, length, decimal, refl, ap}
+use Rattle.pie_record.proofs.Names.{subst, ◌∙◌, arith, Option, Some, None, Result, Ok, codes, ⊤, bytes_eq, field_at, first_bad}
+use Rattle.pie_record.proofs.Names.{RawParams, Packet, AnswerFits, ParamsFit, RegistersFit, StatsFit, Answer, Enqueued, Marked}
 use Rattle.pie_record.proofs.Names.{DroppedEarly, DroppedBytes, DroppedPackets, Empty, Left, Updated, Done, Command, Arrive, Depart, Update, Reset}
 use Rattle.pie_record.proofs.Names.{SetParams, Event, Clock, Asked, CommandKind, Flaw, Line, Version, Three, clock_at, clock_in, clock_row}
 use Rattle.pie_record.proofs.Names.{most_moment, command_at, command_kind, is_kind, most_u128, most_u64, number_at, packet_at, word_at, active_line}
 use Rattle.pie_record.proofs.Names.{answer_at, clock_line, departure_at, event_line, has_length, line_by, line_for, line_of, made, note_line}
 use Rattle.pie_record.proofs.Names.{numbers_at, registers_at, shown_line, update_at, verdict_of, number, EventFits, TellEach, Row, request_of}
-use Rattle.pie_record.proofs.Names.{word_said, change_event, command_fields, event_row, line_rows, without_notes}
+use Rattle.pie_record.proofs.Names.{word_said, command_fields, event_row, line_rows, without_notes}
 use Rattle.std.proofs.lemmas.Option.{none-some}
 use Rattle.pie_event.specs.Deed.{fits}
 use Rattle.pie_event.specs.declared.registers.Registers.{Registers}
@@ -18,7 +18,7 @@ use Rattle.pie_record.specs.declared.history_record.Line.TheVariants as line
 use Rattle.pie_record.specs.declared.trace_record.Request.TheVariants as request
 use Rattle.pie_record.specs.declared.version.Version.TheVariants.{One, Two}
 use Rattle.pie_record.specs.declared.words.Said.TheVariants as said
-use Rattle.pie_record.specs.Answer.{activity, answer_fields, flag, folded_row, refused_row, shown_row, tallied_row}
+use Rattle.pie_record.specs.Answer.{answer_fields, flag, folded_row, refused_row, shown_row, tallied_row}
 use Rattle.pie_record.proofs.CommandFacts.{AskedFits, ChangeFits, ClockFits, asked-as-written, asked_fields, asked_kind, clock-as-written, clock-read}
 use Rattle.pie_record.proofs.CommandFacts.{command-back, command-read, kind-back, kind_of}
 use Rattle.pie_record.proofs.FieldFacts.{and_after, back_ecn, back_u32, back_u64, field-read, number-then, ok-same, one-way, no-flaw, packet-read, tested}

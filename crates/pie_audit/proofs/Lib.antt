@@ -1,3 +1,4 @@
+mod Names
 pub mod FindingFacts
 pub mod AuditorFacts
 pub mod AuditFacts

@@ -1,8 +1,5 @@
 -- What this crate's laws say of events: they are as lines that tell them.
-use Rattle.std.specs.Prelude.{◌≡◌, All, List, length, map}
-use Rattle.pie_event.specs.declared.command.Event.{Event}
-use Rattle.pie_record.specs.declared.history_record.Line.TheVariants.{Made}
-use Rattle.pie_record.specs.HistoryLines.{event_count}
+use Rattle.pie_audit.specs.Names.{◌≡◌, All, List, length, map, Event, Made, event_count}
 use Rattle.pie_audit.specs.Finding.{events_of}
 use Rattle.pie_audit.specs.Legal.{CanBeMade}
 

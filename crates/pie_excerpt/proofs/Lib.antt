@@ -1,8 +1,8 @@
+mod Names
 pub mod RowFacts
 pub mod BackFacts
 pub mod WrittenFacts
 mod Examples
 pub mod BeginningFacts
 pub mod AgainFacts
-mod AloneFacts
 pub mod GoesFacts

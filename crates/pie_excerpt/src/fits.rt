@@ -3,7 +3,8 @@
 ghost use Rattle.std.specs.Prelude.{◌≡◌, ◌<◌, ◌^◌, None};
 ghost use Rattle.pie_params.specs.Range.{first_bad};
 ghost use Rattle.pie_event.specs.Ranges.{StatsFit};
-ghost use Rattle.pie_excerpt.specs.Fits.{ControllerFits, CycleFits, LimitsFit, NineFit, ResumeFits, SetterFits, WaitingFits};
+ghost use Rattle.pie_record.specs.ReadBack.{LimitsFit, NineFit};
+ghost use Rattle.pie_excerpt.specs.Fits.{ControllerFits, CycleFits, ResumeFits, SetterFits, WaitingFits};
 
 use crate::resume::Resume;
 use pie_aqm::RawController;

@@ -1,99 +1,23 @@
--- A command that was read holds numbers of their types, and its fields read the same where others follow.
-use Rattle.std.proofs.Common.{◌≡◌, ◌≤◌, ◌+◌, ◌==◌, ℕ, [], ◌∷◌, ◌++◌, length, Bool, true, false, refl, ap, subst, ◌∙◌, arith}
-use Rattle.std.proofs.Common.{if◌then◌else◌}
-use Rattle.std.specs.Prelude.{Option, Some, None, Result, Ok, Err, codes}
-use Rattle.std.proofs.lemmas.Bool.{eqb-true}
-use Rattle.csv.specs.Records.{field_at}
-use Rattle.pie_params.specs.Range.{first_bad}
-use Rattle.pie_params.specs.declared.raw.Field.{Field}
-use Rattle.pie_params.specs.declared.raw.RawParams.{RawParams}
-use Rattle.pie_queue.specs.declared.packet.Packet.{Packet}
-use Rattle.pie_event.specs.declared.command.Command.{Command}
-use Rattle.pie_event.specs.declared.command.Command.TheVariants.{Arrive, Depart, Update, Reset, SetParams}
-use Rattle.pie_event.specs.Ranges.{CommandFits, PacketFits, ParamsFit}
-use Rattle.pie_record.specs.declared.clock.Clock.{Clock}
-use Rattle.pie_record.specs.declared.command.Asked.{Asked}
+-- A record that asks a command, or tells the time of day, has just the fields with which that is written, and numbers of their types.
+use Rattle.pie_record.proofs.Names.{◌≡◌, ◌≤◌, ◌<◌, ◌==◌, ◌^◌, ℕ, List, [], ◌∷◌, ◌++◌, drop, length, true, decimal, refl, sym, ap, subst}
+use Rattle.pie_record.proofs.Names.{◌∙◌, arith, map, ⊤, Option, Some, None, Result, Ok, codes, eqb-true, field_at, first_bad}
+use Rattle.pie_record.proofs.Names.{Field, RawParams, Command, Arrive, Depart, Update, Reset, SetParams, CommandFits, ParamsFit, Clock, Asked}
+use Rattle.pie_record.proofs.Names.{CommandKind, Flaw, Version, Three, clock_at, clock_in, clock_row, most_moment, arrival_at, asked_at, change_at}
+use Rattle.pie_record.proofs.Names.{change_to, command_at, command_kind, command_length, is_kind, most_u16, most_u64, number_at, packet_at, params_at}
+use Rattle.pie_record.proofs.Names.{number, NineFit, alone, command_request, fold_request, request_by, request_for, request_of, Row}
+use Rattle.pie_record.proofs.Names.{command_fields, nine_of}
 use Rattle.pie_record.specs.declared.command.Asked.TheVariants as asked
-use Rattle.pie_record.specs.declared.command.CommandKind.{CommandKind}
+use Rattle.pie_record.specs.declared.command.BadChange.{BadChange}
 use Rattle.pie_record.specs.declared.command.CommandKind.TheVariants as kind
-use Rattle.pie_record.specs.declared.fault.Flaw.{Flaw}
 use Rattle.pie_record.specs.declared.fault.Flaw.TheVariants as flaw
 use Rattle.pie_record.specs.declared.trace_record.Request.{Request}
 use Rattle.pie_record.specs.declared.trace_record.Request.TheVariants as request
-use Rattle.pie_record.specs.declared.version.Version.{Version}
-use Rattle.pie_record.specs.Clock.{clock_in}
-use Rattle.pie_record.specs.Command.{arrival_at, asked_at, change_at, change_to, command_at, command_kind, command_length}
-use Rattle.pie_record.specs.Field.{and_then, ecn_at, is_kind, most_u16, most_u32, most_u64, number_at, packet_at, params_at}
-use Rattle.pie_record.specs.TraceRecord.{clock_request, command_request, fold_request, request_by, request_for, request_of}
-use Rattle.pie_record.specs.Text.{Row}
-use Rattle.pie_record.proofs.FieldFacts.{and_after, field-kept, number_at-within}
+use Rattle.pie_record.specs.declared.version.Version.TheVariants.{One, Two}
+use Rattle.pie_record.proofs.FieldFacts.{Has, HasAll, and_after, back_ecn, back_u32, back_u64, has-all, number-then, ok-same, one-way, packet-read}
+use Rattle.pie_record.proofs.FieldFacts.{ParamsRead, params-back, params-read, no-flaw, tested, word-has}
+use Rattle.pie_record.proofs.NumberFacts.{number-back}
 
--- ---- the numbers of a command
-
--- a caller's command is that which was read
-abbrev SameAsked : Result Asked Flaw → Result Asked Flaw → Type 0
-SameAsked first second = first ≡ second
-
-same-command : (a b : ℕ) (c d : Command) → SameAsked (Ok (asked.Command a c)) (Ok (asked.Command b d)) → c ≡ d
-same-command a b c d e = cc
-
-fits-same : (c d : Command) → c ≡ d → CommandFits c → CommandFits d
-fits-same c d e fits = subst CommandFits e fits
-
-packet-fits : (row : Row) (place : ℕ) (packet : Packet) → packet_at row place ≡ Ok packet → PacketFits packet
-unfolding packet_at
-packet-fits row place packet e =
-    let a = and_after (number_at row place most_u64) _ packet e in
-    let b = and_after (number_at row (place + 1) most_u32) _ packet a.rest in
-    let c = and_after (ecn_at row (place + 2)) _ packet b.rest in
-    let tag = number_at-within row place most_u64 a.got (omega arith) a.is in
-    let size = number_at-within row (place + 1) most_u32 b.got (omega arith) b.is in
-    let read : Packet = record { tag = a.got; size = b.got; ecn = c.got } in
-    let same : read ≡ packet = cc in
-    subst PacketFits same (record { tag = omega arith; size = omega arith })
-
-arrival-fits : (row : Row) (moment : ℕ) (command : Command) → moment ≤ most_u64 → arrival_at row moment ≡ Ok command → CommandFits command
-unfolding arrival_at
-arrival-fits row moment command within e =
-    let a = and_after (packet_at row 3) _ command e in
-    let b = and_after (number_at row 6 most_u64) _ command a.rest in
-    let word = number_at-within row 6 most_u64 b.got (omega arith) b.is in
-    let same : Arrive moment a.got b.got ≡ command = cc in
-    fits-same (Arrive moment a.got b.got) command same (omega arith, packet-fits row 3 a.got a.is, omega arith)
-
--- a change holds what pie_params promises of parameters in their ranges
-change-fits : (row : Row) (caller moment : ℕ) (from : ℕ) (command : Command) → ((params : RawParams) → first_bad params ≡ None → ParamsFit params)
-    → moment ≤ most_u64 → change_at row caller moment ≡ Ok (asked.Command from command) → CommandFits command
-unfolding change_at
-change-fits row caller moment from command held within e =
-    let a = and_after (params_at row 3) _ (asked.Command from command) e in by a.got (first_bad a.got) refl a.rest
-  where
-    by : (params : RawParams) (bad : Option Field) → first_bad params ≡ bad
-        → SameAsked (Ok (change_to caller moment params bad)) (Ok (asked.Command from command)) → CommandFits command
-    by params None good e = fits-same (SetParams moment params) command (same-command caller from (SetParams moment params) command e)
-        (omega arith, held params good)
-    by params (Some field) good e = cc
-
-pub command-fits : (row : Row) (k : CommandKind) (caller : ℕ) (command : Command)
-    → ((params : RawParams) → first_bad params ≡ None → ParamsFit params)
-    → command_at row k ≡ Ok (asked.Command caller command) → CommandFits command
-unfolding command_at
-command-fits row k caller command held e =
-    let a = and_after (number_at row 1 most_u16) _ (asked.Command caller command) e in
-    let b = and_after (number_at row 2 most_u64) _ (asked.Command caller command) a.rest in
-    by k a.got b.got (number_at-within row 2 most_u64 b.got (omega arith) b.is) b.rest
-  where
-    by : (k : CommandKind) (from moment : ℕ) → moment ≤ most_u64 → asked_at row k from moment ≡ Ok (asked.Command caller command)
-        → CommandFits command
-    by kind.Arrive from moment within e =
-        let a = and_after (arrival_at row moment) (λ (c : Command). Ok (asked.Command from c)) (asked.Command caller command) e in
-        fits-same a.got command (same-command from caller a.got command a.rest) (arrival-fits row moment a.got within a.is)
-    by kind.Depart from moment within e = fits-same (Depart moment) command (same-command from caller (Depart moment) command e) (omega arith)
-    by kind.Update from moment within e = fits-same (Update moment) command (same-command from caller (Update moment) command e) (omega arith)
-    by kind.Reset from moment within e = fits-same (Reset moment) command (same-command from caller (Reset moment) command e) (omega arith)
-    by kind.Params from moment within e = change-fits row from moment caller command held within e
-
--- ---- the kind of a command
+-- ---- what was asked
 
 abbrev pub kind_of : Command → CommandKind
 kind_of (Arrive moment packet word) = kind.Arrive
@@ -102,156 +26,286 @@ kind_of (Update moment) = kind.Update
 kind_of (Reset moment) = kind.Reset
 kind_of (SetParams moment params) = kind.Params
 
-arrival-kind : (row : Row) (moment : ℕ) (command : Command) → arrival_at row moment ≡ Ok command → kind.Arrive ≡ kind_of command
-unfolding arrival_at
-arrival-kind row moment command e =
-    let a = and_after (packet_at row 3) _ command e in
-    let b = and_after (number_at row 6 most_u64) _ command a.rest in
-    let same : Arrive moment a.got b.got ≡ command = cc in ap kind_of same
+abbrev pub asked_kind : Asked → CommandKind
+asked_kind (asked.Command caller command) = kind_of command
+asked_kind (asked.BadParams change) = kind.Params
 
-change-kind : (row : Row) (caller moment : ℕ) (from : ℕ) (command : Command) → change_at row caller moment ≡ Ok (asked.Command from command)
-    → kind.Params ≡ kind_of command
-unfolding change_at
-change-kind row caller moment from command e =
-    let a = and_after (params_at row 3) _ (asked.Command from command) e in by a.got (first_bad a.got) a.rest
+-- the fields that ask it
+abbrev pub asked_fields : Asked → Row
+asked_fields (asked.Command caller command) = command_fields caller command
+asked_fields (asked.BadParams change) = command_fields change.caller (SetParams change.moment change.params)
+
+-- new parameters of which one is out of its range, with numbers of their types
+pub record ChangeFits (change : BadChange) : Type 0 where
+  pub caller : change.caller ≤ most_u16
+  pub moment : change.moment < 2 ^ 64
+  pub nine : NineFit change.params
+  pub field : Field
+  pub bad : first_bad change.params ≡ Some field
+
+abbrev pub AskedFits : Asked → Type 0
+AskedFits (asked.Command caller command) = (caller ≤ most_u16) × CommandFits command
+AskedFits (asked.BadParams change) = ChangeFits change
+
+pub nine-of-fits : (params : RawParams) → ParamsFit params → NineFit params
+nine-of-fits params fits = record {
+  target = fits.target;
+  t_update = fits.t_update;
+  max_burst = fits.max_burst;
+  alpha = fits.alpha;
+  beta = fits.beta;
+  mean_pkt = fits.mean_pkt;
+  limit_bytes = fits.limit_bytes;
+  mark_ecnth = fits.mark_ecnth;
+  dq_threshold = fits.dq_threshold;
+}
+
+fits-of-nine : (params : RawParams) → NineFit params → first_bad params ≡ None → ParamsFit params
+fits-of-nine params nine good = record {
+  target = nine.target;
+  t_update = nine.t_update;
+  max_burst = nine.max_burst;
+  alpha = nine.alpha;
+  beta = nine.beta;
+  mean_pkt = nine.mean_pkt;
+  limit_bytes = nine.limit_bytes;
+  mark_ecnth = nine.mark_ecnth;
+  dq_threshold = nine.dq_threshold;
+  in_range = good;
+}
+
+-- ---- the fields of a command that was read
+
+-- they are those that ask it, after the word of its kind
+pub record Reads (row : Row) (k : CommandKind) (asks : Asked) : Type 0 where
+  pub kind : k ≡ asked_kind asks
+  pub has : HasAll row 1 (drop 1 (asked_fields asks))
+  pub fits : AskedFits asks
+
+abbrev Says : Result Asked Flaw → Asked → Type 0
+Says read asks = read ≡ Ok asks
+
+reads-same : (row : Row) (k : CommandKind) (a b : Asked) → Says (Ok a) b → Reads row k a → Reads row k b
+reads-same row k a b e reads = subst (λ (asks : Asked). Reads row k asks) (ok-same a b e) reads
+
+arrival-read : (row : Row) (caller moment : ℕ) (command : Command) → Has row 1 (decimal caller) → Has row 2 (decimal moment) → caller ≤ most_u16
+    → moment < 2 ^ 64 → arrival_at row moment ≡ Ok command → Reads row kind.Arrive (asked.Command caller command)
+unfolding arrival_at command_fields
+arrival-read row caller moment command who when few small e =
+    let p = and_after (packet_at row 3) _ command e in
+    let w = number-then row 6 most_u64 _ command (omega arith) p.rest in
+    let packet = packet-read row 3 p.got p.is in
+    subst (λ (c : Command). Reads row kind.Arrive (asked.Command caller c)) (ok-same (Arrive moment p.got w.got) command w.rest) (record {
+      kind = refl;
+      has = (who, (when, (packet.tag, (packet.size, (packet.ecn, (w.there, tt))))));
+      fits = (few, (small, packet.fits, omega (arith, w.within)));
+    })
+
+change-read : (row : Row) (caller moment : ℕ) (asks : Asked) → Has row 1 (decimal caller) → Has row 2 (decimal moment) → caller ≤ most_u16
+    → moment < 2 ^ 64 → Says (change_at row caller moment) asks → Reads row kind.Params asks
+unfolding change_at command_fields
+change-read row caller moment asks who when few small e =
+    let p = and_after (params_at row 3) (λ (p : RawParams). let it : Result Asked Flaw = Ok (change_to caller moment p (first_bad p)) in it) asks e in
+    by p.got (params-read row p.got p.is) (first_bad p.got) refl p.rest
   where
-    by : (params : RawParams) (bad : Option Field) → SameAsked (Ok (change_to caller moment params bad)) (Ok (asked.Command from command))
-        → kind.Params ≡ kind_of command
-    by params None e = ap kind_of (same-command caller from (SetParams moment params) command e)
-    by params (Some field) e = cc
+    by : (p : RawParams) → ParamsRead row p → (bad : Option Field) → first_bad p ≡ bad → Says (Ok (change_to caller moment p bad)) asks
+        → Reads row kind.Params asks
+    by p read None good e = reads-same row kind.Params (asked.Command caller (SetParams moment p)) asks e
+        (record { kind = refl; has = (who, (when, read.has)); fits = (few, (small, fits-of-nine p read.fits good)) })
+    by p read (Some field) bad e =
+        reads-same row kind.Params (asked.BadParams (record { caller = caller; moment = moment; params = p })) asks e (record {
+          kind = refl;
+          has = (who, (when, read.has));
+          fits = record { caller = few; moment = small; nine = read.fits; field = field; bad = bad };
+        })
 
-pub command-kind : (row : Row) (k : CommandKind) (caller : ℕ) (command : Command) → command_at row k ≡ Ok (asked.Command caller command)
-    → k ≡ kind_of command
-unfolding command_at
-command-kind row k caller command e =
-    let a = and_after (number_at row 1 most_u16) _ (asked.Command caller command) e in
-    let b = and_after (number_at row 2 most_u64) _ (asked.Command caller command) a.rest in by k a.got b.got b.rest
+pub command-read : (row : Row) (k : CommandKind) (asks : Asked) → Says (command_at row k) asks → Reads row k asks
+unfolding command_at command_fields
+command-read row k asks e =
+    let a = number-then row 1 most_u16 _ asks (omega arith) e in
+    let b = number-then row 2 most_u64 _ asks (omega arith) a.rest in by k a.got b.got a.there b.there a.within (omega (arith, b.within)) b.rest
   where
-    by : (k : CommandKind) (from moment : ℕ) → asked_at row k from moment ≡ Ok (asked.Command caller command) → k ≡ kind_of command
-    by kind.Arrive from moment e =
-        let a = and_after (arrival_at row moment) (λ (c : Command). Ok (asked.Command from c)) (asked.Command caller command) e in
-        arrival-kind row moment a.got a.is ∙ ap kind_of (same-command from caller a.got command a.rest)
-    by kind.Depart from moment e = ap kind_of (same-command from caller (Depart moment) command e)
-    by kind.Update from moment e = ap kind_of (same-command from caller (Update moment) command e)
-    by kind.Reset from moment e = ap kind_of (same-command from caller (Reset moment) command e)
-    by kind.Params from moment e = change-kind row from moment caller command e
+    by : (k : CommandKind) (caller moment : ℕ) → Has row 1 (decimal caller) → Has row 2 (decimal moment) → caller ≤ most_u16 → moment < 2 ^ 64
+        → Says (asked_at row k caller moment) asks → Reads row k asks
+    by kind.Arrive caller moment who when few small e =
+        let c = and_after (arrival_at row moment) (λ (command : Command). let it : Result Asked Flaw = Ok (asked.Command caller command) in it) asks e in
+        reads-same row kind.Arrive (asked.Command caller c.got) asks c.rest (arrival-read row caller moment c.got who when few small c.is)
+    by kind.Depart caller moment who when few small e =
+        reads-same row kind.Depart (asked.Command caller (Depart moment)) asks e (record { kind = refl; has = (who, (when, tt)); fits = (few, small) })
+    by kind.Update caller moment who when few small e =
+        reads-same row kind.Update (asked.Command caller (Update moment)) asks e (record { kind = refl; has = (who, (when, tt)); fits = (few, small) })
+    by kind.Reset caller moment who when few small e =
+        reads-same row kind.Reset (asked.Command caller (Reset moment)) asks e (record { kind = refl; has = (who, (when, tt)); fits = (few, small) })
+    by kind.Params caller moment who when few small e = change-read row caller moment asks who when few small e
 
--- ---- a record of a trace that asks a command
+-- the word of a kind of command
+abbrev word_for : CommandKind → List ℕ
+word_for kind.Arrive = codes "arrive"
+word_for kind.Depart = codes "depart"
+word_for kind.Update = codes "update"
+word_for kind.Reset = codes "reset"
+word_for kind.Params = codes "params"
 
--- its kind, and what its fields say
-pub record AsksCommand (row : Row) (asks : Asked) : Type 0 where
-  pub kind : CommandKind
-  pub is : command_kind row ≡ Some kind
-  pub long : length row ≡ command_length kind
-  pub reads : command_at row kind ≡ Ok asks
-
--- two answers are the same
-abbrev Same : Result Request Flaw → Result Request Flaw → Type 0
-Same first second = first ≡ second
-
-asked-for : (asks : Asked) (caller : ℕ) (command : Command) → Same (Ok (request_for asks)) (Ok (request.Ask caller command))
-    → asks ≡ asked.Command caller command
-asked-for (asked.Command from other) caller command e =
-    let a : from ≡ caller = cc in let b : other ≡ command = cc in λ i. asked.Command (a i) (b i)
-asked-for (asked.BadParams change) caller command e = cc
-
-command-asked : (row : Row) (kind : CommandKind) (caller : ℕ) (command : Command) → command_kind row ≡ Some kind
-    → command_request row kind ≡ Ok (request.Ask caller command) → AsksCommand row (asked.Command caller command)
-unfolding command_request
-command-asked row kind caller command is e = by (length row == command_length kind) refl e
+kind-has : (row : Row) (k : CommandKind) → command_kind row ≡ Some k → Has row 0 (word_for k)
+unfolding command_kind
+kind-has row k e =
+    one-way _ _ _ _ e (this kind.Arrive) (λ e. one-way _ _ _ _ e (this kind.Depart) (λ e. one-way _ _ _ _ e (this kind.Update) (λ e.
+    one-way _ _ _ _ e (this kind.Reset) (λ e. one-way _ _ _ _ e (this kind.Params) (λ none. cc)))))
   where
-    by : (b : Bool) → (length row == command_length kind) ≡ b
-        → (if b then and_then (command_at row kind) (λ asks. Ok (request_for asks)) else Err flaw.Fields) ≡ Ok (request.Ask caller command)
-        → AsksCommand row (asked.Command caller command)
-    by false l e = cc
-    by true l e =
-        let a = and_after (command_at row kind) (λ (asks : Asked). Ok (request_for asks)) (request.Ask caller command) e in
-        let same = asked-for a.got caller command a.rest in
-        record {
-          kind = kind;
-          is = is;
-          long = eqb-true (length row) (command_length kind) l;
-          reads = a.is ∙ ap (λ (asks : Asked). let read : Result Asked Flaw = Ok asks in read) same;
-        }
+    this : (one : CommandKind) → is_kind row (word_for one) ≡ true → (let found : Option CommandKind = Some one in found) ≡ Some k
+        → Has row 0 (word_for k)
+    this one is e = let one_is : one ≡ k = cc in subst (λ (o : CommandKind). Has row 0 (word_for o)) one_is (word-has row (word_for one) is)
 
--- no other kind asks a command
-fold-asks : (row : Row) (caller : ℕ) (command : Command) → fold_request row ≡ Ok (request.Ask caller command) → ⊥
-unfolding fold_request
-fold-asks row caller command e = by (length row == 2) (number_at row 1 most_u64) e
+-- a record of a command begins with its word, and is as long as its kind says
+asked-shape : (asks : Asked) → (asked_fields asks ≡ word_for (asked_kind asks) ∷ drop 1 (asked_fields asks))
+    × (command_length (asked_kind asks) ≡ length (asked_fields asks))
+unfolding command_fields
+asked-shape (asked.Command caller (Arrive moment packet word)) = (refl, refl)
+asked-shape (asked.Command caller (Depart moment)) = (refl, refl)
+asked-shape (asked.Command caller (Update moment)) = (refl, refl)
+asked-shape (asked.Command caller (Reset moment)) = (refl, refl)
+asked-shape (asked.Command caller (SetParams moment params)) = (refl, refl)
+asked-shape (asked.BadParams change) = (refl, refl)
+
+-- the record of a command alone
+pub record WrittenAs (row : Row) (asks : Asked) : Type 0 where
+  pub is : row ≡ asked_fields asks
+  pub fits : AskedFits asks
+
+written-as : (row : Row) (k : CommandKind) (asks : Asked) → command_kind row ≡ Some k → length row ≡ command_length k → Says (command_at row k) asks
+    → WrittenAs row asks
+written-as row k asks known long says =
+    let read = command-read row k asks says in
+    let shape = asked-shape asks in
+    let whole = long ∙ ap command_length read.kind ∙ shape.1 ∙ ap length shape.0 in
+    record {
+      is = has-all row 0 (word_for k ∷ drop 1 (asked_fields asks)) (omega (arith, whole)) (kind-has row k known, read.has)
+          ∙ ap (λ (o : CommandKind). word_for o ∷ drop 1 (asked_fields asks)) read.kind ∙ sym shape.0;
+      fits = read.fits;
+    }
+
+-- ---- the time of day
+
+abbrev pub ClockFits : Clock → Type 0
+ClockFits clock = (clock.moment ≤ most_moment) × (clock.unix ≤ most_u64)
+
+pub record ClockRead (version : Version) (row : Row) (clock : Clock) : Type 0 where
+  pub reads : clock_in version row ≡ Ok clock
+  pub fits : ClockFits clock
+  pub is : is_kind row (codes "clock") ≡ true → row ≡ clock_row clock
+
+clock-fields : (row : Row) (clock : Clock) → clock_at row ≡ Ok clock
+    → ClockFits clock × (is_kind row (codes "clock") ≡ true → row ≡ clock_row clock)
+unfolding clock_at clock_row
+clock-fields row clock e =
+    let long = tested (length row == 3) _ _ clock e in
+    let a = number-then row 1 most_moment _ clock (omega arith) long.1 in
+    let b = number-then row 2 most_u64 _ clock (omega arith) a.rest in
+    subst (λ (c : Clock). ClockFits c × (is_kind row (codes "clock") ≡ true → row ≡ codes "clock" ∷ decimal c.moment ∷ decimal c.unix ∷ []))
+    (ok-same (record { moment = a.got; unix = b.got }) clock b.rest) (
+      (a.within, b.within),
+      λ is. has-all row 0 (codes "clock" ∷ decimal a.got ∷ decimal b.got ∷ []) (eqb-true (length row) 3 long.0)
+          (word-has row (codes "clock") is, (a.there, (b.there, tt))),
+    )
+
+pub clock-read : (version : Version) (row : Row) (clock : Clock) → clock_in version row ≡ Ok clock → ClockRead version row clock
+unfolding clock_in
+clock-read One row clock e = cc
+clock-read Two row clock e = cc
+clock-read Three row clock e = let fields = clock-fields row clock e in record { reads = e; fits = fields.0; is = fields.1 }
+
+-- ---- a record of a trace
+
+-- what it says of the record that it asks this
+abbrev Asks : Version → Row → Request → Type 0
+Asks version row (request.Ask caller command) = WrittenAs row (asked.Command caller command)
+Asks version row (request.Clock clock) = (is_kind row (codes "clock") ≡ true) × ClockRead version row clock
+Asks version row request.BadParams = ⊤
+Asks version row (request.Fold n) = ⊤
+Asks version row request.Show = ⊤
+Asks version row request.Tally = ⊤
+
+asks : (version : Version) (row : Row) (r : Request) → request_of version row ≡ Ok r → Asks version row r
+unfolding request_of command_request fold_request
+asks version row r e = by (command_kind row) refl e
   where
-    by : (b : Bool) (r : Result ℕ Flaw) → (if b then and_then r (λ n. Ok (request.Fold n)) else Err flaw.Fields) ≡ Ok (request.Ask caller command) → ⊥
-    by true (Ok n) e = cc
-    by true (Err what) e = cc
-    by false r e = cc
+    this : (a : Request) → (let said : Result Request Flaw = Ok a in said) ≡ Ok r → Asks version row a → Asks version row r
+    this a e here = subst (λ (q : Request). Asks version row q) (ok-same a r e) here
 
-clock-asks : (version : Version) (row : Row) (caller : ℕ) (command : Command) → clock_request version row ≡ Ok (request.Ask caller command) → ⊥
-clock-asks version row caller command e = by (clock_in version row) e
+    said-by : (a : Asked) → WrittenAs row a → Asks version row (request_for a)
+    said-by (asked.Command caller command) is = is
+    said-by (asked.BadParams change) is = tt
+
+    single : (a : Request) → Asks version row a → alone row a ≡ Ok r → Asks version row r
+    single a here e = this a (tested (length row == 1) _ _ r e).1 here
+
+    by : (o : Option CommandKind) → command_kind row ≡ o → request_by o version row ≡ Ok r → Asks version row r
+    by (Some k) known e =
+        let long = tested (length row == command_length k) _ _ r e in
+        let a = and_after (command_at row k) (λ (asks : Asked). let said : Result Request Flaw = Ok (request_for asks) in said) r long.1 in
+        this (request_for a.got) a.rest (said-by a.got (written-as row k a.got known (eqb-true (length row) (command_length k) long.0) a.is))
+    by None known e =
+        one-way (is_kind row (codes "fold")) _ _ _ e (λ is e.
+        let n = and_after (number_at row 1 most_u64) (λ (n : ℕ). let said : Result Request Flaw = Ok (request.Fold n) in said) r
+        (tested (length row == 2) _ _ r e).1 in this (request.Fold n.got) n.rest tt) (λ e.
+        one-way (is_kind row (codes "show")) _ _ _ e (λ is e. single request.Show tt e) (λ e.
+        one-way (is_kind row (codes "tally")) _ _ _ e (λ is e. single request.Tally tt e) (λ e.
+        one-way (is_kind row (codes "clock")) _ _ _ e (λ is e.
+        let c = and_after (clock_in version row) (λ (c : Clock). let said : Result Request Flaw = Ok (request.Clock c) in said) r e in
+        this (request.Clock c.got) c.rest (is, clock-read version row c.got c.is)) (λ e. absurd (no-flaw flaw.Kind r e)))))
+
+pub asked-as-written : (version : Version) (row : Row) (caller : ℕ) (command : Command) → request_of version row ≡ Ok (request.Ask caller command)
+    → WrittenAs row (asked.Command caller command)
+asked-as-written version row caller command e = asks version row (request.Ask caller command) e
+
+pub clock-as-written : (version : Version) (row : Row) (clock : Clock) → request_of version row ≡ Ok (request.Clock clock)
+    → (row ≡ clock_row clock) × ClockRead version row clock
+clock-as-written version row clock e = let c = asks version row (request.Clock clock) e in (c.1.is c.0, c.1)
+
+-- it asks the same in versions one and two
+pub same-before-three : (row : Row) → request_of One row ≡ request_of Two row
+unfolding request_of clock_in
+same-before-three row = by (command_kind row)
   where
-    by : (r : Result Clock Flaw) → and_then r (λ clock. let said : Result Request Flaw = Ok (request.Clock clock) in said)
-        ≡ Ok (request.Ask caller command) → ⊥
-    by (Ok clock) e = cc
-    by (Err what) e = cc
+    by : (o : Option CommandKind) → request_by o One row ≡ request_by o Two row
+    by (Some kind) = refl
+    by None = refl
 
-pub asks-command : (version : Version) (row : Row) (caller : ℕ) (command : Command) → request_of version row ≡ Ok (request.Ask caller command)
-    → AsksCommand row (asked.Command caller command)
-unfolding request_of
-asks-command version row caller command e = by (command_kind row) refl e
-  where
-    other : (g h i k l : Bool) → (if g then fold_request row else if h then (if l then Ok request.Show else Err flaw.Fields) else if i then
-        (if l then Ok request.Tally else Err flaw.Fields) else if k then clock_request version row else Err flaw.Kind)
-        ≡ Ok (request.Ask caller command) → AsksCommand row (asked.Command caller command)
-    other true h i k l e = absurd (fold-asks row caller command e)
-    other false true i k true e = cc
-    other false true i k false e = cc
-    other false false true k true e = cc
-    other false false true k false e = cc
-    other false false false true l e = absurd (clock-asks version row caller command e)
-    other false false false false l e = cc
+-- ---- what is written is read
 
-    by : (o : Option CommandKind) → command_kind row ≡ o → request_by o version row ≡ Ok (request.Ask caller command)
-        → AsksCommand row (asked.Command caller command)
-    by (Some kind) is e = command-asked row kind caller command is e
-    by None is e = other (is_kind row (codes "fold")) (is_kind row (codes "show")) (is_kind row (codes "tally")) (is_kind row (codes "clock"))
-        (length row == 1) e
+pub kind-back : (asks : Asked) (more : Row) → command_kind (asked_fields asks ++ more) ≡ Some (asked_kind asks)
+unfolding command_kind field_at command_fields
+kind-back (asked.Command caller (Arrive moment packet word)) more = refl
+kind-back (asked.Command caller (Depart moment)) more = refl
+kind-back (asked.Command caller (Update moment)) more = refl
+kind-back (asked.Command caller (Reset moment)) more = refl
+kind-back (asked.Command caller (SetParams moment params)) more = refl
+kind-back (asked.BadParams change) more = refl
 
-pub request-fits : (version : Version) (row : Row) (caller : ℕ) (command : Command) → ((params : RawParams) → first_bad params ≡ None
-    → ParamsFit params)
-    → request_of version row ≡ Ok (request.Ask caller command) → CommandFits command
-request-fits version row caller command held e =
-    let asks = asks-command version row caller command e in command-fits row asks.kind caller command held asks.reads
+back_u16 : (n : ℕ) → n ≤ most_u16 → number most_u16 (decimal n) ≡ Some n
+back_u16 n fits = number-back most_u16 n fits (omega arith)
 
--- ---- more fields after a command
+params-behind : (a b c : List ℕ) (params : RawParams) (more : Row) → NineFit params
+    → params_at (a ∷ b ∷ c ∷ (map decimal (nine_of params) ++ more)) 3 ≡ Ok params
+unfolding params_at field_at
+params-behind a b c params more fits = params-back params more fits
 
-pub kind-kept : (row more : Row) (kind : CommandKind) → command_kind row ≡ Some kind → command_kind (row ++ more) ≡ Some kind
-unfolding command_kind field_at
-kind-kept [] more kind e = cc
-kind-kept (first ∷ rest) more kind e = e
-
-pub command-kept : (row more : Row) (kind : CommandKind) → length row ≡ command_length kind → command_at (row ++ more) kind ≡ command_at row kind
-unfolding command_at arrival_at change_at packet_at params_at
-command-kept row more kind.Arrive e =
+-- .. whatever fields follow
+pub command-back : (asks : Asked) (more : Row) → AskedFits asks → command_at (asked_fields asks ++ more) (asked_kind asks) ≡ Ok asks
+unfolding command_at arrival_at change_at packet_at field_at command_fields
+command-back (asked.Command caller (Arrive moment packet word)) more f =
     rw (
-      field-kept row more 1 (omega arith),
-      field-kept row more 2 (omega arith),
-      field-kept row more 3 (omega arith),
-      field-kept row more 4 (omega arith),
-      field-kept row more 5 (omega arith),
-      field-kept row more 6 (omega arith),
+      back_u16 caller f.0,
+      back_u64 moment f.1.0,
+      back_u64 packet.tag f.1.1.tag,
+      back_u32 packet.size f.1.1.size,
+      back_ecn packet.ecn,
+      back_u64 word f.1.2,
     ) refl
-command-kept row more kind.Depart e = rw (field-kept row more 1 (omega arith), field-kept row more 2 (omega arith)) refl
-command-kept row more kind.Update e = rw (field-kept row more 1 (omega arith), field-kept row more 2 (omega arith)) refl
-command-kept row more kind.Reset e = rw (field-kept row more 1 (omega arith), field-kept row more 2 (omega arith)) refl
-command-kept row more kind.Params e =
-    rw (
-      field-kept row more 1 (omega arith),
-      field-kept row more 2 (omega arith),
-      field-kept row more 3 (omega arith),
-      field-kept row more 4 (omega arith),
-      field-kept row more 5 (omega arith),
-      field-kept row more 6 (omega arith),
-      field-kept row more 7 (omega arith),
-      field-kept row more 8 (omega arith),
-      field-kept row more 9 (omega arith),
-      field-kept row more 10 (omega arith),
-      field-kept row more 11 (omega arith),
-    ) refl
+command-back (asked.Command caller (Depart moment)) more f = rw (back_u16 caller f.0, back_u64 moment f.1) refl
+command-back (asked.Command caller (Update moment)) more f = rw (back_u16 caller f.0, back_u64 moment f.1) refl
+command-back (asked.Command caller (Reset moment)) more f = rw (back_u16 caller f.0, back_u64 moment f.1) refl
+command-back (asked.Command caller (SetParams moment params)) more f =
+    rw (back_u16 caller f.0, back_u64 moment f.1.0, params-behind _ _ _ params more (nine-of-fits params f.1.1), f.1.1.in_range) refl
+command-back (asked.BadParams change) more f =
+    rw (back_u16 change.caller f.caller, back_u64 change.moment f.moment, params-behind _ _ _ change.params more f.nine, f.bad) refl

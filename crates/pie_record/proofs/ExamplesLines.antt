@@ -1,53 +1,16 @@
 -- What records of a history say, and the records that a history is written as: each theorem computes.
-use Rattle.std.specs.Prelude.{◌≡◌, ℕ, List, [], ◌∷◌, ◌++◌, Option, Some, None, Result, Ok, Err, codes, map, refl}
-use Rattle.std.specs.Fmt.{digits}
-use Rattle.csv.specs.Machine.{next_record}
-use Rattle.csv.specs.Reading.{records_from, strip_bom}
-use Rattle.csv.specs.Records.{field_at}
-use Rattle.csv.specs.Writing.{fields_text, is_blank}
-use Rattle.pie_params.specs.Elements.{usual}
-use Rattle.pie_params.specs.Profile.{default_profile}
-use Rattle.pie_params.specs.declared.elements.Elements.{Elements}
-use Rattle.pie_params.specs.declared.elements.Decay.TheVariants.{Half}
-use Rattle.pie_params.specs.declared.elements.Delay.TheVariants.{Stamp}
-use Rattle.pie_params.specs.declared.elements.Picking.TheVariants.{Random}
-use Rattle.pie_params.specs.declared.elements.Size.TheVariants.{Scaled}
-use Rattle.pie_params.specs.declared.elements.Step.TheVariants.{Uncapped}
-use Rattle.pie_params.specs.declared.raw.RawParams.{RawParams}
-use Rattle.pie_queue.specs.declared.ecn.Ecn.{Ecn}
+use Rattle.pie_record.proofs.Names.{Option, Some, None, Result, Ok, Err, codes, usual, default_profile, Elements, Half, Stamp, Random, Scaled}
+use Rattle.pie_record.proofs.Names.{Uncapped, RawParams, Ecn, Packet, Answer, Enqueued, Marked, DroppedEarly, DroppedBytes, DroppedPackets, Empty}
+use Rattle.pie_record.proofs.Names.{Left, Updated, Done, Command, Arrive, Depart, Update, Reset, SetParams, Event, Mode, Bounded, Rolling, Opening}
+use Rattle.pie_record.proofs.Names.{Profile, One, Two, TraceFault, Line, Made, Unmakeable, Note, rows_text, records_of, fault_from, history_lines}
+use Rattle.pie_record.proofs.Names.{history_opening, later_fault, latest_clock, lines_from, opening_row, written_rows}
+use Rattle.std.specs.Prelude.{◌≡◌, ℕ, List, [], ◌∷◌, ◌++◌, map, refl}
 use Rattle.pie_queue.specs.declared.ecn.Ecn.TheVariants as ecn
-use Rattle.pie_queue.specs.declared.packet.Packet.{Packet}
-use Rattle.pie_event.specs.declared.command.Answer.{Answer}
-use Rattle.pie_event.specs.declared.command.Answer.TheVariants.{Enqueued, Marked, DroppedEarly, DroppedBytes, DroppedPackets, Empty, Left, Updated}
-use Rattle.pie_event.specs.declared.command.Answer.TheVariants.{Done}
-use Rattle.pie_event.specs.declared.command.Command.{Command}
-use Rattle.pie_event.specs.declared.command.Command.TheVariants.{Arrive, Depart, Update, Reset, SetParams}
-use Rattle.pie_event.specs.declared.command.Event.{Event}
-use Rattle.pie_event.specs.declared.opening.Mode.{Mode}
-use Rattle.pie_event.specs.declared.opening.Mode.TheVariants.{Bounded, Rolling}
-use Rattle.pie_event.specs.declared.opening.Opening.{Opening}
-use Rattle.pie_event.specs.declared.profile.Profile.{Profile}
-use Rattle.pie_event.specs.declared.profile.Profile.TheVariants.{One, Two}
 use Rattle.pie_record.specs.declared.fault.OpenFault.TheVariants as open_fault
-use Rattle.pie_record.specs.declared.fault.TraceFault.{TraceFault}
 use Rattle.pie_record.specs.declared.fault.TraceFault.TheVariants as fault
-use Rattle.pie_record.specs.declared.history_record.Line.{Line}
-use Rattle.pie_record.specs.declared.history_record.Line.TheVariants.{Clock, Made, Unmakeable, Note}
+use Rattle.pie_record.specs.declared.history_record.Line.TheVariants.{Clock}
 use Rattle.pie_record.specs.declared.version.Version.TheVariants as version
-use Rattle.pie_record.specs.Clock.{clock_at, clock_in}
-use Rattle.pie_record.specs.Number.{number}
-use Rattle.pie_record.specs.FirstRecord.{chosen_at, draft_at, elements_at, first_kind, limits_at, profile_of, version_of, version_one_fields}
-use Rattle.pie_record.specs.FirstRecord.{version_three_fields, version_two_fields, which_of}
-use Rattle.pie_record.specs.Field.{ecn_of, packet_at, params_at}
-use Rattle.pie_record.specs.Command.{arrival_at, change_at, command_at, command_kind}
-use Rattle.pie_record.specs.HistoryRecord.{answer_at, departure_at, event_line, line_of, note_line, numbers_at, registers_at, shown_line, update_at}
-use Rattle.pie_record.specs.HistoryRecord.{verdict_of}
-use Rattle.pie_record.specs.Answer.{answer_fields}
-use Rattle.pie_record.specs.Opening.{opening_of}
-use Rattle.pie_record.specs.Text.{rows_text, records_of}
-use Rattle.pie_record.specs.HistoryLines.{after_opening, fault_from, history_lines, history_opening, history_version, later_fault}
-use Rattle.pie_record.specs.HistoryLines.{latest_clock, lines_from, told_by}
-use Rattle.pie_record.specs.Write.{command_fields, opening_row, written_rows}
+use Rattle.pie_record.specs.Worked.{worked_text}
 
 -- ---- reading
 
@@ -67,13 +30,16 @@ event caller command answer = record { caller = caller; command = command; answe
 abbrev arrival : Answer → Event
 arrival answer = event 1 (Arrive 10 (packet ecn.Ect0) 0) answer
 
-abbrev opened_as : Mode → RawParams → Opening
-opened_as mode params = record {
+abbrev opened_in : Profile → Mode → RawParams → Opening
+opened_in profile mode params = record {
   moment = 0;
   limits = record { packets = 4; tail = 16; events = 100 };
   params = params;
-  choices = record { mode = mode; profile = One; elements = usual };
+  choices = record { mode = mode; profile = profile; elements = usual };
 }
+
+abbrev opened_as : Mode → RawParams → Opening
+opened_as mode params = opened_in One mode params
 
 abbrev one_arrival : List ℕ
 one_arrival = codes "open,0,4,16,100\narrive,1,10,7,1500,ect0,0,enqueue\ndepart,2,25,left,7,1500,ect0\ndepart,2,30,empty\n"
@@ -82,10 +48,7 @@ one_arrival = codes "open,0,4,16,100\narrive,1,10,7,1500,ect0,0,enqueue\ndepart,
 one_arrival-lines : (history_opening (records_of one_arrival) ≡ Ok (opened_as Bounded default_profile))
     × (lines_of one_arrival ≡ Made (arrival Enqueued) ∷ Made (event 2 (Depart 25) (Left (packet ecn.Ect0))) ∷ Made (event 2 (Depart 30) Empty) ∷ [])
     × (fault_in one_arrival ≡ None)
-unfolding records_from next_record strip_bom field_at digits fields_text is_blank number ecn_of params_at first_kind version_of profile_of
-    which_of limits_at draft_at version_one_fields version_two_fields opening_of rows_text answer_fields verdict_of command_at packet_at
-    command_kind arrival_at event_line answer_at departure_at update_at change_at numbers_at registers_at note_line shown_line line_of
-    told_by lines_from fault_from history_opening history_version after_opening opening_row command_fields
+unfolding worked_text
 one_arrival-lines = (refl, refl, refl)
 
 -- updates, resets, parameters, verdicts and notes; parameters of which one is out of its range cannot be made
@@ -107,34 +70,8 @@ kinds-lines : lines_of (
     ∷ Unmakeable (record { caller = 1; moment = 2; params = record default_profile { target = 1 } })
     ∷ Made (arrival Marked) ∷ Made (arrival DroppedEarly) ∷ Made (arrival DroppedBytes) ∷ Made (arrival DroppedPackets) ∷ Note ∷ Note ∷ Note ∷ Note
     ∷ []
-unfolding records_from next_record strip_bom field_at digits fields_text is_blank number ecn_of params_at first_kind version_of profile_of
-    which_of limits_at draft_at version_one_fields version_two_fields opening_of rows_text answer_fields verdict_of command_at packet_at
-    command_kind arrival_at event_line answer_at departure_at update_at change_at numbers_at registers_at note_line shown_line line_of
-    told_by lines_from fault_from history_opening history_version after_opening opening_row command_fields
+unfolding worked_text
 kinds-lines = refl
-
--- the fault of a record of a history
-faults-in : map (λ last. fault_in (codes "open,0,4,16,100\ndepart,1,1,empty\n" ++ last)) (
-    codes "open,0,4,16,100\n"
-    ∷ codes "fold,1\n"
-    ∷ codes "depart,1,1\n"
-    ∷ codes "depart,1,1,left\n"
-    ∷ codes "depart,1,1,empty,7,1500,not\n"
-    ∷ codes "arrive,1,10,7,1500,ect0,0,empty\n"
-    ∷ codes "update,1,1,1,1,-1\n"
-    ∷ codes "reset,1,1,empty\n"
-    ∷ codes "params,1,2,1,1,1,1,1,1,1,1,1,made\n"
-    ∷ codes "shown,1,2,3,4,5,6,7,8,9,10,2\n"
-    ∷ codes "tallied,1,2,3,4,5,6,7,8,9,10,11,12,13,18446744073709551616,1\n"
-    ∷ codes "tallied,1,2,3,4,5,6,7,8,9,10,11,12,13,14,340282366920938463463374607431768211456\n"
-    ∷ [])
-    ≡ Some (fault.Kind 3) ∷ Some (fault.Kind 3) ∷ Some (fault.Fields 3) ∷ Some (fault.Word 3) ∷ Some (fault.Word 3) ∷ Some (fault.Word 3)
-    ∷ Some (fault.Number 3) ∷ Some (fault.Word 3) ∷ Some (fault.Word 3) ∷ Some (fault.Number 3) ∷ Some (fault.Number 3) ∷ Some (fault.Number 3) ∷ []
-unfolding records_from next_record strip_bom field_at digits fields_text is_blank number ecn_of params_at first_kind version_of profile_of
-    which_of limits_at draft_at version_one_fields version_two_fields opening_of rows_text answer_fields verdict_of command_at packet_at
-    command_kind arrival_at event_line answer_at departure_at update_at change_at numbers_at registers_at note_line shown_line line_of
-    told_by lines_from fault_from history_opening history_version after_opening opening_row command_fields
-faults-in = refl
 
 -- lines before a fault stand; a record past the greatest number is that fault
 faulty-lines : (lines_of (codes "open,0,4,16,100\nrefused,1,1\ndep\nrefused,1,1\n") ≡ Note ∷ [])
@@ -142,26 +79,14 @@ faulty-lines : (lines_of (codes "open,0,4,16,100\nrefused,1,1\ndep\nrefused,1,1\
     × (fault_from version.One 3 2 (records_of (codes "refused,1,1\nrefused,1,1\ndep\n")) ≡ Some fault.TooLong)
     × (fault_from version.One 4 2 (records_of (codes "refused,1,1\nrefused,1,1\ndep\n")) ≡ Some (fault.Kind 4))
     × (history_opening [] ≡ Err fault.NoOpen)
-unfolding records_from next_record strip_bom field_at digits fields_text is_blank number ecn_of params_at first_kind version_of profile_of
-    which_of limits_at draft_at version_one_fields version_two_fields opening_of rows_text answer_fields verdict_of command_at packet_at
-    command_kind arrival_at event_line answer_at departure_at update_at change_at numbers_at registers_at note_line shown_line line_of
-    told_by lines_from fault_from history_opening history_version after_opening opening_row command_fields
+unfolding worked_text
 faulty-lines = (refl, refl, refl, refl, refl)
 
 -- `shown` has one field more in version two; a later `open2` is no kind
 shown-lines : map (λ last. fault_in (codes "open2,2,bounded,0,4,16,100\n" ++ last)) (
-    codes "shown,1,2,3,4,5,6,7,8,9,10,1,0\n"
-    ∷ codes "shown,1,2,3,4,5,6,7,8,9,10,0,1\n"
-    ∷ codes "shown,1,2,3,4,5,6,7,8,9,10,1\n"
-    ∷ codes "shown,1,2,3,4,5,6,7,8,9,10,1,2\n"
-    ∷ codes "shown,1,2,3,4,5,6,7,8,9,10,2,1\n"
-    ∷ codes "open2,2,bounded,0,4,16,100\n"
-    ∷ [])
-    ≡ None ∷ None ∷ Some (fault.Fields 2) ∷ Some (fault.Number 2) ∷ Some (fault.Number 2) ∷ Some (fault.Kind 2) ∷ []
-unfolding records_from next_record strip_bom field_at digits fields_text is_blank number ecn_of params_at first_kind version_of profile_of
-    which_of limits_at draft_at version_one_fields version_two_fields opening_of rows_text answer_fields verdict_of command_at packet_at
-    command_kind arrival_at event_line answer_at departure_at update_at change_at numbers_at registers_at note_line shown_line line_of
-    told_by lines_from fault_from history_opening history_version after_opening opening_row command_fields
+    codes "shown,1,2,3,4,5,6,7,8,9,10,1,0\n" ∷ codes "shown,1,2,3,4,5,6,7,8,9,10,1,2\n" ∷ codes "open2,2,bounded,0,4,16,100\n" ∷ [])
+    ≡ None ∷ Some (fault.Number 2) ∷ Some (fault.Kind 2) ∷ []
+unfolding worked_text
 shown-lines = refl
 
 -- the time of day at a moment is told in version three alone
@@ -176,11 +101,7 @@ clock-lines : (map (λ first. fault_in (first ++ codes "clock,5,7\n")) (
     × (latest_clock (Clock (record { moment = 5; unix = 7 }) ∷ Note ∷ Clock (record { moment = 6; unix = 8 })
     ∷ Unmakeable (record { caller = 1; moment = 2; params = default_profile }) ∷ [])
     ≡ Some (record { moment = 6; unix = 8 }))
-unfolding records_from next_record strip_bom field_at digits fields_text is_blank number ecn_of params_at first_kind version_of profile_of
-    which_of limits_at draft_at version_one_fields version_two_fields opening_of rows_text answer_fields verdict_of command_at packet_at
-    command_kind arrival_at event_line answer_at departure_at update_at change_at numbers_at registers_at note_line shown_line clock_in
-    clock_at line_of told_by lines_from fault_from history_opening history_version after_opening opening_row command_fields latest_clock
-    version_three_fields chosen_at elements_at
+unfolding worked_text
 clock-lines = (refl, refl, refl)
 
 -- ---- writing
@@ -203,24 +124,11 @@ kinds-written : rows_text (written_rows (opened_as Bounded default_profile) (
     ++ codes "update,3,4,5,6,7\n"
     ++ codes "reset,65535,2,done\n"
     ++ codes "params,0,2,15000000,15000000,150000000,125,1250,1024,262144,100000000000,16384,done\n"
-unfolding records_from next_record strip_bom field_at digits fields_text is_blank number ecn_of params_at first_kind version_of profile_of
-    which_of limits_at draft_at version_one_fields version_two_fields opening_of rows_text answer_fields verdict_of command_at packet_at
-    command_kind arrival_at event_line answer_at departure_at update_at change_at numbers_at registers_at note_line shown_line line_of
-    told_by lines_from fault_from history_opening history_version after_opening opening_row command_fields
+unfolding worked_text
 kinds-written = refl
 
 abbrev with_beta : ℕ → RawParams
-with_beta beta = record {
-  target = 15000000;
-  t_update = 15000000;
-  max_burst = 150000000;
-  alpha = 125;
-  beta = beta;
-  mean_pkt = 1024;
-  limit_bytes = 262144;
-  mark_ecnth = 100000000000;
-  dq_threshold = 16384;
-}
+with_beta beta = record default_profile { beta = beta }
 
 -- the short form exactly where all nine are the defaults, and the kind of the book's mode
 openings-written : map (λ opening. rows_text (opening_row opening ∷ []))
@@ -231,31 +139,17 @@ openings-written : map (λ opening. rows_text (opening_row opening ∷ []))
     ∷ codes "rolling,0,4,16,100\n"
     ∷ codes "rolling,0,4,16,100,15000000,15000000,150000000,125,0,1024,262144,100000000000,16384\n"
     ∷ []
-unfolding records_from next_record strip_bom field_at digits fields_text is_blank number ecn_of params_at first_kind version_of profile_of
-    which_of limits_at draft_at version_one_fields version_two_fields opening_of rows_text answer_fields verdict_of command_at packet_at
-    command_kind arrival_at event_line answer_at departure_at update_at change_at numbers_at registers_at note_line shown_line line_of
-    told_by lines_from fault_from history_opening history_version after_opening opening_row command_fields
+unfolding worked_text
 openings-written = refl
 
 -- version two exactly where the profile is two
-abbrev opened_in : Profile → Mode → RawParams → Opening
-opened_in profile mode params = record {
-  moment = 0;
-  limits = record { packets = 4; tail = 16; events = 100 };
-  params = params;
-  choices = record { mode = mode; profile = profile; elements = usual };
-}
-
 versions-written : map (λ opening. rows_text (opening_row opening ∷ []))
     (opened_in One Rolling (with_beta 1250) ∷ opened_in Two Bounded (with_beta 1250) ∷ opened_in Two Rolling (with_beta 0) ∷ [])
     ≡ codes "rolling,0,4,16,100\n"
     ∷ codes "open2,2,bounded,0,4,16,100\n"
     ∷ codes "open2,2,rolling,0,4,16,100,15000000,15000000,150000000,125,0,1024,262144,100000000000,16384\n"
     ∷ []
-unfolding records_from next_record strip_bom field_at digits fields_text is_blank number ecn_of params_at first_kind version_of profile_of
-    which_of limits_at draft_at version_one_fields version_two_fields opening_of rows_text answer_fields verdict_of command_at packet_at
-    command_kind arrival_at event_line answer_at departure_at update_at change_at numbers_at registers_at note_line shown_line line_of
-    told_by lines_from fault_from history_opening history_version after_opening opening_row command_fields
+unfolding worked_text
 versions-written = refl
 
 -- version three exactly where an element is not the usual one, or a limit is above those of version two
@@ -286,10 +180,7 @@ third-written : map (λ opening. rows_text (opening_row opening ∷ [])) (
     ∷ codes "open3,1,rate,derandomized,capped,scaled,bounded,0,4,16,100,15000000,15000000,150000000,125,0,1024,262144,100000000000,16384\n"
     ∷ codes "open3,1,rate,derandomized,capped,unscaled,half,bounded,0,4,16,100\n"
     ∷ []
-unfolding records_from next_record strip_bom field_at digits fields_text is_blank number ecn_of params_at first_kind version_of profile_of
-    which_of limits_at draft_at version_one_fields version_two_fields opening_of rows_text answer_fields verdict_of command_at packet_at
-    command_kind arrival_at event_line answer_at departure_at update_at change_at numbers_at registers_at note_line shown_line line_of
-    told_by lines_from fault_from history_opening history_version after_opening opening_row command_fields
+unfolding worked_text
 third-written = refl
 
 -- ---- openings of version three
@@ -313,11 +204,7 @@ third-limits : map opened_in_text (
     ∷ [])
     ≡ Ok (opened_by usual 1048576 140737488355328 default_profile) ∷ limits_refused ∷ limits_refused ∷ limits_refused ∷ limits_refused
     ∷ limits_refused ∷ Err (fault.Opening open_fault.Moment) ∷ []
-unfolding records_from next_record strip_bom field_at digits fields_text is_blank number ecn_of params_at first_kind version_of profile_of
-    which_of limits_at draft_at version_one_fields version_two_fields opening_of rows_text answer_fields verdict_of command_at packet_at
-    command_kind arrival_at event_line answer_at departure_at update_at change_at numbers_at registers_at note_line shown_line line_of
-    told_by lines_from fault_from history_opening history_version after_opening opening_row command_fields elements_at
-    version_three_fields chosen_at
+unfolding worked_text
 third-limits = refl
 
 -- a decay that is told stands behind the size: `zero` in words is what no word means
@@ -330,11 +217,7 @@ third-decays : map opened_in_text (
     ∷ [])
     ≡ Ok (opened_by (record usual { decay = Half }) 4 100 default_profile) ∷ Ok (opened_by (record usual { decay = Half }) 4 100 (with_beta 0))
     ∷ Ok (opened_by usual 4 100 default_profile) ∷ Err (fault.Word 1) ∷ Err (fault.Word 1) ∷ []
-unfolding records_from next_record strip_bom field_at digits fields_text is_blank number ecn_of params_at first_kind version_of profile_of
-    which_of limits_at draft_at version_one_fields version_two_fields opening_of rows_text answer_fields verdict_of command_at packet_at
-    command_kind arrival_at event_line answer_at departure_at update_at change_at numbers_at registers_at note_line shown_line line_of
-    told_by lines_from fault_from history_opening history_version after_opening opening_row command_fields elements_at
-    version_three_fields chosen_at
+unfolding worked_text
 third-decays = refl
 
 -- its fields from left to right: the profile is a number, the elements and the mode are words
@@ -349,9 +232,5 @@ third-faults : map opened_in_text (
     ∷ [])
     ≡ Err (fault.Fields 1) ∷ Err (fault.Number 1) ∷ Err (fault.Word 1) ∷ Err (fault.Word 1) ∷ Err (fault.Word 1) ∷ Err (fault.Word 1)
     ∷ Err (fault.Number 1) ∷ []
-unfolding records_from next_record strip_bom field_at digits fields_text is_blank number ecn_of params_at first_kind version_of profile_of
-    which_of limits_at draft_at version_one_fields version_two_fields opening_of rows_text answer_fields verdict_of command_at packet_at
-    command_kind arrival_at event_line answer_at departure_at update_at change_at numbers_at registers_at note_line shown_line line_of
-    told_by lines_from fault_from history_opening history_version after_opening opening_row command_fields elements_at
-    version_three_fields chosen_at
+unfolding worked_text
 third-faults = refl

@@ -1,37 +1,16 @@
 -- A text of an opening's record and of records that each tell a line is read back as that opening and those lines.
-use Rattle.std.proofs.Common.{◌≡◌, ◌≤◌, ◌<◌, ◌+◌, ◌^◌, ℕ, suc, List, [], ◌∷◌, ◌++◌, map, length, false, refl, sym, ap, subst, ◌∙◌, arith}
-use Rattle.std.specs.Prelude.{All, Bool, true, drop, nat_lt, Option, None, Ok, if◌then◌else◌}
-use Rattle.std.proofs.lemmas.Bool.Decides.{nat_tests}
-use Rattle.std.proofs.lemmas.List.Elements.{All-cons, All-head, All-nil, All-tail}
-use Rattle.csv.specs.Records.{field_at}
-use Rattle.pie_event.specs.declared.command.Command.{Command}
-use Rattle.pie_event.specs.declared.command.Command.TheVariants.{Arrive, Depart, Update, Reset, SetParams}
-use Rattle.pie_event.specs.declared.command.Event.{Event}
-use Rattle.pie_event.specs.declared.opening.Mode.{Mode}
-use Rattle.pie_event.specs.declared.opening.Mode.TheVariants.{Bounded, Rolling}
-use Rattle.pie_event.specs.declared.opening.Opening.{Opening}
-use Rattle.pie_event.specs.declared.profile.Profile.{Profile}
-use Rattle.pie_event.specs.declared.profile.Profile.TheVariants.{One, Two}
-use Rattle.pie_event.specs.Opening.{opening_refusal}
-use Rattle.pie_record.specs.declared.fault.TraceFault.{TraceFault}
-use Rattle.pie_record.specs.declared.first_record.FirstKind.{FirstKind}
+use Rattle.pie_record.proofs.Names.{◌≡◌, ◌≤◌, ◌<◌, ◌+◌, ◌^◌, ℕ, List, [], ◌∷◌, ◌++◌, map, length, false, refl, sym, ap, subst, ◌∙◌, arith, All}
+use Rattle.pie_record.proofs.Names.{None, Ok, All-cons, All-head, All-nil, All-tail, field_at, Command, Arrive, Depart, Update, Reset}
+use Rattle.pie_record.proofs.Names.{SetParams, Event, Mode, Bounded, Rolling, Opening, Profile, One, Two, opening_refusal, FirstKind}
+use Rattle.pie_record.proofs.Names.{Line, Made, Version, opening_of, HasField, rows_text, Row, command_kind, line_of, kind_word, version_of, Coming}
+use Rattle.pie_record.proofs.Names.{after_opening, coming_after, coming_from, fault_from, history_opening, history_version, lines_from, told_by}
+use Rattle.pie_record.proofs.Names.{ParamsFit, Begins, EventFits, TellEach, TellsHistory, command_fields, earlier_row, event_row, is_earlier}
+use Rattle.pie_record.proofs.Names.{opening_row, version_three_row, written_rows, mode_word, profile_number}
+use Rattle.std.specs.Prelude.{Bool, true, drop, if◌then◌else◌}
+use Rattle.std.proofs.lemmas.List.{length-map}
 use Rattle.pie_record.specs.declared.first_record.FirstKind.TheVariants as kinds
-use Rattle.pie_record.specs.declared.history_record.Line.{Line}
-use Rattle.pie_record.specs.declared.history_record.Line.TheVariants.{Made}
-use Rattle.pie_record.specs.declared.version.Version.{Version}
-use Rattle.pie_record.specs.Opening.{opening_of}
-use Rattle.pie_record.specs.Text.{HasField, rows_text, Row}
-use Rattle.pie_record.specs.Command.{command_kind}
-use Rattle.pie_record.specs.HistoryRecord.{line_of}
-use Rattle.pie_record.specs.FirstRecord.{kind_word, version_of}
-use Rattle.pie_record.specs.HistoryLines.{Coming, after_opening, coming_after, coming_from, fault_from, history_opening, history_version, lines_from}
-use Rattle.pie_record.specs.HistoryLines.{told_by}
-use Rattle.pie_event.specs.Ranges.{ParamsFit}
-use Rattle.pie_record.specs.ReadBack.{Begins, EventFits, TellEach, TellsHistory}
-use Rattle.pie_record.specs.Write.{command_fields, earlier_row, event_row, is_earlier, opening_row, version_three_row, written_rows}
-use Rattle.pie_record.specs.Words.{mode_word, profile_number}
-use Rattle.pie_record.proofs.EventBack.{line-back}
 use Rattle.pie_record.proofs.HistoryFacts.{told_by-line}
+use Rattle.pie_record.proofs.LinesBack.{event-back}
 use Rattle.pie_record.proofs.OpeningBack.{opening-back}
 use Rattle.pie_record.proofs.TextBack.{records_of-written}
 
@@ -45,9 +24,6 @@ pub TellEach-cons : (version : Version) (row : Row) (rows : List Row) (line : Li
     → TellEach version rows lines → TellEach version (row ∷ rows) (line ∷ lines)
 unfolding TellEach
 TellEach-cons version row rows line lines tells others = (tells, others)
-
-coming : List Line → Option TraceFault → Coming
-coming lines fault = record { lines = lines; fault = fault }
 
 coming-line : (version : Version) (most number : ℕ) (row : Row) (rows : List Row) (line : Line) (lines : List Line)
     → told_by version most number row ≡ Ok line
@@ -74,32 +50,18 @@ coming-told version most number (row ∷ rows) (line ∷ lines) within tells =
 
 -- ---- a whole text
 
-opens-there : (row : Row) (rows : List Row) → history_opening (row ∷ rows) ≡ opening_of row
-unfolding history_opening
-opens-there row rows = refl
-
-after-there : (row : Row) (rows : List Row) → after_opening (row ∷ rows) ≡ rows
-unfolding after_opening
-after-there row rows = refl
-
-version-there : (row : Row) (rows : List Row) → history_version (row ∷ rows) ≡ version_of row
-unfolding history_version
-version-there row rows = refl
-
 -- a text of a record that opens so, and then of rows that tell these lines
 pub history-told : (kind : FirstKind) (rest : Row) (rows : List Row) (opening : Opening) (lines : List Line)
     → opening_of (kind_word kind ∷ rest) ≡ Ok opening
     → All HasField rows → TellEach (version_of (kind_word kind ∷ rest)) rows lines → length rows < 2 ^ 32
     → TellsHistory (rows_text ((kind_word kind ∷ rest) ∷ rows)) opening lines
+unfolding history_opening history_version after_opening
 history-told kind rest rows opening lines opens some tells few =
     let records = records_of-written kind rest rows some in
-    let first : Row = kind_word kind ∷ rest in
     record {
-      opens = ap history_opening records ∙ opens-there first rows ∙ opens;
+      opens = ap history_opening records ∙ opens;
       tells = ap (λ (all : List Row). coming_after (2 ^ 32) all) records
-          ∙ ap (λ (version : Version). coming_from version (2 ^ 32) 2 (after_opening (first ∷ rows))) (version-there first rows)
-          ∙ ap (λ (all : List Row). coming_from (version_of first) (2 ^ 32) 2 all) (after-there first rows)
-          ∙ coming-told (version_of first) (2 ^ 32) 2 rows lines (omega arith) tells;
+          ∙ coming-told (version_of (kind_word kind ∷ rest)) (2 ^ 32) 2 rows lines (omega arith) tells;
     }
 
 -- ---- what a history is written as
@@ -122,12 +84,7 @@ events-tell version [] fit = TellEach-none version
 events-tell version (event ∷ events) fit =
     let fits = All-head EventFits event events fit in
     TellEach-cons version (event_row event) (map event_row events) (Made event) (map Made events)
-    (line-back version event.caller event.command event.answer fits.kind fits.caller fits.command fits.answer)
-    (events-tell version events (All-tail EventFits event events fit))
-
-pub rows-many : (events : List Event) → length (map event_row events) ≡ length events
-rows-many [] = refl
-rows-many (event ∷ events) = ap suc (rows-many events)
+    (event-back version event fits) (events-tell version events (All-tail EventFits event events fit))
 
 opening_row-begins : (o : Opening) → Begins (opening_row o)
 unfolding opening_row
@@ -149,13 +106,10 @@ pub written-back : (opening : Opening) (events : List Event) → opening_refusal
 written-back opening events accepted set fit few =
     let first = opening_row-begins opening in
     let opens : opening_of (kind_word first.kind ∷ first.rest) ≡ Ok opening = ap opening_of (sym first.is) ∙ opening-back opening accepted set in
-    let many = rows-many events in
+    let many = length-map events event_row in
     subst (λ (row : Row). TellsHistory (rows_text (row ∷ map event_row events)) opening (map Made events)) (sym first.is)
     (history-told first.kind first.rest (map event_row events) opening (map Made events) opens (events-some events)
     (events-tell (version_of (kind_word first.kind ∷ first.rest)) events fit) (omega arith))
-
-pub ltb-false : (a b : ℕ) → nat_lt a b ≡ false → b ≤ a
-ltb-false a b e = grind (arith, nat_tests)
 
 -- a row that tells a line has a field
 pub told-field : (version : Version) (row : Row) (line : Line) → line_of version row ≡ Ok line → HasField row

@@ -1,3 +1,4 @@
+mod Names
 mod NumberFacts
 mod RowFacts
 mod RecordFacts
@@ -8,11 +9,8 @@ mod Appended
 mod TextBack
 mod FieldFacts
 mod CommandFacts
-mod FieldsBack
-mod EventBack
 pub mod OpeningBack
 mod HistoryBack
-mod NotesBack
 mod ClockBack
 mod LinesBack
 mod ExamplesLines

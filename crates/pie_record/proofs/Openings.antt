@@ -1,18 +1,11 @@
 -- An opening that was checked: its parts, and what was looked at.
-use Rattle.std.proofs.Common.{◌≡◌, Bool, true, false, refl}
-use Rattle.std.specs.Prelude.{Option, Some, None, Ok, Err, if◌then◌else◌}
-use Rattle.pie_params.specs.Range.{first_bad}
-use Rattle.pie_params.specs.declared.raw.Field.{Field}
-use Rattle.pie_event.specs.declared.opening.Opening.{Opening}
+use Rattle.pie_record.proofs.Names.{◌≡◌, Bool, true, false, refl, Option, Some, None, Ok, Err, first_bad, Field, Opening, opening_refusal, Draft}
+use Rattle.pie_record.proofs.Names.{FirstKind, holds_limits, Checked, checked_opening, refused_opening}
+use Rattle.std.specs.Prelude.{if◌then◌else◌}
 use Rattle.pie_event.specs.declared.refusal.OpenRefusal.{OpenRefusal}
 use Rattle.pie_event.specs.declared.refusal.OpenRefusal.TheVariants as open_refusal
-use Rattle.pie_event.specs.Opening.{opening_refusal}
 use Rattle.pie_record.specs.declared.fault.OpenFault.TheVariants as open_fault
 use Rattle.pie_record.specs.declared.fault.TraceFault.TheVariants as fault
-use Rattle.pie_record.specs.declared.first_record.Draft.{Draft}
-use Rattle.pie_record.specs.declared.first_record.FirstKind.{FirstKind}
-use Rattle.pie_record.specs.FirstRecord.{holds_limits}
-use Rattle.pie_record.specs.Opening.{Checked, checked_opening, refused_opening}
 
 pub checked : (kind : FirstKind) (draft : Draft) (opening : Opening) → checked_opening kind (first_bad draft.params) draft ≡ Ok opening
     → Checked draft opening

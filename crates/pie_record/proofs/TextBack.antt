@@ -1,17 +1,12 @@
 -- Rows that were written are read back as the same records.
-use Rattle.std.proofs.Common.{◌≡◌, ℕ, List, [], ◌∷◌, ◌++◌, refl, sym, ap, subst, ◌∙◌, arith}
-use Rattle.std.specs.Prelude.{All, Some}
+use Rattle.pie_record.proofs.Names.{◌≡◌, ℕ, List, [], ◌∷◌, ◌++◌, refl, sym, ap, subst, ◌∙◌, arith, All, Some, All-cons, All-head, All-tail}
+use Rattle.pie_record.proofs.Names.{next_record, default_config, strip_bom, FirstKind, kind_word, HasField, rows_text, Row, records_left, records_of}
+use Rattle.pie_record.proofs.Names.{text_of}
 use Rattle.std.proofs.lemmas.List.Concat.{flat_map-cons}
-use Rattle.std.proofs.lemmas.List.Elements.{All-cons, All-head, All-tail}
-use Rattle.csv.specs.Machine.{next_record}
-use Rattle.csv.specs.Reading.{default_config, strip_bom}
 use Rattle.csv.specs.Writing.{default_writer, escaped, field_text, fields_text, is_blank, read_back, row_text}
 use Rattle.csv.specs.declared.parser.State.TheVariants as st
 use Rattle.csv.proofs.RoundTrip.{read-write}
-use Rattle.pie_record.specs.declared.first_record.FirstKind.{FirstKind}
 use Rattle.pie_record.specs.declared.first_record.FirstKind.TheVariants as kinds
-use Rattle.pie_record.specs.FirstRecord.{kind_word}
-use Rattle.pie_record.specs.Text.{HasField, rows_text, Row, records_left, records_of, text_of}
 use Rattle.pie_record.specs.Rows.{rows_setup}
 use Rattle.pie_record.proofs.RecordFacts.{records_left-next, records_left-none}
 

@@ -1,3 +1,4 @@
+pub mod Names
 pub mod Words
 pub mod Number
 pub mod Fault
@@ -16,3 +17,4 @@ pub mod Answer
 pub mod Write
 pub mod ReadBack
 pub mod Laws
+pub mod Worked

@@ -20,4 +20,5 @@ pub use law::lost_records_are_faults;
 pub use note::{put_clock, put_folded, put_lost, put_refused, put_shown, put_tallied};
 pub use opening::put_opening;
 pub use params::put_params;
+pub use words::{put_ecn, put_last, put_number};
 pub use write::write_history;

@@ -1,6 +1,4 @@
-use Rattle.pie_record.specs.Text.{records_of}
-use Rattle.pie_audit.specs.Finding.{finding}
-use Rattle.pie_audit.specs.Text.{text_finding}
+use Rattle.pie_audit.proofs.Names.{records_of, finding, text_finding}
 use Rattle.pie_audit.proofs.LegalFacts.{clean-of-legal, differs-of-wrong, legal-of-clean, ok-same, told-as, told-finding, wrong-of-differs}
 use Rattle.pie_audit.proofs.law.clean_is_legal.Goals as goal
 

@@ -1,6 +1,4 @@
-use Rattle.std.proofs.Common.{◌++◌, map}
-use Rattle.pie_record.specs.declared.history_record.Line.TheVariants.{Made}
-use Rattle.pie_audit.specs.Text.{excerpt_lines}
+use Rattle.pie_audit.proofs.Names.{◌++◌, map, Made, excerpt_lines}
 use Rattle.pie_audit.proofs.LegalFacts.{clean-of-legal, differs-of-wrong, legal-of-clean, wrong-of-differs}
 use Rattle.pie_audit.proofs.law.clean_parts_are_legal.Goals as goal
 

@@ -1,14 +1,7 @@
-use Rattle.std.proofs.Common.{◌++◌, ◌∷◌, List, map, length, sym, subst}
-use Rattle.std.specs.Prelude.{None}
+use Rattle.pie_audit.proofs.Names.{◌++◌, ◌∷◌, List, map, length, sym, subst, None, Event, IsLegal, rows_text, event_row, queued_row, resume_row}
+use Rattle.pie_audit.proofs.Names.{Clean, IsFound}
 use Rattle.pie_queue.specs.declared.packet.Waiting.{Waiting}
-use Rattle.pie_event.specs.declared.command.Event.{Event}
-use Rattle.pie_book.specs.Decision.{IsLegal}
-use Rattle.pie_record.specs.Text.{rows_text}
-use Rattle.pie_record.specs.Write.{event_row}
-use Rattle.pie_excerpt.specs.Rows.{queued_row, resume_row}
 use Rattle.pie_excerpt.specs.Written.{resume_of_excerpt}
-use Rattle.pie_audit.specs.declared.auditor.Finding.TheVariants.{Clean}
-use Rattle.pie_audit.specs.Text.{IsFound}
 use Rattle.pie_audit.proofs.PartText.{Alone, events-found, part-told, told-found, written-told}
 use Rattle.pie_audit.proofs.law.written_parts_are_told.Goals as goal
 

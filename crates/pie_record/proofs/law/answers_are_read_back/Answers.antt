@@ -1,6 +1,4 @@
-use Rattle.pie_record.proofs.ClockBack.{clock-told}
-use Rattle.pie_record.proofs.EventBack.{answered-back}
-use Rattle.pie_record.proofs.NotesBack.{folded-note, refused-note, shown-note, tallied-note}
+use Rattle.pie_record.proofs.LinesBack.{answered-back, clock-told, folded-note, refused-note, shown-note, tallied-note}
 use Rattle.pie_record.proofs.law.answers_are_read_back.Goals as goal
 
 pub returns : goal.returns

@@ -1,8 +1,12 @@
-use Rattle.pie_record.proofs.ClockBack.{asked-clock, same-before-three}
-use Rattle.pie_record.proofs.CommandFacts.{request-fits}
+use Rattle.pie_record.proofs.CommandFacts.{asked-as-written, clock-as-written, same-before-three}
 use Rattle.pie_record.proofs.FieldFacts.{kind-first}
-use Rattle.pie_record.proofs.FieldsBack.{asked-fields}
 use Rattle.pie_record.proofs.law.requests_are_written_again.Goals as goal
 
 pub returns : goal.returns
-returns c = record { kind = kind-first; same = same-before-three; asked = asked-fields; clock = asked-clock; fits = request-fits }
+returns c = record {
+  kind = kind-first;
+  same = same-before-three;
+  asked = λ version row caller command e. (asked-as-written version row caller command e).is;
+  clock = λ version row clock e. (clock-as-written version row clock e).0;
+  fits = λ version row caller command held e. (asked-as-written version row caller command e).fits.1;
+}

@@ -9,3 +9,5 @@ pub mod Written
 mod PastFacts
 mod FollowingFacts
 pub mod PartText
+mod LineReading
+mod ToldFacts

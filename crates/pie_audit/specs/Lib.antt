@@ -7,3 +7,5 @@ pub mod Setters
 pub mod Start
 pub mod Laws
 pub mod Following
+pub mod Lines
+pub mod Told

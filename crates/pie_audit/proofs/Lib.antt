@@ -10,3 +10,5 @@ pub mod Written
 mod PastFacts
 mod FollowingFacts
 pub mod PartText
+mod LineReading
+mod ToldFacts

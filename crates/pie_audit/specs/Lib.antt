@@ -8,3 +8,5 @@ pub mod Setters
 pub mod Start
 pub mod Laws
 pub mod Following
+pub mod Lines
+pub mod Told

@@ -12,15 +12,19 @@
 pub mod auditor;
 pub mod begun;
 pub mod following;
+pub mod hearing;
 pub mod law;
 mod setters;
+pub mod telling;
 pub mod text;
 
 pub use auditor::{Auditor, Finding};
 pub use begun::{TextBegun, begin};
 pub use following::{Follower, lines_that_agree_have_few_events};
+pub use hearing::{Auditing, Hears, hear_lines};
 pub use law::{
     clean_is_legal, clean_parts_are_legal, events_are_lines, recorded_calls_are_clean,
     written_parts_are_told,
 };
+pub use telling::{Tells, beginnings_tell, tell};
 pub use text::{audit, write_finding};

@@ -1,5 +1,5 @@
 -- Excerpts of a small history, from its bytes: each theorem computes.
-use Rattle.std.specs.Prelude.{◌≡◌, ◌+◌, ◌-◌, min, ℕ, List, [], ◌++◌, Result, Ok, Err, Option, Some, None, true, false, codes, refl, ⊤}
+use Rattle.std.specs.Prelude.{◌≡◌, ◌+◌, ◌-◌, ℕ, List, [], ◌++◌, Result, Ok, Err, Option, Some, None, true, false, codes, refl, ⊤}
 use Rattle.std.specs.Fmt.{digits}
 use Rattle.std.specs.List.{flat_map}
 use Rattle.csv.specs.Machine.{next_record}
@@ -33,12 +33,12 @@ use Rattle.pie_record.specs.HistoryRecord.{answer_at, departure_at, event_line, 
 use Rattle.pie_record.specs.HistoryRecord.{verdict_of}
 use Rattle.pie_record.specs.Opening.{opening_of}
 use Rattle.pie_record.specs.HistoryLines.{after_opening, fault_from, history_opening, history_version, lines_from, told_by}
-use Rattle.pie_record.specs.Text.{records_of}
+use Rattle.pie_record.specs.Text.{Row, records_of}
 use Rattle.pie_record.specs.HistoryLines.{event_count, latest_clock}
 use Rattle.pie_record.specs.Write.{command_fields}
 use Rattle.pie_audit.specs.Finding.{LinePlace, agrees, events_of, finding, first_difference, line_places}
 use Rattle.pie_event.specs.declared.opening.Opening.{Opening}
-use Rattle.pie_record.specs.HistoryLines.{history_lines}
+use Rattle.pie_record.specs.HistoryLines.{history_lines, later_fault}
 use Rattle.pie_record.specs.declared.fault.TraceFault.{TraceFault}
 use Rattle.pie_record.specs.declared.fault.TraceFault.TheVariants as fault
 use Rattle.pie_cut.specs.declared.fault.CutFault.{CutFault}
@@ -49,10 +49,9 @@ use Rattle.pie_cut.specs.declared.span.Met.{Met}
 use Rattle.pie_cut.specs.declared.span.Span.{Span}
 use Rattle.pie_cut.specs.Answer.{answer_since}
 use Rattle.pie_cut.specs.Excerpt.{chosen, end_place, first_place, kept, line_text, number_told}
-use Rattle.pie_cut.specs.Last.{last_after}
 use Rattle.pie_cut.specs.Segment.{every_answer, segment}
 use Rattle.pie_cut.specs.Span.{is_past, is_reached}
-use Rattle.pie_cut.specs.Told.{whole_answer}
+use Rattle.pie_audit.specs.Start.{Start, from_opening}
 use Rattle.pie_event.specs.declared.setter.Setter.TheVariants as setter
 use Rattle.pie_book.specs.Core.{CoreView}
 use Rattle.pie_cut.specs.declared.joined.Joint.TheVariants.{Follows, Gap, Unlike}
@@ -130,12 +129,13 @@ history last =
     ++ codes "depart,2,25,left,7,1500,ect0\n"
     ++ codes "depart,2,40," ++ last ++ codes "\n"
 
--- how cutting it is answered
-abbrev cut_of : Span → List ℕ → Result ℕ CutFault
-cut_of span text = whole_answer (answer_since span) (records_of text) (history_opening (records_of text))
+-- how telling of it is answered
+abbrev answer_of : (Start → Opening → List Line → Option TraceFault → Result ℕ CutFault) → List Row → Result Opening TraceFault → Result ℕ CutFault
+answer_of answer rows (Err why) = Err (Trace why)
+answer_of answer rows (Ok opening) = answer from_opening opening (history_lines 4294967296 rows) (later_fault 4294967296 rows)
 
 abbrev cut : Span → List ℕ → Result ℕ CutFault
-cut span last = cut_of span (history last)
+cut span last = answer_of (answer_since span) (records_of (history last)) (history_opening (records_of (history last)))
 
 -- two events from the second on; the departure is cut by its effective moment; none after the third; a difference counts up to the end alone; a
 -- fault anywhere comes first
@@ -147,30 +147,14 @@ answers : (cut (numbers 2 3) (codes "empty") ≡ Ok 2) × (cut (numbers 0 9) (co
 unfolding worked
 answers = (refl, refl, refl, refl, refl, refl, refl, refl)
 
--- what is around an event past the end: those of it that there are
-abbrev around : ℕ → ℕ → Result ℕ CutFault
-around event more = cut (numbers (event - more) (min (event + more) 18446744073709551615)) (codes "empty")
-
-around-the-end : (around 5 3 ≡ Ok 2) × (around 4 1 ≡ Ok 1) × (around 5 1 ≡ Err NoEvents) × (around 9 18446744073709551615 ≡ Ok 3)
-unfolding worked
-around-the-end = (refl, refl, refl, refl)
-
 -- how cutting it into segments is answered
 abbrev every : List ℕ → Result ℕ CutFault
-every last = whole_answer every_answer (records_of (history last)) (history_opening (records_of (history last)))
+every last = answer_of every_answer (records_of (history last)) (history_opening (records_of (history last)))
 
 every-answers : (every (codes "empty") ≡ Ok 3) × (every (codes "left,8,100,not") ≡ Err (Differs 3))
     × (every (codes "full") ≡ Err (Trace (fault.Word 5)))
 unfolding worked
 every-answers = (refl, refl, refl)
-
--- its last number, whether its last event is what the rules give there or not
-abbrev last : List ℕ → Result ℕ TraceFault
-last text = last_after (records_of (history text)) (history_opening (records_of (history text)))
-
-last-numbers : (last (codes "empty") ≡ Ok 3) × (last (codes "left,8,100,not") ≡ Ok 3) × (last (codes "full") ≡ Err (fault.Word 5))
-unfolding worked
-last-numbers = (refl, refl, refl)
 
 -- ---- the time of day
 
@@ -218,30 +202,6 @@ times : (text_of_cut (numbers 1 1) timed ≡ codes "arrive,1,30,7,1500,ect0,0,en
 unfolding worked
 times = (refl, refl, refl, refl, refl, refl, refl, refl, refl)
 
--- a time of day that no record tells yet, one that is set back, and one that is set on
-abbrev set_back : List ℕ
-set_back =
-    codes "open3,1,rate,derandomized,capped,unscaled,bounded,0,4,16,100\n"
-    ++ codes "arrive,1,10,1,1500,ect0,0,enqueue\n"
-    ++ codes "clock,11,1000\narrive,1,20,2,1500,ect0,0,enqueue\n"
-    ++ codes "clock,21,900\narrive,1,30,3,1500,ect0,0,enqueue\n"
-    ++ codes "clock,31,1100\narrive,1,40,4,1500,ect0,0,enqueue\n"
-
--- its events are at no time, 1009, 909 and 1109: from the first that is wanted on, up to one that is later, and times that were set back among them
-times-answered : (cut_of (at_times 1009 1050) set_back ≡ Ok 2) × (cut_of (at_times 900 1000) set_back ≡ Ok 1)
-    × (cut_of (within (Some (Unix 1009)) None) set_back ≡ Ok 3) × (cut_of (within (Some (Unix 1010)) None) set_back ≡ Ok 1)
-    × (cut_of (within (Some (Unix 1110)) None) set_back ≡ Err NoEvents) × (cut_of (within None (Some (Unix 1109))) set_back ≡ Ok 3)
-    × (cut_of (within (Some (Moment 25)) (Some (Unix 1000))) set_back ≡ Ok 1)
-    × (cut_of (within (Some (Unix 900)) (Some (Moment 30))) set_back ≡ Ok 2)
-unfolding worked
-times-answered = (refl, refl, refl, refl, refl, refl, refl, refl)
-
-times-cut : (text_of_cut (at_times 900 1000) set_back ≡ codes "arrive,1,30,3,1500,ect0,0,enqueue\nclock,31,1100\n")
-    × (clock_of_cut (at_times 900 1000) set_back ≡ Some (Some (record { moment = 21; unix = 900 })))
-    × (text_of_cut (within None (Some (Unix 908))) set_back ≡ [])
-unfolding worked
-times-cut = (refl, refl, refl)
-
 -- ---- parameters out of their range
 
 -- three arrivals, and a change to parameters of which the target, 1 ns, is out of its range
@@ -256,13 +216,7 @@ changed =
     ++ codes "arrive,1,3000,3,1000,ect0,5,enqueue\n"
     ++ change
 
--- it is an event that differs: at its own moment, with a number, and the last of an excerpt and of a segment, as it was read
-changes-answered : (cut_of (moments 0 3499) changed ≡ Ok 3) × (cut_of (moments 0 3500) changed ≡ Err (Differs 4))
-    × (cut_of (moments 3500 9000) changed ≡ Err (Differs 4)) × (cut_of (moments 3501 9000) changed ≡ Err (Differs 4))
-    × (cut_of (numbers 1 3) changed ≡ Ok 3) × (cut_of (numbers 4 4) changed ≡ Err (Differs 4))
-unfolding worked
-changes-answered = (refl, refl, refl, refl, refl, refl)
-
+-- it is an event that differs, the last of an excerpt and of a segment, as it was read
 changes-cut : (text_of_cut (moments 3500 9000) changed ≡ change) × (text_of_cut (moments 3501 9000) changed ≡ [])
     × (text_of_cut (segment 0 2 1) changed ≡ codes "arrive,1,3000,3,1000,ect0,5,enqueue\n" ++ change)
     × (text_of_cut (segment 0 3 1) changed ≡ change)

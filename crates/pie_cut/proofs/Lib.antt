@@ -3,8 +3,6 @@ mod MeetFacts
 mod PartFacts
 mod CutFacts
 mod EndFacts
-mod ToldFacts
-mod LineReading
 mod SegmentFacts
 mod SegmentEnds
 mod LastFacts

@@ -2,7 +2,6 @@ pub mod Span
 pub mod Excerpt
 pub mod Told
 pub mod Answer
-pub mod Lines
 pub mod Segment
 pub mod Last
 pub mod Joined

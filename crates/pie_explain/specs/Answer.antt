@@ -1,18 +1,17 @@
 -- How explaining a history ends: as its audit would, or with nothing to explain.
-use Rattle.std.specs.Prelude.{ℕ, ◌≡◌, ◌^◌, ◌==◌, ◌≤◌, nat_lt, nat_le, ◌&&◌, List, ◌++◌}
-use Rattle.std.specs.Prelude.{length, Bool, true, false, Option, Some, None, Result, Ok, Err, ⊤}
+use Rattle.std.specs.Prelude.{ℕ, ◌≡◌, ◌==◌, ◌≤◌, nat_lt, nat_le, ◌&&◌, List}
+use Rattle.std.specs.Prelude.{length, Bool, true, false, Option, Some, None, Result, Ok, Err}
 use Rattle.std.specs.Prelude.{if◌then◌else◌}
 use Rattle.std.specs.Io.KnownBytes.{Appends}
 use Rattle.pie_event.specs.declared.opening.Opening.{Opening}
 use Rattle.pie_record.specs.declared.fault.TraceFault.{TraceFault}
 use Rattle.pie_record.specs.declared.history_record.Line.{Line}
 use Rattle.pie_record.specs.Fault.{is_device}
-use Rattle.pie_record.specs.HistoryLines.{Coming, LinesView, history_lines, history_opening, later_fault}
-use Rattle.pie_record.specs.Text.{Row}
 use Rattle.pie_audit.specs.declared.auditor.Finding.{Finding}
 use Rattle.pie_audit.specs.declared.auditor.Finding.TheVariants.{Clean}
 use Rattle.pie_audit.specs.declared.auditor.Finding.TheVariants as finding
-use Rattle.pie_audit.specs.Auditor.{AuditorView}
+use Rattle.pie_audit.specs.declared.following.Follower.{Follower}
+use Rattle.pie_audit.specs.Auditor.{Audits, AuditorView}
 use Rattle.pie_audit.specs.Following.{Follows}
 use Rattle.pie_record.specs.HistoryLines.{event_count}
 use Rattle.pie_audit.specs.Finding.{finding as finding_of}
@@ -24,7 +23,6 @@ use Rattle.pie_explanation.specs.declared.choice.Choice.{Choice}
 use Rattle.pie_explanation.specs.declared.which.Which.{Which}
 use Rattle.pie_explanation.specs.declared.which.Which.TheVariants.{Number, Tag, Lost, Marked, All}
 use Rattle.pie_explanation.specs.Choice.{is_whole}
-use Rattle.pie_explain.specs.Explanations.{explanations}
 use Rattle.pie_audit.specs.Start.{Start}
 use Rattle.pie_explain.specs.Since.{explanations_since}
 
@@ -47,34 +45,11 @@ abbrev pub answered : Choice → ℕ → ℕ → Finding → Result ℕ ExplainF
 answered choice before explained (finding.Differs event) = Err (Differs event)
 answered choice before explained (Clean events) = if explained == 0 then none_picked (is_whole choice) choice.which before events else Ok explained
 
--- the answer to a history of these lines, and the fault after them
-abbrev pub answer_by : Choice → Opening → List Line → Option TraceFault → Result ℕ ExplainFault
-answer_by choice opening lines (Some why) = Err (Trace why)
-answer_by choice opening lines None = answered choice 0 (length (explanations opening choice lines)) (finding_of opening lines)
-
--- .. of which a text has those after its beginning
-abbrev pub answer_since : Start → Choice → Opening → List Line → Option TraceFault → Result ℕ ExplainFault
-answer_since start choice opening lines (Some why) = Err (Trace why)
-answer_since start choice opening lines None =
+-- the answer to a history of these lines, of which a text has those after its beginning, and the fault after them
+abbrev pub answer_since : Choice → Start → Opening → List Line → Option TraceFault → Result ℕ ExplainFault
+answer_since choice start opening lines (Some why) = Err (Trace why)
+answer_since choice start opening lines None =
     answered choice start.events (length (explanations_since start opening choice lines)) (finding_of opening lines)
-
-abbrev pub answer_after : Choice → List Row → Result Opening TraceFault → Result ℕ ExplainFault
-answer_after choice rows (Err why) = Err (Trace why)
-answer_after choice rows (Ok opening) = answer_by choice opening (history_lines (2 ^ 32) rows) (later_fault (2 ^ 32) rows)
-
--- the answer to a history of these records: its first fault, its first difference, or how many events are explained
-abbrev pub answer : Choice → List Row → Result ℕ ExplainFault
-answer choice rows = answer_after choice rows (history_opening rows)
-
--- neither the reader, the writer nor memory failed
-abbrev pub IsTold : Result ℕ ExplainFault → Type 0
-IsTold (Ok explained) = ⊤
-IsTold (Err (Trace why)) = is_device why ≡ false
-IsTold (Err (Differs event)) = ⊤
-IsTold (Err (Earlier event before)) = ⊤
-IsTold (Err (NoEvent event events)) = ⊤
-IsTold (Err (NoTag tag)) = ⊤
-IsTold (Err NoneWithin) = ⊤
 
 -- an answer says what the audit of the text answers: its fault, or its first difference; or there is none
 abbrev pub IsAsAudited : Result Finding TraceFault → Result ℕ ExplainFault → Type 0
@@ -98,30 +73,13 @@ pub record Explains (start : Start) (opening : Opening) (choice : Choice) (tale 
   pub shown : shows (explanations_since start opening choice lines)
   pub written : Appends before now (tale (explanations_since start opening choice lines))
 
--- all lines that came were explained, after the first ones, and no fault is after them; or the fault after them was met, unless a device or
--- memory failed
-abbrev pub Heard : Start → Opening → Choice → (List Explained → List ℕ) → (List Explained → Type 0) → List Line → Coming
-    → Result (Unit {0}) TraceFault → AuditorView → Setter → ℕ → Option (List ℕ) → Option (List ℕ) → Type 0
-Heard start opening choice tale shows first coming (Ok done) auditor set_by explained before now =
-    Explains start opening choice tale shows (first ++ coming.lines) auditor set_by explained before now × (coming.fault ≡ None)
-Heard start opening choice tale shows first coming (Err why) auditor set_by explained before now =
-    is_device why ≡ false → (coming.fault ≡ Some why) × shows (explanations_since start opening choice (first ++ coming.lines))
-    × Appends before now (tale (explanations_since start opening choice (first ++ coming.lines)))
-
--- where explaining stands among all lines that come after the first: some are left, and the others were explained
-pub record ExplainAt (start : Start) (opening : Opening) (choice : Choice) (tale : List Explained → List ℕ) (shows : List Explained → Type 0)
-    (first : List Line) (all : Coming) (lines : LinesView) (auditor : AuditorView) (set_by : Setter) (explained : ℕ)
-    (before now : Option (List ℕ)) : Type 0 where
-  pub seen : List Line
-  pub left : List Line
-  pub split : all.lines ≡ seen ++ left
-  pub remain : lines.coming ≡ Some (record { lines = left; fault = all.fault })
-  pub explains : Explains start opening choice tale shows (first ++ seen) auditor set_by explained before now
-
 -- ---- how it ends
 
--- what was answered and written of the lines that came after the first, where neither the reader, the writer nor memory failed
-pub record Told (start : Start) (opening : Opening) (choice : Choice) (whole : List Explained → List ℕ) (first : List Line) (coming : Coming)
-    (result : Result ℕ ExplainFault) (old now : Option (List ℕ)) : Type 0 where
-  pub answers : result ≡ answer_since start choice opening (first ++ coming.lines) coming.fault
-  pub writes : Appends old now (whole (explanations_since start opening choice (first ++ coming.lines)))
+-- what is written: the whole tale of the chosen events, of those that a text has after its beginning
+abbrev pub IsSaid : Choice → (List Explained → List ℕ) → Start → Opening → List Line → List ℕ → Type 0
+IsSaid choice whole start opening lines said = said ≡ whole (explanations_since start opening choice lines)
+
+-- all lines were looked at, and the explained events counted
+abbrev pub HasExplained : Choice → Start → Opening → List Line → Follower → ℕ → Type 0
+HasExplained choice start opening lines follower explained = (start.events ≡ follower.before) × Audits opening follower.auditor lines
+    × (follower.auditor.differs ≡ None → explained ≡ length (explanations_since start opening choice lines))

@@ -1,5 +1,4 @@
 pub mod Explanations
 pub mod Since
-pub mod Output
 pub mod Answer
 pub mod Either

@@ -1,17 +1,23 @@
 //! How the explanations of an excerpt are those of the whole history.
-ghost use Rattle.std.specs.Prelude.{◌≡◌, ◌++◌, List, length, map, true, false};
+ghost use Rattle.std.specs.Prelude.{◌≡◌, ◌++◌, List, Option, length, map, true, false};
 ghost use Rattle.pie_event.specs.declared.command.Event.{Event};
 ghost use Rattle.pie_event.specs.declared.opening.Opening.{Opening};
 ghost use Rattle.pie_record.specs.declared.history_record.Line.{Line};
 ghost use Rattle.pie_record.specs.declared.history_record.Line.TheVariants.{Made};
 ghost use Rattle.pie_explanation.specs.declared.choice.Choice.{Choice};
+ghost use Rattle.pie_record.specs.declared.fault.TraceFault.{TraceFault};
+ghost use Rattle.pie_audit.specs.Start.{Start, from_opening};
+ghost use Rattle.pie_audit.specs.Text.{judged};
+ghost use Rattle.pie_explain.specs.Answer.{IsAsAudited, answer_since};
 ghost use Rattle.pie_explain.specs.Explanations.{explanations};
 ghost use Rattle.pie_explain.specs.Since.{as_told, explanations_since};
 
-/// The law of excerpts. A text that goes on after some events of a history, and tells what set the probability before it, gives exactly the
+/// The law of excerpts. A whole history gives all explanations (`whole`). A text that goes on after some events of a history, and tells what set the probability before it, gives exactly the
 /// explanations that the whole history gives after those of these events (`rest`). One that doesn't tell it gives the same, but for what set
 /// the probability as long as no event of the text did (`untold`). It does nothing: its contract is the law.
 pub fn excerpts_are_explained_as_the_whole()
+    ensures whole { (opening : Opening) (choice : Choice) (lines : List Line)
+        → explanations_since from_opening opening choice lines ≡ explanations opening choice lines }
     ensures rest { (opening : Opening) (choice : Choice) (past : List Event) (lines : List Line)
         → explanations opening choice (map Made past ++ lines) ≡ explanations opening choice (map Made past)
         ++ explanations_since (record { events = length past; tells = true }) opening choice (map Made past ++ lines) }
@@ -19,4 +25,12 @@ pub fn excerpts_are_explained_as_the_whole()
         → explanations_since (record { events = length past; tells = false }) opening choice (map Made past ++ lines)
         ≡ map (as_told (record { events = length past; tells = false }))
         (explanations_since (record { events = length past; tells = true }) opening choice (map Made past ++ lines)) }
+{}
+
+/// What is answered of a text says what its audit finds: its fault, its first difference, or that there is none.
+///
+/// It does nothing: its contract is the law.
+pub fn explaining_is_auditing()
+    ensures { (start : Start) (choice : Choice) (opening : Opening) (lines : List Line) (fault : Option TraceFault)
+        → IsAsAudited (judged opening lines fault) (answer_since choice start opening lines fault) }
 {}

@@ -12,7 +12,7 @@ pub mod law;
 
 pub use explainer::explain;
 pub use fault::ExplainFault;
-pub use law::excerpts_are_explained_as_the_whole;
+pub use law::{excerpts_are_explained_as_the_whole, explaining_is_auditing};
 pub use pie_explanation::{
     Choice, Explained, Explanation, Form, Millis, PerCent, Report, Setter, Share, Which, moment_of,
     push_words,

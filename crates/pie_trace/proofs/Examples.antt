@@ -1,119 +1,69 @@
--- The definitions of records on worked rows: each theorem computes.
-use Rattle.std.specs.Prelude.{ℕ, ◌≡◌, List, [], ◌∷◌, ◌++◌, Bool, false, Some, None, Ok, Err, true, codes, map, refl}
+-- The definitions of traces, runs and migrations on worked texts: each theorem computes.
+use Rattle.std.specs.Prelude.{⊤, ℕ, ◌≡◌, List, [], ◌∷◌, ◌++◌, false, Some, None, Ok, Err, true, codes, map, refl, ◌^◌}
 use Rattle.std.specs.Fmt.{digits}
 use Rattle.csv.specs.Machine.{next_record}
 use Rattle.csv.specs.Reading.{records_from, strip_bom}
 use Rattle.csv.specs.Records.{field_at}
 use Rattle.csv.specs.Writing.{fields_text, is_blank}
-use Rattle.pie_params.specs.Elements.{usual}
 use Rattle.pie_params.specs.Profile.{default_profile}
-use Rattle.pie_params.specs.declared.raw.RawParams.{RawParams}
-use Rattle.pie_queue.specs.declared.ecn.Ecn.TheVariants as ecn
-use Rattle.pie_event.specs.declared.command.Answer.TheVariants.{Enqueued, Marked, DroppedEarly, DroppedBytes, DroppedPackets, Empty, Left, Updated}
-use Rattle.pie_event.specs.declared.command.Answer.TheVariants.{Done}
-use Rattle.pie_event.specs.declared.command.Command.TheVariants.{Arrive, Depart, Update, Reset, SetParams}
-use Rattle.pie_event.specs.declared.opening.Mode.TheVariants.{Bounded, Rolling}
-use Rattle.pie_event.specs.declared.opening.Mode.{Mode}
-use Rattle.pie_event.specs.declared.opening.Opening.{Opening}
-use Rattle.pie_event.specs.declared.profile.Profile.{Profile}
-use Rattle.pie_event.specs.declared.profile.Profile.TheVariants.{One, Two}
-use Rattle.pie_event.specs.declared.registers.Registers.{Registers}
-use Rattle.pie_event.specs.declared.refusal.Refusal.TheVariants as refusal
-use Rattle.pie_record.specs.declared.fault.Flaw.TheVariants as flaw
-use Rattle.pie_record.specs.declared.fault.OpenFault.TheVariants as open_fault
-use Rattle.pie_record.specs.declared.fault.TraceFault.TheVariants as fault
-use Rattle.pie_record.specs.declared.trace_record.Request.TheVariants.{Ask, BadParams, Clock, Fold, Show, Tally}
-use Rattle.pie_record.specs.declared.version.Version.TheVariants as version
+use Rattle.pie_record.specs.declared.trace_record.Request.TheVariants.{Clock}
 use Rattle.pie_record.specs.Number.{number}
-use Rattle.pie_record.specs.FirstRecord.{draft_at, first_kind, limits_at, profile_of, version_of, version_one_fields, version_two_fields}
-use Rattle.pie_record.specs.FirstRecord.{which_of}
+use Rattle.pie_record.specs.FirstRecord.{draft_at, first_kind, limits_at, profile_of, version_of, version_one_fields, version_two_fields, which_of}
+use Rattle.pie_record.specs.FirstRecord.{chosen_at, elements_at, version_three_fields}
 use Rattle.pie_record.specs.Field.{packet_at, ecn_of, params_at}
 use Rattle.pie_record.specs.Command.{arrival_at, change_at, command_at, command_kind}
 use Rattle.pie_record.specs.Clock.{clock_at, clock_in}
 use Rattle.pie_record.specs.TraceRecord.{command_request, fold_request, request_of}
-use Rattle.pie_record.specs.Answer.{answer_fields, code_of, folded_row, refused_row, shown_row, tallied_row}
-use Rattle.pie_trace.specs.History.{before_fault, fault_of, first_fault, record_fault}
+use Rattle.pie_record.specs.Answer.{answer_fields, folded_row, refused_row, shown_row, tallied_row}
+use Rattle.pie_trace.specs.History.{before_fault, fault_of, first_fault, record_fault, end_of, history_rows, history_text, replies, requests_of}
+use Rattle.pie_trace.specs.History.{steps_of, text_left}
 use Rattle.pie_record.specs.Opening.{opening_of}
-use Rattle.pie_record.specs.Text.{Row, records_of, text_of}
+use Rattle.pie_record.specs.Text.{Row, records_of, rows_text}
+use Rattle.pie_rate.specs.Cycles.{cycles, begun, first_position, first_opening, first_closing, first_cycle, cycles_from}
+use Rattle.pie_rate.specs.Average.{average, samples}
+use Rattle.pie_control.specs.Delay.{delay_of}
+use Rattle.pie_control.specs.History.{probability, last_delay, last_moment, granted_burst, burst_allowance}
+use Rattle.pie_control.specs.Next.{raw_step, tuning_divisor, tuned_step, decayed, next}
+use Rattle.pie_early.specs.Decision.{is_considered, is_picked}
+use Rattle.pie_early.specs.History.{accumulated}
+use Rattle.pie_aqm.specs.History.{active_of, arrivals_shown, control_of, delay_noted, departures_of, departures_shown, early_of, held_of, is_active}
+use Rattle.pie_aqm.specs.History.{noted, noted_after, now_of, params_of, updates_shown}
+use Rattle.pie_aqm.specs.Places.{places, greatest, last_or}
+use Rattle.pie_aqm.specs.Steps.{verdict}
+use Rattle.pie_book.specs.Estimates.{held_after}
+use Rattle.pie_book.specs.History.{effective_moment, admitted, departed_count, waiting_after}
+use Rattle.pie_book.specs.Shown.{shown}
+use Rattle.pie_book.specs.Registers.{registers_after}
+use Rattle.pie_book.specs.Statistics.{largest_queue, largest_delay, waited, no_stats, stats_after}
+use Rattle.pie_book.specs.Run.{progress_after}
+use Rattle.pie_record.specs.HistoryRecord.{answer_at, departure_at, event_line, line_of, note_line, numbers_at, registers_at, shown_line, update_at}
+use Rattle.pie_record.specs.HistoryRecord.{verdict_of}
+use Rattle.pie_record.specs.HistoryLines.{after_opening, fault_from, history_opening, history_version, lines_from, told_by, event_count}
+use Rattle.pie_trace.specs.Migrate.{first_in_two, history_events, history_fault, later_in_two, migrated, migrated_text, told_rows}
+use Rattle.pie_record.specs.declared.fault.Flaw.TheVariants as flaw
+use Rattle.pie_record.specs.declared.fault.TraceFault.TheVariants as fault
+use Rattle.pie_record.specs.declared.version.Version.TheVariants as version
 
--- numbers have no sign and no leading zero, and are in range
-
-numbers : (number 9 (codes "0") ≡ Some 0) × (number 65535 (codes "65535") ≡ Some 65535) × (number 65534 (codes "65535") ≡ None)
-    × (number 18446744073709551615 (codes "18446744073709551615") ≡ Some 18446744073709551615)
-    × (number 18446744073709551615 (codes "18446744073709551616") ≡ None)
-unfolding number
-numbers = (refl, refl, refl, refl, refl)
-
-no_numbers : map (number 99) ([] ∷ codes "00" ∷ codes "01" ∷ codes "+1" ∷ codes "1a" ∷ codes " 1" ∷ []) ≡ None ∷ None ∷ None ∷ None ∷ None ∷ None ∷ []
-unfolding number
-no_numbers = refl
-
-words : map ecn_of (codes "not" ∷ codes "ect1" ∷ codes "ect0" ∷ codes "ce" ∷ codes "CE" ∷ codes "ect" ∷ [])
-    ≡ Some ecn.NotEct ∷ Some ecn.Ect1 ∷ Some ecn.Ect0 ∷ Some ecn.Ce ∷ None ∷ None ∷ []
-unfolding ecn_of
-words = refl
-
--- records of a trace
+-- all that a theorem on a worked trace computes with
+unfoldable worked : Type 0
+unfolding accumulated active_of admitted after_opening answer_at answer_fields arrival_at arrivals_shown average before_fault begun burst_allowance
+    change_at chosen_at clock_at clock_in command_at command_kind command_request control_of cycles cycles_from decayed delay_noted delay_of
+    departed_count departure_at departures_of departures_shown digits draft_at early_of ecn_of effective_moment elements_at end_of event_count
+    event_line fault_from fault_of field_at fields_text first_closing first_cycle first_fault first_in_two first_kind first_opening
+    first_position fold_request folded_row granted_burst greatest held_after held_of history_events history_fault history_opening history_rows
+    history_text history_version is_active is_blank is_considered is_picked largest_delay largest_queue last_delay last_moment last_or
+    later_in_two limits_at line_of lines_from migrated next next_record note_line noted noted_after now_of number numbers_at opening_of
+    packet_at params_at params_of places probability profile_of progress_after raw_step record_fault records_from refused_row registers_after
+    registers_at replies request_of requests_of rows_text samples shown shown_line shown_row stats_after steps_of strip_bom tallied_row
+    text_left told_by told_rows tuned_step tuning_divisor update_at updates_shown verdict verdict_of version_of version_one_fields
+    version_three_fields version_two_fields waited waiting_after which_of
+worked = ⊤
 
 abbrev open_row : Row
 open_row = codes "open" ∷ codes "0" ∷ codes "4" ∷ codes "16" ∷ codes "100" ∷ []
 
-abbrev arrive_row : Row
-arrive_row = codes "arrive" ∷ codes "1" ∷ codes "10" ∷ codes "7" ∷ codes "1500" ∷ codes "ect0" ∷ codes "0" ∷ []
-
 abbrev depart_row : Row
 depart_row = codes "depart" ∷ codes "2" ∷ codes "25" ∷ []
-
-abbrev late_row : Row
-late_row = codes "depart" ∷ codes "2" ∷ codes "30" ∷ []
-
-abbrev nine : Row
-nine = codes "2" ∷ codes "1" ∷ codes "0" ∷ codes "850000" ∷ codes "3" ∷ codes "4" ∷ codes "100000" ∷ codes "1000000000000" ∷ codes "1024" ∷ []
-
-abbrev nine_params : RawParams
-nine_params = record {
-  target = 2;
-  t_update = 1;
-  max_burst = 0;
-  alpha = 850000;
-  beta = 3;
-  mean_pkt = 4;
-  limit_bytes = 100000;
-  mark_ecnth = 1000000000000;
-  dq_threshold = 1024;
-}
-
--- what each kind asks
-requests : map (request_of version.One) (arrive_row ∷ depart_row ∷ (codes "update" ∷ codes "3" ∷ codes "4" ∷ []) ∷
-    (codes "reset" ∷ codes "5" ∷ codes "6" ∷ [])
-    ∷ (codes "params" ∷ codes "7" ∷ codes "8" ∷ nine) ∷ (codes "fold" ∷ codes "9" ∷ []) ∷ (codes "show" ∷ []) ∷ (codes "tally" ∷ []) ∷ [])
-    ≡ Ok (Ask 1 (Arrive 10 (record { tag = 7; size = 1500; ecn = ecn.Ect0 }) 0)) ∷ Ok (Ask 2 (Depart 25)) ∷ Ok (Ask 3 (Update 4))
-    ∷ Ok (Ask 5 (Reset 6))
-    ∷ Ok (Ask 7 (SetParams 8 nine_params)) ∷ Ok (Fold 9) ∷ Ok Show ∷ Ok Tally ∷ []
-unfolding number ecn_of params_at first_kind version_of profile_of which_of limits_at draft_at version_one_fields version_two_fields
-    command_kind command_at arrival_at packet_at command_request change_at fold_request request_of field_at
-requests = refl
-
--- a parameter out of its range is no flaw, but a number that is no number is
-bad_params : map (request_of version.One) (
-    (codes "params" ∷ codes "7" ∷ codes "8" ∷ codes "1" ∷ codes "1" ∷ codes "0" ∷ codes "1" ∷ codes "1" ∷ codes "1" ∷ codes "1" ∷ codes "0"
-    ∷ codes "1024" ∷ [])
-    ∷ (codes "params" ∷ codes "7" ∷ codes "8" ∷ codes "1" ∷ codes "1" ∷ codes "0" ∷ codes "1" ∷ codes "1" ∷ codes "1" ∷ codes "1" ∷ codes "0"
-    ∷ codes "x" ∷ [])
-    ∷ [])
-    ≡ Ok BadParams ∷ Err flaw.Number ∷ []
-unfolding number ecn_of params_at first_kind version_of profile_of which_of limits_at draft_at version_one_fields version_two_fields
-    command_kind command_at arrival_at packet_at command_request change_at fold_request request_of field_at
-bad_params = refl
-
--- a later opening and any other word are no kind; the number of the fields comes before the fields
-flaws : map (request_of version.One) (open_row ∷ (codes "rolling" ∷ []) ∷
-    (codes "open2" ∷ codes "1" ∷ codes "bounded" ∷ codes "0" ∷ codes "4" ∷ codes "16"
-    ∷ codes "100" ∷ []) ∷ (codes "shown" ∷ []) ∷ [] ∷ (codes "depart" ∷ codes "x" ∷ []) ∷ (codes "depart" ∷ codes "65536" ∷ codes "1" ∷ []) ∷ [])
-    ≡ Err flaw.Kind ∷ Err flaw.Kind ∷ Err flaw.Kind ∷ Err flaw.Kind ∷ Err flaw.Kind ∷ Err flaw.Fields ∷ Err flaw.Number ∷ []
-unfolding number ecn_of params_at first_kind version_of profile_of which_of limits_at draft_at version_one_fields version_two_fields
-    command_kind command_at arrival_at packet_at command_request change_at fold_request request_of field_at
-flaws = refl
 
 -- the time of day is told from version three on; a moment is below 2^60, and the first bad field counts
 clocks : (map (λ v. request_of v (codes "clock" ∷ codes "1152921504606846975" ∷ codes "18446744073709551615" ∷ [])) (
@@ -126,181 +76,181 @@ clocks : (map (λ v. request_of v (codes "clock" ∷ codes "1152921504606846975"
     ∷ (codes "clock" ∷ codes "1" ∷ codes "2" ∷ codes "3" ∷ [])
     ∷ [])
     ≡ Err flaw.Number ∷ Err flaw.Number ∷ Err flaw.Fields ∷ Err flaw.Fields ∷ [])
-unfolding number ecn_of params_at first_kind version_of profile_of which_of limits_at draft_at version_one_fields version_two_fields
-    command_kind command_at arrival_at packet_at command_request change_at fold_request clock_in clock_at request_of field_at
+unfolding worked
 clocks = (refl, refl)
-
--- of several bad fields the first counts
-first_flaws : (request_of version.One (codes "arrive" ∷ codes "1" ∷ codes "10" ∷ codes "7" ∷ codes "01" ∷ codes "ect2" ∷ codes "0" ∷ [])
-    ≡ Err flaw.Number)
-    × (request_of version.One (codes "arrive" ∷ codes "1" ∷ codes "10" ∷ codes "7" ∷ codes "1" ∷ codes "ect2" ∷ codes "00" ∷ []) ≡ Err flaw.Word)
-unfolding number ecn_of params_at first_kind version_of profile_of which_of limits_at draft_at version_one_fields version_two_fields
-    command_kind command_at arrival_at packet_at command_request change_at fold_request request_of field_at
-first_flaws = (refl, refl)
-
--- the short form has the default parameters, and the long one its own
-opened : (opening_of open_row ≡ Ok (record {
-  moment = 0;
-  limits = record { packets = 4; tail = 16; events = 100 };
-  params = default_profile;
-  choices = record { mode = Bounded; profile = One; elements = usual };
-}))
-    × (opening_of (codes "rolling" ∷ codes "5" ∷ codes "4" ∷ codes "16" ∷ codes "100" ∷ nine)
-    ≡ Ok (record {
-      moment = 5;
-      limits = record { packets = 4; tail = 16; events = 100 };
-      params = nine_params;
-      choices = record { mode = Rolling; profile = One; elements = usual };
-    }))
-unfolding opening_of number ecn_of params_at first_kind version_of profile_of which_of limits_at draft_at version_one_fields
-    version_two_fields command_kind command_at arrival_at packet_at command_request change_at fold_request request_of field_at
-opened = (refl, refl)
-
--- version two names the profile and the mode
-abbrev open2_row : List ℕ → List ℕ → Row
-open2_row profile mode = codes "open2" ∷ profile ∷ mode ∷ codes "5" ∷ codes "4" ∷ codes "16" ∷ codes "100" ∷ []
-
-abbrev opening_with : RawParams → Mode → Profile → Opening
-opening_with params mode profile =
-    record {
-      moment = 5;
-      limits = record { packets = 4; tail = 16; events = 100 };
-      params = params;
-      choices = record { mode = mode; profile = profile; elements = usual };
-    }
-
-opened_in_version_two : (opening_of (open2_row (codes "2") (codes "bounded")) ≡ Ok (opening_with default_profile Bounded Two))
-    × (opening_of (open2_row (codes "1") (codes "rolling")) ≡ Ok (opening_with default_profile Rolling One))
-    × (opening_of (open2_row (codes "2") (codes "rolling") ++ nine) ≡ Ok (opening_with nine_params Rolling Two))
-unfolding opening_of number ecn_of params_at first_kind version_of profile_of which_of limits_at draft_at version_one_fields version_two_fields
-    request_of field_at
-opened_in_version_two = (refl, refl, refl)
-
--- the number of the fields, the profile, the mode, and then the numbers
-not_opened_in_version_two : map opening_of (
-    (codes "open2" ∷ codes "1" ∷ codes "bounded" ∷ codes "0" ∷ codes "4" ∷ codes "16" ∷ [])
-    ∷ (open_row ++ open_row)
-    ∷ open2_row (codes "3") (codes "loose")
-    ∷ open2_row (codes "0") (codes "bounded")
-    ∷ open2_row (codes "02") (codes "bounded")
-    ∷ open2_row (codes "1") (codes "loose")
-    ∷ open2_row (codes "bounded") (codes "1")
-    ∷ (codes "open2" ∷ codes "1" ∷ codes "loose" ∷ codes "x" ∷ codes "4" ∷ codes "16" ∷ codes "100" ∷ [])
-    ∷ (codes "open2" ∷ codes "1" ∷ codes "bounded" ∷ codes "x" ∷ codes "4" ∷ codes "16" ∷ codes "100" ∷ [])
-    ∷ [])
-    ≡ Err (fault.Fields 1) ∷ Err (fault.Fields 1) ∷ Err (fault.Number 1) ∷ Err (fault.Number 1) ∷ Err (fault.Number 1) ∷ Err (fault.Word 1)
-    ∷ Err (fault.Number 1)
-    ∷ Err (fault.Word 1) ∷ Err (fault.Number 1) ∷ []
-unfolding opening_of number ecn_of params_at first_kind version_of profile_of which_of limits_at draft_at version_one_fields version_two_fields
-    request_of field_at
-not_opened_in_version_two = refl
-
-versions : map version_of (open_row ∷ (codes "rolling" ∷ []) ∷ open2_row (codes "1") (codes "bounded") ∷ [])
-    ≡ version.One ∷ version.One ∷ version.Two ∷ []
-unfolding version_of field_at
-versions = refl
-
--- another kind, the number of the fields, a field, the limits, the moment
-not_opened : (opening_of depart_row ≡ Err fault.NoOpen)
-    × (opening_of (codes "open" ∷ codes "00" ∷ []) ≡ Err (fault.Fields 1))
-    × (opening_of (codes "open" ∷ codes "00" ∷ codes "0" ∷ codes "4" ∷ codes "2" ∷ []) ≡ Err (fault.Number 1))
-    × (opening_of (codes "open" ∷ codes "1152921504606846976" ∷ codes "0" ∷ codes "4" ∷ codes "2" ∷ []) ≡ Err (fault.Opening open_fault.Limits))
-    × (opening_of (codes "open" ∷ codes "1152921504606846976" ∷ codes "4" ∷ codes "4" ∷ codes "2" ∷ []) ≡ Err (fault.Opening open_fault.Moment))
-unfolding opening_of number ecn_of params_at first_kind version_of profile_of which_of limits_at draft_at version_one_fields
-    version_two_fields command_kind command_at arrival_at packet_at command_request change_at fold_request request_of field_at
-not_opened = (refl, refl, refl, refl, refl)
-
--- a record past the greatest number is that fault, whatever it says
-too_long : (record_fault version.One 3 4 (codes "shown" ∷ []) ≡ Some fault.TooLong) × (record_fault version.One 4 4 (codes "shown" ∷ [])
-    ≡ Some (fault.Kind 4))
-    × (record_fault version.One 4 4 depart_row ≡ None)
-unfolding record_fault number ecn_of params_at first_kind version_of profile_of which_of limits_at draft_at version_one_fields
-    version_two_fields command_kind command_at arrival_at packet_at command_request change_at fold_request request_of field_at
-too_long = (refl, refl, refl)
 
 faults : (fault_of 9 [] ≡ Some fault.NoOpen) × (fault_of 0 [] ≡ Some fault.NoOpen) × (fault_of 9 (depart_row ∷ open_row ∷ []) ≡ Some fault.NoOpen)
     × (fault_of 0 (open_row ∷ []) ≡ Some fault.TooLong) × (fault_of 1 (open_row ∷ depart_row ∷ []) ≡ Some fault.TooLong)
     × (fault_of 2 (open_row ∷ depart_row ∷ []) ≡ None) × (fault_of 9 (open_row ∷ depart_row ∷ open_row ∷ []) ≡ Some (fault.Kind 3))
     × (fault_of 9 (open_row ∷ depart_row ∷ (codes "depart" ∷ []) ∷ open_row ∷ []) ≡ Some (fault.Fields 3))
-unfolding fault_of first_fault record_fault opening_of number ecn_of params_at first_kind version_of profile_of which_of limits_at draft_at
-    version_one_fields version_two_fields command_kind command_at arrival_at packet_at command_request change_at fold_request request_of
-    field_at
+unfolding worked
 faults = (refl, refl, refl, refl, refl, refl, refl, refl)
 
-up_to_the_fault : before_fault version.One 9 2 (depart_row ∷ open_row ∷ late_row ∷ []) ≡ depart_row ∷ []
-unfolding before_fault record_fault number ecn_of params_at first_kind version_of profile_of which_of limits_at draft_at version_one_fields
-    version_two_fields command_kind command_at arrival_at packet_at command_request change_at fold_request request_of field_at
-up_to_the_fault = refl
+-- ---- whole runs, from the bytes read to the bytes written
 
--- history records
+-- the history text of a trace of at most a thousand records, and its first fault
+abbrev history_of : List ℕ → List ℕ
+history_of text = history_text 1000 (records_of text)
 
-answers : map answer_fields (Enqueued ∷ Marked ∷ DroppedEarly ∷ DroppedBytes ∷ DroppedPackets ∷ Empty
-    ∷ Left (record { tag = 7; size = 1500; ecn = ecn.Ce }) ∷ Updated 1 20 300 ∷ Done ∷ [])
-    ≡ (codes "enqueue" ∷ []) ∷ (codes "mark" ∷ []) ∷ (codes "early" ∷ []) ∷ (codes "bytes" ∷ []) ∷ (codes "packets" ∷ []) ∷ (codes "empty" ∷ [])
-    ∷ (codes "left" ∷ codes "7" ∷ codes "1500" ∷ codes "ce" ∷ []) ∷ (codes "1" ∷ codes "20" ∷ codes "300" ∷ []) ∷ (codes "done" ∷ []) ∷ []
-unfolding answer_fields digits
-answers = refl
+-- marks, drops and a lone enqueue: three updates raise the probability, and three packets meet it; then the registers, the
+-- statistics, new parameters, a reset, and parameters whose target is out of its range
+abbrev marks_rest : List ℕ
+marks_rest =
+    codes "arrive,1,0,1,1024,not,0\n"
+    ++ codes "arrive,1,0,2,1024,not,0\n"
+    ++ codes "arrive,1,0,3,1024,not,0\n"
+    ++ codes "arrive,1,0,4,1024,not,0\n"
+    ++ codes "depart,3,1000\n"
+    ++ codes "depart,3,1001000\n"
+    ++ codes "update,4,1001000\n"
+    ++ codes "update,4,1001001\n"
+    ++ codes "update,4,1001002\n"
+    ++ codes "arrive,1,1001003,5,500,ect0,0\n"
+    ++ codes "arrive,2,1001003,6,500,not,0\n"
+    ++ codes "arrive,2,1001003,7,500,not,18446744073709551615\n"
+    ++ codes "show\n"
+    ++ codes "tally\n"
+    ++ codes "params,5,1001004,2,1,50,850000,0,1,100000,1000000000000,1024\n"
+    ++ codes "show\n"
+    ++ codes "reset,5,1001005\n"
+    ++ codes "show\n"
+    ++ codes "params,5,1001006,1,1,50,850000,0,1,100000,1000000000000,1024\n"
 
-refusals : map (λ why. refused_row 12 (code_of why)) (refusal.Moment ∷ refusal.Size ∷ refusal.TooSoon 15 ∷ refusal.Exhausted ∷ refusal.HistoryFull
-    ∷ [])
-    ≡ map (λ code. codes "refused" ∷ codes "12" ∷ code ∷ []) (codes "1" ∷ codes "2" ∷ codes "3" ∷ codes "4" ∷ codes "5" ∷ [])
-unfolding refused_row digits
-refusals = refl
+abbrev marks_rest-history : List ℕ
+marks_rest-history =
+    codes "arrive,1,0,1,1024,not,0,enqueue\n"
+    ++ codes "arrive,1,0,2,1024,not,0,enqueue\n"
+    ++ codes "arrive,1,0,3,1024,not,0,enqueue\n"
+    ++ codes "arrive,1,0,4,1024,not,0,enqueue\n"
+    ++ codes "depart,3,1000,left,1,1024,not\n"
+    ++ codes "depart,3,1001000,left,2,1024,not\n"
+    ++ codes "update,4,1001000,2000000,830077294,0\n"
+    ++ codes "update,4,1001001,2000000,53955024169,0\n"
+    ++ codes "update,4,1001002,2000000,903954174169,0\n"
+    ++ codes "arrive,1,1001003,5,500,ect0,0,mark\n"
+    ++ codes "arrive,2,1001003,6,500,not,0,early\n"
+    ++ codes "arrive,2,1001003,7,500,not,18446744073709551615,enqueue\n"
+    ++ codes "shown,12,1001003,4,3048,903954174169,2000000,903954174169,0,1001002,1000000,1\n"
+    ++ codes "tallied,7,5,1,1,0,0,2,2048,0,3,0,0,4096,2000000,1002000\n"
+    ++ codes "params,5,1001004,2,1,50,850000,0,1,100000,1000000000000,1024,done\n"
+    ++ codes "shown,13,1001004,4,3048,903954174169,2000000,903954174169,0,1001002,0,0\n"
+    ++ codes "reset,5,1001005,done\n"
+    ++ codes "shown,14,1001005,4,3048,0,0,0,50,1001002,0,0\n"
+    ++ codes "refused,20,7\n"
 
-folds : folded_row 18446744073709551615 ≡ codes "folded" ∷ codes "18446744073709551615" ∷ []
-unfolding folded_row digits
-folds = refl
+marks-runs : history_of (codes "open,0,8,32,100,2,1,0,850000,0,1,100000,1000000000000,1024\n" ++ marks_rest)
+    ≡ codes "open,0,8,32,100,2,1,0,850000,0,1,100000,1000000000000,1024\n" ++ marks_rest-history
+unfolding worked
+marks-runs = refl
 
-abbrev registers : Bool → Bool → Registers
-registers measuring active = record {
-  count = 1;
-  moment = 2;
-  packets = 3;
-  bytes = 4;
-  prob = 5;
-  old = 6;
-  accu = 7;
-  burst = 8;
-  last = 9;
-  average = 10;
-  measuring = measuring;
-  params = default_profile;
-  active = active;
-}
+-- a full tail refuses until a fold makes room
+abbrev full_tail : List ℕ
+full_tail =
+    codes "open,0,4,2,100\n"
+    ++ codes "depart,1,1\n"
+    ++ codes "depart,1,1\n"
+    ++ codes "depart,1,1\n"
+    ++ codes "fold,3\n"
+    ++ codes "fold,1\n"
+    ++ codes "depart,1,2\n"
+    ++ codes "tally\n"
 
--- version two says whether the controller works
-registers_as_text : (text_of (shown_row version.One (registers true true)) ≡ codes "shown,1,2,3,4,5,6,7,8,9,10,1\n")
-    × (text_of (shown_row version.Two (registers true false)) ≡ codes "shown,1,2,3,4,5,6,7,8,9,10,1,0\n")
-    × (text_of (shown_row version.Two (registers false true)) ≡ codes "shown,1,2,3,4,5,6,7,8,9,10,0,1\n")
-unfolding shown_row digits fields_text is_blank
-registers_as_text = (refl, refl, refl)
+abbrev full_tail-history : List ℕ
+full_tail-history =
+    codes "open,0,4,2,100\n"
+    ++ codes "depart,1,1,empty\n"
+    ++ codes "depart,1,1,empty\n"
+    ++ codes "refused,4,5\n"
+    ++ codes "refused,5,6\n"
+    ++ codes "folded,1\n"
+    ++ codes "depart,1,2,empty\n"
+    ++ codes "tallied,0,0,0,0,0,0,0,0,3,0,0,0,0,0,0\n"
 
--- the time waited may need more than 64 bits
-statistics_as_text : text_of (tallied_row (record {
-  arrivals = 1;
-  enqueued = 2;
-  marked = 3;
-  early = 4;
-  over_bytes = 5;
-  over_packets = 6;
-  left = 7;
-  left_bytes = 8;
-  empty = 9;
-  updates = 10;
-  resets = 11;
-  changes = 12;
-  largest_queue = 13;
-  largest_delay = 14;
-  waited = 18446744073709551616;
-})) ≡ codes "tallied,1,2,3,4,5,6,7,8,9,10,11,12,13,14,18446744073709551616\n"
-unfolding tallied_row digits fields_text is_blank
-statistics_as_text = refl
+full_tail-runs : history_of full_tail ≡ full_tail-history
+unfolding worked
+full_tail-runs = refl
 
-row_as_text : text_of depart_row ≡ codes "depart,2,25\n"
-unfolding fields_text is_blank
-row_as_text = refl
+-- a controller that turns itself on at the third arrival, after which a third of the byte limit waits; a trace of version two says so
+abbrev turns_on_rest : List ℕ
+turns_on_rest =
+    codes ",bounded,0,8,32,100,2,1,5,850000,0,1,9000,1000000000000,1024\n"
+    ++ codes "arrive,1,0,1,1024,not,0\n"
+    ++ codes "show\n"
+    ++ codes "arrive,1,0,1,1024,not,0\n"
+    ++ codes "arrive,1,0,1,1024,not,0\n"
+    ++ codes "show\n"
 
--- records of a text: lines that end in a carriage return and a line feed, a quoted field, and a last line without its end
-records : records_of (codes "open,0,4,16,100\r\n\"depart\",2,25\n\ndepart,2,30") ≡ open_row ∷ depart_row ∷ late_row ∷ []
-unfolding records_from next_record strip_bom
-records = refl
+abbrev turns_on-history : List ℕ → List ℕ
+turns_on-history active =
+    codes ",bounded,0,8,32,100,2,1,5,850000,0,1,9000,1000000000000,1024\n"
+    ++ codes "arrive,1,0,1,1024,not,0,enqueue\n"
+    ++ codes "shown,1,0,1,1024,0,0,0,5,0,0,0," ++ active ++ codes "\n"
+    ++ codes "arrive,1,0,1,1024,not,0,enqueue\n"
+    ++ codes "arrive,1,0,1,1024,not,0,enqueue\n"
+    ++ codes "shown,3,0,3,3072,0,0,0,5,0,0,0,1\n"
+
+turns_on-runs : (history_of (codes "open2,2" ++ turns_on_rest) ≡ codes "open2,2" ++ turns_on-history (codes "0"))
+    × (history_of (codes "open2,1" ++ turns_on_rest) ≡ codes "open2,1" ++ turns_on-history (codes "1"))
+unfolding worked
+turns_on-runs = (refl, refl)
+
+-- up to the faulty record, the history stands
+faulty-runs : history_of (codes "open,0,4,16,100\ndepart,1,1\ndep,1,1\ndepart,1,2\n") ≡ codes "open,0,4,16,100\ndepart,1,1,empty\n"
+unfolding worked
+faulty-runs = refl
+
+-- what the opening alone ends with
+bare-ends : end_of (records_of (codes "open,0,4,16,100\n")) ≡ Some (record {
+  events = 0;
+  refused = 0;
+  registers = record {
+    count = 0;
+    moment = 0;
+    packets = 0;
+    bytes = 0;
+    prob = 0;
+    old = 0;
+    accu = 0;
+    burst = 150000000;
+    last = 0;
+    average = 0;
+    measuring = false;
+    params = default_profile;
+    active = true;
+  };
+  stats = no_stats;
+})
+unfolding worked
+bare-ends = refl
+
+-- ---- histories in version two
+
+abbrev three_events : List ℕ
+three_events =
+    codes "open,0,4,16,100\ndepart,1,9,empty\ndepart,1,5,empty\nshown,2,9,0,0,0,0,0,150000000,0,0,0\n"
+    ++ codes "refused,5,3\nupdate,2,15000000,0,0,150000000\nrefused,7,1\n"
+
+-- departures, the registers and refusals
+three_events-migrated : (migrated_text (2 ^ 32) (records_of three_events)
+    ≡ codes "open2,1,bounded,0,4,16,100\ndepart,1,9,empty\ndepart,1,5,empty\nshown,2,9,0,0,0,0,0,150000000,0,0,0,1\n"
+    ++ codes "refused,5,3\nupdate,2,15000000,0,0,150000000\nrefused,7,1\n")
+    × (history_fault (2 ^ 32) (records_of three_events) ≡ None) × (history_events (2 ^ 32) (records_of three_events) ≡ 3)
+unfolding worked
+three_events-migrated = (refl, refl, refl)
+
+abbrev cut_short : List ℕ
+cut_short = codes "rolling,0,4,16,100\nfolded,0\nshown,1,9\n"
+
+-- the records before a fault
+cut_short-migrated : (migrated_text (2 ^ 32) (records_of cut_short) ≡ codes "open2,1,rolling,0,4,16,100\nfolded,0\n")
+    × (history_fault (2 ^ 32) (records_of cut_short) ≡ Some (fault.Fields 3))
+unfolding worked
+cut_short-migrated = (refl, refl)
+
+abbrev third : List ℕ
+third = codes "open3,1,stamp,random,uncapped,scaled,bounded,0,70000,16,100\ndepart,1,9,empty\nshown,1,9,0,0,0,0,0,150000000,0,0,0,1\n"
+
+-- version three stays as it is
+third-migrated : (migrated_text (2 ^ 32) (records_of third) ≡ third) × (history_fault (2 ^ 32) (records_of third) ≡ None)
+unfolding worked
+third-migrated = (refl, refl)

@@ -7,7 +7,6 @@ pub mod ResumedFacts
 pub mod GoingFacts
 pub mod RunBack
 pub mod Examples
-pub mod ExamplesRuns
 pub mod MigrateFacts
 pub mod MigrateEnds
 pub mod MigrateBack
@@ -15,7 +14,6 @@ pub mod MigrateFirst
 pub mod MigrateWhole
 pub mod MigrateRun
 pub mod MigrateTrace
-pub mod ExamplesMigration
 pub mod RunFindings
 mod ResumedFindings
 pub mod MigrationFinding

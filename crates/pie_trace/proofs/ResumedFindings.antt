@@ -23,7 +23,7 @@ use Rattle.pie_audit.specs.Laws.{EventsAreLines}
 use Rattle.pie_audit.specs.Legal.{AreLegal}
 use Rattle.pie_audit.specs.Text.{IsFound, TellsPart, excerpt_lines, whole_finding}
 use Rattle.pie_trace.specs.declared.run.RunEnd.{RunEnd}
-use Rattle.pie_trace.specs.History.{before_fault, end_from, first_fault, history_rows, replies, requests_of, steps_of, text_left}
+use Rattle.pie_trace.specs.History.{before_fault, end_left, first_fault, history_rows, replies, requests_of, steps_of, text_left}
 use Rattle.pie_trace.specs.Resumed.{end_resumed, fault_resumed, going_on, progress_resumed, resumed_end, resumed_fault, resumed_text, resumed_within, text_resumed}
 use Rattle.pie_trace.specs.Resumed.{within_most}
 use Rattle.pie_trace.specs.RunLines.{lines_told}
@@ -146,7 +146,7 @@ faultless most rows past end sound ended = by (resumed_within most rows) refl so
           b = b;
           begun = is;
           sound = e;
-          count = events-same (end_from Three b.opening (going_on past) b.left) end (rw at.begun at here);
+          count = events-same (end_left Three b.opening (going_on past) 0 b.left) end (rw at.begun at here);
         }
 
 pub resumed-whole : Below → (most : ℕ) (rows : List Row) (opening : Opening) (past : List Event) (end : RunEnd) → most ≤ 2 ^ 32

@@ -5,7 +5,7 @@ use Rattle.std.specs.Io.KnownBytes.{Appends}
 use Rattle.pie_event.specs.declared.opening.Opening.{Opening}
 use Rattle.pie_book.specs.Book.{BookView, Tells}
 use Rattle.pie_event.specs.Opening.{opening_refusal}
-use Rattle.pie_book.specs.Run.{Progress, progress_after}
+use Rattle.pie_book.specs.Run.{Progress}
 use Rattle.pie_record.specs.declared.fault.TraceFault.{TraceFault}
 use Rattle.pie_record.specs.declared.trace_record.Request.{Request}
 use Rattle.pie_trace.specs.declared.run.RunEnd.{RunEnd}
@@ -13,7 +13,7 @@ use Rattle.pie_record.specs.declared.version.Version.{Version}
 use Rattle.pie_record.specs.Fault.{is_device}
 use Rattle.pie_record.specs.Text.{Row, text_of}
 use Rattle.pie_record.specs.TraceRecord.{request_of}
-use Rattle.pie_trace.specs.History.{end_from, end_of, fault_of, first_fault, history_text, refused_count, replies, requests_of, steps_of}
+use Rattle.pie_trace.specs.History.{end_left, end_of, fault_of, first_fault, history_text}
 use Rattle.pie_trace.specs.History.{text_left}
 use Rattle.pie_trace.specs.Reply.{Reply, after, history_row, is_refused, reply}
 
@@ -23,15 +23,6 @@ pub record IsAt (book : BookView) (opening : Opening) (progress : Progress) : Ty
   pub accepted : opening_refusal opening.limits opening.moment ≡ None
   pub tells : Tells book progress.history
   pub held : length book.tail ≡ progress.held
-
--- a run that stood at `from` before the record with the number `first` came to `progress`: of the records from that one on, in a text of this
--- version, `rows` are left, the first of them with this number; `text` is the history text so far, and `refused` were refused
-pub record HasCome (version : Version) (most : ℕ) (opening : Opening) (all : List Row) (first : ℕ) (from : Progress) (number : ℕ)
-    (progress : Progress) (rows : List Row) (text : List ℕ) (refused : ℕ) : Type 0 where
-  pub written : text_left version most opening first from all ≡ text ++ text_left version most opening number progress rows
-  pub ended : progress_after opening from (steps_of (requests_of version all)) ≡ progress_after opening progress (steps_of (requests_of version rows))
-  pub refusals : refused_count (replies opening from (requests_of version all))
-      ≡ refused + refused_count (replies opening progress (requests_of version rows))
 
 -- how many refusals a reply is
 abbrev pub refusals_in : Reply → ℕ
@@ -58,17 +49,23 @@ pub record IsAnswered (version : Version) (number : ℕ) (row : Row) (request : 
   pub refusals : refused_then ≡ refused + refusals_in (reply opening progress request)
   pub written : text_then ≡ text ++ text_of (history_row version number row (reply opening progress request))
 
--- how a run that stood at `from` has come so far, where these records are left
+-- what the run of these records comes to, the first with this number, that stands at `from` before them and had so many refused: what it ends with,
+-- and what is written of them, up to the first that has a fault
+abbrev pub ComesTo : Version → ℕ → Opening → ℕ → Progress → ℕ → List Row → Result RunEnd TraceFault → Option (List ℕ) → Option (List ℕ) → Type 0
+ComesTo version most opening number from refused rows (Ok end) before now =
+    (end ≡ end_left version opening from refused rows) × Appends before now (text_left version most opening number from rows)
+ComesTo version most opening number from refused rows (Err why) before now =
+    is_device why ≡ false → Appends before now (text_left version most opening number from rows)
+
+-- a run that stood at `from` before all records has come to these: whatever these come to, all come to
 pub record Goes (version : Version) (most : ℕ) (opening : Opening) (all : List Row) (first : ℕ) (from : Progress) (number : ℕ) (book : BookView)
     (refused : ℕ) (rows : List Row) (before now : Option (List ℕ)) : Type 0 where
   pub progress : Progress
-  pub text : List ℕ
   pub stands : IsAt book opening progress
-  pub come : HasCome version most opening all first from number progress rows text refused
-  pub written : Appends before now text
+  pub comes : (result : Result RunEnd TraceFault) (last : Option (List ℕ)) → ComesTo version most opening number progress refused rows result now last
+      → ComesTo version most opening first from 0 all result before last
 
--- where a run stands among the records from `first` on, which began with the book `old`: some are left, and the text of the others was written,
--- wherever the book stood
+-- where a run stands among the records from `first` on, which began with the book `old`: some are left, wherever the book stood
 pub record Stands (version : Version) (most : ℕ) (opening : Opening) (all : List Row) (first : ℕ) (old : BookView) (number : ℕ) (book : BookView)
     (refused : ℕ) (left : Option (List Row)) (before now : Option (List ℕ)) : Type 0 where
   pub rows : List Row
@@ -76,33 +73,15 @@ pub record Stands (version : Version) (most : ℕ) (opening : Opening) (all : Li
   pub fault : first_fault version most first all ≡ first_fault version most number rows
   pub goes : (from : Progress) → IsAt old opening from → Goes version most opening all first from number book refused rows before now
 
--- what a run that stood at `from` has done, once all records are answered
-pub record HasRun (version : Version) (most : ℕ) (opening : Opening) (all : List Row) (first : ℕ) (from : Progress) (book : BookView)
-    (refused : ℕ) (before now : Option (List ℕ)) : Type 0 where
-  pub stands : IsAt book opening (progress_after opening from (steps_of (requests_of version all)))
-  pub refusals : refused ≡ refused_count (replies opening from (requests_of version all))
-  pub written : Appends before now (text_left version most opening first from all)
+-- it answers the first fault, where neither the reader, the writer nor memory failed
+abbrev pub Faults : Version → ℕ → ℕ → List Row → Result RunEnd TraceFault → Type 0
+Faults version most number rows (Ok end) = first_fault version most number rows ≡ None
+Faults version most number rows (Err why) = is_device why ≡ false → first_fault version most number rows ≡ Some why
 
--- the steps of a trace ended with their last record, with no fault
-pub record AreDone (version : Version) (most : ℕ) (opening : Opening) (all : List Row) (first : ℕ) (old book : BookView) (refused : ℕ)
-    (before now : Option (List ℕ)) : Type 0 where
-  pub sound : first_fault version most first all ≡ None
-  pub ran : (from : Progress) → IsAt old opening from → HasRun version most opening all first from book refused before now
-
--- they ended at the first fault
-pub record AreStopped (version : Version) (most : ℕ) (opening : Opening) (all : List Row) (first : ℕ) (old : BookView) (why : TraceFault)
-    (before now : Option (List ℕ)) : Type 0 where
-  pub fault : first_fault version most first all ≡ Some why
-  pub written : (from : Progress) → IsAt old opening from → Appends before now (text_left version most opening first from all)
-
--- how a run ends that began with the book `old` before the record with the number `first`, where neither the reader, the writer nor memory failed
+-- how a run ends that began with the book `old` before the record with the number `first`
 abbrev pub RunsFrom : Version → ℕ → Opening → List Row → ℕ → BookView → Result RunEnd TraceFault → Option (List ℕ) → Option (List ℕ) → Type 0
-RunsFrom version most opening all first old (Ok end) before now =
-    (first_fault version most first all ≡ None)
-    × ((from : Progress) → IsAt old opening from
-    → (end ≡ end_from version opening from all) × Appends before now (text_left version most opening first from all))
-RunsFrom version most opening all first old (Err why) before now =
-    is_device why ≡ false → AreStopped version most opening all first old why before now
+RunsFrom version most opening all first old result before now = Faults version most first all result
+    × ((from : Progress) → IsAt old opening from → ComesTo version most opening first from 0 all result before now)
 
 -- how a run of a whole trace ends, where neither the reader, the writer nor memory failed
 abbrev pub Ends : ℕ → List Row → Result RunEnd TraceFault → Option (List ℕ) → Option (List ℕ) → Type 0

@@ -1,12 +1,10 @@
 //! A storm is made by its plan, and its events are audited and written as a history.
 ghost use Rattle.std.specs.Prelude.{◌≡◌, ◌≢◌, Err, IfOk, OnOk, map};
 ghost use Rattle.pie_book.specs.Decision.{IsLegal};
-ghost use Rattle.pie_book.specs.Registers.{registers_after};
-ghost use Rattle.pie_book.specs.Statistics.{stats_after};
 ghost use Rattle.pie_record.specs.declared.history_record.Line.TheVariants.{Made};
 ghost use Rattle.pie_audit.specs.Auditor.{Audits};
 ghost use Rattle.pie_storm.specs.Plans.{opening_of};
-ghost use Rattle.pie_storm.specs.Storms.{IsStorm};
+ghost use Rattle.pie_storm.specs.Storms.{IsEndOf};
 ghost use Rattle.pie_storm.specs.StormHistory.{WritesHistory};
 ghost use Rattle.pie_storm.specs.StormPlan.{HasStormRange, IsStormPlan};
 
@@ -16,8 +14,8 @@ use crate::pace::Pace;
 use crate::plan::Plan;
 use crate::planning::storm_plan;
 use crate::starter::storm;
-use pie_audit::{Auditor, Finding};
-use pie_book::{Event, OpenRefusal, Opening};
+use pie_audit::{Auditor, Finding, clean_is_legal, clean_parts_are_legal, events_are_lines};
+use pie_book::{Event, OpenRefusal, Opening, all_numbers_are_held};
 use pie_record::{Line, TraceFault};
 use pie_text::write_history;
 use std::alloc::Global;
@@ -48,10 +46,7 @@ pub fn make_storm<H: Threads + Wait + Clock + Sync>(
 ) -> Result<MadeStorm, StormFault>
     requires { HasStormRange numbers }
     ensures planned { IfOk result (λ made. IsStormPlan numbers made.plan) }
-    ensures legal { IfOk result (λ made. IsLegal (opening_of made.plan) made.end.events.items) }
-    ensures made { IfOk result (λ made. IsStorm made.plan made.end.events.items made.end.too_soon made.end.too_many) }
-    ensures registers { IfOk result (λ made. made.end.registers ≡ registers_after (opening_of made.plan) made.end.events.items) }
-    ensures stats { IfOk result (λ made. made.end.stats ≡ stats_after (opening_of made.plan) made.end.events.items) }
+    ensures ended { IfOk result (λ made. IsEndOf made.plan made.end) }
     ensures no_gap { result ≢ Err StormFault.Gap }
 {
     let plan = match storm_plan(alloc, numbers) {
@@ -70,10 +65,7 @@ fn run_plan<H: Threads + Wait + Clock + Sync>(
     alloc: Global,
     plan: &Plan,
 ) -> Result<StormEnd, StormFault>
-    ensures legal { IfOk result (λ end. IsLegal (opening_of plan.now) end.events.items) }
-    ensures made { IfOk result (λ end. IsStorm plan.now end.events.items end.too_soon end.too_many) }
-    ensures registers { IfOk result (λ end. end.registers ≡ registers_after (opening_of plan.now) end.events.items) }
-    ensures stats { IfOk result (λ end. end.stats ≡ stats_after (opening_of plan.now) end.events.items) }
+    ensures ended { IfOk result (IsEndOf plan.now) }
     ensures no_gap { result ≢ Err StormFault.Gap }
 {
     let pace = Pace::new(rt, plan);
@@ -95,6 +87,10 @@ pub fn write_storm<W: Write>(
     requires limits { plan.now.limits.events ≡ plan.now.limits.tail }
     ensures { OnOk result (WritesHistory plan.now events.now (W.contents output.old) (W.contents output.new)) }
 {
+    all_numbers_are_held();
+    events_are_lines();
+    clean_is_legal();
+    clean_parts_are_legal();
     let opening = plan.opening();
     let auditor = match auditor_of(alloc, &opening, events) {
         Ok(auditor) => auditor,

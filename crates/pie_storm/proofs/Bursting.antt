@@ -157,10 +157,10 @@ few_own caller h = omega (
 )
 
 module _ (plan : Plan) (number k n : ℕ) (link : LinkView) (link_for : IsFor plan link) (before after : CallerView) (at : IsAt link number before)
-  (earlier : ℕ) (events : List Event) (had : HasMade plan number k before.front earlier events) (burst : List Arrival) (replies : List Reply)
-  (some : 1 ≤ n) (sends : number ≤ senders plan) (there : k + n ≤ length (commands_of plan number))
-  (is : map arrive burst ≡ take n (drop k (commands_of plan number)))
-  (long : length burst ≡ n) (history : List Entry) (answered : IsBurst always (opening_of plan) before (map arrive burst) [] replies after history) where
+    (earlier : ℕ) (events : List Event) (had : HasMade plan number k before.front earlier events) (burst : List Arrival) (replies : List Reply)
+    (some : 1 ≤ n) (sends : number ≤ senders plan) (there : k + n ≤ length (commands_of plan number))
+    (is : map arrive burst ≡ take n (drop k (commands_of plan number)))
+    (long : length burst ≡ n) (history : List Entry) (answered : IsBurst always (opening_of plan) before (map arrive burst) [] replies after history) where
   no_folder : number ≡ folder plan → ⊥
   no_folder folds = absurd (omega (arith, folds, sends))
 

@@ -25,9 +25,9 @@ use Rattle.pie_storm.proofs.Counting.{callers_of_plan, is_storm, other_made}
 use Rattle.pie_storm.proofs.Handing.{handed_alone}
 
 module _ (law : EntriesLookBack) (plan : Plan) (link : LinkView) (work : Work) (book : BookView) (link_for : IsFor plan link)
-  (numbers : link.numbers ≡ senders plan + 5) (worked : IsWorkBelow link plan (senders plan + 5) work)
-  (opened : work.caller.lock.origin ≡ Some book.opening) (told : HoldsAll work.caller → TellsEntries book work.caller.front)
-  (numbered : HoldsAll work.caller → All (λ (e : Entry). number_of e < work.caller.lock.numbers) work.caller.front) where
+    (numbers : link.numbers ≡ senders plan + 5) (worked : IsWorkBelow link plan (senders plan + 5) work)
+    (opened : work.caller.lock.origin ≡ Some book.opening) (told : HoldsAll work.caller → TellsEntries book work.caller.front)
+    (numbered : HoldsAll work.caller → All (λ (e : Entry). number_of e < work.caller.lock.numbers) work.caller.front) where
   -- the starter has all numbers of the link again
   holds_all : HoldsAll work.caller
   holds_all = (worked.first, worked.limit ∙ (sym numbers ∙ ap (λ (l : LinkView). l.numbers) (sym worked.lock)))

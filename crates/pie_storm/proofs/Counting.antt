@@ -297,7 +297,7 @@ no_commands plan caller (inr past) =
 -- ---- a whole storm
 
 module _ (law : EntriesLookBack) (plan : Plan) (h : List Entry) (sound : IsSound plan) (below : All (IsBelow (callers_of_plan plan)) h)
-  (came : (caller : ℕ) → caller < callers_of_plan plan → (passed : ℕ) × CameOf plan caller h passed) where
+    (came : (caller : ℕ) → caller < callers_of_plan plan → (passed : ℕ) × CameOf plan caller h passed) where
   abbrev events : ℕ → List Event
   events caller = events_of caller (events_in h)
 

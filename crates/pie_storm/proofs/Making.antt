@@ -195,7 +195,7 @@ module _ (plan : Plan) (number k : ℕ) where
   )
 
   module _ (law : EntriesLookBack) (link : LinkView) (link_for : IsFor plan link) (before after : CallerView) (at : IsAt link number before)
-    (earlier : ℕ) (old : List Event) (had : HasMade plan number k before.front earlier old) where
+      (earlier : ℕ) (old : List Event) (had : HasMade plan number k before.front earlier old) where
     -- the next call has an entry after this history
     has_entry : (call : Call) (history : List Entry) (entry : Entry) → slice_get (calls_of plan number) k ≡ Some call
         → HasNoMore number before.front history → IsEntryOf number call entry

@@ -79,7 +79,9 @@ impl<'a, C: Clock> Pace<'a, C> {
             Some(Call::Fold(_)) => {
                 let folds = (self.plan.folds.len() as u64).max(1);
                 let last = self.plan.updates.last().copied().unwrap_or(0);
-                (last / folds).saturating_mul(place.saturating_add(1)).max(1)
+                (last / folds)
+                    .saturating_mul(place.saturating_add(1))
+                    .max(1)
             }
             None => GONE,
         }

@@ -4,7 +4,9 @@ ghost use Rattle.pie_book.specs.Decision.{IsLegal};
 ghost use Rattle.pie_record.specs.declared.history_record.Line.TheVariants.{Made};
 ghost use Rattle.pie_audit.specs.Auditor.{Audits};
 ghost use Rattle.pie_storm.specs.Plans.{opening_of};
-ghost use Rattle.pie_storm.specs.Storms.{IsEndOf};
+ghost use Rattle.pie_book.specs.Registers.{registers_after};
+ghost use Rattle.pie_book.specs.Statistics.{stats_after};
+ghost use Rattle.pie_storm.specs.Storms.{IsEndOf, IsStorm};
 ghost use Rattle.pie_storm.specs.StormHistory.{WritesHistory};
 ghost use Rattle.pie_storm.specs.StormPlan.{HasStormRange, IsStormPlan};
 
@@ -46,7 +48,10 @@ pub fn make_storm<H: Threads + Wait + Clock + Sync>(
 ) -> Result<MadeStorm, StormFault>
     requires { HasStormRange numbers }
     ensures planned { IfOk result (λ made. IsStormPlan numbers made.plan) }
-    ensures ended { IfOk result (λ made. IsEndOf made.plan made.end) }
+    ensures legal { IfOk result (λ made. IsLegal (opening_of made.plan) made.end.events.items) }
+    ensures made { IfOk result (λ made. IsStorm made.plan made.end.events.items made.end.too_soon made.end.too_many) }
+    ensures registers { IfOk result (λ made. made.end.registers ≡ registers_after (opening_of made.plan) made.end.events.items) }
+    ensures stats { IfOk result (λ made. made.end.stats ≡ stats_after (opening_of made.plan) made.end.events.items) }
     ensures no_gap { result ≢ Err StormFault.Gap }
 {
     let plan = match storm_plan(alloc, numbers) {

@@ -243,9 +243,7 @@ fn make_all<R: Wait, G: Gate>(
         let count = turn.min(calls - k);
         call += 1;
         gate.before(number, call);
-        match make_turn(
-            rt, link, plan, number, caller, replies, folding, k, count,
-        ) {
+        match make_turn(rt, link, plan, number, caller, replies, folding, k, count) {
             Some(more) => {
                 gate.after(number, call);
                 passed += more;
@@ -278,7 +276,16 @@ pub(crate) fn make_calls<R: Wait, G: Gate>(
     let (mut caller, mut replies) = (caller, replies);
     let mut folding = Folding::none(alloc);
     let number = caller.first();
-    let passed = make_all(rt, link, plan, gate, number, &mut caller, &mut replies, &mut folding);
+    let passed = make_all(
+        rt,
+        link,
+        plan,
+        gate,
+        number,
+        &mut caller,
+        &mut replies,
+        &mut folding,
+    );
     Work {
         caller,
         passed,

@@ -1,16 +1,13 @@
 -- How a command of `clap` is put together from arguments and subcommands, one after the other.
 use Rattle.std.proofs.Common.{◌≡◌, ◌∙◌, ◌+◌, ◌<◌, ℕ, List, [], ◌∷◌, IfOk, Result, suc, add-one, drop, drop-cons, get_or, length, Bool, true, false, refl, sym, ap}
 use Rattle.std.specs.Prelude.{◌&&◌, not}
+use Rattle.std.proofs.Math.Seq.{drop-length}
 use Rattle.clap.specs.Words.{AddsSubcommand, App, Rule, app_of, new_rule, with_rule, with_subcommand}
 use Rattle.clap.specs.declared.builder.command.Command.{Command}
 use Rattle.pie_options.specs.declared.subcommand.Subcommand.{Subcommand}
 use Rattle.pie_options.specs.declared.subcommand.Subcommand.TheVariants.{Run, Audit, Explain, Cut, Migrate, Storm, Params}
 use Rattle.pie_options.specs.Building.{WantsRules, WantsSubcommands}
 use Rattle.pie_options.specs.Words.{app_for, with_rules, with_subcommands}
-
-drop-all : {A : Type 0} (xs : List A) → drop (length xs) xs ≡ []
-drop-all [] = refl
-drop-all (x ∷ xs) = drop-all xs
 
 -- ---- arguments
 
@@ -24,7 +21,7 @@ rules-more begun next rules place rule whole within is adds so =
 
 pub rules-all : {E : Type 0} (made : Result Command E) (rules : List Rule) (whole : App) → WantsRules (drop (length rules) rules) whole made
     → IfOk made (λ command. app_of command ≡ whole)
-rules-all made rules whole so = rw (drop-all rules) at so
+rules-all made rules whole so = rw (drop-length rules) at so
 
 -- ---- subcommands
 
@@ -66,4 +63,4 @@ subcommands-left begun next subcommands place one whole within is adds so =
 
 pub subcommands-all : {E : Type 0} (made : Result Command E) (subcommands : List Subcommand) (whole : App)
     → WantsSubcommands (drop (length subcommands) subcommands) whole made → IfOk made (λ pie. app_of pie ≡ whole)
-subcommands-all made subcommands whole so = rw (drop-all subcommands) at so
+subcommands-all made subcommands whole so = rw (drop-length subcommands) at so

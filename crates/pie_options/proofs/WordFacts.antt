@@ -15,68 +15,41 @@ use Rattle.pie_options.specs.Words.{AskFor, Asks, file_in, files_in, is_joined, 
 
 -- ---- they are taken, whatever the program's own name is, ask for their subcommand and name no file
 
-run_words-ask : (name : Text) → Asks (codes "run") (name ∷ codes "run" ∷ [])
-unfolding clap_on_literals
-run_words-ask name = record { taken = refl; found = refl }
-
-audit_words-ask : (name : Text) → Asks (codes "audit") (name ∷ codes "audit" ∷ [])
-unfolding clap_on_literals
-audit_words-ask name = record { taken = refl; found = refl }
-
-migrate_words-ask : (name : Text) → Asks (codes "migrate") (name ∷ codes "migrate" ∷ [])
-unfolding clap_on_literals
-migrate_words-ask name = record { taken = refl; found = refl }
-
-run_words-file : (name : Text) → file_in (options_in (name ∷ codes "run" ∷ [])) ≡ None
-unfolding clap_on_literals
-run_words-file name = refl
-
-audit_words-files : (name : Text) → files_in (options_in (name ∷ codes "audit" ∷ [])) ≡ []
-unfolding clap_on_literals
-audit_words-files name = refl
-
-audit_words-joined : (name : Text) → is_joined (options_in (name ∷ codes "audit" ∷ [])) ≡ false
-unfolding clap_on_literals
-audit_words-joined name = refl
-
-migrate_words-file : (name : Text) → file_in (options_in (name ∷ codes "migrate" ∷ [])) ≡ None
-unfolding clap_on_literals
-migrate_words-file name = refl
-
-run_words-output : (name : Text) → output_in (options_in (name ∷ codes "run" ∷ [])) ≡ None
-unfolding clap_on_literals
-run_words-output name = refl
-
-migrate_words-output : (name : Text) → output_in (options_in (name ∷ codes "migrate" ∷ [])) ≡ None
-unfolding clap_on_literals
-migrate_words-output name = refl
-
-pub run-output : (words : List Text) → AskFor (codes "run") words → output_in (options_in words) ≡ None
-run-output words asks = rw asks.1 (run_words-output asks.0)
-
-pub migrate-output : (words : List Text) → AskFor (codes "migrate") words → output_in (options_in words) ≡ None
-migrate-output words asks = rw asks.1 (migrate_words-output asks.0)
-
 pub run-asks : (words : List Text) → AskFor (codes "run") words → Asks (codes "run") words
-run-asks words asks = rw asks.1 (run_words-ask asks.0)
+unfolding clap_on_literals
+run-asks words asks = rw asks.1 (record { taken = refl; found = refl })
 
 pub audit-asks : (words : List Text) → AskFor (codes "audit") words → Asks (codes "audit") words
-audit-asks words asks = rw asks.1 (audit_words-ask asks.0)
+unfolding clap_on_literals
+audit-asks words asks = rw asks.1 (record { taken = refl; found = refl })
 
 pub migrate-asks : (words : List Text) → AskFor (codes "migrate") words → Asks (codes "migrate") words
-migrate-asks words asks = rw asks.1 (migrate_words-ask asks.0)
+unfolding clap_on_literals
+migrate-asks words asks = rw asks.1 (record { taken = refl; found = refl })
 
 pub run-file : (words : List Text) → AskFor (codes "run") words → file_in (options_in words) ≡ None
-run-file words asks = rw asks.1 (run_words-file asks.0)
+unfolding clap_on_literals
+run-file words asks = rw asks.1 refl
+
+pub run-output : (words : List Text) → AskFor (codes "run") words → output_in (options_in words) ≡ None
+unfolding clap_on_literals
+run-output words asks = rw asks.1 refl
 
 pub audit-files : (words : List Text) → AskFor (codes "audit") words → files_in (options_in words) ≡ []
-audit-files words asks = rw asks.1 (audit_words-files asks.0)
+unfolding clap_on_literals
+audit-files words asks = rw asks.1 refl
 
 pub audit-joined : (words : List Text) → AskFor (codes "audit") words → is_joined (options_in words) ≡ false
-audit-joined words asks = rw asks.1 (audit_words-joined asks.0)
+unfolding clap_on_literals
+audit-joined words asks = rw asks.1 refl
 
 pub migrate-file : (words : List Text) → AskFor (codes "migrate") words → file_in (options_in words) ≡ None
-migrate-file words asks = rw asks.1 (migrate_words-file asks.0)
+unfolding clap_on_literals
+migrate-file words asks = rw asks.1 refl
+
+pub migrate-output : (words : List Text) → AskFor (codes "migrate") words → output_in (options_in words) ≡ None
+unfolding clap_on_literals
+migrate-output words asks = rw asks.1 refl
 
 pub asked-taken : (app : App) (subcommand : Text) (words : List Text) → app ≡ pie_app → Asks subcommand words → takes app words ≡ true
 asked-taken app subcommand words is asks = subst (λ (a : App). takes a words ≡ true) (sym is) asks.taken

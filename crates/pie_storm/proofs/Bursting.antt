@@ -1,14 +1,14 @@
 -- What a burst of arrivals carries a sender to.
-use Rattle.std.proofs.Common.{◌≡◌, ◌≤◌, ◌+◌, ◌==◌, ℕ, zero, suc, slice_get, not, List, [], ◌∷◌, ◌++◌, Some, None, Ok, Err, Option, map, take, drop, length, refl, ap, sym, ◌∙◌, subst}
-use Rattle.std.proofs.Common.{inl, inr, ◌⊎◌, ⊎_elim, arith, append_assoc, length-append, length-drop}
-use Rattle.std.specs.List.{All}
-use Rattle.std.specs.Prelude.{IsOk}
+use Rattle.std.proofs.Common.{◌≡◌, ◌<◌, ◌≤◌, ◌+◌, ℕ, not, List, [], ◌∷◌, ◌++◌, Some, None, Ok, Err, Option, Result, map, take, drop, length, min, refl, ap}
+use Rattle.std.proofs.Common.{sym, ◌∙◌, ◌==◌, subst, inl, inr, ◌⊎◌, ⊎_elim, arith, append_assoc, length-append, length-drop}
+use Rattle.std.specs.List.{All, drop-map, take-map}
+use Rattle.std.specs.Prelude.{IfSome, IsOk}
 use Rattle.std.proofs.lemmas.List.{append-nil, length-map}
-use Rattle.std.proofs.lemmas.List.Elements.{All-append, All-nil, All-cons, All-head, All-tail, All-filter, filter-append}
+use Rattle.std.proofs.lemmas.List.Elements.{All-cons, All-drop, All-head, All-nil, All-tail, All-take, filter-append}
 use Rattle.std.proofs.lemmas.List.Filters.{length-filter_both}
 use Rattle.std.proofs.lemmas.Bool.Decides.{nat_tests}
+use mathlib.Core.List.{IsPrefix}
 use Rattle.pie_lock.specs.Own.{is_within}
-use Rattle.pie_lock.proofs.Prefixes.{prefix_self}
 use Rattle.pie_event.specs.declared.command.Command.{Command}
 use Rattle.pie_event.specs.declared.command.Event.{Event}
 use Rattle.pie_event.specs.declared.command.Answer.{Answer}
@@ -16,25 +16,25 @@ use Rattle.pie_event.specs.declared.opening.Opening.{Opening}
 use Rattle.pie_event.specs.declared.refusal.Refusal.{Refusal}
 use Rattle.pie_event.specs.declared.refusal.Refusal.TheVariants.{TooSoon}
 use Rattle.pie_book.specs.Decision.{decision, is_refused_full, refusal_by_rule, refusal_with}
-use Rattle.pie_book.specs.Run.{event_of}
 use Rattle.pie_book.specs.Estimates.{due_after}
 use Rattle.pie_book.specs.History.{effective_moment}
+use Rattle.pie_book.specs.Run.{event_of}
 use Rattle.pie_kept.specs.declared.arrival.Arrival.{Arrival}
 use Rattle.pie_kept.specs.declared.entry.Entry.{Entry}
 use Rattle.pie_kept.specs.declared.entry.Entry.TheVariants.{Made}
 use Rattle.pie_kept.specs.declared.told.Told.{Told}
 use Rattle.pie_kept.specs.Bursts.{Reply, always, arrive, entries_by, entries_to, refused_or_told, replies_to, reply_in}
 use Rattle.pie_kept.specs.Commands.{refusal_in}
-use Rattle.pie_kept.specs.EntryLaws.{EntriesLookBack}
 use Rattle.pie_kept.specs.Entries.{entries_of, events_in, number_of, tail_in}
 use Rattle.pie_link.specs.Bursts.{AnswersAll, IsBurst}
-use Rattle.pie_link.specs.Views.{LinkView, CallerView, StaysOne}
+use Rattle.pie_link.specs.Views.{CallerView, LinkView}
+use Rattle.pie_storm.specs.declared.plan.Call.{Call}
+use Rattle.pie_storm.specs.declared.plan.Call.TheVariants.{Ask}
 use Rattle.pie_storm.specs.declared.plan.Plan.{Plan}
-use Rattle.pie_storm.specs.Plans.{IsFair, IsSound, commands_of}
-use Rattle.pie_storm.specs.Storms.{AddedByAll, EachGoes, Goes, GoesOrEnds, IsCutShort, IsMade, OnlyMadeAt, TakesTurn, events_of}
-use Rattle.pie_storm.proofs.PlanCommands.{fair_at}
-use Rattle.pie_storm.proofs.Working.{drop_next, full_after, goes_event, goes_seen, own_same, which}
-use Rattle.pie_storm.proofs.FoldsMade.{own_same as entries_same}
+use Rattle.pie_storm.specs.Plans.{IsFair, calls_of, commands_of, folder, opening_of, senders}
+use Rattle.pie_storm.specs.Storms.{AddedByAll, AreMade, HasMade, HasNoMore, IsAt, IsCutShort, IsFor, MadeOrCut}
+use Rattle.pie_storm.proofs.Making.{few_so_far, full_after, made_from, made_more, seen, stays, which}
+use Rattle.pie_storm.proofs.PlanCommands.{all_fair, other_calls}
 
 -- why a command is refused, where its reply is a refusal
 refused_why : (why : Option Refusal) (told : Told Answer) (w : Refusal) → refused_or_told why told ≡ Err w → why ≡ Some w
@@ -53,264 +53,184 @@ arrives_in_time opening h a w e d is =
     (which (refusal_by_rule opening (events_in h) (arrive a))
     (is_refused_full opening.choices.mode (length (tail_in opening h) == opening.limits.tail)) w e)
 
--- a list is its beginning and the rest
-pub take_drop : {A : Type 0} (n : ℕ) (xs : List A) → take n xs ++ drop n xs ≡ xs
-take_drop zero xs = refl
-take_drop (suc n) [] = refl
-take_drop (suc n) (x ∷ xs) = ap (λ l. x ∷ l) (take_drop n xs)
+module _ (opening : Opening) (caller : ℕ) where
+  abbrev asked : List Arrival → List Call
+  asked burst = map Ask (map arrive burst)
 
--- what stands first of what is left
-at_drop : (xs : List Command) (k : ℕ) (x : Command) (ys : List Command) → drop k xs ≡ x ∷ ys → slice_get xs k ≡ Some x
-at_drop [] zero x ys e = absurd (cc e)
-at_drop [] (suc k) x ys e = absurd (cc e)
-at_drop (y ∷ xs) zero x ys e = cc e
-at_drop (y ∷ xs) (suc k) x ys e = at_drop xs k x ys e
-
-after_first : (x : Command) (xs ys : List Command) → x ∷ xs ≡ x ∷ ys → xs ≡ ys
-after_first x xs ys e = cc e
-
-module _ (law : EntriesLookBack) (opening : Opening) (caller : ℕ) where
   -- the entries of the arrivals of a burst after this history, and what they are answered
-  abbrev pub made_by : List Entry → List Arrival → List Entry
+  abbrev made_by : List Entry → List Arrival → List Entry
   made_by h burst = entries_to always opening caller h (map arrive burst)
 
-  abbrev pub answers_to : List Entry → List Arrival → List Reply
+  abbrev answers_to : List Entry → List Arrival → List Reply
   answers_to h burst = replies_to always opening caller h (map arrive burst)
 
-  few_by : (command : Command) (reply : Reply) → length (events_in (entries_by caller command reply)) ≤ 1
+  -- no more of them than arrivals
+  few_by : (command : Command) (reply : Reply) → length (entries_by caller command reply) ≤ 1
   few_by command (Ok told) = omega arith
   few_by command (Err why) = omega arith
 
-  -- no more of them than arrivals
-  few_made : (h : List Entry) (burst : List Arrival) → length (events_in (made_by h burst)) ≤ length burst
+  few_made_by : (h : List Entry) (burst : List Arrival) → length (made_by h burst) ≤ length burst
   unfolding entries_to
-  few_made h [] = omega arith
-  few_made h (a ∷ later) =
+  few_made_by h [] = omega arith
+  few_made_by h (a ∷ later) =
       let reply = reply_in opening h (arrive a) in
       let added = entries_by caller (arrive a) reply in
-      omega (
-        arith,
-        few_by (arrive a) reply,
-        few_made (h ++ added) later,
-        ap (λ (l : List Event). length l) (law.events added (made_by (h ++ added) later)),
-        length-append (events_in added) (events_in (made_by (h ++ added) later)),
+      omega (arith, few_by (arrive a) reply, few_made_by (h ++ added) later, length-append added (made_by (h ++ added) later))
+
+  -- where none was refused, the whole burst was made
+  taken_first : (h : List Entry) (a : Arrival) (later : List Arrival) (reply : Reply) → IsOk reply
+      → AreMade opening caller (h ++ entries_by caller (arrive a) reply) (asked later)
+      ((h ++ entries_by caller (arrive a) reply) ++ made_by (h ++ entries_by caller (arrive a) reply) later) 0
+      → AreMade opening caller h (Ask (arrive a) ∷ asked later)
+      (h ++ (entries_by caller (arrive a) reply ++ made_by (h ++ entries_by caller (arrive a) reply) later)) 0
+  taken_first h a later (Ok told) ok made =
+      let event = event_of caller (arrive a) told.answer in
+      let g = h ++ Made event ∷ [] in
+      inl (
+        h,
+        Made event,
+        stays opening caller h,
+        (refl, refl),
+        subst (λ (k : List Entry). AreMade opening caller g (asked later) k 0) (append_assoc h (Made event ∷ []) (made_by g later)) made,
       )
+  taken_first h a later (Err why) ok made = absurd (cc ok)
 
-  few_own : (events : List Event) → length (events_of caller events) ≤ length events
-  few_own events = omega (
-    arith,
-    length-filter_both (λ (e : Event). is_within caller (caller + 1) e.caller) (λ e. not (is_within caller (caller + 1) e.caller)) (λ e. refl) events,
-  )
+  all_taken : (h : List Entry) (burst : List Arrival) → All IsOk (answers_to h burst)
+      → AreMade opening caller h (asked burst) (h ++ made_by h burst) 0
+  unfolding entries_to replies_to
+  all_taken h [] all = (subst (λ (k : List Entry). HasNoMore caller h k) (sym (append-nil h)) (stays opening caller h), refl)
+  all_taken h (a ∷ later) all =
+      let reply = reply_in opening h (arrive a) in
+      let g = h ++ entries_by caller (arrive a) reply in
+      taken_first h a later reply (All-head IsOk reply (answers_to g later) all)
+      (all_taken g later (All-tail IsOk reply (answers_to g later) all))
 
-  module _ (commands rest : List Command) (fair : (j : ℕ) (command : Command) → slice_get commands j ≡ Some command → IsFair command) where
-    -- after these entries of a burst and these replies its sender has gone on to k commands, where none was refused, or was cut short
-    abbrev pub Comes : ℕ → ℕ → List Entry → List Reply → Type 0
-    Comes k passed after replies =
-        (All IsOk replies × Goes opening caller commands k (events_in after) passed)
-        ⊎ ((All IsOk replies → ⊥) × IsCutShort opening caller commands (events_in after))
+  -- where one was refused, the book was full after a part of the burst
+  record WasFull (whole : List Entry) (most : ℕ) (made : List Entry) : Type 0 where
+    before : List Entry
+    begins : IsPrefix before whole
+    full : min opening.limits.tail opening.limits.events ≤ length (events_in before)
+    fewer : length made < most
 
-    -- the next arrival was refused
-    refused_next : (k passed : ℕ) (h : List Entry) (a : Arrival) (later : List Arrival) (w : Refusal) → reply_in opening h (arrive a) ≡ Err w
-        → slice_get commands k ≡ Some (arrive a) → drop k commands ≡ arrive a ∷ (map arrive later ++ rest)
-        → Goes opening caller commands k (events_in h) passed
-        → Comes (k + length (a ∷ later)) passed (h ++ made_by (h ++ []) later) (Err w ∷ answers_to (h ++ []) later)
-    refused_next k passed h a later w is at left goes =
-        let made = made_by (h ++ []) later in
-        let why = refused_why (refusal_in opening h (arrive a)) (record {
-          answer = decision opening (events_in h) (arrive a);
-          number = length
-              (events_in h) + 1;
-        }) w is in
-        let events = law.events h made in inr (
-          λ all. absurd (cc (All-head IsOk (Err w) (answers_to (h ++ []) later) all)),
-          record {
-            before = events_in h;
-            begins = (events_in made, sym events);
-            full = full_after opening h (arrive a) w (fair k (arrive a) at) why (arrives_in_time opening h a w why);
-            fewer = omega (
-              arith,
-              goes.few,
-              ap (λ (l : List Event). length (events_of caller l)) events,
-              ap (λ (l : List Event). length l) (filter-append (λ (e : Event). is_within caller (caller + 1) e.caller) (events_in h)
-                  (events_in made)),
-              length-append (events_of caller (events_in h)) (events_of caller (events_in made)),
-              few_own (events_in made),
-              few_made (h ++ []) later,
-              length-drop k commands,
-              ap (λ (l : List Command). length l) left,
-              length-append (map arrive later) rest,
-              length-map later arrive,
-            );
-          },
-        )
+  full_first : (h : List Entry) (a : Arrival) (later : List Arrival) (reply : Reply) → reply_in opening h (arrive a) ≡ reply → IsFair (arrive a)
+      → (All IsOk (reply ∷ answers_to (h ++ entries_by caller (arrive a) reply) later) → ⊥)
+      → ((All IsOk (answers_to (h ++ entries_by caller (arrive a) reply) later) → ⊥)
+      → WasFull ((h ++ entries_by caller (arrive a) reply) ++ made_by (h ++ entries_by caller (arrive a) reply) later) (length later)
+      (made_by (h ++ entries_by caller (arrive a) reply) later))
+      → WasFull (h ++ (entries_by caller (arrive a) reply ++ made_by (h ++ entries_by caller (arrive a) reply) later)) (length (a ∷ later))
+      (entries_by caller (arrive a) reply ++ made_by (h ++ entries_by caller (arrive a) reply) later)
+  full_first h a later (Ok told) is fair not_all rest =
+      let event = event_of caller (arrive a) told.answer in
+      let g = h ++ Made event ∷ [] in
+      let r = rest (λ all. not_all (All-cons IsOk (Ok told) (answers_to g later) refl all)) in record {
+        before = r.before;
+        begins = subst (λ (k : List Entry). IsPrefix r.before k) (append_assoc h (Made event ∷ []) (made_by g later)) r.begins;
+        full = r.full;
+        fewer = omega (arith, r.fewer);
+      }
+  full_first h a later (Err why) is fair not_all rest =
+      let refused = refused_why (refusal_in opening h (arrive a)) (record {
+        answer = decision opening (events_in h) (arrive a);
+        number = length (events_in h) + 1;
+      }) why is in record {
+        before = h;
+        begins = (made_by (h ++ []) later, refl);
+        full = full_after opening h (arrive a) why fair refused (arrives_in_time opening h a why refused);
+        fewer = omega (arith, few_made_by (h ++ []) later);
+      }
 
-    -- the next arrival was taken, and the later ones come so
-    taken_next : (k passed : ℕ) (h : List Entry) (a : Arrival) (later : List Arrival) (told : Told Answer)
-        → Comes (k + 1 + length later) passed
-        ((h ++ Made (event_of caller (arrive a) told.answer) ∷ []) ++ made_by (h ++ Made (event_of caller (arrive a) told.answer) ∷ []) later)
-        (answers_to (h ++ Made (event_of caller (arrive a) told.answer) ∷ []) later)
-        → Comes (k + length (a ∷ later)) passed
-        (h ++ Made (event_of caller (arrive a) told.answer) ∷ made_by (h ++ Made (event_of caller (arrive a) told.answer) ∷ []) later)
-        (Ok told ∷ answers_to (h ++ Made (event_of caller (arrive a) told.answer) ∷ []) later)
-    taken_next k passed h a later told comes =
-        let event = event_of caller (arrive a) told.answer in
-        let replies = answers_to (h ++ Made event ∷ []) later in
-        let made = made_by (h ++ Made event ∷ []) later in
-        let whole : (h ++ Made event ∷ []) ++ made ≡ h ++ Made event ∷ made = append_assoc h (Made event ∷ []) made in
-        let sum : k + 1 + length later ≡ k + length (a ∷ later) = omega arith in
-        ⊎_elim
-        (λ c. inl (
-          All-cons IsOk (Ok told) replies refl c.0,
-          subst (λ (n : ℕ). Goes opening caller commands n (events_in (h ++ Made event ∷ made)) passed) sum
-              (subst (λ (l : List Entry). Goes opening caller commands (k + 1 + length later) (events_in l) passed) whole c.1),
-        ))
-        (λ c. inr (
-          (λ all. c.0 (All-tail IsOk (Ok told) replies all)),
-          subst (λ (l : List Entry). IsCutShort opening caller commands (events_in l)) whole c.1,
-        ))
-        comes
+  was_full : (h : List Entry) (burst : List Arrival) → All IsFair (map arrive burst) → (All IsOk (answers_to h burst) → ⊥)
+      → WasFull (h ++ made_by h burst) (length burst) (made_by h burst)
+  unfolding entries_to replies_to
+  was_full h [] fair not_all = absurd (not_all (All-nil IsOk))
+  was_full h (a ∷ later) fair not_all =
+      let reply = reply_in opening h (arrive a) in
+      let g = h ++ entries_by caller (arrive a) reply in
+      full_first h a later reply refl (All-head IsFair (arrive a) (map arrive later) fair) not_all
+      (was_full g later (All-tail IsFair (arrive a) (map arrive later) fair))
 
-    -- by the reply to the first arrival
-    by_reply : (k passed : ℕ) (h : List Entry) (a : Arrival) (later : List Arrival) (reply : Reply) → reply_in opening h (arrive a) ≡ reply
-        → slice_get commands k ≡ Some (arrive a) → drop k commands ≡ arrive a ∷ (map arrive later ++ rest)
-        → Goes opening caller commands k (events_in h) passed
-        → ((told : Told Answer) → Comes (k + 1 + length later) passed
-        ((h ++ Made (event_of caller (arrive a) told.answer) ∷ []) ++ made_by (h ++ Made (event_of caller (arrive a) told.answer) ∷ []) later)
-        (answers_to (h ++ Made (event_of caller (arrive a) told.answer) ∷ []) later))
-        → Comes (k + length (a ∷ later)) passed
-        (h ++ (entries_by caller (arrive a) reply ++ made_by (h ++ entries_by caller (arrive a) reply) later))
-        (reply ∷ answers_to (h ++ entries_by caller (arrive a) reply) later)
-    by_reply k passed h a later (Ok told) is at left goes comes = taken_next k passed h a later told (comes told)
-    by_reply k passed h a later (Err w) is at left goes comes = refused_next k passed h a later w is at left goes
+-- a caller has no more entries than there are
+few_own : (caller : ℕ) (h : List Entry) → length (entries_of caller h) ≤ length h
+few_own caller h = omega (
+  arith,
+  length-filter_both (λ (e : Entry). is_within caller (caller + 1) (number_of e)) (λ e. not (is_within caller (caller + 1) (number_of e))) (λ e. refl) h,
+)
 
-    -- a burst that begins after this history
-    burst_comes : (k passed : ℕ) (h : List Entry) (burst : List Arrival) → drop k commands ≡ map arrive burst ++ rest
-        → Goes opening caller commands k (events_in h) passed → Comes (k + length burst) passed (h ++ made_by h burst) (answers_to h burst)
-    unfolding entries_to replies_to
-    burst_comes k passed h [] left goes =
-        let none : k ≡ k + 0 = omega arith in inl (
-          All-nil IsOk,
-          subst (λ (n : ℕ). Goes opening caller commands n (events_in (h ++ [])) passed) none
-              (subst (λ (l : List Entry). Goes opening caller commands k (events_in l) passed) (sym (append-nil h)) goes),
-        )
-    burst_comes k passed h (a ∷ later) left goes =
-        let at = at_drop commands k (arrive a) (map arrive later ++ rest) left in
-        let beyond : drop (k + 1) commands ≡ map arrive later ++ rest = after_first _ _ _ (sym (drop_next commands k (arrive a) at) ∙ left) in
-        by_reply k passed h a later (reply_in opening h (arrive a)) refl at left goes
-        (λ told. let event = event_of caller (arrive a) told.answer in
-        burst_comes (k + 1) passed (h ++ Made event ∷ []) later beyond
-        (subst (λ (l : List Event). Goes opening caller commands (k + 1) l passed) (sym (law.events h (Made event ∷ [])))
-        (goes_event opening caller commands k (events_in h) (events_in h) passed (arrive a) event goes at (prefix_self (events_in h)) refl refl
-        refl)))
+module _ (plan : Plan) (number k n : ℕ) (link : LinkView) (link_for : IsFor plan link) (before after : CallerView) (at : IsAt link number before)
+    (earlier : ℕ) (events : List Event) (had : HasMade plan number k before.front earlier events) (burst : List Arrival) (replies : List Reply)
+    (some : 1 ≤ n) (sends : number ≤ senders plan) (there : k + n ≤ length (commands_of plan number))
+    (is : map arrive burst ≡ take n (drop k (commands_of plan number)))
+    (long : length burst ≡ n) (history : List Entry) (answered : IsBurst always (opening_of plan) before (map arrive burst) [] replies after history) where
+  no_folder : number ≡ folder plan → ⊥
+  no_folder folds = absurd (omega (arith, folds, sends))
 
--- what comes of a burst that a link answered
-burst_at_link : (law : EntriesLookBack) (link : LinkView) (plan : Plan) (k passed : ℕ) (burst : List Arrival) (rest : List Command)
-    (replies : List Reply) (before after : CallerView) → before.limit ≡ before.first + 1 → IsSound plan → 1 ≤ length burst
-    → drop k (commands_of plan before.first) ≡ map arrive burst ++ rest → AnswersAll always link before (map arrive burst) [] replies after
-    → EachGoes link before.first (commands_of plan before.first) k (events_in before.front) passed
-    → (opening : Opening) → link.origin ≡ Some opening
-    → (All IsOk replies × Goes opening before.first (commands_of plan before.first) (k + length burst) (events_in after.front) passed)
-    ⊎ ((All IsOk replies → ⊥) × IsCutShort opening before.first (commands_of plan before.first) (events_in after.front))
-unfolding AnswersAll EachGoes
-burst_at_link law link plan k passed [] rest replies before after one sound some left answers goes opening from = absurd (omega (arith, some))
-burst_at_link law link plan k passed (a ∷ later) rest replies before after one sound some left answers goes opening from =
-    let x = answers opening from in
-    let history = x.0 in
-    let burst : IsBurst always opening before (map arrive (a ∷ later)) [] replies after history = x.1 in
-    let commands = commands_of plan before.first in
-    let s = own_same law before before.first history (record { first = refl; limit = one }) burst.from.goes_on in
-    let seen = goes_seen opening before.first commands k (events_in before.front) (events_in history) passed (goes opening from) s.0 s.1 in
-    let comes = burst_comes law opening before.first commands rest (λ j command at. fair_at plan sound before.first j command at) k passed history
-    (a ∷ later) left seen in
-    subst (λ (front : List Entry). (All IsOk replies × Goes opening before.first commands (k + length (a ∷ later)) (events_in front) passed)
-    ⊎ ((All IsOk replies → ⊥) × IsCutShort opening before.first commands (events_in front))) (sym (ap (λ (c : CallerView). c.front) burst.recorded))
-    (subst (λ (r : List Reply). (All IsOk r × Goes opening before.first commands (k + length (a ∷ later))
-    (events_in (history ++ entries_to always opening before.first history (map arrive (a ∷ later)))) passed)
-    ⊎ ((All IsOk r → ⊥) × IsCutShort opening before.first commands
-    (events_in (history ++ entries_to always opening before.first history (map arrive (a ∷ later)))))) (sym burst.answered) comes)
+  is_asked : take n (drop k (calls_of plan number)) ≡ map Ask (map arrive burst)
+  is_asked =
+      ap (λ (cs : List Call). take n (drop k cs)) (other_calls plan number no_folder)
+      ∙ (ap (λ (cs : List Call). take n cs) (drop-map Ask k (commands_of plan number))
+      ∙ (take-map Ask n (drop k (commands_of plan number)) ∙ ap (λ (cs : List Command). map Ask cs) (sym is)))
 
--- all of a burst was taken
-burst_taken : (law : EntriesLookBack) (link : LinkView) (plan : Plan) (k n passed : ℕ) (burst : List Arrival) (rest : List Command)
-    (replies : List Reply) (before after : CallerView) → before.limit ≡ before.first + 1 → IsSound plan → 1 ≤ length burst
-    → drop k (commands_of plan before.first) ≡ map arrive burst ++ rest → AnswersAll always link before (map arrive burst) [] replies after
-    → All IsOk replies → length burst ≡ n
-    → EachGoes link before.first (commands_of plan before.first) k (events_in before.front) passed
-    → GoesOrEnds link before.first (commands_of plan before.first) (k + n) (events_in after.front) passed (Some 0)
-unfolding GoesOrEnds EachGoes
-burst_taken law link plan k n passed burst rest replies before after one sound some left answers all long goes opening from =
-    let none : passed ≡ passed + 0 = omega arith in
-    let sum : k + length burst ≡ k + n = ap (λ (m : ℕ). k + m) long in
-    subst (λ (m : ℕ). Goes opening before.first (commands_of plan before.first) (k + n) (events_in after.front) m) none
-    (subst (λ (m : ℕ). Goes opening before.first (commands_of plan before.first) m (events_in after.front) passed) sum
-    (⊎_elim (λ c. c.1) (λ c. absurd (c.0 all))
-    (burst_at_link law link plan k passed burst rest replies before after one sound some left answers goes opening from)))
+  on : HasNoMore number before.front history
+  on = seen link number before history at answered.from.goes_on
 
--- one of its arrivals was refused
-burst_short : (law : EntriesLookBack) (link : LinkView) (plan : Plan) (k n passed : ℕ) (burst : List Arrival) (rest : List Command)
-    (replies : List Reply) (before after : CallerView) → before.limit ≡ before.first + 1 → IsSound plan → 1 ≤ length burst
-    → drop k (commands_of plan before.first) ≡ map arrive burst ++ rest → AnswersAll always link before (map arrive burst) [] replies after
-    → (All IsOk replies → ⊥)
-    → EachGoes link before.first (commands_of plan before.first) k (events_in before.front) passed
-    → GoesOrEnds link before.first (commands_of plan before.first) (k + n) (events_in after.front) passed None
-unfolding GoesOrEnds
-burst_short law link plan k n passed burst rest replies before after one sound some left answers not_all goes opening from =
-    ⊎_elim (λ c. absurd (not_all c.0)) (λ c. c.1)
-    (burst_at_link law link plan k passed burst rest replies before after one sound some left answers goes opening from)
+  front_is : after.front ≡ history ++ entries_to always (opening_of plan) number history (map arrive burst)
+  front_is = ap (λ (c : CallerView). c.front) answered.recorded
+      ∙ ap (λ (first : ℕ). history ++ entries_to always (opening_of plan) first history (map arrive burst)) at.first
 
--- ---- a burst has no folds
+  replies_are : replies ≡ replies_to always (opening_of plan) number history (map arrive burst)
+  replies_are = answered.answered ∙ ap (λ (first : ℕ). replies_to always (opening_of plan) first history (map arrive burst)) at.first
 
-one_made : (caller : ℕ) (command : Command) (reply : Reply) → All IsMade (entries_by caller command reply)
-one_made caller command (Ok told) = All-cons IsMade (Made (event_of caller command told.answer)) [] tt (All-nil IsMade)
-one_made caller command (Err why) = All-nil IsMade
+  -- all of it was taken
+  burst_taken : All IsOk replies → HasMade plan number (k + n) after.front (earlier + 0) events
+  burst_taken all = subst (λ (front : List Entry). HasMade plan number (k + n) front (earlier + 0) events) (sym front_is) (record {
+    made = made_more plan number k n (map Ask (map arrive burst)) before.front _ earlier 0 is_asked had.made
+        (made_from (opening_of plan) number before.front history (map Ask (map arrive burst)) _ 0 on
+        (all_taken (opening_of plan) number history burst (subst (All IsOk) replies_are all)));
+    handed = λ folds. absurd (no_folder folds);
+  })
 
-all_made : (opening : Opening) (caller : ℕ) (h : List Entry) (commands : List Command) → All IsMade (entries_to always opening caller h commands)
-unfolding entries_to
-all_made opening caller h [] = All-nil IsMade
-all_made opening caller h (command ∷ later) =
-    let added = entries_by caller command (reply_in opening h command) in
-    All-append IsMade added (entries_to always opening caller (h ++ added) later) (one_made caller command (reply_in opening h command))
-    (all_made opening caller (h ++ added) later)
+  -- or one of its arrivals was refused
+  burst_short : (All IsOk replies → ⊥) → IsCutShort (opening_of plan) number (commands_of plan number) after.front
+  burst_short not_all =
+      let fair = subst (All IsFair) (sym is)
+      (All-take IsFair n (drop k (commands_of plan number)) (All-drop IsFair k (commands_of plan number) (all_fair plan link_for.sound number))) in
+      let full = was_full (opening_of plan) number history burst fair (λ all. not_all (subst (All IsOk) (sym replies_are) all)) in
+      let added = entries_to always (opening_of plan) number history (map arrive burst) in
+      subst (λ (front : List Entry). IsCutShort (opening_of plan) number (commands_of plan number) front) (sym front_is) (record {
+        before = full.before;
+        begins = full.begins;
+        full = full.full;
+        fewer = omega (
+          arith,
+          few_so_far plan number k before.front earlier had.made,
+          ap (λ (l : List Entry). length l) on.1,
+          ap (λ (l : List Entry). length l) (filter-append (λ (e : Entry). is_within number (number + 1) (number_of e)) history added),
+          length-append (entries_of number history) (entries_of number added),
+          few_own number added,
+          full.fewer,
+          long,
+          there,
+        );
+      })
 
-burst_only : (link : LinkView) (commands : List Command) (replies : List Reply) (before after : CallerView) → before.limit ≡ before.first + 1
-    → AnswersAll always link before commands [] replies after → OnlyMadeAt link before.first before.front → OnlyMadeAt link before.first after.front
-unfolding AnswersAll OnlyMadeAt
-burst_only link [] replies before after one answers only opening from =
-    subst (λ (c : CallerView). All IsMade (entries_of before.first c.front)) (sym (answers opening from).1) (only opening from)
-burst_only link (command ∷ later) replies before after one answers only opening from =
-    let x = answers opening from in
-    let history = x.0 in
-    let burst : IsBurst always opening before (command ∷ later) [] replies after history = x.1 in
-    let made = entries_to always opening before.first history (command ∷ later) in
-    let s = entries_same before history one burst.from.goes_on in
-    subst (λ (front : List Entry). All IsMade (entries_of before.first front)) (sym (ap (λ (c : CallerView). c.front) burst.recorded))
-    (subst (λ (es : List Entry). All IsMade es)
-    (sym (filter-append (λ (e : Entry). is_within before.first (before.first + 1) (number_of e)) history made))
-    (All-append IsMade (entries_of before.first history) (entries_of before.first made)
-    (subst (λ (es : List Entry). All IsMade es) (sym s.1) (only opening from))
-    (All-filter (λ (e : Entry). is_within before.first (before.first + 1) (number_of e)) IsMade made
-    (all_made opening before.first history (command ∷ later)))))
+pub burst_next : (plan : Plan) (number k n : ℕ) (link : LinkView) → IsFor plan link → (before after : CallerView) → IsAt link number before
+    → (earlier : ℕ) (events : List Event) → HasMade plan number k before.front earlier events → (burst : List Arrival) (replies : List Reply)
+    → 1 ≤ n → number ≤ senders plan → k + n ≤ length (commands_of plan number) → map arrive burst ≡ take n (drop k (commands_of plan number))
+    → length burst ≡ n → AnswersAll always link before (map arrive burst) [] replies after
+    → (passed : Option ℕ) → AddedByAll replies passed → MadeOrCut plan number (k + n) after.front earlier events passed
+unfolding AnswersAll MadeOrCut
+burst_next plan number k n link link_for before after at earlier events had [] replies some sends there is long answers passed added =
+    absurd (omega (arith, some, long))
+burst_next plan number k n link link_for before after at earlier events had (a ∷ later) replies some sends there is long answers passed (inl all) =
+    let b = answers (opening_of plan) link_for.opened in
+    subst (λ (p : Option ℕ). MadeOrCut plan number (k + n) after.front earlier events p) (sym all.1)
+    (burst_taken plan number k n link link_for before after at earlier events had (a ∷ later) replies some sends there is long b.0 b.1 all.0)
+burst_next plan number k n link link_for before after at earlier events had (a ∷ later) replies some sends there is long answers passed (inr none) =
+    let b = answers (opening_of plan) link_for.opened in
+    subst (λ (p : Option ℕ). MadeOrCut plan number (k + n) after.front earlier events p) (sym none.1)
+    (burst_short plan number k n link link_for before after at earlier events had (a ∷ later) replies some sends there is long b.0 b.1 none.0)
 
--- ---- a sender's turn
-
-pub burst_turn : (law : EntriesLookBack) (link : LinkView) (plan : Plan) (k n : ℕ) (burst : List Arrival) (rest : List Command)
-    (replies : List Reply) (soon : Option ℕ) (before after : CallerView) → before.limit ≡ before.first + 1 → IsSound plan → 1 ≤ n
-    → length burst ≡ n
-    → drop k (commands_of plan before.first) ≡ map arrive burst ++ rest → AnswersAll always link before (map arrive burst) [] replies after
-    → AddedByAll replies soon → StaysOne before after
-    → TakesTurn link (commands_of plan before.first) k (k + n) before after soon
-burst_turn law link plan k n burst rest replies soon before after one sound some long left answers (inl taken) stays =
-    subst (λ (s : Option ℕ). TakesTurn link (commands_of plan before.first) k (k + n) before after s) (sym taken.1) (record {
-      stays = stays;
-      few = omega arith;
-      goes = λ passed. burst_taken law link plan k n passed burst rest replies before after one sound (omega (arith, some, long)) left answers
-          taken.0 long;
-      only_made = burst_only link (map arrive burst) replies before after one answers;
-    })
-burst_turn law link plan k n burst rest replies soon before after one sound some long left answers (inr refused) stays =
-    subst (λ (s : Option ℕ). TakesTurn link (commands_of plan before.first) k (k + n) before after s) (sym refused.1) (record {
-      stays = stays;
-      few = tt;
-      goes = λ passed. burst_short law link plan k n passed burst rest replies before after one sound (omega (arith, some, long)) left answers
-          refused.0;
-      only_made = burst_only link (map arrive burst) replies before after one answers;
-    })
+-- no arrival of a burst is passed over
+pub few_by_all : (replies : List Reply) (passed : Option ℕ) → AddedByAll replies passed → IfSome passed (λ n. n ≤ 1)
+few_by_all replies passed (inl all) = subst (λ (p : Option ℕ). IfSome p (λ n. n ≤ 1)) (sym all.1) (omega arith)
+few_by_all replies passed (inr none) = subst (λ (p : Option ℕ). IfSome p (λ n. n ≤ 1)) (sym none.1) tt

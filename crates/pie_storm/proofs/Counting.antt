@@ -1,101 +1,93 @@
--- A storm's history has no more events than there are commands, and so no caller was cut short.
-use Rattle.std.proofs.Common.{◌≡◌, ℕ, zero, suc, ◌+◌, ◌-◌, ◌<◌, ◌≤◌, ◌⊎◌, nat_le, nat_lt, ◌==◌, Bool, true, false, cond, List, [], ◌∷◌, ◌++◌, Option}
-use Rattle.std.proofs.Common.{Some, None, Vec, min, map, take, length, length-append, refl, ap, sym, ◌∙◌, subst, inl, inr, ⊎_elim, arith, eq-eqb}
+-- A storm's history has no more events than there are commands, and so no caller was cut short; and so it is what the plan asks for.
+use Rattle.std.proofs.Common.{◌≡◌, ℕ, zero, suc, ◌+◌, ◌-◌, ◌<◌, ◌≤◌, ◌⊎◌, ◌==◌, nat_le, nat_lt, Bool, true, false, cond, List, [], ◌∷◌, ◌++◌}
+use Rattle.std.proofs.Common.{Option, Some, None, Vec, min, map, length, length-append, append_assoc, refl, ap, sym, ◌∙◌, subst, inl, inr, ⊎_elim, arith}
 use Rattle.std.specs.Prelude.{if◌then◌else◌}
 use Rattle.std.specs.List.{All}
 use Rattle.std.specs.declared.alloc.Global.{Global}
-use Rattle.std.proofs.lemmas.List.{length-map}
+use Rattle.std.proofs.lemmas.List.{append-nil, length-map}
 use Rattle.std.proofs.lemmas.List.Elements.{All-nil, All-cons, All-head, All-tail}
 use Rattle.std.proofs.lemmas.Bool.Decides.{nat_tests}
-use mathlib.Core.List.{IsPrefix}
 use mathlib.Core.Logic.{dite}
 use native.Mathlib.Decide.{ℕ_discrete}
 use Rattle.pie_lock.specs.Own.{own, is_within}
-use Rattle.pie_lock.proofs.Owns.{within, within_high, not_within}
-use Rattle.pie_event.specs.declared.command.Command.{Command}
-use Rattle.pie_event.specs.declared.command.Event.{Event}
-use Rattle.pie_event.specs.declared.opening.Opening.{Opening}
-use Rattle.pie_event.specs.declared.command.Command.TheVariants.{Depart, Update}
-use Rattle.pie_event.specs.declared.refusal.Refusal.{Refusal}
-use Rattle.pie_event.specs.declared.refusal.Refusal.TheVariants as refusal
+use Rattle.pie_lock.proofs.Owns.{within, not_within}
 use Rattle.pie_event.specs.Opening.{last_moment}
 use Rattle.pie_event.specs.Deed.{handed_in}
+use Rattle.pie_event.specs.declared.command.Command.{Command}
+use Rattle.pie_event.specs.declared.command.Command.TheVariants.{Depart, Update}
+use Rattle.pie_event.specs.declared.command.Event.{Event}
+use Rattle.pie_event.specs.declared.opening.Opening.{Opening}
+use Rattle.pie_event.specs.declared.refusal.Refusal.{Refusal}
+use Rattle.pie_event.specs.declared.refusal.Refusal.TheVariants as refusal
 use Rattle.pie_book.specs.Decision.{has_bad_size, is_too_soon, refusal_by_rule}
-use Rattle.pie_book.specs.History.{effective_moment}
 use Rattle.pie_book.specs.Estimates.{due_after}
-use Rattle.pie_kept.specs.declared.arrival.Arrival.{Arrival}
+use Rattle.pie_book.specs.History.{effective_moment}
 use Rattle.pie_kept.specs.Bursts.{arrive}
-use Rattle.pie_storm.specs.declared.plan.Plan.{Plan}
-use Rattle.pie_storm.specs.Plans.{senders, sent, change, commands_of, commands_after_senders, count_of, planned, opening_of, IsSound}
+use Rattle.pie_kept.specs.Entries.{entries_of, events_in, number_of}
+use Rattle.pie_kept.specs.EntryLaws.{EntriesLookBack}
+use Rattle.pie_kept.specs.declared.arrival.Arrival.{Arrival}
 use Rattle.pie_kept.specs.declared.entry.Entry.{Entry}
 use Rattle.pie_kept.specs.declared.entry.Entry.TheVariants.{Made, Folded}
-use Rattle.pie_kept.specs.Entries.{entries_of, events_in, handed_out, handed_to, number_of, tail_in}
-use Rattle.pie_storm.proofs.OwnEvents.{all-events}
-use Rattle.pie_storm.proofs.PlanCommands.{of_either}
-use Rattle.pie_storm.specs.Storms.{events_of, caller_of, commands_in, folder, is_number, AreFolded, AreMade, CameOf, AllCameOf, IsMade, IsStorm}
-use Rattle.pie_storm.specs.Storms.{NoneElseFolds}
+use Rattle.pie_storm.specs.declared.plan.Call.{Call}
+use Rattle.pie_storm.specs.declared.plan.Call.TheVariants.{Ask, Fold}
+use Rattle.pie_storm.specs.declared.plan.Plan.{Plan}
+use Rattle.pie_storm.specs.Plans.{IsSound, calls_of, change, commands_after_senders, commands_of, count_of, folder, opening_of, planned, senders, sent, updater}
+use Rattle.pie_storm.specs.Storms.{AreMade, CameOf, HasNoMore, IsCutShort, IsEntryOf, IsMade, IsStorm, commands_in, events_of}
+use Rattle.pie_storm.proofs.Making.{few_made, numbered, own_entry}
+use Rattle.pie_storm.proofs.PlanCommands.{after_senders, folder_calls, of_either, of_sender, other_calls}
+
+-- ---- all callers together
 
 -- the sum of f over the numbers below n
-abbrev pub total : (ℕ → ℕ) → ℕ → ℕ
+abbrev total : (ℕ → ℕ) → ℕ → ℕ
 total f zero = 0
 total f (suc n) = total f n + f n
 
-size_cond : {A : Type 0} (b : Bool) (x : A) (xs : List A) → length (cond b (x ∷ xs) xs) ≡ cond b 1 0 + length xs
-size_cond true x xs = omega arith
-size_cond false x xs = omega arith
+total_less : (f g : ℕ → ℕ) (n : ℕ) → ((k : ℕ) → k < n → f k ≤ g k) → total f n ≤ total g n
+total_less f g zero less = omega arith
+total_less f g (suc n) less = omega (arith, total_less f g n (λ k below. less k (omega (arith, below))), less n (omega arith))
 
-one_of_both : (u a b : Bool) → (u ≡ true → (a ≡ true) ⊎ (b ≡ true)) → (a ≡ true → (u ≡ true) × (b ≡ false)) → (b ≡ true → u ≡ true)
-    → ◌≡◌ {A = ℕ} (cond u 1 0) (cond a 1 0 + cond b 1 0)
-one_of_both true true true h k l = absurd (cc ((k refl).1))
-one_of_both true true false h k l = refl
-one_of_both true false true h k l = refl
-one_of_both true false false h k l = absurd (⊎_elim (λ e. cc e) (λ e. cc e) (h refl))
-one_of_both false true b h k l = absurd (cc ((k refl).0))
-one_of_both false false true h k l = absurd (cc (l refl))
-one_of_both false false false h k l = refl
+total_fewer : (f g : ℕ → ℕ) (n k : ℕ) → ((j : ℕ) → j < n → f j ≤ g j) → k < n → f k < g k → total f n < total g n
+total_fewer f g zero k less below fewer = absurd (omega (arith, below))
+total_fewer f g (suc n) k less below fewer =
+    let each = λ (j : ℕ) (lower : j < n). less j (omega (arith, lower)) in
+    dite (ℕ_discrete k n)
+    (λ is. let here : f n < g n = subst (λ (j : ℕ). f j < g j) is fewer in omega (arith, total_less f g n each, here))
+    (λ other. omega (arith, total_fewer f g n k each (omega (arith, below, other)) fewer, less n (omega arith)))
 
-one_of : (n c : ℕ) → ◌≡◌ {A = ℕ} (cond (is_within 0 (n + 1) c) 1 0) (cond (is_within 0 n c) 1 0 + cond (is_within n (n + 1) c) 1 0)
-one_of n c = one_of_both (is_within 0 (n + 1) c) (is_within 0 n c) (is_within n (n + 1) c)
-    (λ yes. dite (ℕ_discrete c n)
-    (λ same. inr (within n (n + 1) c (omega (arith, same)) (omega (arith, same))))
-    (λ other. inl (within 0 n c (omega arith) (omega (arith, within_high 0 (n + 1) c yes, other)))))
-    (λ yes. let below = within_high 0 n c yes in (
-      within 0 (n + 1) c (omega arith) (omega (arith, below)),
-      not_within n (n + 1) c
-          (λ both. omega (arith, both.0, below)),
-    ))
-    (λ yes. within 0 (n + 1) c (omega arith) (within_high n (n + 1) c yes))
+of_itself : (caller : ℕ) (e : Event) (xs : List Event) → e.caller ≡ caller → length (events_of caller (e ∷ xs)) ≡ length (events_of caller xs) + 1
+of_itself caller e xs is =
+    subst (λ (b : Bool). length (cond b (e ∷ events_of caller xs) (events_of caller xs)) ≡ length (events_of caller xs) + 1)
+    (sym (within caller (caller + 1) e.caller (omega (arith, is)) (omega (arith, is)))) (omega arith)
 
-own_split : (n : ℕ) (xs : List Event) → length (own caller_of 0 (n + 1) xs) ≡ length (own caller_of 0 n xs) + length (events_of n xs)
-own_split n [] = refl
-own_split n (e ∷ xs) =
-    let a = size_cond (is_within 0 (n + 1) e.caller) e (own caller_of 0 (n + 1) xs) in
-    let b = size_cond (is_within 0 n e.caller) e (own caller_of 0 n xs) in
-    let d = size_cond (is_within n (n + 1) e.caller) e (events_of n xs) in
-    omega (arith, a, b, d, one_of n e.caller, own_split n xs)
+of_another : (caller : ℕ) (e : Event) (xs : List Event) → (e.caller ≡ caller → ⊥) → length (events_of caller (e ∷ xs)) ≡ length (events_of caller xs)
+of_another caller e xs other =
+    subst (λ (b : Bool). length (cond b (e ∷ events_of caller xs) (events_of caller xs)) ≡ length (events_of caller xs))
+    (sym (not_within caller (caller + 1) e.caller (λ both. other (omega (arith, both.0, both.1))))) refl
 
-own_none : (xs : List Event) → length (own caller_of 0 0 xs) ≡ 0
-own_none [] = refl
-own_none (e ∷ xs) =
-    subst (λ (b : Bool). length (cond b (e ∷ own caller_of 0 0 xs) (own caller_of 0 0 xs)) ≡ 0)
-    (sym (not_within 0 0 e.caller (λ both. omega (arith, both.1)))) (own_none xs)
+none_more : (n : ℕ) (e : Event) (xs : List Event) → n ≤ e.caller → total (λ c. length (events_of c (e ∷ xs))) n ≡ total (λ c. length (events_of c xs)) n
+none_more zero e xs past = refl
+none_more (suc n) e xs past = omega (arith, none_more n e xs (omega (arith, past)), of_another n e xs (λ is. omega (arith, is, past)))
 
-own_all : (n : ℕ) (xs : List Event) → All (λ (e : Event). e.caller < n) xs → length (own caller_of 0 n xs) ≡ length xs
-own_all n [] all = refl
-own_all n (e ∷ xs) all =
-    let yes = within 0 n e.caller (omega arith) (All-head (λ (x : Event). x.caller < n) e xs all) in
-    subst (λ (b : Bool). length (cond b (e ∷ own caller_of 0 n xs) (own caller_of 0 n xs)) ≡ suc (length xs)) (sym yes)
-    (ap suc (own_all n xs (All-tail (λ (x : Event). x.caller < n) e xs all)))
+one_more : (n : ℕ) (e : Event) (xs : List Event) → e.caller < n → total (λ c. length (events_of c (e ∷ xs))) n ≡ total (λ c. length (events_of c xs)) n + 1
+one_more zero e xs below = absurd (omega (arith, below))
+one_more (suc n) e xs below =
+    dite (ℕ_discrete e.caller n)
+    (λ is. omega (arith, none_more n e xs (omega (arith, is)), of_itself n e xs is))
+    (λ other. omega (arith, one_more n e xs (omega (arith, below, other)), of_another n e xs other))
 
-total_of_events : (xs : List Event) (n : ℕ) → total (λ c. length (events_of c xs)) n ≡ length (own caller_of 0 n xs)
-total_of_events xs zero = sym (own_none xs)
-total_of_events xs (suc n) =
-    let next : n + 1 ≡ suc n = omega arith in
-    omega (arith, total_of_events xs n, own_split n xs, ap (λ k. length (own caller_of 0 k xs)) next)
+none_of_none : (n : ℕ) → total (λ c. length (events_of c [])) n ≡ 0
+none_of_none zero = refl
+none_of_none (suc n) = omega (arith, none_of_none n)
 
 -- all events are those of the callers below n, each counted once
-pub counted : (xs : List Event) (n : ℕ) → All (λ (e : Event). e.caller < n) xs → total (λ c. length (events_of c xs)) n ≡ length xs
-counted xs n all = total_of_events xs n ∙ own_all n xs all
+counted : (n : ℕ) (xs : List Event) → All (λ (e : Event). e.caller < n) xs → total (λ c. length (events_of c xs)) n ≡ length xs
+counted n [] all = none_of_none n
+counted n (e ∷ xs) all = omega (
+  arith,
+  one_more n e xs (All-head (λ (x : Event). x.caller < n) e xs all),
+  counted n xs (All-tail (λ (x : Event). x.caller < n) e xs all),
+)
 
 shifted : (f : ℕ → ℕ) (n : ℕ) → total f (suc n) ≡ f 0 + total (λ k. f (suc k)) n
 shifted f zero = omega arith
@@ -110,22 +102,6 @@ sent_total [] n = omega (arith, sent_none n)
 sent_total (list ∷ lists) zero = omega arith
 sent_total (list ∷ lists) (suc n) = omega (arith, shifted (λ k. length (sent (list ∷ lists) k)) n, sent_total lists n, length-map list.items arrive)
 
-pub of_sender : (plan : Plan) (k : ℕ) → k < senders plan → commands_of plan (k + 1) ≡ sent plan.arrivals.items k
-unfolding commands_of
-of_sender plan k below =
-    let not_first : (k + 1 == 0) ≡ false = grind (arith, nat_tests) in
-    let sends : nat_le (k + 1) (senders plan) ≡ true = grind (arith, nat_tests, below) in
-    let which : k + 1 - 1 ≡ k = omega arith in
-    rw (not_first, sends, which) refl
-
-pub after_senders : (plan : Plan) (n : ℕ) → 1 ≤ n → commands_of plan (senders plan + n) ≡ commands_after_senders plan n
-unfolding commands_of
-after_senders plan n some =
-    let not_first : (senders plan + n == 0) ≡ false = grind (arith, nat_tests, some) in
-    let no_sender : nat_le (senders plan + n) (senders plan) ≡ false = grind (arith, nat_tests, some) in
-    let which : senders plan + n - senders plan ≡ n = omega arith in
-    rw (not_first, no_sender, which) refl
-
 -- how many commands the callers below n have
 abbrev commands_below : Plan → ℕ → ℕ
 commands_below plan n = total (λ c. length (commands_of plan c)) n
@@ -139,8 +115,11 @@ of_senders plan (suc n) few =
     ap (λ c. length (commands_of plan c)) next ∙ ap (λ (l : List Command). length l) (of_sender plan n (omega arith)) in
     omega (arith, of_senders plan n (omega arith), its)
 
+abbrev pub callers_of_plan : Plan → ℕ
+callers_of_plan plan = suc (suc (suc (suc (suc (senders plan)))))
+
 -- all callers together have no more commands than the plan
-pub no_more : (plan : Plan) → commands_below plan (suc (suc (suc (suc (suc (senders plan)))))) ≤ planned plan
+no_more : (plan : Plan) → commands_below plan (callers_of_plan plan) ≤ planned plan
 no_more plan =
     let n = senders plan in
     let size : List Command → ℕ = λ l. length l in
@@ -158,79 +137,54 @@ no_more plan =
     let four : length (commands_of plan (suc (suc (suc (suc n))))) ≡ 0 = ap at e4 ∙ ap size (after_senders plan 4 (omega arith)) in
     omega (arith, of_senders plan n (omega arith), sent_total plan.arrivals.items n, one, two, three, four)
 
-made_fits : (opening : Opening) (caller : ℕ) (h seen earlier : List Event) (commands : List Command) (later : List Event) (passed : ℕ)
-    → AreMade opening caller h seen earlier commands later passed → length later ≤ length commands
-made_fits opening caller h seen earlier [] later passed m = omega (arith, ap (λ (l : List Event). length l) m.0)
-made_fits opening caller h seen earlier (command ∷ commands) later passed (inl m) =
-    omega (arith, ap (λ (l : List Event). length l) m.2, made_fits opening caller h (m.4.0 ++ m.0 ∷ []) (earlier ++ m.0 ∷ []) commands m.1 passed m.4.2)
-made_fits opening caller h seen earlier (command ∷ commands) later passed (inr m) =
-    omega (arith, made_fits opening caller h m.0 earlier commands later m.3.0 m.3.2)
+-- ---- the events among entries
 
--- what came of all callers below n, where none was cut short
-abbrev pub AllMade : Opening → Plan → ℕ → List Event → ℕ → Type 0
-AllMade opening plan zero h passed = passed ≡ 0
-AllMade opening plan (suc n) h passed =
-    (others : ℕ) × (its : ℕ) × (passed ≡ others + its) × AllMade opening plan n h others
-    × AreMade opening n h [] [] (commands_of plan n) (events_of n h) its
+events-cond : (b : Bool) (event : Event) (xs : List Entry) → events_in (cond b (Made event ∷ xs) xs) ≡ cond b (event ∷ events_in xs) (events_in xs)
+events-cond true event xs = refl
+events-cond false event xs = refl
 
--- the book was full after a beginning of the history
-record WasFull (opening : Opening) (h : List Event) : Type 0 where
-  before : List Event
-  begins : IsPrefix before h
-  full : min opening.limits.tail opening.limits.events ≤ length before
+folds-cond : (b : Bool) (caller count : ℕ) (xs : List Entry) → events_in (cond b (Folded caller count ∷ xs) xs) ≡ events_in xs
+folds-cond true caller count xs = refl
+folds-cond false caller count xs = refl
 
-came_fits : (opening : Opening) (caller : ℕ) (commands : List Command) (h : List Event) (passed : ℕ) → CameOf opening caller commands h passed
-    → length (events_of caller h) ≤ length commands
-unfolding CameOf
-came_fits opening caller commands h passed (inl m) = made_fits opening caller h [] [] commands (events_of caller h) passed m
-came_fits opening caller commands h passed (inr cut) = omega (arith, cut.fewer)
+-- a caller's events are those among its entries
+own_events : (caller : ℕ) (xs : List Entry) → events_of caller (events_in xs) ≡ events_in (entries_of caller xs)
+own_events caller [] = refl
+own_events caller (Made event ∷ xs) =
+    ap (λ (es : List Event). cond (is_within caller (caller + 1) event.caller) (event ∷ es) es) (own_events caller xs)
+    ∙ sym (events-cond (is_within caller (caller + 1) event.caller) event (entries_of caller xs))
+own_events caller (Folded who count ∷ xs) =
+    own_events caller xs ∙ sym (folds-cond (is_within caller (caller + 1) who) who count (entries_of caller xs))
 
-all_fit : (opening : Opening) (plan : Plan) (n : ℕ) (h : List Event) (passed : ℕ) → AllCameOf opening plan n h passed
-    → total (λ c. length (events_of c h)) n ≤ commands_below plan n
-unfolding AllCameOf
-all_fit opening plan zero h passed all = omega arith
-all_fit opening plan (suc n) h passed all =
-    omega (arith, all_fit opening plan n h all.0 all.3, came_fits opening n (commands_of plan n) h all.1 all.4)
+few_events : (xs : List Entry) → length (events_in xs) ≤ length xs
+few_events [] = omega arith
+few_events (Made event ∷ xs) = omega (arith, few_events xs)
+few_events (Folded who count ∷ xs) = omega (arith, few_events xs)
 
-one_more : (opening : Opening) (plan : Plan) (n : ℕ) (h : List Event) (passed others its : ℕ) → passed ≡ others + its
-    → AllMade opening plan n h others ⊎ (WasFull opening h × (total (λ c. length (events_of c h)) n < commands_below plan n))
-    → total (λ c. length (events_of c h)) n ≤ commands_below plan n
-    → CameOf opening n (commands_of plan n) h its
-    → AllMade opening plan (suc n) h passed ⊎ (WasFull opening h × (total (λ c. length (events_of c h)) (suc n) < commands_below plan (suc n)))
-unfolding CameOf
-one_more opening plan n h passed others its is (inl made) fit (inl m) = inl (others, its, is, made, m)
-one_more opening plan n h passed others its is (inl made) fit (inr cut) =
-    inr (record { before = cut.before; begins = cut.begins; full = cut.full }, omega (arith, fit, cut.fewer))
-one_more opening plan n h passed others its is (inr short) fit (inl m) =
-    inr (short.0, omega (arith, short.1, made_fits opening n h [] [] (commands_of plan n) (events_of n h) its m))
-one_more opening plan n h passed others its is (inr short) fit (inr cut) = inr (short.0, omega (arith, short.1, cut.fewer))
+abbrev IsBelow : ℕ → Entry → Type 0
+IsBelow n e = number_of e < n
 
-made_or_full : (opening : Opening) (plan : Plan) (n : ℕ) (h : List Event) (passed : ℕ) → AllCameOf opening plan n h passed
-    → AllMade opening plan n h passed ⊎ (WasFull opening h × (total (λ c. length (events_of c h)) n < commands_below plan n))
-unfolding AllCameOf
-made_or_full opening plan zero h passed all = inl all
-made_or_full opening plan (suc n) h passed all =
-    one_more opening plan n h passed all.0 all.1 all.2 (made_or_full opening plan n h all.0 all.3) (all_fit opening plan n h all.0 all.3) all.4
+all_events : (n : ℕ) (xs : List Entry) → All (IsBelow n) xs → All (λ (e : Event). e.caller < n) (events_in xs)
+all_events n [] all = All-nil (λ (e : Event). e.caller < n)
+all_events n (Made event ∷ xs) all =
+    All-cons (λ (e : Event). e.caller < n) event (events_in xs) (All-head (IsBelow n) (Made event) xs all)
+    (all_events n xs (All-tail (IsBelow n) (Made event) xs all))
+all_events n (Folded caller count ∷ xs) all = all_events n xs (All-tail (IsBelow n) (Folded caller count) xs all)
 
-abbrev pub callers_of_plan : Plan → ℕ
-callers_of_plan plan = suc (suc (suc (suc (suc (senders plan)))))
+entries_past : (n caller : ℕ) (xs : List Entry) → n ≤ caller → All (IsBelow n) xs → entries_of caller xs ≡ []
+entries_past n caller [] past all = refl
+entries_past n caller (e ∷ xs) past all =
+    let below = All-head (IsBelow n) e xs all in
+    subst (λ (b : Bool). cond b (e ∷ entries_of caller xs) (entries_of caller xs) ≡ [])
+    (sym (not_within caller (caller + 1) (number_of e) (λ both. omega (arith, both.0, below, past))))
+    (entries_past n caller xs past (All-tail (IsBelow n) e xs all))
 
--- no caller of a sound plan was cut short
-pub all_made : (plan : Plan) (h : List Event) (passed : ℕ) → IsSound plan → All (λ (e : Event). e.caller < callers_of_plan plan) h
-    → AllCameOf (opening_of plan) plan (callers_of_plan plan) h passed → AllMade (opening_of plan) plan (callers_of_plan plan) h passed
-all_made plan h passed sound below all =
-    ⊎_elim (λ made. made)
-    (λ short.
-    let size : length short.0.before ≤ length h = omega (
-      arith,
-      ap (λ (l : List Event). length l) short.0.begins.1,
-      length-append short.0.before
-          short.0.begins.0,
-    ) in
-    absurd (omega (arith, short.1, short.0.full, size, counted h (callers_of_plan plan) below, no_more plan, sound.tail, sound.events)))
-    (made_or_full (opening_of plan) plan (callers_of_plan plan) h passed all)
+-- ---- what a caller's entries are
 
 -- a command that is no update is never too soon
+abbrev IsNoUpdate : Command → Type 0
+IsNoUpdate command = (before due : ℕ) → is_too_soon before due command ≡ false
+
 chain : (a b d : Bool) (due : ℕ) → ◌≡◌ {A = Option Refusal}
     (cond a (Some refusal.Moment) (cond b (Some refusal.Size) (cond d (Some refusal.Exhausted) None))) (Some (refusal.TooSoon due)) → ⊥
 chain true b d due e = cc e
@@ -238,207 +192,223 @@ chain false true d due e = cc e
 chain false false true due e = cc e
 chain false false false due e = cc e
 
-abbrev IsNoUpdate : Command → Type 0
-IsNoUpdate command = (before due : ℕ) → is_too_soon before due command ≡ false
-
-no_update_of : {A : Type 0} (xs : List A) (f : A → Command) → ((x : A) → IsNoUpdate (f x)) → All IsNoUpdate (map f xs)
-no_update_of [] f calm = All-nil IsNoUpdate
-no_update_of (x ∷ xs) f calm = All-cons IsNoUpdate (f x) (map f xs) (calm x) (no_update_of xs f calm)
-
 never_too_soon : (opening : Opening) (h : List Event) (command : Command) (due : ℕ) → IsNoUpdate command
     → refusal_by_rule opening h command ≡ Some (refusal.TooSoon due) → ⊥
 never_too_soon opening h command due calm e =
     let on_time = calm (effective_moment opening h) (due_after opening h) in
     chain (nat_lt last_moment (handed_in command)) (has_bad_size command) (length h == opening.limits.events) due (rw on_time at e)
 
-made_whole : (opening : Opening) (caller : ℕ) (h seen earlier : List Event) (commands : List Command) (later : List Event) (passed : ℕ)
-    → All IsNoUpdate commands
-    → AreMade opening caller h seen earlier commands later passed → (commands_in later ≡ commands) × (passed ≡ 0)
-made_whole opening caller h seen earlier [] later passed calm m = (ap commands_in m.0, m.1)
-made_whole opening caller h seen earlier (command ∷ commands) later passed calm (inl m) =
-    let rest = made_whole opening caller h (m.4.0 ++ m.0 ∷ []) (earlier ++ m.0 ∷ []) commands m.1 passed (All-tail IsNoUpdate command commands calm)
-    m.4.2 in
-    (ap commands_in m.2 ∙ (ap (λ c. c ∷ commands_in m.1) m.3 ∙ ap (λ cs. command ∷ cs) rest.0), rest.1)
-made_whole opening caller h seen earlier (command ∷ commands) later passed calm (inr m) =
-    absurd (never_too_soon opening m.0 command m.2.due (All-head IsNoUpdate command commands calm) m.2.refused)
+-- a caller that asks for commands has an event for each entry; and one for each command, where no command can be too soon
+record IsAsked (caller : ℕ) (earlier : List Entry) (commands : List Command) (h : List Entry) : Type 0 where
+  events : List Event
+  entries : entries_of caller h ≡ earlier ++ map Made events
+  all : All IsNoUpdate commands → commands_in events ≡ commands
+
+module _ (opening : Opening) (caller : ℕ) where
+  asked_entry : (front before : List Entry) (entry : Entry) (command : Command) (commands : List Command) (h : List Entry)
+      → HasNoMore caller front before → IsEntryOf caller (Ask command) entry
+      → IsAsked caller (entries_of caller (before ++ entry ∷ [])) commands h → IsAsked caller (entries_of caller front) (command ∷ commands) h
+  asked_entry front before (Made event) command commands h on is rest = record {
+    events = event ∷ rest.events;
+    entries = rest.entries ∙ (ap (λ (l : List Entry). l ++ map Made rest.events)
+        (own_entry opening caller before (Made event) is.0 ∙ ap (λ (l : List Entry). l ++ Made event ∷ []) on.1)
+        ∙ append_assoc (entries_of caller front) (Made event ∷ []) (map Made rest.events));
+    all = λ calm. ap (λ (c : Command). c ∷ commands_in rest.events) is.1
+        ∙ ap (λ (cs : List Command). command ∷ cs) (rest.all (All-tail IsNoUpdate command commands calm));
+  }
+  asked_entry front before (Folded who n) command commands h on is rest = absurd is
+
+  asked : (front : List Entry) (commands : List Command) (h : List Entry) (passed : ℕ) → AreMade opening caller front (map Ask commands) h passed
+      → IsAsked caller (entries_of caller front) commands h
+  asked front [] h passed m =
+      record { events = []; entries = m.0.1 ∙ sym (append-nil (entries_of caller front)); all = λ calm. refl }
+  asked front (command ∷ commands) h passed (inl m) =
+      asked_entry front m.0 m.1 command commands h m.2 m.3 (asked (m.0 ++ m.1 ∷ []) commands h passed m.4)
+  asked front (command ∷ commands) h passed (inr m) =
+      let rest = asked m.0 commands h m.1 m.5 in record {
+        events = rest.events;
+        entries = rest.entries ∙ ap (λ (l : List Entry). l ++ map Made rest.events) m.2.1;
+        all = λ calm. absurd (never_too_soon opening (events_in m.0) command m.3.due (All-head IsNoUpdate command commands calm) m.3.refused);
+      }
+
+  -- one that asks for folds has no event
+  no_event : (law : EntriesLookBack) (xs : List Entry) (n : ℕ) (entry : Entry) → IsEntryOf caller (Fold n) entry
+      → events_in (xs ++ entry ∷ []) ≡ events_in xs
+  no_event law xs n (Made event) is = absurd is
+  no_event law xs n (Folded who count) is = law.events xs (Folded who count ∷ []) ∙ append-nil (events_in xs)
+
+  folded : (law : EntriesLookBack) (front : List Entry) (folds : List ℕ) (h : List Entry) (passed : ℕ)
+      → AreMade opening caller front (map Fold folds) h passed → events_in (entries_of caller h) ≡ events_in (entries_of caller front)
+  folded law front [] h passed m = ap events_in m.0.1
+  folded law front (n ∷ folds) h passed (inl m) =
+      folded law (m.0 ++ m.1 ∷ []) folds h passed m.4
+      ∙ (ap events_in (own_entry opening caller m.0 m.1 (numbered opening caller (Fold n) m.1 m.3))
+      ∙ (no_event law (entries_of caller m.0) n m.1 m.3 ∙ ap events_in m.2.1))
+  folded law front (n ∷ folds) h passed (inr m) = folded law m.0 folds h m.1 m.5 ∙ ap events_in m.2.1
+
+made_events : (xs : List Event) → events_in (map Made xs) ≡ xs
+made_events [] = refl
+made_events (x ∷ xs) = ap (λ (es : List Event). x ∷ es) (made_events xs)
+
+made_all : (xs : List Event) → All IsMade (map Made xs)
+made_all [] = All-nil IsMade
+made_all (x ∷ xs) = All-cons IsMade (Made x) (map Made xs) tt (made_all xs)
+
+calm_of : {A : Type 0} (xs : List A) (f : A → Command) → ((x : A) → IsNoUpdate (f x)) → All IsNoUpdate (map f xs)
+calm_of [] f calm = All-nil IsNoUpdate
+calm_of (x ∷ xs) f calm = All-cons IsNoUpdate (f x) (map f xs) (calm x) (calm_of xs f calm)
 
 of_if : {A : Type 0} (P : A → Type 0) (b : Bool) (x y : A) → (b ≡ true → P x) → P y → P (if b then x else y)
 of_if P true x y p q = p refl
 of_if P false x y p q = q
 
-sent_no_update : (lists : List (Vec Arrival Global)) (k : ℕ) → All IsNoUpdate (sent lists k)
-sent_no_update [] k = All-nil IsNoUpdate
-sent_no_update (list ∷ lists) zero = no_update_of list.items arrive (λ x before due. refl)
-sent_no_update (list ∷ lists) (suc k) = sent_no_update lists k
+sent_calm : (lists : List (Vec Arrival Global)) (k : ℕ) → All IsNoUpdate (sent lists k)
+sent_calm [] k = All-nil IsNoUpdate
+sent_calm (list ∷ lists) zero = calm_of list.items arrive (λ x before due. refl)
+sent_calm (list ∷ lists) (suc k) = sent_calm lists k
 
 -- the caller of the updates alone has some
-no_updates : (plan : Plan) (caller : ℕ) → (caller ≡ senders plan + 2 → ⊥) → All IsNoUpdate (commands_of plan caller)
+calm : (plan : Plan) (caller : ℕ) → (caller ≡ updater plan → ⊥) → All IsNoUpdate (commands_of plan caller)
 unfolding commands_of
-no_updates plan caller other =
+calm plan caller other =
     let n = caller - senders plan in
     let F : List Command → Type 0 = All IsNoUpdate in
     of_either F (caller == 0) _ _ (All-nil IsNoUpdate)
-    (of_either F (nat_le caller (senders plan)) _ _ (sent_no_update plan.arrivals.items (caller - 1))
-    (of_either F (n == 1) _ _ (no_update_of plan.departs.items Depart (λ x before due. refl))
+    (of_either F (nat_le caller (senders plan)) _ _ (sent_calm plan.arrivals.items (caller - 1))
+    (of_either F (n == 1) _ _ (calm_of plan.departs.items Depart (λ x before due. refl))
     (of_if F (n == 2) _ _ (λ two. let is : n ≡ 2 = grind (arith, nat_tests, two) in absurd (other (omega (arith, is))))
-    (of_either F (n == 3) _ _ (no_update_of plan.changes.items change (λ x before due. refl)) (All-nil IsNoUpdate)))))
+    (of_either F (n == 3) _ _ (calm_of plan.changes.items change (λ x before due. refl)) (All-nil IsNoUpdate)))))
 
-made_below : (opening : Opening) (plan : Plan) (n caller : ℕ) (h : List Event) (passed : ℕ) → caller < n → AllMade opening plan n h passed
-    → (its : ℕ) × AreMade opening caller h [] [] (commands_of plan caller) (events_of caller h) its
-made_below opening plan zero caller h passed below all = absurd (omega arith)
-made_below opening plan (suc n) caller h passed below all =
-    dite (ℕ_discrete caller n)
-    (λ same. (all.1, subst (λ (c : ℕ). AreMade opening c h [] [] (commands_of plan c) (events_of c h) all.1) (sym same) all.4))
-    (λ other. made_below opening plan n caller h all.0 (omega (arith, other)) all.3)
+none_after : (plan : Plan) (n : ℕ) → 4 ≤ n → commands_after_senders plan n ≡ []
+none_after plan n over =
+    let one : (n == 1) ≡ false = grind (arith, nat_tests, over) in
+    let two : (n == 2) ≡ false = grind (arith, nat_tests, over) in
+    let three : (n == 3) ≡ false = grind (arith, nat_tests, over) in
+    rw (one, two, three) refl
 
--- the callers before that of the updates were never too soon
-none_before : (opening : Opening) (plan : Plan) (n : ℕ) (h : List Event) (passed : ℕ) → n ≤ senders plan + 2 → AllMade opening plan n h passed
-    → passed ≡ 0
-none_before opening plan zero h passed few all = all
-none_before opening plan (suc n) h passed few all =
-    let its = (made_whole opening n h [] [] (commands_of plan n) (events_of n h) all.1 (no_updates plan n (λ is. omega (arith, is, few))) all.4).1 in
-    omega (arith, all.2, none_before opening plan n h all.0 (omega arith) all.3, its)
-
-none_of : (opening : Opening) (plan : Plan) (caller : ℕ) (h : List Event) (its : ℕ) → (caller ≡ senders plan + 2 → ⊥)
-    → AreMade opening caller h [] [] (commands_of plan caller) (events_of caller h) its → its ≡ 0
-none_of opening plan caller h its other m = (made_whole opening caller h [] [] (commands_of plan caller) (events_of caller h) its
-    (no_updates plan caller other) m).1
-
--- all that were too soon are the updates
-updates_made : (opening : Opening) (plan : Plan) (h : List Event) (passed : ℕ) → AllMade opening plan (callers_of_plan plan) h passed
-    → AreMade opening (senders plan + 2) h [] [] (commands_of plan (senders plan + 2)) (events_of (senders plan + 2) h) passed
-updates_made opening plan h passed all =
-    let n = senders plan in
-    let folds = all.4 in
-    let rest = all.3 in
-    let changes = rest.4 in
-    let up = rest.3 in
-    let none_folds = none_of opening plan (suc (suc (suc (suc n)))) h all.1 (λ is. omega (arith, is)) folds in
-    let none_changes = none_of opening plan (suc (suc (suc n))) h rest.1 (λ is. omega (arith, is)) changes in
-    let none_first = none_before opening plan (suc (suc n)) h up.0 (omega arith) up.3 in
-    let is : up.1 ≡ passed = omega (arith, all.2, rest.2, up.2, none_folds, none_changes, none_first) in
-    let second : suc (suc n) ≡ n + 2 = omega arith in
-    subst (λ (c : ℕ). AreMade opening c h [] [] (commands_of plan c) (events_of c h) passed) second
-    (subst (λ (t : ℕ). AreMade opening (suc (suc n)) h [] [] (commands_of plan (suc (suc n))) (events_of (suc (suc n)) h) t) is up.4)
-
-whole_of : (opening : Opening) (plan : Plan) (caller : ℕ) (h : List Event) (passed : ℕ) → (caller ≡ senders plan + 2 → ⊥)
-    → caller < callers_of_plan plan
-    → AllMade opening plan (callers_of_plan plan) h passed → commands_in (events_of caller h) ≡ commands_of plan caller
-whole_of opening plan caller h passed other below all =
-    let m = made_below opening plan (callers_of_plan plan) caller h passed below all in
-    (made_whole opening caller h [] [] (commands_of plan caller) (events_of caller h) m.0 (no_updates plan caller other) m.1).0
-
-empty_of_commands : (xs : List Event) → commands_in xs ≡ [] → xs ≡ []
-empty_of_commands [] e = refl
-empty_of_commands (x ∷ xs) e = absurd (cc e)
-
-events_past : (n caller : ℕ) (xs : List Event) → n ≤ caller → All (λ (e : Event). e.caller < n) xs → events_of caller xs ≡ []
-events_past n caller [] past all = refl
-events_past n caller (e ∷ xs) past all =
-    let below = All-head (λ (x : Event). x.caller < n) e xs all in
-    subst (λ (b : Bool). cond b (e ∷ events_of caller xs) (events_of caller xs) ≡ [])
-    (sym (not_within caller (caller + 1) e.caller (λ both. omega (arith, both.0, below, past))))
-    (events_past n caller xs past (All-tail (λ (x : Event). x.caller < n) e xs all))
-
--- ---- the folds of a storm
-
--- each fold is by this caller
-abbrev pub OnlyBy : ℕ → Entry → Type 0
-OnlyBy number (Made event) = Unit {0}
-OnlyBy number (Folded caller n) = caller ≡ number
-
-rest_of : (b : Bool) (x : Entry) (xs : List Entry) → All IsMade (cond b (x ∷ xs) xs) → All IsMade xs
-rest_of true x xs all = All-tail IsMade x xs all
-rest_of false x xs all = all
-
-only_by : (number n : ℕ) (h : List Entry) → ((caller : ℕ) → caller < n → (caller ≡ number → ⊥) → All IsMade (entries_of caller h))
-    → All (λ (e : Entry). number_of e < n) h → All (OnlyBy number) h
-only_by number n [] none below = All-nil (OnlyBy number)
-only_by number n (Made event ∷ h) none below =
-    All-cons (OnlyBy number) (Made event) h tt
-    (only_by number n h (λ caller less other. rest_of (is_within caller (caller + 1) event.caller) (Made event) (entries_of caller h)
-    (none caller less other))
-    (All-tail (λ (e : Entry). number_of e < n) (Made event) h below))
-only_by number n (Folded who k ∷ h) none below =
-    All-cons (OnlyBy number) (Folded who k) h
-    (dite (ℕ_discrete who number)
-    (λ same. same)
-    (λ other.
-    let yes = within who (who + 1) who (omega arith) (omega arith) in
-    let made = none who (All-head (λ (e : Entry). number_of e < n) (Folded who k) h below) other in
-    absurd (All-head IsMade (Folded who k) (entries_of who h)
-    (subst (λ (b : Bool). All IsMade (cond b (Folded who k ∷ entries_of who h) (entries_of who h))) yes made))))
-    (only_by number n h (λ caller less other. rest_of (is_within caller (caller + 1) who) (Folded who k) (entries_of caller h)
-    (none caller less other))
-    (All-tail (λ (e : Entry). number_of e < n) (Folded who k) h below))
-
--- where one caller alone folds, what is handed to it is all that is handed out
-handed_by_one : (opening : Opening) (number : ℕ) (before h : List Entry) → All (OnlyBy number) h
-    → handed_to (is_number number) opening before h ≡ handed_to (λ caller. true) opening before h
-handed_by_one opening number before [] by = refl
-handed_by_one opening number before (Made event ∷ h) by = handed_by_one opening number (before ++ Made event ∷ []) h
-    (All-tail (OnlyBy number) (Made event) h by)
-handed_by_one opening number before (Folded who k ∷ h) by =
-    let is : is_number number who ≡ true = eq-eqb who number (All-head (OnlyBy number) (Folded who k) h by) in
-    let later = handed_by_one opening number (before ++ Folded who k ∷ []) h (All-tail (OnlyBy number) (Folded who k) h by) in
-    ap (λ (b : Bool). (if b then take k (tail_in opening before) else []) ++ handed_to (is_number number) opening (before ++ Folded who k ∷ []) h) is
-    ∙ ap (λ (es : List Event). take k (tail_in opening before) ++ es) later
-
-pub handed_all : (opening : Opening) (plan : Plan) (n : ℕ) (h : List Entry) → NoneElseFolds plan n h → All (λ (e : Entry). number_of e < n) h
-    → handed_to (is_number (folder plan)) opening [] h ≡ handed_out opening h
-unfolding NoneElseFolds
-handed_all opening plan n h none below = handed_by_one opening (folder plan) [] h (only_by (folder plan) n h none below)
-
-entries_past : (n caller : ℕ) (xs : List Entry) → n ≤ caller → All (λ (e : Entry). number_of e < n) xs → entries_of caller xs ≡ []
-entries_past n caller [] past all = refl
-entries_past n caller (e ∷ xs) past all =
-    let below = All-head (λ (x : Entry). number_of x < n) e xs all in
-    subst (λ (b : Bool). cond b (e ∷ entries_of caller xs) (entries_of caller xs) ≡ [])
-    (sym (not_within caller (caller + 1) (number_of e) (λ both. omega (arith, both.0, below, past))))
-    (entries_past n caller xs past (All-tail (λ (x : Entry). number_of x < n) e xs all))
-
-by_size : {A : Type 0} (k n : ℕ) (b : Bool) → nat_lt k n ≡ b → (k < n → A) → (n ≤ k → A) → A
-by_size k n true is less past = less (grind (arith, nat_tests, is))
-by_size k n false is less past = past (grind (arith, nat_tests, is))
-
-none_past : (plan : Plan) (h : List Entry) → All (λ (e : Entry). number_of e < callers_of_plan plan) h → NoneElseFolds plan (callers_of_plan plan) h
-    → (caller : ℕ) → (caller ≡ folder plan → ⊥) → All IsMade (entries_of caller h)
-unfolding NoneElseFolds
-none_past plan h below none caller other =
-    by_size caller (callers_of_plan plan) (nat_lt caller (callers_of_plan plan)) refl
-    (λ less. none caller less other)
-    (λ past. subst (λ (es : List Entry). All IsMade es) (sym (entries_past (callers_of_plan plan) caller h past below)) (All-nil IsMade))
-
--- the history of a storm is what its plan asks for
-pub is_storm : (plan : Plan) (h : List Entry) (passed many : ℕ) → IsSound plan → All (λ (e : Entry). number_of e < callers_of_plan plan) h
-    → AllCameOf (opening_of plan) plan (callers_of_plan plan) (events_in h) passed
-    → AreFolded (opening_of plan) (folder plan) h [] [] plan.folds.items (entries_of (folder plan) h) many
-    → NoneElseFolds plan (callers_of_plan plan) h → IsStorm plan (events_in h) passed many
+no_commands : (plan : Plan) (caller : ℕ) → (caller ≡ 0) ⊎ (senders plan + 3 < caller) → commands_of plan caller ≡ []
 unfolding commands_of
-is_storm plan entries passed many sound below_all came folds none =
-    let opening = opening_of plan in
-    let n = senders plan in
-    let h = events_in entries in
-    let below = all-events (callers_of_plan plan) entries below_all in
-    let all = all_made plan h passed sound below came in
-    let whole : (caller : ℕ) → (caller ≡ senders plan + 2 → ⊥) → caller < callers_of_plan plan
-    → commands_in (events_of caller h) ≡ commands_of plan caller =
-    λ caller other few. whole_of opening plan caller h passed other few all in record {
-      arrivals = λ sender some. whole (sender + 1) (λ is. omega (arith, is, some)) (omega (arith, some)) ∙ of_sender plan sender some;
-      departures = whole (n + 1) (λ is. omega (arith, is)) (omega arith) ∙ after_senders plan 1 (omega arith);
-      changes = whole (n + 3) (λ is. omega (arith, is)) (omega arith) ∙ after_senders plan 3 (omega arith);
-      updates = subst (λ (cs : List Command). AreMade opening (n + 2) h [] [] cs (events_of (n + 2) h) passed) (after_senders plan 2 (omega arith))
-          (updates_made opening plan h passed all);
-      history = entries;
-      of_history = refl;
-      folds = folds;
-      no_other_folds = none_past plan entries below_all none;
-      no_others = λ caller out. ⊎_elim
-          (λ starter. empty_of_commands (events_of caller h) (subst (λ (c : ℕ). commands_in (events_of c h) ≡ []) (sym starter)
-          (whole 0 (λ is. omega (arith, is)) (omega arith))))
-          (λ past. dite (ℕ_discrete caller (n + 4))
-          (λ folder. empty_of_commands (events_of caller h) (subst (λ (c : ℕ). commands_in (events_of c h) ≡ []) (sym folder)
-          (whole (n + 4) (λ is. omega (arith, is)) (omega arith) ∙ after_senders plan 4 (omega arith))))
-          (λ other. events_past (callers_of_plan plan) caller h (omega (arith, past, other)) below))
-          out;
-    }
+no_commands plan caller (inl first) = subst (λ (c : ℕ). commands_of plan c ≡ []) (sym first) refl
+no_commands plan caller (inr past) =
+    let n = caller - senders plan in
+    let is : senders plan + n ≡ caller = omega (arith, past) in
+    ap (λ (c : ℕ). commands_of plan c) (sym is) ∙ (after_senders plan n (omega (arith, past)) ∙ none_after plan n (omega (arith, past)))
+
+-- ---- a whole storm
+
+module _ (law : EntriesLookBack) (plan : Plan) (h : List Entry) (sound : IsSound plan) (below : All (IsBelow (callers_of_plan plan)) h)
+    (came : (caller : ℕ) → caller < callers_of_plan plan → (passed : ℕ) × CameOf plan caller h passed) where
+  abbrev events : ℕ → List Event
+  events caller = events_of caller (events_in h)
+
+  few_of : (caller passed : ℕ) → CameOf plan caller h passed → length (events caller) ≤ length (commands_of plan caller)
+  unfolding CameOf
+  few_of caller passed (inl made) =
+      dite (ℕ_discrete caller (folder plan))
+      (λ is.
+      let folds = subst (λ (calls : List Call). AreMade (opening_of plan) caller [] calls h passed)
+      (ap (λ (c : ℕ). calls_of plan c) is ∙ folder_calls plan) made in
+      let none : length (events caller) ≡ 0 = ap (λ (l : List Event). length l)
+      (own_events caller h ∙ folded (opening_of plan) caller law [] plan.folds.items h passed folds) in
+      omega (arith, none))
+      (λ other.
+      let its = subst (λ (calls : List Call). AreMade (opening_of plan) caller [] calls h passed) (other_calls plan caller other) made in
+      omega (
+        arith,
+        few_made (opening_of plan) caller [] (map Ask (commands_of plan caller)) h passed its,
+        length-map (commands_of plan caller) Ask,
+        ap (λ (l : List Event). length l) (own_events caller h),
+        few_events (entries_of caller h),
+      ))
+  few_of caller passed (inr cut) =
+      omega (arith, cut.fewer, ap (λ (l : List Event). length l) (own_events caller h), few_events (entries_of caller h))
+
+  -- no caller was cut short
+  never_cut : (caller : ℕ) → caller < callers_of_plan plan → IsCutShort (opening_of plan) caller (commands_of plan caller) h → ⊥
+  never_cut caller less cut =
+      let fewer : length (events caller) < length (commands_of plan caller) =
+      omega (arith, cut.fewer, ap (λ (l : List Event). length l) (own_events caller h), few_events (entries_of caller h)) in
+      let all = total_fewer (λ c. length (events c)) (λ c. length (commands_of plan c)) (callers_of_plan plan) caller
+      (λ c lower. few_of c (came c lower).0 (came c lower).1) less fewer in
+      omega (
+        arith,
+        all,
+        cut.full,
+        counted (callers_of_plan plan) (events_in h) (all_events (callers_of_plan plan) h below),
+        no_more plan,
+        sound.tail,
+        sound.events,
+        ap (λ (l : List Entry). length (events_in l)) cut.begins.1,
+        ap (λ (l : List Event). length l) (law.events cut.before cut.begins.0),
+        length-append (events_in cut.before) (events_in cut.begins.0),
+      )
+
+  all_made : (caller passed : ℕ) → caller < callers_of_plan plan → CameOf plan caller h passed
+      → AreMade (opening_of plan) caller [] (calls_of plan caller) h passed
+  unfolding CameOf
+  all_made caller passed less (inl made) = made
+  all_made caller passed less (inr cut) = absurd (never_cut caller less cut)
+
+  -- each caller but the one that folds has events alone: those of its commands, but for updates
+  record HasEvents (caller : ℕ) : Type 0 where
+    made : List Event
+    entries : entries_of caller h ≡ map Made made
+    all : (caller ≡ updater plan → ⊥) → commands_in made ≡ commands_of plan caller
+
+  has_events : (caller : ℕ) → (caller ≡ folder plan → ⊥) → HasEvents caller
+  has_events caller other = by_size (nat_le (callers_of_plan plan) caller) refl
+    where
+      by_size : (b : Bool) → nat_le (callers_of_plan plan) caller ≡ b → HasEvents caller
+      by_size true past =
+          let over : callers_of_plan plan ≤ caller = grind (arith, nat_tests, past) in record {
+            made = [];
+            entries = entries_past (callers_of_plan plan) caller h over below;
+            all = λ calm. sym (no_commands plan caller (inr (omega (arith, over))));
+          }
+      by_size false less =
+          let lower : caller < callers_of_plan plan = grind (arith, nat_tests, less) in
+          let c = came caller lower in
+          let made = subst (λ (calls : List Call). AreMade (opening_of plan) caller [] calls h c.0) (other_calls plan caller other)
+          (all_made caller c.0 lower c.1) in
+          let its = asked (opening_of plan) caller [] (commands_of plan caller) h c.0 made in
+          record { made = its.events; entries = its.entries; all = λ no_updates. its.all (calm plan caller no_updates) }
+
+  commands_made : (caller : ℕ) → (caller ≡ folder plan → ⊥) → (caller ≡ updater plan → ⊥) → commands_in (events caller) ≡ commands_of plan caller
+  commands_made caller no_folds no_updates =
+      let its = has_events caller no_folds in
+      ap (λ (es : List Event). commands_in es) (own_events caller h ∙ (ap events_in its.entries ∙ made_events its.made)) ∙ its.all no_updates
+
+  -- no caller has folds but the one that makes them
+  pub other_made : (caller : ℕ) → (caller ≡ folder plan → ⊥) → All IsMade (entries_of caller h)
+  other_made caller other = let its = has_events caller other in subst (All IsMade) (sym its.entries) (made_all its.made)
+
+  empty_of_commands : (xs : List Event) → commands_in xs ≡ [] → xs ≡ []
+  empty_of_commands [] e = refl
+  empty_of_commands (x ∷ xs) e = absurd (cc e)
+
+  -- the history of a storm is what its plan asks for
+  pub is_storm : (too_soon too_many : ℕ) → CameOf plan (updater plan) h too_soon → CameOf plan (folder plan) h too_many
+      → IsStorm plan (events_in h) too_soon too_many
+  unfolding commands_of
+  is_storm too_soon too_many updates folds =
+      let n = senders plan in
+      let whole : (caller : ℕ) → (caller ≡ folder plan → ⊥) → (caller ≡ updater plan → ⊥) → commands_in (events caller)
+      ≡ commands_of plan caller = commands_made in
+      let made_folds = subst (λ (calls : List Call). AreMade (opening_of plan) (folder plan) [] calls h too_many) (folder_calls plan)
+      (all_made (folder plan) too_many (omega arith) folds) in record {
+        arrivals = λ sender some. whole (sender + 1) (λ is. omega (arith, is, some)) (λ is. omega (arith, is, some)) ∙ of_sender plan sender some;
+        departures = whole (n + 1) (λ is. omega (arith, is)) (λ is. omega (arith, is)) ∙ after_senders plan 1 (omega arith);
+        changes = whole (n + 3) (λ is. omega (arith, is)) (λ is. omega (arith, is)) ∙ after_senders plan 3 (omega arith);
+        history = h;
+        of_history = refl;
+        updates = subst (λ (calls : List Call). AreMade (opening_of plan) (updater plan) [] calls h too_soon)
+            (other_calls plan (updater plan) (λ is. omega (arith, is)) ∙ ap (λ (cs : List Command). map Ask cs) (after_senders plan 2 (omega arith)))
+            (all_made (updater plan) too_soon (omega arith) updates);
+        folds = made_folds;
+        no_others = λ caller out. dite (ℕ_discrete caller (folder plan))
+            (λ is. own_events caller h ∙ subst (λ (c : ℕ). events_in (entries_of c h) ≡ []) (sym is)
+            (folded (opening_of plan) (folder plan) law [] plan.folds.items h too_many made_folds))
+            (λ other. empty_of_commands (events caller) (whole caller other (λ is. ⊎_elim (λ z. omega (arith, z, is)) (λ l. omega (arith, l, is)) out)
+            ∙ no_commands plan caller out));
+        no_other_folds = other_made;
+      }

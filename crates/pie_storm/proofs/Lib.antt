@@ -1,9 +1,7 @@
-mod OwnEvents
 mod PlanCommands
-mod Working
-mod FoldsMade
+mod Handing
+mod Making
 mod Bursting
-mod Turns
 mod Gathering
 mod Counting
 mod Closing

@@ -1,19 +1,21 @@
--- What a sound plan says of the commands of its callers.
-use Rattle.std.proofs.Common.{◌≡◌, ℕ, zero, suc, ◌+◌, ◌-◌, ◌==◌, ◌≤◌, nat_le, Bool, true, false, List, [], ◌∷◌, Some, Vec, map, length, slice_get}
-use Rattle.std.proofs.Common.{◌∙◌, ap, drop, refl, subst, sym, take, arith}
+-- What a sound plan says of the calls of its callers.
+use Rattle.std.proofs.Common.{◌≡◌, ℕ, zero, suc, ◌+◌, ◌-◌, ◌==◌, ◌<◌, ◌≤◌, nat_le, Bool, true, false, List, [], ◌∷◌, Some, Vec, map, length, slice_get}
+use Rattle.std.proofs.Common.{◌∙◌, ap, drop, refl, subst, sym, take, arith, eq-eqb}
 use Rattle.std.specs.Prelude.{if◌then◌else◌}
-use Rattle.std.specs.List.{All}
+use Rattle.std.specs.List.{All, drop-map, take-map}
 use Rattle.std.specs.declared.alloc.Global.{Global}
-use Rattle.std.proofs.lemmas.List.{length-map}
+use Rattle.std.proofs.lemmas.Bool.{false_from_ne_true}
 use Rattle.std.proofs.lemmas.Bool.Decides.{nat_tests}
 use Rattle.std.proofs.lemmas.List.Elements.{All-nil, All-cons, All-head, All-tail}
 use Rattle.pie_event.specs.declared.command.Command.{Command}
 use Rattle.pie_event.specs.declared.command.Command.TheVariants.{Depart, Update}
 use Rattle.pie_kept.specs.declared.arrival.Arrival.{Arrival}
 use Rattle.pie_kept.specs.Bursts.{arrive}
+use Rattle.pie_storm.specs.declared.plan.Call.{Call}
+use Rattle.pie_storm.specs.declared.plan.Call.TheVariants.{Ask, Fold}
 use Rattle.pie_storm.specs.declared.plan.Change.{Change}
 use Rattle.pie_storm.specs.declared.plan.Plan.{Plan}
-use Rattle.pie_storm.specs.Plans.{senders, sent, change, commands_of, count_of, planned, IsMoment, IsSoundArrival, IsFair, IsSound}
+use Rattle.pie_storm.specs.Plans.{IsMoment, IsSoundArrival, IsFair, IsSound, calls_of, change, commands_after_senders, commands_of, folder, senders, sent}
 
 -- what holds of both branches holds
 pub of_either : {A : Type 0} (P : A → Type 0) (b : Bool) (x y : A) → P x → P y → P (if b then x else y)
@@ -57,48 +59,68 @@ pub fair_at : (plan : Plan) → IsSound plan → (caller k : ℕ) (command : Com
     → IsFair command
 fair_at plan sound caller k command at = all_at IsFair (commands_of plan caller) k command (all_fair plan sound caller) at
 
-sent_fits : (lists : List (Vec Arrival Global)) (k : ℕ) → length (sent lists k) ≤ count_of lists
-sent_fits [] k = omega arith
-sent_fits (list ∷ lists) zero = omega (arith, length-map list.items arrive)
-sent_fits (list ∷ lists) (suc k) = omega (arith, sent_fits lists k)
+-- ---- which caller asks what
 
--- a caller has no more commands than there are in all
-pub fits : (plan : Plan) (caller : ℕ) → length (commands_of plan caller) ≤ planned plan
+ask_at : (commands : List Command) (k : ℕ) (command : Command) → slice_get (map Ask commands) k ≡ Some (Ask command)
+    → slice_get commands k ≡ Some command
+ask_at [] k command e = absurd (cc e)
+ask_at (first ∷ commands) zero command e = cc e
+ask_at (first ∷ commands) (suc k) command e = ask_at commands k command e
+
+no_ask_at : (folds : List ℕ) (k : ℕ) (command : Command) → slice_get (map Fold folds) k ≡ Some (Ask command) → ⊥
+no_ask_at [] k command e = cc e
+no_ask_at (n ∷ folds) zero command e = cc e
+no_ask_at (n ∷ folds) (suc k) command e = no_ask_at folds k command e
+
+-- a command that a caller asks for is one of its commands
+pub command_at : (plan : Plan) (caller k : ℕ) (command : Command) → slice_get (calls_of plan caller) k ≡ Some (Ask command)
+    → slice_get (commands_of plan caller) k ≡ Some command
+unfolding calls_of
+command_at plan caller k command at = one_of (caller == folder plan) at
+  where
+    one_of : (b : Bool) → slice_get (if b then map Fold plan.folds.items else map Ask (commands_of plan caller)) k ≡ Some (Ask command)
+        → slice_get (commands_of plan caller) k ≡ Some command
+    one_of true e = absurd (no_ask_at plan.folds.items k command e)
+    one_of false e = ask_at (commands_of plan caller) k command e
+
+pub folder_calls : (plan : Plan) → calls_of plan (folder plan) ≡ map Fold plan.folds.items
+unfolding calls_of
+folder_calls plan = let yes : (folder plan == folder plan) ≡ true = eq-eqb (folder plan) (folder plan) refl in rw yes refl
+
+pub other_calls : (plan : Plan) (caller : ℕ) → (caller ≡ folder plan → ⊥) → calls_of plan caller ≡ map Ask (commands_of plan caller)
+unfolding calls_of
+other_calls plan caller other =
+    let no = false_from_ne_true (caller == folder plan) (λ yes. other (grind (arith, nat_tests, yes))) in
+    rw no refl
+
+pub folder_asks_nothing : (plan : Plan) (caller k : ℕ) (command : Command) → caller ≡ folder plan
+    → slice_get (calls_of plan caller) k ≡ Some (Ask command) → ⊥
+folder_asks_nothing plan caller k command is at =
+    no_ask_at plan.folds.items k command
+    (sym (ap (λ (cs : List Call). slice_get cs k) (ap (λ (n : ℕ). calls_of plan n) is ∙ folder_calls plan)) ∙ at)
+
+pub of_sender : (plan : Plan) (k : ℕ) → k < senders plan → commands_of plan (k + 1) ≡ sent plan.arrivals.items k
 unfolding commands_of
-fits plan caller =
-    let n = caller - senders plan in
-    let F : List Command → Type 0 = λ cs. length cs ≤ planned plan in
-    of_either F (caller == 0) _ _ (omega arith)
-    (of_either F (nat_le caller (senders plan)) _ _ (omega (arith, sent_fits plan.arrivals.items (caller - 1)))
-    (of_either F (n == 1) _ _ (omega (arith, length-map plan.departs.items Depart))
-    (of_either F (n == 2) _ _ (omega (arith, length-map plan.updates.items Update))
-    (of_either F (n == 3) _ _ (omega (arith, length-map plan.changes.items change)) (omega arith)))))
+of_sender plan k below =
+    let not_first : (k + 1 == 0) ≡ false = grind (arith, nat_tests) in
+    let sends : nat_le (k + 1) (senders plan) ≡ true = grind (arith, nat_tests, below) in
+    let which : k + 1 - 1 ≡ k = omega arith in
+    rw (not_first, sends, which) refl
 
--- the caller that makes the folds has no commands
-pub folder_has_none : (plan : Plan) (caller : ℕ) → caller ≡ senders plan + 4 → commands_of plan caller ≡ []
+pub after_senders : (plan : Plan) (n : ℕ) → 1 ≤ n → commands_of plan (senders plan + n) ≡ commands_after_senders plan n
 unfolding commands_of
-folder_has_none plan caller is =
-    let not_first : (caller == 0) ≡ false = grind (arith, nat_tests, is) in
-    let no_sender : nat_le caller (senders plan) ≡ false = grind (arith, nat_tests, is) in
-    let fourth : caller - senders plan ≡ 4 = omega (arith, is) in
-    rw (not_first, no_sender, fourth) refl
-
-take_map : {A B : Type 0} (f : A → B) (n : ℕ) (xs : List A) → take n (map f xs) ≡ map f (take n xs)
-take_map f zero xs = refl
-take_map f (suc n) [] = refl
-take_map f (suc n) (x ∷ xs) = ap (λ l. f x ∷ l) (take_map f n xs)
-
-drop_map : {A B : Type 0} (f : A → B) (k : ℕ) (xs : List A) → drop k (map f xs) ≡ map f (drop k xs)
-drop_map f zero xs = refl
-drop_map f (suc k) [] = refl
-drop_map f (suc k) (x ∷ xs) = drop_map f k xs
+after_senders plan n some =
+    let not_first : (senders plan + n == 0) ≡ false = grind (arith, nat_tests, some) in
+    let no_sender : nat_le (senders plan + n) (senders plan) ≡ false = grind (arith, nat_tests, some) in
+    let which : senders plan + n - senders plan ≡ n = omega arith in
+    rw (not_first, no_sender, which) refl
 
 -- a part of a sender's list has the commands of that part
 pub part_of : (k n : ℕ) (list part : List Arrival) (commands : List Command) → commands ≡ map arrive list → part ≡ take n (drop k list)
     → map arrive part ≡ take n (drop k commands)
 part_of k n list part commands has is =
-    ap (λ (l : List Arrival). map arrive l) is ∙ sym (take_map arrive n (drop k list))
-    ∙ ap (λ (l : List Command). take n l) (sym (drop_map arrive k list)) ∙ ap (λ (l : List Command). take n (drop k l)) (sym has)
+    ap (λ (l : List Arrival). map arrive l) is ∙ sym (take-map arrive n (drop k list))
+    ∙ ap (λ (l : List Command). take n l) (sym (drop-map arrive k list)) ∙ ap (λ (l : List Command). take n (drop k l)) (sym has)
 
 -- a sender's commands are those of its list
 pub sender_has : (plan : Plan) (caller : ℕ) (list : Vec Arrival Global) → 1 ≤ caller → caller ≤ senders plan

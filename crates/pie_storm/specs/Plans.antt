@@ -11,6 +11,8 @@ use Rattle.pie_event.specs.Deed.{handed_in}
 use Rattle.pie_book.specs.Decision.{has_bad_size}
 use Rattle.pie_kept.specs.declared.arrival.Arrival.{Arrival}
 use Rattle.pie_kept.specs.Bursts.{arrive}
+use Rattle.pie_storm.specs.declared.plan.Call.{Call}
+use Rattle.pie_storm.specs.declared.plan.Call.TheVariants.{Ask, Fold}
 use Rattle.pie_storm.specs.declared.plan.Change.{Change}
 use Rattle.pie_storm.specs.declared.plan.Plan.{Plan}
 
@@ -55,6 +57,17 @@ commands_of plan caller =
     if caller == 0 then []
     else if nat_le caller (senders plan) then sent plan.arrivals.items (caller - 1)
     else commands_after_senders plan (caller - senders plan)
+
+-- the caller that makes the updates, and the one that makes the folds
+abbrev pub updater : Plan → ℕ
+updater plan = senders plan + 2
+
+abbrev pub folder : Plan → ℕ
+folder plan = senders plan + 4
+
+-- what a caller asks the link for, in order: one for the folds, and another for its commands
+unfoldable pub calls_of : Plan → ℕ → List Call
+calls_of plan caller = if caller == folder plan then map Fold plan.folds.items else map Ask (commands_of plan caller)
 
 -- how many commands a caller makes in one turn at the link: a sender those of a burst
 abbrev pub turn_of : Plan → ℕ → ℕ

@@ -22,7 +22,7 @@ pub use ending::{StormEnd, StormFault};
 pub use gate::{Gate, NoGate};
 pub use numbers::StormNumbers;
 pub use pie_link::Arrival;
-pub use plan::{Change, LONGEST_BURST, Plan};
+pub use plan::{Call, Change, LONGEST_BURST, Plan};
 pub use planning::storm_plan;
 pub use starter::storm;
 pub use storming::{MadeStorm, make_storm, write_storm};

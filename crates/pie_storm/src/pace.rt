@@ -1,7 +1,7 @@
 //! The pace of a storm: its callers start together, and none runs far ahead of another.
 
 use crate::gate::Gate;
-use crate::plan::Plan;
+use crate::plan::{Call, Plan};
 use std::io;
 use std::sync::atomic::{AtomicBool, AtomicU64, Ordering};
 use std::thread::{sleep, yield_now};
@@ -69,45 +69,21 @@ impl<'a, C: Clock> Pace<'a, C> {
         pace
     }
 
-    /// The moment of a call of a caller in the plan, both counted from 1; `GONE` after its last. A sender's call is a burst.
+    /// The moment of a call of a caller in the plan, both counted from 1; `GONE` after its last. A sender's call is a burst; the folds are spread
+    /// evenly over the time until the last update.
     fn moment(&self, caller: u16, call: u64) -> u64 {
-        let Ok(place) = usize::try_from(call.wrapping_sub(1)) else {
-            return GONE;
-        };
-        let caller = usize::from(caller).wrapping_sub(1);
-        let moment = match self.plan.arrivals.get(caller) {
-            Some(arrivals) => {
-                let first = place.saturating_mul(usize::from(self.plan.burst));
-                arrivals.get(first).map(|arrival| arrival.moment)
+        let place = call.wrapping_sub(1);
+        let first = place.saturating_mul(self.plan.turn(caller) as u64) as usize;
+        match self.plan.call(caller, first) {
+            Some(Call::Ask(command)) => command.moment().max(1),
+            Some(Call::Fold(_)) => {
+                let folds = (self.plan.folds.len() as u64).max(1);
+                let last = self.plan.updates.last().copied().unwrap_or(0);
+                (last / folds)
+                    .saturating_mul(place.saturating_add(1))
+                    .max(1)
             }
-            None => self.moment_beside(caller.saturating_sub(self.plan.arrivals.len()), place),
-        };
-        match moment {
-            Some(moment) => moment.max(1),
             None => GONE,
-        }
-    }
-
-    /// The moment of a call of the caller that comes so many after the last sender, both counted from 0.
-    fn moment_beside(&self, after: usize, place: usize) -> Option<u64> {
-        match after {
-            0 => self.plan.departs.get(place).copied(),
-            1 => self.plan.updates.get(place).copied(),
-            2 => self.plan.changes.get(place).map(|change| change.moment),
-            3 => self.moment_of_fold(place),
-            _ => None,
-        }
-    }
-
-    /// The moment of a fold, counted from 0: the folds are spread evenly over the time until the last update.
-    fn moment_of_fold(&self, place: usize) -> Option<u64> {
-        let folds = self.plan.folds.len() as u64;
-        let place = place as u64;
-        let last = self.plan.updates.last().copied().unwrap_or(0);
-        if place < folds {
-            Some((last / folds).saturating_mul(place.saturating_add(1)))
-        } else {
-            None
         }
     }
 

@@ -1,9 +1,10 @@
 //! What a storm is asked to do.
 ghost use Rattle.std.specs.Prelude.{◌≡◌, ◌≤◌, ◌^◌, ◌-◌, ◌↔◌, IsTrue, All, Option, drop, length, map, min, slice_get, take, ◌+◌};
 ghost use Rattle.pie_kept.specs.Bursts.{arrive};
-ghost use Rattle.pie_storm.specs.Plans.{IsMoment, IsSoundArrival, IsSound, change, commands_of, count_of, opening_of, planned, turn_of};
-ghost use Rattle.pie_storm.specs.Plans.{senders};
+ghost use Rattle.pie_storm.specs.Plans.{IsMoment, IsSoundArrival, IsSound, calls_of, change, commands_of, count_of, opening_of, planned, senders};
+ghost use Rattle.pie_storm.specs.Plans.{turn_of};
 ghost use Rattle.pie_event.specs.declared.command.Command.TheVariants.{Depart, Update};
+ghost use Rattle.pie_storm.specs.declared.plan.Call.TheVariants.{Ask, Fold};
 
 use pie_book::{Choices, Command, Elements, Limits, Mode, Opening, Profile};
 use pie_fixed::MAX_NANOS;
@@ -21,6 +22,15 @@ pub struct Change {
     pub moment: u64,
     /// The new parameters.
     pub params: Params,
+}
+
+/// What a caller of a storm asks the link for (this project's own).
+#[derive(Clone, Copy, Debug)]
+pub enum Call {
+    /// A command.
+    Ask(Command),
+    /// A fold of so many events.
+    Fold(u64),
 }
 
 /// What each worker of a storm does, call by call (this project's own). Moments are nanoseconds, at most `2^60 - 1`, and
@@ -143,9 +153,21 @@ impl Plan {
         }
     }
 
-    /// How many commands a caller has to make.
+    /// How many calls a caller has to make.
+    #[tactic(auto, unfolding(crate::specs::Plans::calls_of))]
+    pub(crate) fn calls(&self, caller: u16) -> usize
+        ensures { result ≡ length (calls_of self.now caller) }
+    {
+        if usize::from(caller) == self.arrivals.len() + 4 {
+            self.folds.len()
+        } else {
+            self.commands(caller)
+        }
+    }
+
+    // How many commands a caller has to make.
     #[tactic(auto, unfolding(crate::specs::Plans::commands_of))]
-    pub(crate) fn commands(&self, caller: u16) -> usize
+    fn commands(&self, caller: u16) -> usize
         ensures { result ≡ length (commands_of self.now caller) }
     {
         let senders = self.arrivals.len();
@@ -189,9 +211,23 @@ impl Plan {
         part(self.arrivals[usize::from(caller) - 1].as_slice(), k, count)
     }
 
-    /// The command that a caller makes after `k` others.
+    /// The call that a caller makes after `k` others.
+    #[tactic(auto, unfolding(crate::specs::Plans::calls_of))]
+    pub(crate) fn call(&self, caller: u16, k: usize) -> Option<Call>
+        ensures { result ≡ slice_get (calls_of self.now caller) k }
+    {
+        if usize::from(caller) == self.arrivals.len() + 4 {
+            let n = *self.folds.as_slice().get(k)?;
+            Some(Call::Fold(n))
+        } else {
+            let command = self.command(caller, k)?;
+            Some(Call::Ask(command))
+        }
+    }
+
+    // The command that a caller makes after `k` others.
     #[tactic(auto, unfolding(crate::specs::Plans::commands_of))]
-    pub(crate) fn command(&self, caller: u16, k: usize) -> Option<Command>
+    fn command(&self, caller: u16, k: usize) -> Option<Command>
         ensures { result ≡ slice_get (commands_of self.now caller) k }
     {
         let senders = self.arrivals.len();

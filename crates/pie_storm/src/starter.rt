@@ -3,15 +3,14 @@ ghost use Rattle.std.specs.Prelude.{vec_capacity, ◌≡◌, ◌+◌, ◌*◌, �
 ghost use denote.Param.Send.{IsSync};
 ghost use Rattle.pie_event.specs.declared.command.Event.{Event};
 ghost use Rattle.pie_book.specs.Book.{Tells};
-ghost use Rattle.pie_book.specs.Decision.{IsLegal};
 ghost use Rattle.pie_book.specs.Registers.{registers_after};
 ghost use Rattle.pie_book.specs.Statistics.{stats_after};
 ghost use Rattle.pie_storm.specs.declared.plan.Plan.{Plan};
 ghost use Rattle.pie_kept.specs.Entries.{number_of};
 ghost use Rattle.pie_link.specs.declared.refusal.LinkRefusal.{LinkRefusal};
 ghost use Rattle.pie_link.specs.Opening.{IsRefusedFor, link_refusal};
-ghost use Rattle.pie_storm.specs.Plans.{IsSound, opening_of, planned, senders, turn_of};
-ghost use Rattle.pie_storm.specs.Storms.{Begins, IsEndOf, IsStorm, IsWorkBelow, IsWorkOf};
+ghost use Rattle.pie_storm.specs.Plans.{IsSound, opening_of, senders, turn_of, updater};
+ghost use Rattle.pie_storm.specs.Storms.{Begins, IsEndOf, IsFor, IsWell, IsWorkBelow, IsWorkOf};
 ghost use Rattle.pie_lock.specs.Promises.{IsBothOf, first_pass};
 
 use crate::ending::{StormEnd, StormFault};
@@ -127,6 +126,7 @@ fn work_in<'s, E: 's, R: Threads + Wait + Sync, G: Gate + Sync>(
         Err(_) => {
             return Ok(Work {
                 caller: rest,
+                passed: 0,
                 too_soon: 0,
                 folding: Folding::none(alloc),
             });
@@ -142,7 +142,7 @@ fn work_in<'s, E: 's, R: Threads + Wait + Sync, G: Gate + Sync>(
     let others = work_in(scope, rt, alloc, link, plan, gate, rest);
     let theirs = worker.join(rt);
     match others {
-        Ok(others) => Ok(both(link, others, theirs)),
+        Ok(others) => Ok(both(link, plan, others, theirs)),
         Err(why) => {
             drop(theirs);
             Err(why)
@@ -186,18 +186,34 @@ fn gathered(link: &Link, caller: Caller, last: Caller) -> Caller
     both
 }
 
+// How many updates were too soon, once the caller with this number has made its calls.
+fn too_soon(plan: &Plan, number: u16, passed: u64, before: u64) -> u64
+    ensures its { number ≡ updater plan.now → result ≡ passed }
+    ensures another { (number ≡ updater plan.now → ⊥) → result ≡ before }
+{
+    if usize::from(number) == plan.arrivals.len() + 2 {
+        passed
+    } else {
+        before
+    }
+}
+
 // Gathers a worker's caller to those before it, with what both did.
-fn both(link: &Link, work: Work, last: Work) -> Work
+fn both(link: &Link, plan: &Plan, work: Work, last: Work) -> Work
     requires own { (work.caller.lock ≡ link.now) × (last.caller.lock ≡ link.now) }
     requires beside { last.caller.first ≡ work.caller.limit }
-    requires few { (work.too_soon ≤ work.caller.limit * 2 ^ 20) × (last.too_soon ≤ 2 ^ 20) }
-    ensures { (plan : Plan) (n : ℕ) → IsWorkBelow link.now plan n work → IsWorkOf link.now plan n last → IsWorkBelow link.now plan (n + 1) result }
+    ensures { (n : ℕ) → IsWorkBelow link.now plan.now n work → IsWorkOf link.now plan.now n last → IsWorkBelow link.now plan.now (n + 1) result }
 {
     entries_look_back();
+    let number = last.caller.first();
+    let too_soon = too_soon(plan, number, last.passed, work.too_soon);
+    let mut folding = last.folding;
+    folding.remember(work.folding.is_short_of_memory);
     Work {
         caller: gathered(link, work.caller, last.caller),
-        too_soon: work.too_soon + last.too_soon,
-        folding: last.folding,
+        passed: last.passed,
+        too_soon,
+        folding,
     }
 }
 
@@ -226,10 +242,7 @@ pub fn storm<R: Threads + Wait + Sync, G: Gate + Sync>(
     ensures opening { (why : LinkRefusal) → result ≡ Err (StormFault.Opening why)
         → IsRefusedFor (link_refusal plan.now.limits plan.now.moment (senders plan.now + 5)) why }
     ensures no_gap { result ≢ Err StormFault.Gap }
-    ensures legal { IfOk result (λ end. IsLegal (opening_of plan.now) end.events.items) }
-    ensures made { IfOk result (λ end. IsStorm plan.now end.events.items end.too_soon end.too_many) }
-    ensures registers { IfOk result (λ end. end.registers ≡ registers_after (opening_of plan.now) end.events.items) }
-    ensures stats { IfOk result (λ end. end.stats ≡ stats_after (opening_of plan.now) end.events.items) }
+    ensures ended { IfOk result (IsEndOf plan.now) }
 {
     if !plan.is_sound() {
         return Err(StormFault::BadPlan);
@@ -251,9 +264,7 @@ fn run<R: Threads + Wait + Sync, G: Gate + Sync>(
     link: Link,
     starter: Caller,
 ) -> Result<StormEnd, StormFault>
-    requires sound { IsSound plan.now }
-    requires few { planned plan.now ≤ 2 ^ 20 }
-    requires opening { link.origin ≡ Some (opening_of plan.now) }
+    requires link_for { IsFor plan.now link }
     requires callers { link.numbers ≡ senders plan.now + 5 }
     requires starter { starter ≡ first_pass link (senders plan.now + 5) }
     ensures ended { IfOk result (IsEndOf plan.now) }
@@ -261,19 +272,21 @@ fn run<R: Threads + Wait + Sync, G: Gate + Sync>(
     ensures opened { (why : LinkRefusal) → result ≢ Err (StormFault.Opening why) }
     ensures no_gap { result ≢ Err StormFault.Gap }
 {
+    entries_look_back();
     let work = match work_at_once(rt, alloc, &link, plan, gate, starter) {
         Ok(work) => work,
         Err(why) => return Err(why.fault()),
     };
     let Work {
         caller,
+        passed,
         too_soon,
         mut folding,
     } = work;
     let Ok(mut book) = link.close(caller) else {
         unreachable!()
     };
-    let end = end_of(alloc, &mut book, too_soon, &mut folding);
+    let end = end_of(alloc, &mut book, too_soon, passed, &mut folding);
     drop(book);
     drop(folding);
     end
@@ -296,6 +309,7 @@ fn end_of(
     alloc: Global,
     book: &mut Book,
     too_soon: u64,
+    too_many: u64,
     folding: &mut Folding,
 ) -> Result<StormEnd, StormFault>
     ensures fault { IfErr result (λ why. why ≡ StormFault.Memory) }
@@ -303,12 +317,10 @@ fn end_of(
     ensures registers { (events : List Event) → Tells book.old events
         → IfOk result (λ end. end.registers ≡ registers_after book.old.opening events) }
     ensures stats { (events : List Event) → Tells book.old events → IfOk result (λ end. end.stats ≡ stats_after book.old.opening events) }
-    ensures counts { IfOk result (λ end. (folding.old.is_short_of_memory ≡ false) × (end.too_soon ≡ too_soon)
-        × (end.too_many ≡ folding.old.too_many)) }
+    ensures counts { IfOk result (λ end. IsWell folding.old × (end.too_soon ≡ too_soon) × (end.too_many ≡ too_many)) }
 {
     let registers = book.registers();
     let stats = book.stats();
-    let too_many = folding.too_many;
     match all_events(alloc, book, folding) {
         Some(events) => Ok(StormEnd {
             events,
@@ -324,7 +336,7 @@ fn end_of(
 // The folded events, and then the tail of the closed book, where none is missing and there is memory for all.
 fn all_events(alloc: Global, book: &mut Book, folding: &mut Folding) -> Option<Vec<Event>>
     ensures events { IfSome result (λ events. events.items ≡ folding.old.events.items ++ book.old.tail) }
-    ensures well { IfSome result (λ _. folding.old.is_short_of_memory ≡ false) }
+    ensures well { IfSome result (λ _. IsWell folding.old) }
 {
     if folding.is_short_of_memory {
         return None;

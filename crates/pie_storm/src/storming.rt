@@ -1,12 +1,12 @@
 //! A storm is made by its plan, and its events are audited and written as a history.
 ghost use Rattle.std.specs.Prelude.{◌≡◌, ◌≢◌, Err, IfOk, OnOk, map};
 ghost use Rattle.pie_book.specs.Decision.{IsLegal};
-ghost use Rattle.pie_book.specs.Registers.{registers_after};
-ghost use Rattle.pie_book.specs.Statistics.{stats_after};
 ghost use Rattle.pie_record.specs.declared.history_record.Line.TheVariants.{Made};
 ghost use Rattle.pie_audit.specs.Auditor.{Audits};
 ghost use Rattle.pie_storm.specs.Plans.{opening_of};
-ghost use Rattle.pie_storm.specs.Storms.{IsStorm};
+ghost use Rattle.pie_book.specs.Registers.{registers_after};
+ghost use Rattle.pie_book.specs.Statistics.{stats_after};
+ghost use Rattle.pie_storm.specs.Storms.{IsEndOf, IsStorm};
 ghost use Rattle.pie_storm.specs.StormHistory.{WritesHistory};
 ghost use Rattle.pie_storm.specs.StormPlan.{HasStormRange, IsStormPlan};
 
@@ -16,8 +16,8 @@ use crate::pace::Pace;
 use crate::plan::Plan;
 use crate::planning::storm_plan;
 use crate::starter::storm;
-use pie_audit::{Auditor, Finding};
-use pie_book::{Event, OpenRefusal, Opening};
+use pie_audit::{Auditor, Finding, clean_is_legal, clean_parts_are_legal, events_are_lines};
+use pie_book::{Event, OpenRefusal, Opening, all_numbers_are_held};
 use pie_record::{Line, TraceFault};
 use pie_text::write_history;
 use std::alloc::Global;
@@ -70,10 +70,7 @@ fn run_plan<H: Threads + Wait + Clock + Sync>(
     alloc: Global,
     plan: &Plan,
 ) -> Result<StormEnd, StormFault>
-    ensures legal { IfOk result (λ end. IsLegal (opening_of plan.now) end.events.items) }
-    ensures made { IfOk result (λ end. IsStorm plan.now end.events.items end.too_soon end.too_many) }
-    ensures registers { IfOk result (λ end. end.registers ≡ registers_after (opening_of plan.now) end.events.items) }
-    ensures stats { IfOk result (λ end. end.stats ≡ stats_after (opening_of plan.now) end.events.items) }
+    ensures ended { IfOk result (IsEndOf plan.now) }
     ensures no_gap { result ≢ Err StormFault.Gap }
 {
     let pace = Pace::new(rt, plan);
@@ -95,6 +92,10 @@ pub fn write_storm<W: Write>(
     requires limits { plan.now.limits.events ≡ plan.now.limits.tail }
     ensures { OnOk result (WritesHistory plan.now events.now (W.contents output.old) (W.contents output.new)) }
 {
+    all_numbers_are_held();
+    events_are_lines();
+    clean_is_legal();
+    clean_parts_are_legal();
     let opening = plan.opening();
     let auditor = match auditor_of(alloc, &opening, events) {
         Ok(auditor) => auditor,

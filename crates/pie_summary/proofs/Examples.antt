@@ -238,31 +238,6 @@ fourteen-sums : sums_of fourteen ≡ record {
 unfolding worked
 fourteen-sums = refl
 
--- of no event all numbers are 0
-no-sums : sums_of [] ≡ record {
-  answers = 0 ∷ 0 ∷ 0 ∷ 0 ∷ 0 ∷ 0 ∷ 0 ∷ 0 ∷ 0 ∷ [];
-  causes = 0 ∷ 0 ∷ 0 ∷ 0 ∷ 0 ∷ 0 ∷ 0 ∷ 0 ∷ 0 ∷ 0 ∷ 0 ∷ 0 ∷ 0 ∷ 0 ∷ 0 ∷ 0 ∷ [];
-  moments = series 0 0 0 0 0;
-  arrived = series 0 0 0 0 0;
-  waits = series 0 0 0 0 0;
-  departures = series 0 0 0 0 0;
-  excesses = series 0 0 0 0 0;
-  delays = series 0 0 0 0 0;
-  probs = series 0 0 0 0 0;
-  turned_on = series 0 0 0 0 0;
-  turned_off = series 0 0 0 0 0;
-  times = series 0 0 0 0 0;
-  on_times = series 0 0 0 0 0;
-  off_times = series 0 0 0 0 0;
-  carried = 0;
-  above = 0;
-  late = 0;
-  target = 0;
-  burst = 0;
-}
-unfolding worked
-no-sums = refl
-
 last-periods : map (last_period (Some 100)) ([] ∷ first_period ∷ fourteen ∷ []) ≡ None ∷ Some 0 ∷ Some 4 ∷ []
 unfolding worked
 last-periods = refl

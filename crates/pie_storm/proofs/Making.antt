@@ -1,0 +1,325 @@
+-- What a caller's calls come to, in a history that grows.
+use Rattle.std.proofs.Common.{◌≡◌, ℕ, zero, suc, ◌+◌, ◌<◌, ◌≤◌, ◌==◌, ◌⊎◌, List, [], ◌∷◌, ◌++◌, Bool, true, false, cond, Some, None, Ok, Err, Option, Result, Vec}
+use Rattle.std.proofs.Common.{take, drop, map, min, length, slice_get, refl, ap, sym, ◌∙◌, subst, inl, inr, ⊎_elim, arith, append_assoc, length-append}
+use Rattle.std.proofs.Common.{length-drop}
+use Rattle.std.specs.List.{All}
+use Rattle.std.specs.declared.alloc.Global.{Global}
+use Rattle.std.proofs.Math.Seq.{take-add, take-length}
+use Rattle.std.proofs.lemmas.List.{append-nil, length-take}
+use Rattle.std.proofs.lemmas.List.Elements.{All-head, All-tail, filter-append}
+use Rattle.std.proofs.lemmas.Option.{slice_get_within}
+use Rattle.std.proofs.lemmas.Bool.Decides.{nat_tests}
+use Rattle.pie_lock.specs.Own.{own, is_within}
+use Rattle.pie_lock.specs.Steps.{GoesOn}
+use Rattle.pie_lock.proofs.Owns.{within}
+use Rattle.pie_lock.proofs.Prefixes.{prefix_self, prefix_trans}
+use Rattle.pie_event.specs.declared.command.Answer.{Answer}
+use Rattle.pie_event.specs.declared.command.Command.{Command}
+use Rattle.pie_event.specs.declared.command.Event.{Event}
+use Rattle.pie_event.specs.declared.opening.Mode.{Mode}
+use Rattle.pie_event.specs.declared.opening.Mode.TheVariants.{Bounded, Rolling}
+use Rattle.pie_event.specs.declared.opening.Opening.{Opening}
+use Rattle.pie_event.specs.declared.refusal.FoldRefusal.{FoldRefusal}
+use Rattle.pie_event.specs.declared.refusal.FoldRefusal.TheVariants.{TooMany, Memory}
+use Rattle.pie_event.specs.declared.refusal.Refusal.{Refusal}
+use Rattle.pie_event.specs.declared.refusal.Refusal.TheVariants.{TooSoon, Moment, Size, Exhausted, HistoryFull}
+use Rattle.pie_book.specs.Decision.{is_refused_full, or_full, refusal_by_rule, refusal_with}
+use Rattle.pie_book.specs.Estimates.{due_after}
+use Rattle.pie_book.specs.History.{effective_moment}
+use Rattle.pie_book.specs.Run.{event_of}
+use Rattle.pie_kept.specs.Commands.{IsWhy}
+use Rattle.pie_kept.specs.Entries.{entries_of, events_in, handed_to, left_in, number_of, tail_in}
+use Rattle.pie_kept.specs.EntryLaws.{EntriesLookBack}
+use Rattle.pie_kept.specs.declared.entry.Entry.{Entry}
+use Rattle.pie_kept.specs.declared.entry.Entry.TheVariants.{Made, Folded}
+use Rattle.pie_kept.specs.declared.told.Told.{Told}
+use Rattle.pie_link.specs.Commands.{Answers, IsRefused, IsTaken}
+use Rattle.pie_link.specs.Folds.{Folds, IsFoldMade, IsFoldRefused}
+use Rattle.pie_link.specs.Views.{CallerView, LinkView}
+use Rattle.pie_storm.specs.declared.plan.Call.{Call}
+use Rattle.pie_storm.specs.declared.plan.Call.TheVariants.{Ask, Fold}
+use Rattle.pie_storm.specs.declared.plan.Plan.{Plan}
+use Rattle.pie_storm.specs.Plans.{IsFair, calls_of, commands_of, folder, opening_of}
+use Rattle.pie_storm.specs.Storms.{AreMade, CameOf, HasMade, HasNoMore, IsAt, IsCutShort, IsEntryOf, IsFor, MadeOrCut, TakenIn, WasPassedOver, added_by}
+use Rattle.pie_storm.specs.Storms.{is_number}
+use Rattle.pie_storm.proofs.Handing.{handed_more, handed_same}
+use Rattle.pie_storm.proofs.PlanCommands.{after_senders, command_at, fair_at, folder_asks_nothing}
+
+module _ (opening : Opening) (caller : ℕ) where
+  pub stays : (h : List Entry) → HasNoMore caller h h
+  stays h = (prefix_self h, refl)
+
+  goes_on : (h k l : List Entry) → HasNoMore caller h k → HasNoMore caller k l → HasNoMore caller h l
+  goes_on h k l a b = (prefix_trans h k l a.0 b.0, b.1 ∙ a.1)
+
+  -- what was made by one that had been shown more, was made by one that had been shown less
+  pub made_from : (front before : List Entry) (calls : List Call) (h : List Entry) (passed : ℕ) → HasNoMore caller front before
+      → AreMade opening caller before calls h passed → AreMade opening caller front calls h passed
+  made_from front before [] h passed on m = (goes_on front before h on m.0, m.1)
+  made_from front before (call ∷ calls) h passed on (inl m) = inl (m.0, m.1, goes_on front before m.0 on m.2, m.3, m.4)
+  made_from front before (call ∷ calls) h passed on (inr m) = inr (m.0, m.1, goes_on front before m.0 on m.2, m.3, m.4, m.5)
+
+  -- calls after calls
+  made_both : (front : List Entry) (calls later : List Call) (mid h : List Entry) (p q : ℕ) → AreMade opening caller front calls mid p
+      → AreMade opening caller mid later h q → AreMade opening caller front (calls ++ later) h (p + q)
+  made_both front [] later mid h p q m n =
+      let none : q ≡ p + q = omega (arith, m.1) in
+      subst (λ (t : ℕ). AreMade opening caller front later h t) none (made_from front mid later h q m.0 n)
+  made_both front (call ∷ calls) later mid h p q (inl m) n =
+      inl (m.0, m.1, m.2, m.3, made_both (m.0 ++ m.1 ∷ []) calls later mid h p q m.4 n)
+  made_both front (call ∷ calls) later mid h p q (inr m) n =
+      let sum : p + q ≡ m.1 + q + 1 = omega (arith, m.4) in
+      inr (m.0, m.1 + q, m.2, m.3, sum, made_both m.0 calls later mid h m.1 q m.5 n)
+
+  -- .. in a history that goes on with nothing more of the caller
+  pub made_on : (front : List Entry) (calls : List Call) (h k : List Entry) (passed : ℕ) → HasNoMore caller h k
+      → AreMade opening caller front calls h passed → AreMade opening caller front calls k passed
+  made_on front [] h k passed on m = (goes_on front h k m.0 on, m.1)
+  made_on front (call ∷ calls) h k passed on (inl m) = inl (m.0, m.1, m.2, m.3, made_on (m.0 ++ m.1 ∷ []) calls h k passed on m.4)
+  made_on front (call ∷ calls) h k passed on (inr m) = inr (m.0, m.1, m.2, m.3, m.4, made_on m.0 calls h k m.1 on m.5)
+
+  cond_true : {A : Type 0} (b : Bool) (x y : A) → b ≡ true → cond b x y ≡ x
+  cond_true true x y e = refl
+  cond_true false x y e = absurd (cc e)
+
+  -- a caller's own entry is one more of its entries
+  pub own_entry : (g : List Entry) (entry : Entry) → number_of entry ≡ caller → entries_of caller (g ++ entry ∷ []) ≡ entries_of caller g ++ entry ∷ []
+  own_entry g entry e =
+      let yes : is_within caller (caller + 1) (number_of entry) ≡ true = within caller (caller + 1) (number_of entry) (omega (arith, e))
+      (omega (arith, e)) in
+      filter-append (λ (x : Entry). is_within caller (caller + 1) (number_of x)) g (entry ∷ [])
+      ∙ ap (λ w. entries_of caller g ++ w) (cond_true (is_within caller (caller + 1) (number_of entry)) (entry ∷ []) [] yes)
+
+  pub numbered : (call : Call) (entry : Entry) → IsEntryOf caller call entry → number_of entry ≡ caller
+  numbered (Ask command) (Made event) is = is.0
+  numbered (Ask command) (Folded who n) is = absurd is
+  numbered (Fold count) (Made event) is = absurd is
+  numbered (Fold count) (Folded who n) is = is.0
+
+  -- there are no more entries than calls
+  pub few_made : (front : List Entry) (calls : List Call) (h : List Entry) (passed : ℕ) → AreMade opening caller front calls h passed
+      → length (entries_of caller h) ≤ length (entries_of caller front) + length calls
+  few_made front [] h passed m = omega (arith, ap (λ (l : List Entry). length l) m.0.1)
+  few_made front (call ∷ calls) h passed (inl m) = omega (
+    arith,
+    few_made (m.0 ++ m.1 ∷ []) calls h passed m.4,
+    ap (λ (l : List Entry). length l) (own_entry m.0 m.1 (numbered call m.1 m.3)),
+    length-append (entries_of caller m.0) (m.1 ∷ []),
+    ap (λ (l : List Entry). length l) m.2.1,
+  )
+  few_made front (call ∷ calls) h passed (inr m) =
+      omega (arith, few_made m.0 calls h m.1 m.5, ap (λ (l : List Entry). length l) m.2.1)
+
+-- what a list has at a place, where it is cut
+one_at : {A : Type 0} (xs : List A) (k : ℕ) (x : A) → slice_get xs k ≡ Some x → take 1 (drop k xs) ≡ x ∷ []
+one_at [] zero x e = absurd (cc e)
+one_at [] (suc k) x e = absurd (cc e)
+one_at (y ∷ xs) zero x e = ap (λ z. z ∷ []) (cc e)
+one_at (y ∷ xs) (suc k) x e = one_at xs k x e
+
+-- what a caller with one number is shown goes on from what it had been shown
+pub seen : (link : LinkView) (number : ℕ) (before : CallerView) (history : List Entry) → IsAt link number before
+    → GoesOn number_of before.first before.limit before.front history → HasNoMore number before.front history
+seen link number before history at on = (
+  on.0,
+  subst (λ (first : ℕ). own number_of first (number + 1) history ≡ own number_of first (number + 1) before.front) at.first
+      (subst (λ (limit : ℕ). own number_of before.first limit history ≡ own number_of before.first limit before.front) at.limit on.1),
+)
+
+-- ---- why a command is refused
+
+-- a refusal is by the rules, or for a full tail
+pub which : (by_rule : Option Refusal) (full : Bool) (why : Refusal) → or_full by_rule full ≡ Some why
+    → (by_rule ≡ Some why) ⊎ ((by_rule ≡ None) × (why ≡ HistoryFull) × (full ≡ true))
+which None false why is = absurd (cc)
+which None true why is = inr (refl, cc, refl)
+which (Some other) full why is = inl is
+
+-- a refusal as too soon is the rules'
+too_soon_by_rule : (opening : Opening) (history : List Entry) (command : Command) (due : ℕ) → IsWhy opening history command (TooSoon due)
+    → refusal_by_rule opening (events_in history) command ≡ Some (TooSoon due)
+too_soon_by_rule opening history command due why =
+    ⊎_elim (λ e. e) (λ e. absurd (cc (e.1)))
+    (which (refusal_by_rule opening (events_in history) command)
+    (is_refused_full opening.choices.mode (length (tail_in opening history) == opening.limits.tail)) (TooSoon due) why)
+
+-- a fair command that is refused, and not as too soon, came where there was no room for it
+no_room : (before due count events : ℕ) (command : Command) (why : Refusal) → IsFair command → refusal_with before due count events command ≡ Some why
+    → ((d : ℕ) → why ≡ TooSoon d → ⊥) → events ≤ count
+no_room before due count events command why fair is not_soon = grind (arith, nat_tests, fair.moment, fair.size, is, not_soon)
+
+full_tail : (mode : Mode) (held room : ℕ) → is_refused_full mode (held == room) ≡ true → held ≡ room
+full_tail Bounded held room full = grind (arith, nat_tests, full)
+full_tail Rolling held room full = absurd (cc full)
+
+pub full_after : (opening : Opening) (history : List Entry) (command : Command) (why : Refusal) → IsFair command → IsWhy opening history command why
+    → ((d : ℕ) → why ≡ TooSoon d → ⊥) → min opening.limits.tail opening.limits.events ≤ length (events_in history)
+full_after opening history command why fair is not_soon =
+    let events = events_in history in
+    ⊎_elim
+    (λ e. omega (
+      arith,
+      no_room (effective_moment opening events) (due_after opening events) (length events) opening.limits.events command why fair e
+          not_soon,
+    ))
+    (λ e. omega (
+      arith,
+      full_tail opening.choices.mode (length (tail_in opening history)) opening.limits.tail e.2,
+      length-drop
+          (left_in opening history) events,
+    ))
+    (which (refusal_by_rule opening events command) (is_refused_full opening.choices.mode (length (tail_in opening history) == opening.limits.tail))
+    why is)
+
+-- ---- a caller of a storm
+
+module _ (plan : Plan) (number k : ℕ) where
+  -- calls that come after the first k
+  pub made_more : (n : ℕ) (calls : List Call) (front after : List Entry) (earlier more : ℕ) → take n (drop k (calls_of plan number)) ≡ calls
+      → AreMade (opening_of plan) number [] (take k (calls_of plan number)) front earlier
+      → AreMade (opening_of plan) number front calls after more
+      → AreMade (opening_of plan) number [] (take (k + n) (calls_of plan number)) after (earlier + more)
+  made_more n calls front after earlier more is so_far made =
+      let all = calls_of plan number in
+      subst (λ (cs : List Call). AreMade (opening_of plan) number [] cs after (earlier + more))
+      (sym (take-add k n all ∙ ap (λ (cs : List Call). take k all ++ cs) is))
+      (made_both (opening_of plan) number [] (take k all) calls front after earlier more so_far made)
+
+  -- after k calls there are no more entries
+  pub few_so_far : (front : List Entry) (passed : ℕ) → AreMade (opening_of plan) number [] (take k (calls_of plan number)) front passed
+      → length (entries_of number front) ≤ k
+  few_so_far front passed made = omega (
+    arith,
+    few_made (opening_of plan) number [] (take k (calls_of plan number)) front passed made,
+    length-take k (calls_of plan number),
+  )
+
+  module _ (law : EntriesLookBack) (link : LinkView) (link_for : IsFor plan link) (before after : CallerView) (at : IsAt link number before)
+      (earlier : ℕ) (old : List Event) (had : HasMade plan number k before.front earlier old) where
+    -- the next call has an entry after this history
+    has_entry : (call : Call) (history : List Entry) (entry : Entry) → slice_get (calls_of plan number) k ≡ Some call
+        → HasNoMore number before.front history → IsEntryOf number call entry
+        → AreMade (opening_of plan) number [] (take (k + 1) (calls_of plan number)) (history ++ entry ∷ []) (earlier + 0)
+    has_entry call history entry there on is =
+        made_more 1 (call ∷ []) before.front (history ++ entry ∷ []) earlier 0 (one_at (calls_of plan number) k call there) had.made
+        (inl (history, entry, on, is, (stays (opening_of plan) number (history ++ entry ∷ []), refl)))
+
+    -- .. or was passed over there
+    has_passed : (call : Call) (history : List Entry) → slice_get (calls_of plan number) k ≡ Some call
+        → HasNoMore number before.front history → WasPassedOver (opening_of plan) history call
+        → AreMade (opening_of plan) number [] (take (k + 1) (calls_of plan number)) history (earlier + 1)
+    has_passed call history there on was =
+        made_more 1 (call ∷ []) before.front history earlier 1 (one_at (calls_of plan number) k call there) had.made
+        (inr (history, 0, on, was, refl, (stays (opening_of plan) number history, refl)))
+
+    -- .. or the book was full
+    cut_short : (command : Command) (why : Refusal) (history : List Entry) → slice_get (calls_of plan number) k ≡ Some (Ask command)
+        → IsRefused (opening_of plan) before command why after history → ((d : ℕ) → why ≡ TooSoon d → ⊥)
+        → IsCutShort (opening_of plan) number (commands_of plan number) after.front
+    cut_short command why history there refused not_soon =
+        let asked = command_at plan number k command there in
+        let on = seen link number before history at refused.from.goes_on in
+        subst (λ (front : List Entry). IsCutShort (opening_of plan) number (commands_of plan number) front)
+        (sym (ap (λ (c : CallerView). c.front) refused.seen))
+        (record {
+          before = history;
+          begins = prefix_self history;
+          full = full_after (opening_of plan) history command why (fair_at plan link_for.sound number k command asked) refused.because not_soon;
+          fewer = omega (
+            arith,
+            few_so_far before.front earlier had.made,
+            slice_get_within (commands_of plan number) k command asked,
+            ap (λ (l : List Entry). length l) on.1,
+          );
+        })
+
+    -- what comes of a command
+    pub asked_next : (command : Command) (answer : Result (Told Answer) Refusal) → slice_get (calls_of plan number) k ≡ Some (Ask command)
+        → Answers link before command answer after → MadeOrCut plan number (k + 1) after.front earlier old (added_by answer)
+    unfolding Answers MadeOrCut added_by
+    asked_next command (Ok told) there answers =
+        let a = answers (opening_of plan) link_for.opened in
+        let taken : IsTaken (opening_of plan) before command told after a.0 = a.1 in
+        let on = seen link number before a.0 at taken.from.goes_on in
+        subst (λ (front : List Entry). HasMade plan number (k + 1) front (earlier + 0) old) (sym (ap (λ (c : CallerView). c.front) taken.recorded))
+        (record {
+          made = has_entry (Ask command) a.0 (Made (event_of before.first command told.answer)) there on (at.first, refl);
+          handed = λ folds. absurd (folder_asks_nothing plan number k command folds there);
+        })
+    asked_next command (Err (TooSoon due)) there answers =
+        let a = answers (opening_of plan) link_for.opened in
+        let refused : IsRefused (opening_of plan) before command (TooSoon due) after a.0 = a.1 in
+        let on = seen link number before a.0 at refused.from.goes_on in
+        subst (λ (front : List Entry). HasMade plan number (k + 1) front (earlier + 1) old) (sym (ap (λ (c : CallerView). c.front) refused.seen))
+        (record {
+          made = has_passed (Ask command) a.0 there on
+              (record { due = due; refused = too_soon_by_rule (opening_of plan) a.0 command due refused.because });
+          handed = λ folds. absurd (folder_asks_nothing plan number k command folds there);
+        })
+    asked_next command (Err Moment) there answers =
+        let a = answers (opening_of plan) link_for.opened in cut_short command Moment a.0 there a.1 (λ d e. cc e)
+    asked_next command (Err Size) there answers =
+        let a = answers (opening_of plan) link_for.opened in cut_short command Size a.0 there a.1 (λ d e. cc e)
+    asked_next command (Err Exhausted) there answers =
+        let a = answers (opening_of plan) link_for.opened in cut_short command Exhausted a.0 there a.1 (λ d e. cc e)
+    asked_next command (Err HistoryFull) there answers =
+        let a = answers (opening_of plan) link_for.opened in cut_short command HistoryFull a.0 there a.1 (λ d e. cc e)
+
+    -- what comes of a fold
+    pub folded_next : (n : ℕ) (answer : Result (Told (Vec Event Global)) FoldRefusal) (new : List Event) (passed : Option ℕ)
+        → slice_get (calls_of plan number) k ≡ Some (Fold n) → Folds link before n answer after → TakenIn answer old new passed
+        → MadeOrCut plan number (k + 1) after.front earlier new passed
+    unfolding Folds MadeOrCut TakenIn
+    folded_next n (Ok told) new passed there answers kept =
+        let a = answers (opening_of plan) link_for.opened in
+        let made : IsFoldMade (opening_of plan) before n told after a.0 = a.1 in
+        let on = seen link number before a.0 at made.from.goes_on in
+        let handed = λ (folds : number ≡ folder plan). kept.0 ∙ (ap (λ (es : List Event). es ++ told.answer.items)
+        (had.handed folds ∙ sym (handed_same law (opening_of plan) number before.front a.0 on.0 on.1))
+        ∙ (ap (λ (es : List Event). handed_to (is_number number) (opening_of plan) [] a.0 ++ es) made.folded.oldest
+        ∙ sym (handed_more law (opening_of plan) number a.0 n before.first at.first))) in
+        subst (λ (p : Option ℕ). MadeOrCut plan number (k + 1) after.front earlier new p) (sym kept.1)
+        (subst (λ (front : List Entry). HasMade plan number (k + 1) front (earlier + 0) new) (sym (ap (λ (c : CallerView). c.front) made.recorded))
+        (record { made = has_entry (Fold n) a.0 (Folded before.first n) there on (at.first, refl); handed = handed }))
+    folded_next n (Err (TooMany held)) new passed there answers kept =
+        let a = answers (opening_of plan) link_for.opened in
+        let refused : IsFoldRefused (opening_of plan) before n (TooMany held) after a.0 = a.1 in
+        let on = seen link number before a.0 at refused.from.goes_on in
+        subst (λ (p : Option ℕ). MadeOrCut plan number (k + 1) after.front earlier new p) (sym kept.1)
+        (subst (λ (front : List Entry). HasMade plan number (k + 1) front (earlier + 1) new) (sym (ap (λ (c : CallerView). c.front) refused.seen))
+        (record {
+          made = has_passed (Fold n) a.0 there on (omega (arith, refused.because.0, refused.because.1));
+          handed = λ folds. kept.0 ∙ (had.handed folds ∙ sym (handed_same law (opening_of plan) number before.front a.0 on.0 on.1));
+        }))
+    folded_next n (Err Memory) new passed there answers kept = absurd kept
+
+-- ---- from the first call to the last
+
+pub made_none : (plan : Plan) (number : ℕ) (front : List Entry) (events : List Event) → front ≡ [] → events ≡ []
+    → HasMade plan number 0 front 0 events
+made_none plan number front events new none =
+    subst (λ (h : List Entry). HasMade plan number 0 h 0 events) (sym new) (record {
+      made = (stays (opening_of plan) number [], refl);
+      handed = λ folds. none;
+    })
+
+-- all calls were made, or the book was full
+pub came_of_all : (plan : Plan) (number k : ℕ) (front : List Entry) (passed : ℕ) (events : List Event)
+    → HasMade plan number k front passed events → k ≡ length (calls_of plan number) → CameOf plan number front passed
+unfolding CameOf
+came_of_all plan number k front passed events had all =
+    inl (subst (λ (calls : List Call). AreMade (opening_of plan) number [] calls front passed)
+    (ap (λ (n : ℕ). take n (calls_of plan number)) all ∙ take-length (calls_of plan number)) had.made)
+
+pub came_cut : (plan : Plan) (number : ℕ) (front : List Entry) (passed : ℕ) → IsCutShort (opening_of plan) number (commands_of plan number) front
+    → CameOf plan number front passed
+unfolding CameOf
+came_cut plan number front passed cut = inr cut
+
+-- the caller that folds is never cut short
+pub folder_not_cut : (plan : Plan) (number : ℕ) (front : List Entry) → IsCutShort (opening_of plan) number (commands_of plan number) front
+    → number ≡ folder plan → ⊥
+folder_not_cut plan number front cut folds =
+    let none : length (commands_of plan number) ≡ 0 = ap (λ (cs : List Command). length cs)
+    (ap (λ (n : ℕ). commands_of plan n) folds ∙ after_senders plan 4 (omega arith)) in
+    omega (arith, cut.fewer, none)

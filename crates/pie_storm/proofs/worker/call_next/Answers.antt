@@ -1,0 +1,32 @@
+use Rattle.std.proofs.Common.{◌≡◌, ◌+◌, ◌∙◌, ℕ, Option, Some, ap, sym, subst}
+use Rattle.pie_storm.specs.Storms.{MadeOrCut}
+use Rattle.pie_storm.proofs.Making.{asked_next, folded_next}
+use Rattle.pie_storm.proofs.worker.call_next.Goals as goal
+
+pub returns-in-Some-Ask : goal.returns-in-Some-Ask
+returns-in-Some-Ask g c =
+    let at = c.requires.at in
+    let stays = c.ask.ensures.stays in record {
+      at = record { own = stays.0 ∙ at.own; first = stays.1 ∙ at.first; limit = stays.2 ∙ at.limit };
+      few = c.added_by.ensures.few;
+      well = λ well. well;
+      goes = λ earlier well had.
+          subst (λ (passed : Option ℕ). MadeOrCut c.args.plan.now c.args.number (c.args.k + 1) c.ask.new.caller.front earlier
+          c.args.folding.now.events.items passed) (sym c.added_by.ensures.value)
+          (asked_next c.args.plan.now c.args.number c.args.k c.entries_look_back.ensures c.args.link.now c.requires.link_for c.args.caller.now
+          c.ask.new.caller at earlier c.args.folding.now.events.items had c.in-Some-Ask.command c.ask.result (sym c.in-Some-Ask.ensures ∙ ap Some c.in-Some-Ask.field-0-is)
+          c.ask.ensures.answered);
+    }
+
+pub returns-in-Some-Fold : goal.returns-in-Some-Fold
+returns-in-Some-Fold g c =
+    let at = c.requires.at in
+    let stays = c.fold.ensures.stays in record {
+      at = record { own = stays.0 ∙ at.own; first = stays.1 ∙ at.first; limit = stays.2 ∙ at.limit };
+      few = c.take_in.ensures.few;
+      well = c.take_in.ensures.well;
+      goes = λ earlier well had.
+          folded_next c.args.plan.now c.args.number c.args.k c.entries_look_back.ensures c.args.link.now c.requires.link_for c.args.caller.now
+          c.fold.new.caller at earlier c.args.folding.now.events.items had c.in-Some-Fold.n c.fold.result c.take_in.new.self.events.items
+          c.take_in.result (sym c.in-Some-Fold.ensures ∙ ap Some c.in-Some-Fold.field-0-is) c.fold.ensures.folded (c.take_in.ensures.taken well);
+    }

@@ -1,0 +1,20 @@
+use Rattle.std.proofs.Common.{◌≤◌, List, length, ap, arith, rules}
+use Rattle.std.proofs.lemmas.List.{length-map}
+use Rattle.pie_storm.specs.declared.plan.Call.{Call}
+use Rattle.pie_storm.specs.declared.plan.Call.TheVariants.{Ask}
+use Rattle.pie_storm.specs.Plans.{commands_of, senders}
+use Rattle.pie_storm.proofs.PlanCommands.{other_calls}
+use Rattle.pie_storm.proofs.worker.make_turn.Goals as goal
+
+pub send_next-requires-clause-there : goal.send_next-requires-clause-there
+send_next-requires-clause-there g c =
+    let sends : c.args.number ≤ senders c.args.plan.now = search rules in
+    omega (
+      arith,
+      c.requires.there,
+      ap (λ (calls : List Call). length calls) (other_calls c.args.plan.now c.args.number (λ is. omega (arith, is, sends))),
+      length-map (commands_of c.args.plan.now c.args.number) Ask,
+    )
+
+pub returns-else-turn-eq1-clause-turn : goal.returns-else-turn-eq1-clause-turn
+returns-else-turn-eq1-clause-turn g c = c.send_next.ensures.turn c.args.folding.now

@@ -1,6 +1,6 @@
 #!/usr/bin/env bash
-# Installs below a prefix what was built: the program pie with its manual page and completions, pie-report with its own, and the library for C
-# with its headers and its pkg-config file.
+# Installs below a prefix what was built: the program pie with its manual page and completions, pie-report with its own, and the libraries for C
+# with their headers and their pkg-config files.
 #
 # usage: ./install.sh PREFIX [program|library]..   both, where neither is named; DESTDIR, where it is set, is put before PREFIX
 #        ./install.sh --archive FILE               all of it as an archive, by its ending (.tar, .tar.gz, .tar.xz), which is unpacked anywhere, and
@@ -19,7 +19,7 @@ archive() {
     trap 'rm -rf "$work"' RETURN
     DESTDIR=$work "$here/install.sh" "/$folder" program library > "$work/installed" || return 1
     # shellcheck disable=SC2016
-    sed -i 's|^prefix=.*|prefix=${pcfiledir}/../..|' "$work/$folder/lib/pkgconfig/pie_c.pc"
+    sed -i 's|^prefix=.*|prefix=${pcfiledir}/../..|' "$work/$folder"/lib/pkgconfig/pie_*.pc
     tar --create --auto-compress --file "$1" --sort=name --mtime='2000-01-01 00:00:00Z' --owner=0 --group=0 --numeric-owner -C "$work" "$folder"
     echo "$1"
 }
@@ -75,6 +75,14 @@ library() {
         'Description: PIE (RFC 8033) for a packet queue that its caller owns' "Version: $version" \
         'Libs: -L${libdir} -lpie_c' 'Cflags: -I${includedir}' > "$work/pie_c.pc"
     put 644 "$work/pie_c.pc" lib/pkgconfig/pie_c.pc
+    # the link, for a program that has several threads; it stands over the other, whose calls open it and write its events
+    put 644 crates/pie_link_c/out/libpie_link_c.a lib/libpie_link.a
+    put 644 include/pie_link.h include/pie_link.h
+    # shellcheck disable=SC2016
+    printf '%s\n' "prefix=$prefix" 'libdir=${prefix}/lib' 'includedir=${prefix}/include' '' 'Name: pie_link' \
+        'Description: PIE (RFC 8033) with its queue, for several threads' "Version: $version" \
+        'Libs: -L${libdir} -lpie_link -lpie_c -pthread' 'Cflags: -I${includedir}' > "$work/pie_link.pc"
+    put 644 "$work/pie_link.pc" lib/pkgconfig/pie_link.pc
 }
 
 # what is asked for, and whether all of it was built, before anything is installed
@@ -89,7 +97,10 @@ done
 for part in "${parts[@]}"; do
     case $part in
         program) built crates/pie/out/pie "cd crates/pie && rt run > /dev/null" ;;
-        library) built crates/pie_c/out/libpie_c.a "cd crates/pie_c && rt lib" ;;
+        library)
+            built crates/pie_c/out/libpie_c.a "cd crates/pie_c && rt lib"
+            built crates/pie_link_c/out/libpie_link_c.a "cd crates/pie_link_c && rt lib"
+            ;;
     esac
 done
 if [ ${#missing[@]} != 0 ]; then

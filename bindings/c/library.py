@@ -1,7 +1,10 @@
 #!/usr/bin/env python3
-"""Builds the static library, crates/pie_c/out/libpie_c.a. `rt lib` does that too, and proves again what it has no kept work of: in a
-fresh clone all crates below pie_c. Where the gate has just proved these (`rt ci` leaves each library in out/rlib, with no stamp), and no
-source is newer than they are, pie_c alone is proved and compiled, over them; and where the library is newer than all of these, it stays."""
+"""Builds the static library, crates/pie_c/out/libpie_c.a, or that of the crate that is named (pie_link_c). `rt lib` does that too, and proves again what
+it has no kept work of: in a fresh clone all crates below. Where the gate has just proved these (`rt ci` leaves each library in out/rlib, with no
+stamp), and no source is newer than they are, the crate alone is proved and compiled, over them; and where the library is newer than all of these,
+it stays.
+
+usage: bindings/c/library.py [CRATE]"""
 import importlib.machinery
 import importlib.util
 import os
@@ -11,7 +14,7 @@ import sys
 
 sys.dont_write_bytecode = True
 ROOT = os.path.dirname(os.path.dirname(os.path.dirname(os.path.abspath(__file__))))
-CRATE = "pie_c"
+CRATE = (sys.argv[1:] or ["pie_c"])[0]
 
 
 def toolchain():

@@ -1,5 +1,6 @@
 #!/usr/bin/env python3
-"""Holds include/pie.h and the Rust declarations (bindings/rust/src) to the source of the library (crates/pie_c/src): structs with the
+"""Holds include/pie.h, include/pie_link.h and the Rust declarations (bindings/rust/src) to the source of the libraries (crates/pie_abi/src,
+crates/pie_c/src, crates/pie_link_c/src): structs with the
 order, names and widths of their fields; functions with the order, names and widths of their parameters; codes, ECN fields, the version.
 The ranges, defaults and tables of rates that comments tell are compared with one another, docs/FORMATS.md and docs/PARAMETERS.md, the orders in which
 calls refuse with the source; the words of a flight recorder's memory are those of include/pie_flight.h. Exit status 1 where something differs.
@@ -240,7 +241,7 @@ def compare_limits(header):
 def refusals_in(source):
     """Of each call the codes that it refuses by, in the order of its body: pie_arrive's stand in `arrive`, an opening's in `checked`."""
     codes = {}
-    for name, body in re.findall(r"^(?:pub extern \"C\" |pub\(crate\) )?fn (\w+)\(.*?^\{\n(.*?)^\}", source.text, re.S | re.M):
+    for name, body in re.findall(r"^(?:pub extern \"C\" |pub\(crate\) |pub )?fn (\w+)\(.*?^\{\n(.*?)^\}", source.text, re.S | re.M):
         codes[name] = ["PIE_" + code for code in dict.fromkeys(re.findall(r"\b(BAD_\w+|TOO_SOON|NOT_WAITED)\b", body))]
     orders = {name: codes[name] or codes.get(name[4:], []) for name in codes if name.startswith("pie_")}
     apart = {"pie_open": "checked", "pie_depart": "depart", "pie_depart_waited": "depart_stamped"}
@@ -271,6 +272,26 @@ def compare_numbers(header, source):
     numbered = {re.sub(r"(?<=.)([A-Z])", r"_\1", name).lower(): int(number) for name, number in re.findall(r"Field::(\w+) => (\d+)", source.text)}
     yield from same("include/pie.h: the numbers of the parameters", listed, numbered)
     yield from same("include/pie.h: the order of the parameters", [name for _, name in header.structs.get("pie_params", [])], list(numbered))
+
+
+def compare_link(root):
+    """include/pie_link.h, beside crates/pie_link_c: its calls with their parameters, its codes, the words for them, and the port, of which C sees a pointer."""
+    header = Header((root / "include/pie_link.h").read_text())
+    source = Rust(read_source(root / "crates/pie_link_c/src", "*.rt"), {**TYPES, "PiePort": "pie_port"}, r'pub extern "C" ')
+    # (a `Global` takes no bytes: C hands nothing over)
+    calls = {name: (result, [it for it in given if it[0] != "Global"]) for name, (result, given) in source.functions.items()}
+    given = {name: (result, [(kind, {"added": "new"}.get(field, field)) for kind, field in it]) for name, (result, it) in header.functions.items()}
+    yield from same("include/pie_link.h: calls", given, calls, "in crates/pie_link_c/src")
+    if not re.search(r"pub struct PiePort \{\s*at: \*mut u8,\s*alloc: Global,\s*///.*?\s*pub ghost", source.text):
+        yield "crates/pie_link_c/src: a port is not a pointer alone"
+    yield from same("include/pie_link.h: a port", header.structs.get("pie_port"), [("&mut void", "at")], "here")
+    found = {"PIE_" + name: int(number) for name, number in re.findall(r"const ([A-Z_]+): u32 = (\d+);", source.text)}
+    yield from same("include/pie_link.h: codes", header.constants, found, "in crates/pie_link_c/src")
+    words = re.findall(r"case (PIE_\w+): return", header.text)
+    yield from same("include/pie_link.h: the codes that have words", sorted(words), sorted(found), "in crates/pie_link_c/src")
+    tries = {name[13:] for name in calls if name.startswith("pie_link_try_")}
+    waits = set(re.findall(r"static inline uint32_t pie_link_(\w+)\(struct pie_port", header.text))
+    yield from same("include/pie_link.h: the calls that wait", sorted(waits), sorted(tries), "of those that don't")
 
 
 def compare_flight(header, rust):
@@ -335,7 +356,8 @@ def read_source(folder, pattern):
 
 def differences(root):
     header = Header((root / "include/pie.h").read_text())
-    source = Rust(read_source(root / "crates/pie_c/src", "*.rt"), TYPES, r'pub extern "C" ')
+    text = "\n".join(read_source(root / f"crates/{it}/src", "*.rt") for it in ("pie_abi", "pie_c"))
+    source = Rust(text, TYPES, r'pub extern "C" ')
     rust_text = read_source(root / "bindings/rust/src", "*.rs")
     rust = Rust(rust_text, RUST_TYPES, r"(?<!pub )")
     if len(source.functions) < 10 or len(source.structs) != 6:
@@ -353,6 +375,7 @@ def differences(root):
     yield from compare_limits(header)
     recorder = "".join((root / f"bindings/rust/src/{it}.rs").read_text() for it in ("flight", "flight_event"))
     yield from compare_flight((root / "include/pie_flight.h").read_text(), recorder)
+    yield from compare_link(root)
     yield from compare_versions(header, root)
     yield from compare_names(root)
 

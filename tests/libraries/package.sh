@@ -34,6 +34,7 @@ expect() {
 
 version=$(sed -n 's/^#define PIE_VERSION "\(.*\)"$/\1/p' include/pie.h)
 [ -e crates/pie_c/out/libpie_c.a ] || (cd crates/pie_c && rt lib) > /dev/null
+bindings/c/library.py pie_link_c > /dev/null
 prefix=$work/prefix
 ./install.sh "$prefix" library > "$work/installed"
 while read -r file; do
@@ -100,10 +101,11 @@ if ./install.sh relative > /dev/null 2>&1 || ./install.sh "$work/it" nothing > /
 fi
 # in a fresh clone, where nothing was built, it installs nothing and says one command; that command builds, and then all of it is installed. What the
 # command calls hands out what was built here, since a build in the clone would take minutes
-mkdir -p "$work/clone/crates/pie" "$work/clone/crates/pie_c" "$work/bin"
+mkdir -p "$work/clone/crates/pie" "$work/clone/crates/pie_c" "$work/clone/crates/pie_link_c" "$work/bin"
 cp -r install.sh include report man completions LICENSE-MIT LICENSE-APACHE "$work/clone"
 printf '%s\n' '#!/bin/sh' 'here=$(basename "$PWD")' 'mkdir -p out' 'case "$here $1" in' \
     "'pie run') cp \"$repository/crates/pie/out/pie\" out ;;" "'pie_c lib') cp \"$repository/crates/pie_c/out/libpie_c.a\" out ;;" \
+    "'pie_link_c lib') cp \"$repository/crates/pie_link_c/out/libpie_link_c.a\" out ;;" \
     '*) exit 1 ;;' 'esac' > "$work/bin/rt"
 chmod +x "$work/bin/rt"
 
@@ -116,13 +118,13 @@ refused() {
 }
 refused
 refused library
-grep -q 'nothing was installed, since this was not built: crates/pie_c/out/libpie_c.a\. ' "$work/refused" || fail "install.sh does not say what is missing"
+grep -q 'this was not built: crates/pie_c/out/libpie_c.a crates/pie_link_c/out/libpie_link_c.a\. ' "$work/refused" || fail "install.sh does not say what is missing"
 (cd "$work/clone" && PATH="$work/bin:$PATH" bash -c "$(tail -n 1 "$work/refused")") || fail "what install.sh says does not build"
 if [ -e "$repository/crates/pie/out/pie" ]; then
     refused
     (cd "$work/clone" && PATH="$work/bin:$PATH" bash -c "$(tail -n 1 "$work/refused")") || fail "what install.sh says does not build"
     (cd "$work/clone" && ./install.sh "$work/fresh") > "$work/installed" || fail "install.sh does not install what was built"
-    for file in bin/pie lib/libpie_c.a share/doc/pie/LICENSE-MIT share/doc/pie/LICENSE-APACHE; do
+    for file in bin/pie lib/libpie_c.a lib/libpie_link.a include/pie_link.h share/doc/pie/LICENSE-MIT share/doc/pie/LICENSE-APACHE; do
         [ -s "$work/fresh/$file" ] || fail "$file was not installed from a fresh clone"
     done
 fi

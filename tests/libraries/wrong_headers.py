@@ -88,7 +88,7 @@ EDITS = [
 
 
 def copied(folder):
-    for name in ("include", "bindings", "crates/pie_c/src", "docs"):
+    for name in ("include", "bindings", "crates/pie_abi/src", "crates/pie_c/src", "docs"):
         shutil.copytree(ROOT / name, folder / name, ignore=shutil.ignore_patterns("target"))
 
 

@@ -14,7 +14,7 @@ use Rattle.pie_params.specs.declared.elements.Step.TheVariants.{Capped, Uncapped
 use Rattle.pie_params.specs.declared.elements.Size.{Size}
 use Rattle.pie_params.specs.declared.elements.Size.TheVariants.{Unscaled, Scaled}
 use Rattle.pie_params.specs.Elements.{usual}
-use Rattle.pie_c.specs.State.{choices_of, decay_flag, delay_flag, elements_of, picking_flag, size_flag, step_flag}
+use Rattle.pie_abi.specs.Choices.{choices_of, decay_flag, delay_flag, elements_of, picking_flag, size_flag, step_flag}
 
 of-parts : (d : Delay) (p : Picking) (t : Step) (z : Size) (c : Decay)
     → elements_of (choices_of (record { delay = d; picking = p; step = t; size = z; decay = c }))

@@ -3,7 +3,7 @@ use Rattle.std.proofs.Common.{◌≡◌, ℕ, ◌+◌, ◌^◌, ◌-◌, true, f
 use Rattle.pie_control.specs.Delay.{delay_of}
 use Rattle.pie_control.specs.Next.{raw_step, tuning_divisor, tuned_step, decayed, next}
 use Rattle.pie_early.specs.Decision.{is_considered, is_picked}
-use Rattle.pie_c.specs.declared.params.PieParams.{PieParams}
+use Rattle.pie_abi.specs.declared.params.PieParams.{PieParams}
 use Rattle.pie_c.specs.declared.state.PieState.{PieState}
 use Rattle.pie_params.specs.Elements.{usual}
 use Rattle.pie_params.specs.declared.elements.Decay.TheVariants.{Half}
@@ -15,11 +15,15 @@ use Rattle.pie_event.specs.declared.profile.Profile.TheVariants.{One}
 use Rattle.pie_aqm.specs.Held.{Held}
 use Rattle.pie_aqm.specs.Steps.{accu_left, arrived, capped, departed, opened, updated, verdict}
 use Rattle.pie_c.specs.Calls.{arrival_of, arrival_refusal, packet_refusal, waited_refusal, departure_refusal, moment_refusal, reset_refusal, state_refusal}
-use Rattle.pie_c.specs.Calls.{update_refusal, verdict_number}
-use Rattle.pie_c.specs.Opening.{default_opening, opening_refusal}
-use Rattle.pie_c.specs.Params.{raw_of}
-use Rattle.pie_c.specs.declared.opening.PieOpening.{PieOpening}
-use Rattle.pie_c.specs.State.{are_in_range, choices_of, elements_of, is_choice_sound, held_in, is_activity_sound, is_control_sound, is_rate_sound, is_sound, state_of, with_arrival, with_rate}
+use Rattle.pie_abi.specs.Packets.{verdict_number}
+use Rattle.pie_c.specs.Calls.{update_refusal}
+use Rattle.pie_abi.specs.Opening.{opening_refusal}
+use Rattle.pie_c.specs.Opening.{default_opening}
+use Rattle.pie_abi.specs.Params.{raw_of}
+use Rattle.pie_abi.specs.declared.opening.PieOpening.{PieOpening}
+use Rattle.pie_abi.specs.Choices.{choices_of, elements_of}
+use Rattle.pie_abi.specs.Params.{are_in_range}
+use Rattle.pie_c.specs.State.{is_choice_sound, held_in, is_activity_sound, is_control_sound, is_rate_sound, is_sound, state_of, with_arrival, with_rate}
 
 -- the default parameters, and a controller that is opened with them at 0
 abbrev defaults : PieParams

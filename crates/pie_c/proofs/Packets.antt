@@ -19,18 +19,22 @@ use Rattle.pie_aqm.specs.Steps.{judged, opened, passed, reset, turns_on, verdict
 use Rattle.pie_aqm.specs.Steps.{measures}
 use Rattle.pie_rate.specs.Estimate.{Begun}
 use Rattle.pie_params.specs.declared.elements.Delay.TheVariants.{Rate, Stamp}
-use Rattle.pie_c.specs.declared.params.PieParams.{PieParams}
+use Rattle.pie_abi.specs.declared.params.PieParams.{PieParams}
 use Rattle.pie_c.specs.declared.state.PieState.{PieState}
-use Rattle.pie_c.specs.Calls.{Arrives, Leaves, Makes, arrival_refusal, departure_refusal, if_taken, is_bad_size, kept_if_refused, moment_refusal}
+use Rattle.pie_abi.specs.Packets.{is_bad_size}
+use Rattle.pie_c.specs.Calls.{Arrives, Leaves, Makes, arrival_refusal, departure_refusal, if_taken, kept_if_refused, moment_refusal}
 use Rattle.pie_c.specs.Laws.{KeepsSound, LooksBack}
 use Rattle.pie_c.specs.Calls.{packet_refusal, params_refusal, reset_refusal, unless_refused}
-use Rattle.pie_c.specs.declared.opening.PieOpening.{PieOpening}
+use Rattle.pie_abi.specs.declared.opening.PieOpening.{PieOpening}
 use Rattle.pie_event.specs.Opening as book
 use Rattle.pie_event.specs.declared.opening.Opening.{Opening}
-use Rattle.pie_c.specs.Opening.{held_by_opening, limits_of, opening_in, opening_of, opening_refusal}
-use Rattle.pie_c.specs.Params.{params_of, raw_of}
-use Rattle.pie_c.specs.State.{choices_of, elements_of, held_in, is_sound, last_moment, profile_number, profile_of, state_of, takes_stamps}
-use Rattle.pie_c.specs.State.{are_in_range, with_arrival, with_departure, with_rate, with_registers}
+use Rattle.pie_abi.specs.Opening.{limits_of, opening_in, opening_of, opening_refusal}
+use Rattle.pie_c.specs.Opening.{held_by_opening}
+use Rattle.pie_abi.specs.Params.{params_of, raw_of}
+use Rattle.pie_abi.specs.Choices.{choices_of, elements_of, last_moment, profile_number, profile_of}
+use Rattle.pie_c.specs.State.{held_in, is_sound, state_of, takes_stamps}
+use Rattle.pie_abi.specs.Params.{are_in_range}
+use Rattle.pie_c.specs.State.{with_arrival, with_departure, with_rate, with_registers}
 use Rattle.pie_c.proofs.Sound.{choice-from, held-sound, held-state, kept-by, params-from, parts-of, profile-back, state-held}
 use Rattle.pie_c.proofs.Sound.{state-sound}
 

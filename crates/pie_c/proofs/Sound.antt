@@ -8,11 +8,13 @@ use Rattle.pie_rate.specs.Estimate.{Begun}
 use Rattle.pie_event.specs.declared.profile.Profile.{Profile}
 use Rattle.pie_event.specs.declared.profile.Profile.TheVariants.{One, Two}
 use Rattle.pie_aqm.specs.Held.{Held, IsSound, IsWithin}
-use Rattle.pie_c.specs.declared.params.PieParams.{PieParams}
+use Rattle.pie_abi.specs.declared.params.PieParams.{PieParams}
 use Rattle.pie_c.specs.declared.state.PieState.{PieState}
-use Rattle.pie_c.specs.Params.{params_of, raw_of}
-use Rattle.pie_c.specs.State.{are_in_range, begun_in, count_of, flag, flag_of, held_in, is_activity_sound, is_control_sound, is_rate_sound, is_sound}
-use Rattle.pie_c.specs.State.{is_choice_sound, last_moment, profile_number, profile_of, start_of, state_of}
+use Rattle.pie_abi.specs.Params.{params_of, raw_of}
+use Rattle.pie_abi.specs.Params.{are_in_range}
+use Rattle.pie_c.specs.State.{begun_in, count_of, flag, flag_of, held_in, is_activity_sound, is_control_sound, is_rate_sound, is_sound}
+use Rattle.pie_abi.specs.Choices.{last_moment, profile_number, profile_of}
+use Rattle.pie_c.specs.State.{is_choice_sound, start_of, state_of}
 use Rattle.pie_c.proofs.Choices.{choices-back, elements-back, few-choices}
 
 -- ---- what a state says of what is held is what is held

@@ -14,15 +14,16 @@ use Rattle.pie_record.specs.Text.{rows_text, text_of}
 use Rattle.pie_record.specs.Write.{event_row, written_rows}
 use Rattle.pie_excerpt.specs.Rows.{queued_row}
 use Rattle.pie_excerpt.specs.Written.{part_rows}
-use Rattle.pie_c.specs.declared.event.PieEvent.{PieEvent}
-use Rattle.pie_c.specs.declared.opening.PieOpening.{PieOpening}
+use Rattle.pie_abi.specs.declared.event.PieEvent.{PieEvent}
+use Rattle.pie_abi.specs.declared.opening.PieOpening.{PieOpening}
 use Rattle.pie_c.specs.declared.resuming.PieStats.{PieStats}
 use Rattle.pie_c.specs.declared.state.PieState.{PieState}
-use Rattle.pie_c.specs.Calls.{is_bad_size}
+use Rattle.pie_abi.specs.Packets.{is_bad_size}
 use Rattle.pie_c.specs.Events.{Kept, change_of, event_by, event_of, event_text, is_event, lost_in, opening_text, stands_for, text_in, written_text}
-use Rattle.pie_c.specs.Opening.{opening_in, opening_of, opening_refusal}
+use Rattle.pie_abi.specs.Opening.{opening_in, opening_of, opening_refusal}
 use Rattle.pie_c.specs.Resuming.{CanWait, ecn_number, is_standing, queued_text, resume_of, resume_text, set_by_of, standing_in, waiting_text}
-use Rattle.pie_c.specs.State.{is_sound, last_moment}
+use Rattle.pie_abi.specs.Choices.{last_moment}
+use Rattle.pie_c.specs.State.{is_sound}
 
 -- lost events stand for none
 lost-none : (e : PieEvent) → (e.kind == 6) ≡ true → event_of e ≡ None

@@ -10,10 +10,12 @@ use Rattle.pie_aqm.specs.Events.{ControllerEvent, Opened}
 use Rattle.pie_aqm.specs.Held.{Held}
 use Rattle.pie_aqm.specs.History.{Shows}
 use Rattle.pie_aqm.specs.Steps.{arrived, delay_answered, due, is_too_soon, updated, verdict}
-use Rattle.pie_c.specs.declared.params.PieParams.{PieParams}
+use Rattle.pie_abi.specs.declared.params.PieParams.{PieParams}
 use Rattle.pie_c.specs.declared.state.PieState.{PieState}
 use Rattle.pie_c.specs.declared.updated.PieUpdated.{PieUpdated}
-use Rattle.pie_c.specs.State.{are_in_range, held_in, is_sound, last_moment, state_of, takes_stamps, with_arrival}
+use Rattle.pie_abi.specs.Choices.{last_moment}
+use Rattle.pie_abi.specs.Params.{are_in_range}
+use Rattle.pie_c.specs.State.{held_in, is_sound, state_of, takes_stamps, with_arrival}
 
 -- the answer of a call that is refused by a number, where that isn't 0, and else this one
 abbrev pub unless_refused : ℕ → ℕ → ℕ
@@ -32,14 +34,6 @@ pub record Takes (before : PieState) (refusal : ℕ) (after : PieState) (code : 
   pub answer : code ≡ refusal
   pub fields : left ≡ if_taken refusal before after
 
--- a packet's size is outside 1 to 65535 bytes
-abbrev pub is_bad_size : ℕ → Bool
-is_bad_size size = (size == 0) || nat_lt 65535 size
-
--- the ECN field of these two bits (RFC 3168, section 5)
-abbrev pub ecn_at : ℕ → Ecn
-ecn_at bits = if bits == 0 then NotEct else if bits == 1 then Ect1 else if bits == 2 then Ect0 else Ce
-
 -- why an arrival is refused, and 0 where it isn't
 unfoldable pub arrival_refusal : ℕ → ℕ → ℕ → ℕ → ℕ
 arrival_refusal queued size ecn moment =
@@ -52,14 +46,6 @@ arrival_refusal queued size ecn moment =
 -- an arriving packet and the queue that it meets, as the caller says them
 abbrev pub arrival_of : ℕ → ℕ → ℕ → ℕ → ℕ → Arrival
 arrival_of queued size room bits word = record { queued = queued; is_full = room == 0; size = size; ecn = ecn_at bits; word = word }
-
--- the number of a verdict
-abbrev pub verdict_number : Verdict → ℕ
-verdict_number Enqueued = 0
-verdict_number Marked = 1
-verdict_number DroppedEarly = 2
-verdict_number DroppedBytes = 3
-verdict_number DroppedPackets = 4
 
 -- ---- what a call for one packet leaves
 

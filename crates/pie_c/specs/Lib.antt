@@ -1,4 +1,3 @@
-pub mod Params
 pub mod State
 pub mod Laws
 pub mod Calls

@@ -6,21 +6,22 @@ ghost use Rattle.pie_aqm.specs.Calls.{Arrive, Change, Depart, Pass, Restart, Upd
 ghost use Rattle.pie_aqm.specs.Events.{ControllerEvent, Opened};
 ghost use Rattle.pie_aqm.specs.History.{Shows};
 ghost use Rattle.pie_aqm.specs.Steps.{arrived, capped, departed, verdict};
-ghost use Rattle.pie_c.specs.Params.{raw_of};
-ghost use Rattle.pie_c.specs.State.{elements_of, held_in, is_sound, takes_stamps, with_departure, with_rate};
+ghost use Rattle.pie_abi.specs.Params.{raw_of};
+ghost use Rattle.pie_abi.specs.Choices.{elements_of};
+ghost use Rattle.pie_c.specs.State.{held_in, is_sound, takes_stamps, with_departure, with_rate};
 ghost use Rattle.pie_c.specs.Laws.{KeepsSound, LooksBack};
 ghost use Rattle.pie_c.specs.Calls.{Arrives, Leaves, Makes, Takes, arrival_of, arrival_refusal, departure_refusal, if_taken, kept_if_refused};
 ghost use Rattle.pie_c.specs.Calls.{moment_refusal, params_refusal, reset_refusal, state_refusal, unless_refused, update_refusal, updated_by, waited_refusal};
 
-use crate::checked::{
-    are_in_range, ecn, elements, is_bad_size, is_sound, raw, raw_with, takes_stamps,
-    usual_but_delay,
-};
-use crate::code::{
+use crate::checked::{is_sound, raw, raw_with, takes_stamps, usual_but_delay};
+use pie_abi::choices::elements;
+use pie_abi::packet::{ecn, is_bad_size};
+use pie_abi::params::are_in_range;
+use pie_abi::code::{
     BAD_ARRIVED, BAD_ECN, BAD_MOMENT, BAD_PARAMS, BAD_QUEUE, BAD_SIZE, BAD_STATE, DONE, NOT_WAITED,
     TOO_SOON, of_verdict,
 };
-use crate::params::PieParams;
+use pie_abi::PieParams;
 use crate::state::PieState;
 use crate::updated::PieUpdated;
 use pie_aqm::{Arrival, calls_keep_it_sound, calls_look_back};

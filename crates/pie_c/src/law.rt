@@ -6,11 +6,11 @@ ghost use Rattle.pie_book.specs.History.{waiting_after};
 ghost use Rattle.pie_record.specs.Text.{rows_text};
 ghost use Rattle.pie_record.specs.Write.{event_row, written_rows};
 ghost use Rattle.pie_excerpt.specs.Written.{part_rows};
-ghost use Rattle.pie_c.specs.declared.opening.PieOpening.{PieOpening};
+ghost use Rattle.pie_abi.specs.declared.opening.PieOpening.{PieOpening};
 ghost use Rattle.pie_c.specs.declared.resuming.PieStats.{PieStats};
 ghost use Rattle.pie_c.specs.declared.state.PieState.{PieState};
 ghost use Rattle.pie_c.specs.Events.{Kept, opening_text, stands_for, written_text};
-ghost use Rattle.pie_c.specs.Opening.{opening_in, opening_of, opening_refusal};
+ghost use Rattle.pie_abi.specs.Opening.{opening_in, opening_of, opening_refusal};
 ghost use Rattle.pie_c.specs.Resuming.{CanWait, is_standing, resume_of, resume_text, set_by_of, standing_in, waiting_text};
 ghost use Rattle.pie_c.specs.State.{is_sound};
 

@@ -15,8 +15,6 @@
 
 mod calls;
 mod checked;
-mod code;
-mod event;
 mod law;
 mod opening;
 mod params;

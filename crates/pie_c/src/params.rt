@@ -1,88 +1,12 @@
+//! The calls on parameters.
 ghost use Rattle.std.specs.Prelude.{◌≡◌};
 ghost use Rattle.pie_params.specs.Profile.{default_profile, profile_for};
 ghost use Rattle.pie_params.specs.Range.{first_bad};
-ghost use Rattle.pie_c.specs.Params.{bad_number, field_number, params_of, raw_of};
+ghost use Rattle.pie_abi.specs.Params.{bad_number, raw_of};
 
-use pie_params::{BadParam, Field, Params, RawParams};
-
-/// The parameters as a C caller holds them, in the order in which they are checked. Times are in
-/// nanoseconds, gains in thousandths per second, sizes in bytes, probabilities in units of `10^-12`
-/// (RFC 8033, sections 4.2, 4.4, 5.1 and 5.2).
-#[repr(C)]
-#[derive(Clone, Copy)]
-pub struct PieParams {
-    /// The reference queueing delay, 2 to 10^10.
-    pub target: u64,
-    /// The time between two updates, 1 to 10^10.
-    pub t_update: u64,
-    /// The burst allowance, 0 to 10^12.
-    pub max_burst: u64,
-    /// The gain on the delay's distance from the target, 0 to 10^6.
-    pub alpha: u64,
-    /// The gain on the delay's change, 0 to 10^6.
-    pub beta: u64,
-    /// The mean packet size, 1 to 65535.
-    pub mean_pkt: u64,
-    /// The queue's limit, 1 to 2^30.
-    pub limit_bytes: u64,
-    /// The probability from which a packet is dropped and not marked, 0 to 10^12.
-    pub mark_ecnth: u64,
-    /// The bytes that a cycle of the departure rate counts, a power of two from 1024 to 65536.
-    pub dq_threshold: u64,
-}
-
-impl PieParams {
-    /// The same fields as the record that pie_params checks.
-    pub(crate) fn raw(&self) -> RawParams
-        ensures { result ≡ raw_of self.now }
-    {
-        RawParams {
-            target: self.target,
-            t_update: self.t_update,
-            max_burst: self.max_burst,
-            alpha: self.alpha,
-            beta: self.beta,
-            mean_pkt: self.mean_pkt,
-            limit_bytes: self.limit_bytes,
-            mark_ecnth: self.mark_ecnth,
-            dq_threshold: self.dq_threshold,
-        }
-    }
-
-    /// The same fields as a C caller holds them.
-    pub(crate) fn from_raw(raw: RawParams) -> PieParams
-        ensures { result ≡ params_of raw }
-    {
-        PieParams {
-            target: raw.target,
-            t_update: raw.t_update,
-            max_burst: raw.max_burst,
-            alpha: raw.alpha,
-            beta: raw.beta,
-            mean_pkt: raw.mean_pkt,
-            limit_bytes: raw.limit_bytes,
-            mark_ecnth: raw.mark_ecnth,
-            dq_threshold: raw.dq_threshold,
-        }
-    }
-}
-
-/// The number of a field, counted from 1 in the order in which the fields are checked.
-fn number(field: Field) -> u32
-    ensures { result ≡ field_number field }
-{
-    match field {
-        Field::Target => 1,
-        Field::TUpdate => 2,
-        Field::MaxBurst => 3,
-        Field::Alpha => 4,
-        Field::Beta => 5,
-        Field::MeanPkt => 6,
-        Field::LimitBytes => 7,
-        Field::MarkEcnth => 8,
-        Field::DqThreshold => 9,
-    }
-}
+use pie_abi::PieParams;
+use pie_abi::params::number;
+use pie_params::{BadParam, Params};
 
 /// Fills in the default parameters: those of RFC 8033 where it has them.
 #[unsafe(no_mangle)]

@@ -7,7 +7,7 @@ ghost use Rattle.pie_c.specs.Reading.{fault_number, read_code, read_or_kept};
 ghost use Rattle.pie_units.specs.declared.unit.Kind.TheVariants.{Packets, Rate, Size, Time};
 ghost use Rattle.pie_units.specs.Written.{value_of};
 
-use crate::code::{DONE, NOT_A_NUMBER, TOO_GREAT, TOO_PRECISE};
+use pie_abi::code::{DONE, NOT_A_NUMBER, TOO_GREAT, TOO_PRECISE};
 use pie_units::{Kind, UnitFault, read};
 
 /// The number of a refusal.

@@ -3,7 +3,7 @@ ghost use Rattle.pie_control.specs.Parts.{parts_of};
 ghost use Rattle.pie_aqm.specs.Held.{held_by};
 ghost use Rattle.pie_c.specs.State.{held_in, is_sound, state_of, with_arrival, with_rate, with_registers};
 
-use crate::params::PieParams;
+use pie_abi::PieParams;
 use pie_aqm::RawController;
 
 /// The controller's state, which its caller owns: the parameters in force, the registers, the profile and whether the controller is

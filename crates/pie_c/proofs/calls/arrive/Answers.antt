@@ -5,8 +5,10 @@ use Rattle.pie_aqm.specs.declared.verdict.Arrival.{Arrival}
 use Rattle.pie_aqm.specs.Calls.{Arrive}
 use Rattle.pie_aqm.specs.Steps.{arrived, verdict}
 use Rattle.pie_c.specs.declared.state.PieState.{PieState}
-use Rattle.pie_c.specs.Calls.{arrival_of, arrival_refusal, is_bad_size, verdict_number}
-use Rattle.pie_c.specs.State.{held_in, last_moment, with_arrival}
+use Rattle.pie_abi.specs.Packets.{is_bad_size, verdict_number}
+use Rattle.pie_c.specs.Calls.{arrival_of, arrival_refusal}
+use Rattle.pie_abi.specs.Choices.{last_moment}
+use Rattle.pie_c.specs.State.{held_in, with_arrival}
 use Rattle.pie_c.proofs.Packets.{arrival-taken, arrived-state, handed, kept-later, leaves, moment-later, untouched, verdict-later}
 use Rattle.pie_c.proofs.calls.arrive.Goals as goal
 use Rattle.pie_c.proofs.calls.arrive.Goals.{After-of_verdict}

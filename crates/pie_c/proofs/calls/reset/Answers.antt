@@ -2,7 +2,8 @@ use Rattle.std.proofs.Common.{◌≡◌, ◌∙◌, nat_lt, true, false, arith, 
 use Rattle.std.proofs.lemmas.Bool.Decides.{nat_tests}
 use Rattle.pie_aqm.specs.Calls.{Restart}
 use Rattle.pie_c.specs.Calls.{reset_refusal}
-use Rattle.pie_c.specs.State.{is_sound, last_moment}
+use Rattle.pie_abi.specs.Choices.{last_moment}
+use Rattle.pie_c.specs.State.{is_sound}
 use Rattle.pie_c.proofs.Packets.{makes, reset-state, reset-taken, unmade}
 use Rattle.pie_c.proofs.calls.reset.Goals as goal
 

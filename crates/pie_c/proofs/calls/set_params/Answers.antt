@@ -2,8 +2,10 @@ use Rattle.std.proofs.Common.{◌≡◌, ◌∙◌, nat_lt, true, false, arith, 
 use Rattle.std.proofs.lemmas.Bool.Decides.{nat_tests}
 use Rattle.pie_aqm.specs.Calls.{Change}
 use Rattle.pie_c.specs.Calls.{params_refusal}
-use Rattle.pie_c.specs.Params.{raw_of}
-use Rattle.pie_c.specs.State.{are_in_range, is_sound, last_moment}
+use Rattle.pie_abi.specs.Params.{raw_of}
+use Rattle.pie_abi.specs.Choices.{last_moment}
+use Rattle.pie_abi.specs.Params.{are_in_range}
+use Rattle.pie_c.specs.State.{is_sound}
 use Rattle.pie_c.proofs.Packets.{changed-state, makes, params-taken, unmade}
 use Rattle.pie_c.proofs.Sound.{params-from}
 use Rattle.pie_c.proofs.calls.set_params.Goals as goal

@@ -4,7 +4,8 @@ use Rattle.pie_aqm.specs.Calls.{Update}
 use Rattle.pie_aqm.specs.Held.{Held, IsSound, held_by}
 use Rattle.pie_aqm.specs.Steps.{delay_answered, updated}
 use Rattle.pie_c.specs.Calls.{update_refusal, updated_with}
-use Rattle.pie_c.specs.State.{held_in, is_sound, last_moment, state_of}
+use Rattle.pie_abi.specs.Choices.{last_moment}
+use Rattle.pie_c.specs.State.{held_in, is_sound, state_of}
 use Rattle.pie_c.proofs.Packets.{makes, unmade}
 use Rattle.pie_c.proofs.Sound.{held-sound}
 use Rattle.pie_c.proofs.calls.update.Goals as goal

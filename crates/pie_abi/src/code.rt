@@ -1,74 +1,74 @@
 //! What a call answers, as `include/pie.h` numbers it.
 ghost use Rattle.std.specs.Prelude.{◌≡◌};
-ghost use Rattle.pie_c.specs.Calls.{verdict_number};
+ghost use Rattle.pie_abi.specs.Packets.{verdict_number};
 
-use pie_aqm::Verdict;
+use pie_event::Verdict;
 
 /// The call is done. Of an arrival: the packet is to be queued as it is.
-pub(crate) const DONE: u32 = 0;
+pub const DONE: u32 = 0;
 
 /// The packet is to be queued with its ECN field set to CE.
-pub(crate) const MARK: u32 = 1;
+pub const MARK: u32 = 1;
 
 /// The packet is to be dropped: early drop picked it.
-pub(crate) const EARLY: u32 = 2;
+pub const EARLY: u32 = 2;
 
 /// The packet is to be dropped: the queue would exceed the byte limit.
-pub(crate) const OVER_BYTES: u32 = 3;
+pub const OVER_BYTES: u32 = 3;
 
 /// The packet is to be dropped: the caller's ring is full.
-pub(crate) const OVER_PACKETS: u32 = 4;
+pub const OVER_PACKETS: u32 = 4;
 
 /// There was no packet to depart.
-pub(crate) const NONE: u32 = 5;
+pub const NONE: u32 = 5;
 
 /// Refused: a moment above `2^60 - 1`.
-pub(crate) const BAD_MOMENT: u32 = 101;
+pub const BAD_MOMENT: u32 = 101;
 
 /// Refused: a size outside 1 to 65535.
-pub(crate) const BAD_SIZE: u32 = 102;
+pub const BAD_SIZE: u32 = 102;
 
 /// Refused: an update before it is due.
-pub(crate) const TOO_SOON: u32 = 103;
+pub const TOO_SOON: u32 = 103;
 
 /// Refused: parameters of which one is out of its range.
-pub(crate) const BAD_PARAMS: u32 = 107;
+pub const BAD_PARAMS: u32 = 107;
 
 /// Refused: the state has a field out of its range, or its fields do not fit one another.
-pub(crate) const BAD_STATE: u32 = 110;
+pub const BAD_STATE: u32 = 110;
 
 /// Refused: an ECN field above 3.
-pub(crate) const BAD_ECN: u32 = 111;
+pub const BAD_ECN: u32 = 111;
 
 /// Refused: more than 2^30 bytes in the queue.
-pub(crate) const BAD_QUEUE: u32 = 112;
+pub const BAD_QUEUE: u32 = 112;
 
 /// Refused: a profile that is neither 1 nor 2.
-pub(crate) const BAD_PROFILE: u32 = 113;
+pub const BAD_PROFILE: u32 = 113;
 
 /// Refused: a text that is no number with a unit of its kind.
-pub(crate) const NOT_A_NUMBER: u32 = 114;
+pub const NOT_A_NUMBER: u32 = 114;
 
 /// Refused: a text that is more precise than the whole number that is asked for.
-pub(crate) const TOO_PRECISE: u32 = 115;
+pub const TOO_PRECISE: u32 = 115;
 
 /// Refused: a text of a number above `2^60 - 1`.
-pub(crate) const TOO_GREAT: u32 = 116;
+pub const TOO_GREAT: u32 = 116;
 
 /// Refused: a choice that is none of the four flags.
-pub(crate) const BAD_CHOICES: u32 = 117;
+pub const BAD_CHOICES: u32 = 117;
 
 /// Refused: a packet that arrived later than the state's moment.
-pub(crate) const BAD_ARRIVED: u32 = 118;
+pub const BAD_ARRIVED: u32 = 118;
 
 /// Refused: a departure that doesn't say when the packet arrived, at a state that takes delays from time stamps.
-pub(crate) const NOT_WAITED: u32 = 119;
+pub const NOT_WAITED: u32 = 119;
 
 /// Refused: a mode or a limit of an opening out of its range.
-pub(crate) const BAD_LIMITS: u32 = 120;
+pub const BAD_LIMITS: u32 = 120;
 
 /// The number of a verdict.
-pub(crate) fn of_verdict(verdict: Verdict) -> u32
+pub fn of_verdict(verdict: Verdict) -> u32
     ensures { result ≡ verdict_number verdict }
 {
     match verdict {

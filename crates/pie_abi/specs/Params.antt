@@ -1,9 +1,10 @@
 -- The parameters as a C caller holds them, and the numbers of their fields.
-use Rattle.std.specs.Prelude.{ℕ, Option, Some, None}
+use Rattle.std.specs.Prelude.{ℕ, Bool, is_none, Option, Some, None}
 use Rattle.pie_params.specs.declared.raw.Field.{Field}
 use Rattle.pie_params.specs.declared.raw.Field.TheVariants.{Target, TUpdate, MaxBurst, Alpha, Beta, MeanPkt, LimitBytes, MarkEcnth, DqThreshold}
 use Rattle.pie_params.specs.declared.raw.RawParams.{RawParams}
-use Rattle.pie_c.specs.declared.params.PieParams.{PieParams}
+use Rattle.pie_params.specs.Range.{first_bad}
+use Rattle.pie_abi.specs.declared.params.PieParams.{PieParams}
 
 -- the same fields, as the record whose ranges are checked
 abbrev pub raw_of : PieParams → RawParams
@@ -49,3 +50,7 @@ field_number DqThreshold = 9
 abbrev pub bad_number : Option Field → ℕ
 bad_number None = 0
 bad_number (Some field) = field_number field
+
+-- the parameters are all in their ranges
+unfoldable pub are_in_range : PieParams → Bool
+are_in_range params = is_none (first_bad (raw_of params))

@@ -1,0 +1,209 @@
+/* Calls at the ports of a link, as C11 and C++11: what each answers and leaves, by one thread; then sixteen threads that count what they asked, four of
+ * which are cancelled between two calls; then each request for memory refused in turn. bindings/c/threads.sh builds and runs it. */
+#include "pie_link.h"
+
+#include <pthread.h>
+#include <stdio.h>
+#include <stdlib.h>
+#include <string.h>
+
+#define CHECK(c)                                                                                                                                             \
+    do {                                                                                                                                                     \
+        if (!(c)) {                                                                                                                                          \
+            fprintf(stderr, "bindings/c/ports.c:%d: %s\n", __LINE__, #c);                                                                                    \
+            exit(1);                                                                                                                                         \
+        }                                                                                                                                                    \
+    } while (0)
+
+static struct pie_event event_at(uint64_t moment, uint64_t tag) {
+    struct pie_event event;
+    memset(&event, 0, sizeof event);
+    event.moment = moment;
+    event.tag = tag;
+    event.size = 1000;
+    event.ecn = PIE_ECT0;
+    event.word = UINT64_C(0x9e3779b97f4a7c15) * (tag + 1);
+    return event;
+}
+
+static void calls(void) {
+    struct pie_port port = PIE_PORT_CLOSED, other = PIE_PORT_CLOSED, third = PIE_PORT_CLOSED;
+    struct pie_opening opening;
+    struct pie_params params;
+    struct pie_event event = event_at(10, 7), before = event;
+    pie_default_opening(&opening, 100000000);
+    opening.mode = PIE_BOUNDED;
+    opening.tail = 7;
+    /* closed */
+    CHECK(pie_link_try_arrive(&port, &event) == PIE_CLOSED && memcmp(&event, &before, sizeof event) == 0);
+    CHECK(pie_link_close(&port) == PIE_CLOSED && pie_link_share(&port, &other) == PIE_CLOSED && pie_link_gather(&port, &other) == PIE_CLOSED);
+    /* opening */
+    CHECK(pie_link_open(&opening, 0, &port) == PIE_NO_CALLERS);
+    opening.profile = 3;
+    CHECK(pie_link_open(&opening, 0, &port) == PIE_BAD_PROFILE && port.at == NULL);
+    opening.profile = 1;
+    CHECK(pie_link_open(&opening, 3, &port) == PIE_DONE && port.at != NULL && pie_link_open(&opening, 3, &port) == PIE_OPEN);
+    /* numbers */
+    CHECK(pie_link_share(&port, &other) == PIE_DONE && pie_link_share(&port, &other) == PIE_OPEN);
+    CHECK(pie_link_share(&port, &third) == PIE_DONE);
+    CHECK(pie_link_gather(&port, &other) == PIE_APART && other.at != NULL);
+    CHECK(pie_link_gather(&port, &third) == PIE_DONE && third.at == NULL && pie_link_gather(&port, &other) == PIE_DONE && other.at == NULL);
+    CHECK(pie_link_share(&port, &other) == PIE_DONE);
+    /* packets: what is asked stays, the rest is filled in */
+    event.prob = event.delay = event.burst = 5;
+    event.reserved = 5;
+    event.caller = 9;
+    CHECK(pie_link_arrive(&other, &event) == PIE_ENQUEUE && event.kind == PIE_EVENT_ARRIVE && event.caller == 2 && event.tag == 7);
+    CHECK(event.prob == 0 && event.delay == 0 && event.burst == 0 && event.reserved == 0 && event.size == 1000 && event.answer == PIE_ENQUEUE);
+    event.ecn = 4;
+    CHECK(pie_link_try_arrive(&other, &event) == PIE_BAD_ECN && event.answer == PIE_BAD_ECN && event.tag == 7);
+    event = event_at(PIE_MAX_MOMENT + 1, 8);
+    CHECK(pie_link_arrive(&port, &event) == PIE_BAD_MOMENT && event.caller == 0);
+    event = event_at(20, 8);
+    event.size = 0;
+    CHECK(pie_link_arrive(&port, &event) == PIE_BAD_SIZE);
+    event = event_at(30, 99);
+    CHECK(pie_link_depart(&port, &event) == PIE_DONE && event.tag == 7 && event.size == 1000 && event.ecn == PIE_ECT0 && event.word == 0);
+    CHECK(pie_link_depart(&port, &event) == PIE_NONE && event.tag == 0 && event.size == 0 && event.answer == PIE_NONE);
+    event = event_at(40, 99);
+    CHECK(pie_link_update(&port, &event) == PIE_TOO_SOON && event.tag == 0);
+    event = event_at(15000000, 99);
+    CHECK(pie_link_update(&port, &event) == PIE_DONE && event.kind == PIE_EVENT_UPDATE && event.burst < 150000000);
+    event = event_at(15000001, 99);
+    CHECK(pie_link_reset(&port, &event) == PIE_DONE && event.kind == PIE_EVENT_RESET);
+    params = opening.params;
+    params.target = 0;
+    CHECK(pie_link_set_params(&port, &params, &event) == PIE_BAD_PARAMS && event.kind == PIE_EVENT_PARAMS);
+    params.target = 5000000;
+    CHECK(pie_link_set_params(&port, &params, &event) == PIE_DONE && event.answer == PIE_DONE);
+    event = event_at(15000002, 10);
+    CHECK(pie_link_arrive(&port, &event) == PIE_ENQUEUE);
+    CHECK(pie_link_arrive(&port, &event) == PIE_FULL);
+    /* the log: an arrival, a departure, one that found none, an update, a reset, parameters, an arrival */
+    memset(&params, 0, sizeof params);
+    CHECK(pie_link_fold(&other, &event, &params) == PIE_DONE && event.kind == PIE_EVENT_ARRIVE && event.caller == 2 && event.tag == 7);
+    CHECK(event.word == UINT64_C(0x9e3779b97f4a7c15) * 8 && event.ecn == PIE_ECT0 && params.target == 0);
+    CHECK(pie_link_fold(&other, &event, &params) == PIE_DONE && event.kind == PIE_EVENT_DEPART && event.caller == 0 && event.tag == 7);
+    CHECK(pie_link_fold(&other, &event, &params) == PIE_DONE && event.kind == PIE_EVENT_DEPART && event.answer == PIE_NONE);
+    CHECK(pie_link_fold(&other, &event, &params) == PIE_DONE && event.kind == PIE_EVENT_UPDATE && event.burst < 150000000);
+    CHECK(pie_link_fold(&other, &event, &params) == PIE_DONE && event.kind == PIE_EVENT_RESET);
+    CHECK(pie_link_fold(&other, &event, &params) == PIE_DONE && event.kind == PIE_EVENT_PARAMS && params.target == 5000000);
+    CHECK(params.dq_threshold == opening.params.dq_threshold);
+    CHECK(pie_link_fold(&other, &event, &params) == PIE_DONE && event.tag == 10);
+    CHECK(pie_link_fold(&other, &event, &params) == PIE_TOO_MANY && event.tag == 10);
+    CHECK(strcmp(pie_link_text(PIE_BUSY), "another port has the turn") == 0 && strcmp(pie_link_text(PIE_MARK), pie_text(PIE_MARK)) == 0);
+    CHECK(pie_link_close(&port) == PIE_DONE && pie_link_close(&port) == PIE_CLOSED && pie_link_arrive(&other, &event) == PIE_ENQUEUE);
+    CHECK(pie_link_close(&other) == PIE_DONE);
+}
+
+enum { THREADS = 16, TIMES = 2000 };
+static uint64_t asked[THREADS];
+
+static void *ask(void *of) {
+    struct pie_port *port = (struct pie_port *)of;
+    struct pie_event event = event_at(0, 1);
+    uint64_t count;
+    CHECK(pthread_setcancelstate(PTHREAD_CANCEL_DISABLE, NULL) == 0);
+    CHECK(pie_link_reset(port, &event) == PIE_DONE);
+    uint64_t *mine = &asked[event.caller];
+    *mine = 1;
+    for (count = 0; count < TIMES; count++) {
+        event = event_at(count, count);
+        CHECK(pie_link_arrive(port, &event) < 100);
+        ++*mine;
+        if (event.caller >= THREADS - 4) { /* cancelled between two calls, sooner or later */
+            pthread_setcancelstate(PTHREAD_CANCEL_ENABLE, NULL);
+            pthread_testcancel();
+            pthread_setcancelstate(PTHREAD_CANCEL_DISABLE, NULL);
+        }
+    }
+    return NULL;
+}
+
+static void threads(void) {
+    static struct pie_port ports[THREADS];
+    pthread_t ids[THREADS];
+    struct pie_opening opening;
+    struct pie_event event;
+    struct pie_params params;
+    uint64_t found[THREADS] = {0}, next[THREADS] = {0};
+    uint32_t code;
+    int i;
+    pie_default_opening(&opening, 100000000);
+    opening.tail = 1 << 20;
+    CHECK(pie_link_open(&opening, THREADS, &ports[0]) == PIE_DONE);
+    for (i = 1; i < THREADS; i++)
+        CHECK(pie_link_share(&ports[0], &ports[i]) == PIE_DONE);
+    for (i = 0; i < THREADS; i++)
+        CHECK(pthread_create(&ids[i], NULL, ask, &ports[i]) == 0);
+    for (i = 0; i < 4; i++) /* (the highest numbers went to the first that shared) */
+        pthread_cancel(ids[1 + i]);
+    for (i = 0; i < THREADS; i++)
+        CHECK(pthread_join(ids[i], NULL) == 0);
+    while ((code = pie_link_fold(&ports[0], &event, &params)) == PIE_DONE) {
+        found[event.caller]++;
+        if (event.kind == PIE_EVENT_ARRIVE)
+            CHECK(event.tag == next[event.caller]++); /* each caller's calls, once and in its order */
+    }
+    CHECK(code == PIE_TOO_MANY);
+    for (i = 0; i < THREADS; i++) {
+        CHECK(found[i] == asked[i]);
+        CHECK(pie_link_close(&ports[i]) == PIE_DONE);
+    }
+}
+
+/* Each request for memory refused in turn: the linker lets these stand for malloc and realloc (-Wl,--wrap). */
+#ifdef __cplusplus
+extern "C" {
+#endif
+void *__real_malloc(size_t bytes);
+void *__real_realloc(void *at, size_t bytes);
+void *__wrap_malloc(size_t bytes);
+void *__wrap_realloc(void *at, size_t bytes);
+static long refused = -1; /* so many are granted before one is refused; -1: all */
+static int is_granted(void) {
+    return refused < 0 || refused-- != 0;
+}
+void *__wrap_malloc(size_t bytes) {
+    return is_granted() ? __real_malloc(bytes) : NULL;
+}
+void *__wrap_realloc(void *at, size_t bytes) {
+    return is_granted() ? __real_realloc(at, bytes) : NULL;
+}
+#ifdef __cplusplus
+}
+#endif
+
+/* The code of a call whose request number `number` is refused; `refused` is 0 or more after it where there was none. */
+#define REFUSING(number, call) (refused = (number), code = (call), was_refused = refused < 0, refused = -1, code)
+
+static void memory(void) {
+    struct pie_port port = PIE_PORT_CLOSED, other = PIE_PORT_CLOSED;
+    struct pie_opening opening;
+    struct pie_event event = event_at(0, 1);
+    struct pie_params params;
+    uint32_t code;
+    long number, requests = 0;
+    int was_refused;
+    pie_default_opening(&opening, 100000000);
+    opening.packets = opening.tail = 8;
+    for (number = 0; REFUSING(number, pie_link_open(&opening, 2, &port)) != PIE_DONE; number++)
+        CHECK(code == PIE_NO_MEMORY && was_refused && port.at == NULL);
+    requests += number;
+    for (number = 0; REFUSING(number, pie_link_share(&port, &other)) != PIE_DONE; number++)
+        CHECK(code == PIE_NO_MEMORY && was_refused && other.at == NULL); /* the number stays: it is shared the next time */
+    requests += number;
+    CHECK(REFUSING(0, pie_link_arrive(&other, &event)) == PIE_ENQUEUE && !was_refused && event.caller == 1);
+    CHECK(REFUSING(0, pie_link_depart(&port, &event)) == PIE_DONE && !was_refused);
+    for (number = 0; REFUSING(number, pie_link_fold(&port, &event, &params)) != PIE_DONE; number++)
+        CHECK(code == PIE_NO_MEMORY && was_refused);
+    CHECK(event.kind == PIE_EVENT_ARRIVE && requests + number > 4);
+    CHECK(pie_link_close(&port) == PIE_DONE && pie_link_close(&other) == PIE_DONE);
+}
+
+int main(void) {
+    calls();
+    threads();
+    memory();
+    return 0;
+}

@@ -1,0 +1,5 @@
+pub mod Params
+pub mod Choices
+pub mod Packets
+pub mod Opening
+pub mod Events

@@ -1,0 +1,5 @@
+pub mod Codes
+pub mod Events
+pub mod Calls
+pub mod Folds
+pub mod Owned

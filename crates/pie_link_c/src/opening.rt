@@ -1,0 +1,71 @@
+//! Opening a link.
+ghost use Rattle.std.specs.Prelude.{◌≡◌, ◌≢◌, IfOk, IfErr, OnOk, None};
+ghost use Rattle.pie_link.specs.Headline.{KeepsOneHistory};
+ghost use Rattle.pie_link_c.specs.Calls.{IsOpened, open_refusal};
+
+use crate::code::{NO_CALLERS, NO_MEMORY, OPEN};
+use crate::handle::PiePort;
+use crate::port::Port;
+use atomic_table::TableRule;
+use pie_abi::PieOpening;
+use pie_abi::code::DONE;
+use pie_abi::opening::checked;
+use pie_event::Opening;
+use pie_kept::KeptBook;
+use pie_link::Entry;
+use pie_lock::{LockOpening, LockRule, Place};
+use std::alloc::Global;
+
+/// Opens a link of so many callers by an opening, and the port with all their numbers, which then shares them. The port is closed before.
+///
+/// Refuses an open port, then what `pie_open` refuses of the opening, and then no callers; and where there is no memory, all stays as it was.
+#[unsafe(no_mangle)]
+pub extern "C" fn pie_link_open(
+    alloc: Global,
+    opening: &PieOpening,
+    callers: u16,
+    port: &mut PiePort,
+) -> u32
+    ensures refused { open_refusal port.old.port opening.now callers ≢ 0 → result ≡ open_refusal port.old.port opening.now callers }
+    ensures kept { result ≢ 0 → port.new.port ≡ port.old.port }
+    ensures done { open_refusal port.old.port opening.now callers ≡ 0 → result ≢ 123 → result ≡ 0 }
+    ensures opened { result ≡ 0 → IsOpened (KeepsOneHistory
+        ⟦<LockRule as TableRule<Option<KeptBook>, Place<Entry, Opening>, LockOpening<KeptBook>>>⟧.holds) opening.now callers port.new.port }
+{
+    if let Some(held) = port.take(alloc) {
+        port.put(held);
+        return OPEN;
+    }
+    match opened(alloc, opening, callers) {
+        Ok(held) => {
+            port.put(held);
+            DONE
+        }
+        Err(code) => code,
+    }
+}
+
+// A new link, and the port with all its numbers.
+fn opened(alloc: Global, opening: &PieOpening, callers: u16) -> Result<Box<Port>, u32>
+    ensures refused { IfErr result (λ code. open_refusal None opening.now callers ≢ 0 → code ≡ open_refusal None opening.now callers) }
+    ensures memory { IfErr result (λ code. open_refusal None opening.now callers ≡ 0 → code ≡ 123) }
+    ensures none { IfErr result (λ code. code ≢ 0) }
+    ensures allowed { OnOk result (open_refusal None opening.now callers ≡ 0) }
+    ensures opened { IfOk result (λ held. IsOpened (KeepsOneHistory
+        ⟦<LockRule as TableRule<Option<KeptBook>, Place<Entry, Opening>, LockOpening<KeptBook>>>⟧.holds) opening.now callers (Some held.value)) }
+{
+    let opening = match checked(opening) {
+        Ok(opening) => opening,
+        Err(code) => return Err(code),
+    };
+    if callers == 0 {
+        return Err(NO_CALLERS);
+    }
+    let Some(port) = Port::of_opening(alloc, opening, callers) else {
+        return Err(NO_MEMORY);
+    };
+    match Box::new(alloc, port) {
+        Ok(port) => Ok(port),
+        Err(_) => Err(NO_MEMORY),
+    }
+}

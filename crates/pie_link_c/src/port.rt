@@ -1,0 +1,232 @@
+//! What an open port has: a caller of a link, and a share of the link.
+ghost use Rattle.std.specs.Prelude.{◌≡◌, ◌≢◌, ◌==◌, ◌+◌, ◌↔◌, IfOk, IfErr, IfSome, IsOk, IsTrue, OnOk, OnErr, Some, false, if◌then◌else◌};
+ghost use Rattle.std.specs.Arc.{arc_value};
+ghost use Rattle.pie_link_c.specs.Events.{has_bad_ecn};
+
+use crate::asked::Asked;
+use crate::code::{NO_MEMORY, ONE_NUMBER};
+use crate::filling::{fill, fill_number, fill_set};
+use crate::folding::write_folded;
+use atomic_table::TableRule;
+use pie_abi::code::{BAD_ECN, BAD_PARAMS};
+use pie_abi::event::PARAMS;
+use pie_abi::packet::ecn;
+use pie_abi::{PieEvent, PieParams};
+use pie_event::{Answer, Opening, Refusal};
+use pie_kept::KeptBook;
+use pie_link::{Caller, Entry, Link, Told, Tried};
+use pie_lock::{LockOpening, LockRule, Place};
+use pie_params::Params;
+use pie_queue::Packet;
+use std::alloc::{AllocFailed, Global};
+use std::marker::Model;
+use std::sync::Arc;
+
+/// A caller of a link, and a share of the link.
+#[derive(Drop)]
+pub struct Port {
+    link: Arc<Link, Global>,
+    caller: Caller,
+}
+
+impl Model for Port {
+    ghost use Rattle.std.specs.Prelude.{◌≡◌};
+    ghost use Rattle.std.specs.Arc.{arc_value};
+    ghost use Rattle.pie_link.specs.Views.{CallerView};
+
+    ghost Value = { CallerView };
+
+    ghost view = { λ p. p.caller };
+
+    ghost invariant = { λ p. p.caller.lock ≡ arc_value p.link };
+}
+
+impl Port {
+    ghost use Rattle.pie_lock.specs.Promises.{first_pass, without_highest, highest_alone, IsBeside, IsBothOf};
+    ghost use Rattle.pie_kept.specs.Entries.{number_of};
+    ghost use Rattle.pie_abi.specs.Params.{are_in_range, raw_of};
+    ghost use Rattle.pie_event.specs.declared.command.Command.TheVariants.{SetParams};
+    ghost use Rattle.pie_link.specs.Commands.{TriesToAnswer};
+    ghost use Rattle.pie_link.specs.Headline.{KeepsOneHistory};
+    ghost use Rattle.pie_link.specs.Views.{StaysOne};
+    ghost use Rattle.pie_link_c.specs.Calls.{IsSetUnless, IsTriedUnless};
+    ghost use Rattle.pie_link_c.specs.Folds.{IsFolded};
+    ghost use Rattle.pie_link_c.specs.Events.{command_in, has_bad_ecn};
+
+    /// The port with all numbers of a new link, or nothing for want of memory or of callers.
+    pub(crate) fn of_opening(alloc: Global, opening: Opening, callers: u16) -> Option<Port>
+        ensures origin { IfSome result (λ port. port.lock.origin ≡ Some opening) }
+        ensures numbers { IfSome result (λ port. port.lock.numbers ≡ callers) }
+        ensures first { IfSome result (λ port. port ≡ first_pass port.lock callers) }
+        ensures headline { IfSome result (λ port. KeepsOneHistory
+            ⟦<LockRule as TableRule<Option<KeptBook>, Place<Entry, Opening>, LockOpening<KeptBook>>>⟧.holds port.lock) }
+    {
+        let Ok((link, caller)) = Link::open_with(alloc, opening, callers) else {
+            return None;
+        };
+        match Arc::new(alloc, link) {
+            Ok(link) => Some(Port { link, caller }),
+            Err(_) => None,
+        }
+    }
+
+    /// Asks what the event says.
+    #[inline(always)]
+    fn ask(&mut self, asked: Asked, event: &PieEvent) -> Result<Told<Answer>, Tried<Refusal>>
+        requires ecn { has_bad_ecn asked event.now ≡ false }
+        ensures tried { TriesToAnswer self.old.lock self.old (command_in asked event.now) result self.new }
+        ensures stays { StaysOne self.old self.new }
+    {
+        match asked {
+            Asked::Arrive => {
+                let Some(ecn) = ecn(u32::from(event.ecn)) else {
+                    unreachable!()
+                };
+                let packet = Packet {
+                    tag: event.tag,
+                    size: event.size,
+                    ecn,
+                };
+                self.link
+                    .try_arrive(&mut self.caller, event.moment, packet, event.word)
+            }
+            Asked::Depart => self.link.try_depart(&mut self.caller, event.moment),
+            Asked::Update => self.link.try_update(&mut self.caller, event.moment),
+            Asked::Reset => self.link.try_reset(&mut self.caller, event.moment),
+        }
+    }
+
+    /// Asks what the event says, and fills in what was told.
+    #[inline(always)]
+    pub(crate) fn try_event(&mut self, asked: Asked, event: &mut PieEvent) -> u32
+        ensures { IsTriedUnless (has_bad_ecn asked event.old) asked self.old event.old result event.new self.new }
+    {
+        let caller = self.caller.first();
+        if has_bad_ecn(asked, event) {
+            fill_number(event, asked, BAD_ECN);
+            event.caller = caller;
+            return BAD_ECN;
+        }
+        let reply = self.ask(asked, event);
+        fill(event, asked, caller, &reply)
+    }
+
+    /// Asks for new parameters, and fills in what was told.
+    #[tactic(auto, unfolding(pie_abi::specs::Params::are_in_range))]
+    pub(crate) fn try_set_params(&mut self, params: &PieParams, event: &mut PieEvent) -> u32
+        ensures { IsSetUnless (are_in_range params.now) params.now self.old event.old result event.new self.new }
+    {
+        let caller = self.caller.first();
+        let Some(params) = Params::from_raw(params.raw()) else {
+            event.keep_bare(PARAMS, BAD_PARAMS);
+            event.caller = caller;
+            return BAD_PARAMS;
+        };
+        let reply = self
+            .link
+            .try_set_params(&mut self.caller, event.moment, params);
+        fill_set(event, caller, &reply)
+    }
+
+    /// Asks for the oldest event of the log, and writes what was handed out.
+    pub(crate) fn try_fold(&mut self, event: &mut PieEvent, params: &mut PieParams) -> u32
+        ensures { IsFolded self.old event.old params.old result event.new params.new self.new }
+    {
+        let reply = self.link.try_fold(&mut self.caller, 1);
+        write_folded(&reply, event, params)
+    }
+
+    /// A new port with the highest number of this one, which keeps it where the new one can't be had.
+    pub(crate) fn share(&mut self, alloc: Global) -> Result<Box<Port>, u32>
+        ensures shared { IfOk result (λ new. new.value ≡ highest_alone self.old) }
+        ensures rest { OnOk result (self.new ≡ without_highest self.old) }
+        ensures kept { OnErr result (self.new ≡ self.old) }
+        ensures one { IfOk result (λ _. self.old.limit ≢ self.old.first + 1) }
+        ensures codes { IfErr result (λ code. code ≡ (if self.old.limit == self.old.first + 1 then 125 else 123)) }
+    {
+        let _ = self.caller.first();
+        let Ok(caller) = self.link.share(&mut self.caller) else {
+            return Err(ONE_NUMBER);
+        };
+        match boxed(alloc, &self.link, caller) {
+            Ok(port) => Ok(port),
+            Err(caller) => {
+                self.take_back(caller);
+                Err(NO_MEMORY)
+            }
+        }
+    }
+
+    /// Takes in the numbers of a caller whose range follows on its own, or is followed by it.
+    fn take_back(&mut self, other: Caller)
+        requires own { other.lock ≡ self.old.lock }
+        requires beside { IsBeside self.old other }
+        ensures { IsBothOf number_of self.old other self.new }
+    {
+        let _ = self.link.gather(&mut self.caller, other);
+    }
+
+    /// Takes in the numbers of another port of the link, or hands it back where their ranges are apart.
+    pub(crate) fn gather(&mut self, other: Box<Port>) -> Result<(), Box<Port>>
+        requires own { other.value.lock ≡ self.old.lock }
+        ensures both { OnOk result (IsBothOf number_of self.old other.value self.new) }
+        ensures beside { IsOk result ↔ IsBeside self.old other.value }
+        ensures back { IfErr result (λ back. back.value ≡ other.value) }
+        ensures unchanged { OnErr result (self.new ≡ self.old) }
+    {
+        if !self.is_beside(&other) {
+            return Err(other);
+        }
+        self.take_back(Box::into_inner(other).into_caller());
+        Ok(())
+    }
+
+    /// Whether the range of one begins where that of the other ends.
+    fn is_beside(&self, other: &Port) -> bool
+        ensures { IsTrue result ↔ IsBeside self.now other.now }
+    {
+        self.caller.limit() == other.caller.first() || other.caller.limit() == self.caller.first()
+    }
+
+    /// The caller; the share of the link is let go.
+    fn into_caller(self) -> Caller
+        ensures { result ≡ self }
+    {
+        let Port { link, caller } = self;
+        drop(link);
+        caller
+    }
+}
+
+/// Whether the event names a packet whose ECN field is none.
+#[inline(always)]
+fn has_bad_ecn(asked: Asked, event: &PieEvent) -> bool
+    ensures { result ≡ has_bad_ecn asked event.now }
+{
+    matches!(asked, Asked::Arrive) && event.ecn > 3
+}
+
+/// A box of a port, or the caller back for want of memory.
+fn boxed(alloc: Global, link: &Arc<Link, Global>, caller: Caller) -> Result<Box<Port>, Caller>
+    requires own { caller.lock ≡ arc_value link.now }
+    ensures port { IfOk result (λ port. port.value ≡ caller) }
+    ensures back { IfErr result (λ back. back ≡ caller) }
+{
+    let Ok(link) = Arc::try_clone(link) else {
+        return Err(caller);
+    };
+    match Box::new(alloc, Port { link, caller }) {
+        Ok(port) => Ok(port),
+        Err(AllocFailed { value }) => Err(value.into_caller()),
+    }
+}
+
+/// What a type has to be so that its values may go to another thread.
+fn goes_to_another_thread<T: Send>(value: &T) {
+    let _ = value;
+}
+
+/// A port may go to another thread: the check shows it of the type here. It does nothing.
+pub(crate) fn ports_cross_threads(port: &Port) {
+    goes_to_another_thread(port);
+}

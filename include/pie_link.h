@@ -1,0 +1,243 @@
+/* A link: one PIE controller (RFC 8033) with its queue and its event log, which several threads call. Link with libpie_link.a and libpie_c.a
+ * (`pkg-config pie_link`); C11, or C++11 and later.
+ *
+ *     struct pie_port port = PIE_PORT_CLOSED, other = PIE_PORT_CLOSED;
+ *     struct pie_opening opening;
+ *     pie_default_opening(&opening, rate);
+ *     pie_link_open(&opening, 2, &port);          a link of two callers, and the port with both numbers
+ *     pie_link_share(&port, &other);              `other` has one of them now, and goes to another thread
+ *
+ *     struct pie_event event = {0};               (by each thread, with its own port)
+ *     event.moment = now; event.tag = number; event.size = bytes; event.ecn = PIE_ECT0; event.word = random;
+ *     verdict = pie_link_arrive(&port, &event);
+ *
+ * What is proved, for all interleavings of any number of threads: whenever nobody has the turn, there is one history of one thread behind all
+ * ports. It contains each port's calls once and in its order, every answer is RFC 8033's at its place, and no event is lost. Each call here whose
+ * name has `try` answers as the clause of its export says, which cites that history; so do open, share, gather and close. What a call writes
+ * into its event is proved field by field. Not proved: the waiting calls below, which are loops over the others, tested here; that a call that
+ * waits is ever served; and what every caller in C owes, since nothing can check it:
+ *
+ * - A port is one thread's at a time. It goes to another thread by what orders memory between them: a mutex, a thread's start or join, a
+ *   sequentially consistent atomic. A struct pie_port is moved, never copied to be used twice, and all zeros before it is opened.
+ * - Pointers point to structs that no other thread reads or writes during the call, and that do not overlap.
+ * - pie_link_gather is handed two ports of one link.
+ * - Each packet is a name here, `tag`: the link has the order in which packets leave, and the caller has the packets.
+ *
+ * A call with `try` in its name never waits: it answers PIE_BUSY where another port has the turn, and its event is as it was. None but
+ * pie_link_open, pie_link_share and pie_link_try_fold takes memory; where there is none, nothing is done, and nothing is lost. */
+#ifndef PIE_LINK_H
+#define PIE_LINK_H
+
+#include "pie.h"
+
+#include <stddef.h>
+#include <stdint.h>
+
+#include <sched.h>
+#include <time.h>
+#ifdef __linux__
+#include <linux/futex.h>
+#include <sys/syscall.h>
+#include <unistd.h>
+#ifndef __cplusplus
+long syscall(long number, ...); /* (with -std=c11 no header declares it) */
+#endif
+#endif
+
+#ifdef __cplusplus
+#include <atomic>
+extern "C" {
+#else
+#include <stdatomic.h>
+#endif
+
+/* One caller of a link, for one thread at a time. Zeros are a closed port. */
+struct pie_port {
+    void *at; /* not the caller's to look at */
+};
+
+#define PIE_PORT_CLOSED {0}
+
+/* What a call at a port answers beside the codes of pie.h. */
+enum {
+    PIE_EXHAUSTED = 104,  /* as many events as the opening allows */
+    PIE_FULL = 105,       /* the event log of a link that lets none go (PIE_BOUNDED) is full: fold some */
+    PIE_TOO_MANY = 106,   /* a fold where the log holds no event */
+    PIE_BUSY = 121,       /* nothing was done: another port has the turn */
+    PIE_CLOSED = 122,     /* nothing was done: the port is closed */
+    PIE_NO_MEMORY = 123,  /* nothing was done: there was no memory */
+    PIE_NO_CALLERS = 124, /* a link for no callers */
+    PIE_ONE_NUMBER = 125, /* a port with one number has none to share */
+    PIE_APART = 126,      /* two ports of whose numbers neither's follow on the other's */
+    PIE_OPEN = 127        /* a port that is to be opened is open */
+};
+
+/* Opens a link for so many callers, with an empty queue, and the port with all their numbers, 0 to callers - 1. Refused, in this order: an open
+ * port (PIE_OPEN), what pie_open refuses of the opening, PIE_NO_CALLERS, PIE_NO_MEMORY. Then the port stays as it was. */
+uint32_t pie_link_open(const struct pie_opening *opening, uint16_t callers, struct pie_port *port);
+
+/* Opens `added`, a closed port, with the highest number of `port`. Refused, in this order: PIE_CLOSED, PIE_OPEN of `added`, PIE_ONE_NUMBER,
+ * PIE_NO_MEMORY. Then both stay as they were. */
+uint32_t pie_link_share(struct pie_port *port, struct pie_port *added);
+
+/* Gives `port` the numbers of `other`, a port of the same link, which is closed then. Refused, in this order: PIE_CLOSED of either, PIE_APART. Then
+ * both stay as they were. */
+uint32_t pie_link_gather(struct pie_port *port, struct pie_port *other);
+
+/* Closes a port; the last of a link frees it. Its numbers are nobody's then, and what it asked stays in the history. PIE_CLOSED where it is. */
+uint32_t pie_link_close(struct pie_port *port);
+
+/* A packet arrives: moment, tag, size, ECN field and random word of the event are read. Answers the verdict; the packet is queued by PIE_ENQUEUE
+ * and PIE_MARK. Refused, in this order: PIE_CLOSED, PIE_BAD_ECN, PIE_BUSY, PIE_BAD_MOMENT, PIE_BAD_SIZE, PIE_EXHAUSTED, PIE_FULL. The event then
+ * tells the code, but at PIE_CLOSED and PIE_BUSY, which leave it as it was. An event that was answered is a record of the history, its caller
+ * the least number of the port. */
+uint32_t pie_link_try_arrive(struct pie_port *port, struct pie_event *event);
+
+/* The link asks for the next packet, at the event's moment: PIE_DONE, and tag, size and ECN field are those of the packet that left, PIE_CE where
+ * it was marked; or PIE_NONE. Refused, in this order: PIE_CLOSED, PIE_BUSY, PIE_BAD_MOMENT, PIE_EXHAUSTED, PIE_FULL. */
+uint32_t pie_link_try_depart(struct pie_port *port, struct pie_event *event);
+
+/* The probability is computed anew, at the event's moment. Refused, in this order: PIE_CLOSED, PIE_BUSY, PIE_BAD_MOMENT, PIE_TOO_SOON,
+ * PIE_EXHAUSTED, PIE_FULL. */
+uint32_t pie_link_try_update(struct pie_port *port, struct pie_event *event);
+
+/* Probability, delays and rate estimate start anew; refused as a departure is. */
+uint32_t pie_link_try_reset(struct pie_port *port, struct pie_event *event);
+
+/* New parameters hold from the next event on. Refused, in this order: PIE_CLOSED, PIE_BAD_PARAMS, PIE_BUSY, PIE_BAD_MOMENT, PIE_EXHAUSTED,
+ * PIE_FULL. */
+uint32_t pie_link_try_set_params(struct pie_port *port, const struct pie_params *params, struct pie_event *event);
+
+/* Hands out the oldest event of the log, which leaves it, and of an event PIE_EVENT_PARAMS its parameters: pie_write_event and pie_write_params make
+ * its record. What all folds of a link hand out, in their order, is the history as far as they come; of a link that lets none go (PIE_BOUNDED)
+ * nothing is missing. Refused, in this order: PIE_CLOSED, PIE_BUSY, PIE_TOO_MANY (the log is empty), PIE_NO_MEMORY. Then nothing is written. */
+uint32_t pie_link_try_fold(struct pie_port *port, struct pie_event *event, struct pie_params *params);
+
+/* ---- Calls that wait while another port has the turn: the same, again and again, with a pause that doubles up to 64 instructions, then with the
+ * processor given up, then asleep until one that has waited too has had its turn, at most a millisecond. Tested, and not proved; nothing says
+ * that a call that waits is ever served. */
+
+#ifdef __cplusplus
+#define PIE_LINK_WORD std::atomic<uint32_t>
+#define PIE_LINK_LOAD(word) (word).load()
+#define PIE_LINK_ADD(word, number) (word).fetch_add(number)
+#else
+#define PIE_LINK_WORD _Atomic uint32_t
+#define PIE_LINK_LOAD(word) atomic_load(&(word))
+#define PIE_LINK_ADD(word, number) atomic_fetch_add(&(word), number)
+#endif
+
+/* How many threads of the program sleep, and a word that changes where one is to be woken. */
+struct pie_link_sleepers {
+    PIE_LINK_WORD count;
+    PIE_LINK_WORD turns;
+};
+
+__attribute__((weak)) struct pie_link_sleepers pie_link_asleep;
+
+/* How long a call has waited: its rounds, and `turns` before its last look. */
+struct pie_link_patience {
+    uint32_t rounds;
+    uint32_t seen;
+};
+
+/* Waits a little, longer each time. */
+static inline void pie_link_wait(struct pie_link_patience *waited) {
+    if (waited->rounds < 7) {
+        uint32_t left;
+        for (left = UINT32_C(1) << waited->rounds; left != 0; left--)
+#if defined(__x86_64__) || defined(__i386__)
+            __asm__ __volatile__("pause");
+#elif defined(__aarch64__)
+            __asm__ __volatile__("yield");
+#else
+            __asm__ __volatile__("");
+#endif
+        waited->rounds++;
+        return;
+    }
+#ifdef __linux__
+    if (waited->rounds > 16) {
+        const struct timespec most = {0, 1000000};
+        syscall(SYS_futex, (uint32_t *)&pie_link_asleep.turns, FUTEX_WAIT_PRIVATE, waited->seen, &most, NULL, 0);
+        waited->seen = PIE_LINK_LOAD(pie_link_asleep.turns);
+        return;
+    }
+    if (waited->rounds == 16) {
+        /* from now on it counts among those that sleep, and looks once more before it does: a turn that ends after this look wakes it */
+        PIE_LINK_ADD(pie_link_asleep.count, 1);
+        waited->seen = PIE_LINK_LOAD(pie_link_asleep.turns);
+    }
+    waited->rounds++;
+#endif
+    sched_yield();
+}
+
+/* After a turn: one that sleeps is woken. */
+static inline void pie_link_had_turn(const struct pie_link_patience *waited) {
+#ifdef __linux__
+    if (waited->rounds > 16)
+        PIE_LINK_ADD(pie_link_asleep.count, UINT32_MAX);
+    if (PIE_LINK_LOAD(pie_link_asleep.count) != 0) {
+        PIE_LINK_ADD(pie_link_asleep.turns, 1);
+        syscall(SYS_futex, (uint32_t *)&pie_link_asleep.turns, FUTEX_WAKE_PRIVATE, 1, NULL, NULL, 0);
+    }
+#else
+    (void)waited;
+#endif
+}
+
+#define PIE_LINK_WAITING(call)                    \
+    struct pie_link_patience waited = {0, 0};     \
+    uint32_t code;                                \
+    while ((code = (call)) == PIE_BUSY)           \
+        pie_link_wait(&waited);                   \
+    pie_link_had_turn(&waited);                   \
+    return code
+
+static inline uint32_t pie_link_arrive(struct pie_port *port, struct pie_event *event) {
+    PIE_LINK_WAITING(pie_link_try_arrive(port, event));
+}
+
+static inline uint32_t pie_link_depart(struct pie_port *port, struct pie_event *event) {
+    PIE_LINK_WAITING(pie_link_try_depart(port, event));
+}
+
+static inline uint32_t pie_link_update(struct pie_port *port, struct pie_event *event) {
+    PIE_LINK_WAITING(pie_link_try_update(port, event));
+}
+
+static inline uint32_t pie_link_reset(struct pie_port *port, struct pie_event *event) {
+    PIE_LINK_WAITING(pie_link_try_reset(port, event));
+}
+
+static inline uint32_t pie_link_set_params(struct pie_port *port, const struct pie_params *params, struct pie_event *event) {
+    PIE_LINK_WAITING(pie_link_try_set_params(port, params, event));
+}
+
+static inline uint32_t pie_link_fold(struct pie_port *port, struct pie_event *event, struct pie_params *params) {
+    PIE_LINK_WAITING(pie_link_try_fold(port, event, params));
+}
+
+/* A code of a call at a port in words, for a log. */
+static inline const char *pie_link_text(uint32_t code) {
+    switch (code) {
+    case PIE_EXHAUSTED: return "as many events as the opening allows";
+    case PIE_FULL: return "the event log is full";
+    case PIE_TOO_MANY: return "the log holds no event";
+    case PIE_BUSY: return "another port has the turn";
+    case PIE_CLOSED: return "the port is closed";
+    case PIE_NO_MEMORY: return "out of memory";
+    case PIE_NO_CALLERS: return "a link for no callers";
+    case PIE_ONE_NUMBER: return "the port has one number alone";
+    case PIE_APART: return "the numbers of the two ports are apart";
+    case PIE_OPEN: return "the port is open";
+    default: return pie_text(code);
+    }
+}
+
+#ifdef __cplusplus
+}
+#endif
+
+#endif

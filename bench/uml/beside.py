@@ -4,11 +4,12 @@ Linux in a process (run.sh). Prints one table; every history of the link is audi
 
 usage: bench/uml/beside.py PIE FOLDER [OPTIONS]
   PIE        the built program, crates/pie/out/pie;  FOLDER: gets each run's history and what the programs said, and results.csv
-  --queues stamp,pie,fq_codel     of the link: tail, stamp, rate (where the delay is from), half (the other decay); of the kernel: pfifo, pie,
-                                  pie-rate (its dq_rate_estimator), fq_codel, cake
+  --queues stamp,pie,fq_codel     of the link: tail, stamp, rate (where the delay is from), half (the other decay), marks (whatever the
+                                  probability); of the kernel: pfifo, pie, pie-rate (its dq_rate_estimator), fq_codel, cake
   --runs 3   of each queue, in turn;  --seconds 20: of each run
   --rate 10mbit,10s:2mbit         and so on: moments count from the traffic's beginning
-  --flows 4:cubic:20ms ..         groups of TCP: how many, congestion control, round trip without a queue; 1:udp=12mbit:20ms is UDP at such a rate
+  --flows 4:cubic:20ms ..         groups of TCP: how many, congestion control, round trip without a queue; 1:udp=12mbit:20ms is UDP at such a rate;
+                                  8:cubic:20ms:5s-10s: from the fifth to the tenth second alone
   --short 14600x2,146000x0.5      short flows beside them: of so many bytes, so many a second
   --limit 200ms                   of the queue: so long at the first rate, in bytes here and in packets of 1500 at the kernel's
   --ecn      all TCP asks for ECN, and every queue marks that can;  --tupdate 15ms, --target 15ms: of all PIEs;  --grant 5ms: of the link alone
@@ -16,7 +17,7 @@ usage: bench/uml/beside.py PIE FOLDER [OPTIONS]
   --from 5   the table has the beginning of the run apart, until this second
   --same A:B ..                   pairs that are tested for equivalence, stamp:pie and rate:pie-rate where nothing is said and both are there
   --late     runs with late updates count too, for a look at a busy machine
-  --again    runs nothing, and makes the tables of a folder anew
+  --go-on    runs that are in the folder already are kept;  --again: runs nothing, and makes the tables of a folder anew
 UML_LINUX=FILE in the environment is another Linux than Debian's, as build.sh makes one whose time is simulated.
 
 A wait is from arrival to departure, in ms: by packet from histories, and for all queues by a ping each 20 ms, less the round trip. `settled`: the
@@ -38,7 +39,7 @@ sys.path.insert(0, str(HERE.parent))
 sys.dont_write_bytecode = True
 from equivalence import compare  # noqa: E402
 
-OURS = {"tail": ["--queue", "tail"], "stamp": [], "rate": ["--delay", "rate"], "half": ["--decay", "half"]}
+OURS = {"tail": ["--queue", "tail"], "stamp": [], "rate": ["--delay", "rate"], "half": ["--decay", "half"], "marks": ["--mark_ecnth", "100%"]}
 THEIRS = {
     "pfifo": "pfifo limit {packets}",
     "pie": "pie limit {packets} target TARGET tupdate TUPDATE",
@@ -63,10 +64,12 @@ def rates_of(text):
     return [(number(part[0], "ms", "s") if len(part) == 2 else 0, int(number(part[-1], "bit", "kbit", "mbit", "gbit"))) for part in parts]
 
 
-def group_of(text):
-    count, control, rtt = text.split(":")
+def group_of(text, seconds):
+    count, control, rtt, *lasts = text.split(":")
     udp = int(number(control[4:], "kbit", "mbit")) if control.startswith("udp=") else 0
-    return {"count": int(count), "control": control, "rtt": round(number(rtt, "us", "ms", "s") * 1e6), "udp": udp}
+    since, until = (number(moment, "ms", "s") for moment in lasts[0].split("-")) if lasts else (0, seconds)
+    trip = round(number(rtt, "us", "ms", "s") * 1e6)
+    return {"count": int(count), "control": control, "rtt": trip, "udp": udp, "since": since, "until": until}
 
 
 def queue_of(name, words):
@@ -86,8 +89,8 @@ def queue_of(name, words):
 def scenario_of(words):
     rates = rates_of(words.rate)
     return {"queues": [queue_of(name, words) for name in words.queues.split(",")], "runs": words.runs, "seconds": words.seconds, "rates": rates,
-            "groups": [group_of(text) for text in words.flows], "short": words.short, "ecn": int(words.ecn), "offload": words.offload,
-            "limit": int(rates[0][1] / 8 * number(words.limit, "ms", "s"))}
+            "groups": [group_of(text, words.seconds) for text in words.flows], "short": words.short, "ecn": int(words.ecn),
+            "offload": words.offload, "go_on": words.go_on, "limit": int(rates[0][1] / 8 * number(words.limit, "ms", "s"))}
 
 
 def last_of(values, share):
@@ -120,10 +123,10 @@ class Found:
         self.queue = json.loads((folder / "queue.json").read_text()) if (folder / "queue.json").exists() else None
 
     def read_server(self, place, file):
-        flows = {}
+        flows, since = {}, self.scenario["groups"][place]["since"]
         for interval in json.loads(file.read_text())["intervals"]:
             for it in interval["streams"]:
-                flows.setdefault(it["socket"], []).append((it["start"], it["end"], it["bytes"]))
+                flows.setdefault(it["socket"], []).append((since + it["start"], since + it["end"], it["bytes"]))
         self.flows += [(place, parts) for parts in flows.values()]
 
     def read_history(self, lead):
@@ -193,7 +196,8 @@ class Found:
 
 def phases(scenario, beginning):
     seconds = scenario["seconds"]
-    bounds = sorted({0, *([beginning] if 0 < beginning < seconds else []), *(moment for moment, _ in scenario["rates"]), seconds})
+    moments = {moment for moment, _ in scenario["rates"]} | {group[end] for group in scenario["groups"] for end in ("since", "until")}
+    bounds = sorted({0, seconds} | ({beginning} if 0 < beginning < seconds else set()) | moments)
     return list(zip(bounds, bounds[1:])) + ([(0, seconds)] if len(bounds) > 2 else [])
 
 
@@ -298,7 +302,7 @@ def options():
     parser.add_argument("--ecn", action="store_true")
     parser.add_argument("--from", dest="beginning", type=float, default=5)
     parser.add_argument("--same", nargs="*")
-    for flag in ("--offload", "--late", "--again"):
+    for flag in ("--offload", "--late", "--go-on", "--again"):
         parser.add_argument(flag, action="store_true")
     return parser.parse_args()
 

@@ -147,28 +147,36 @@ class Run:
         begun, seconds = time.time(), self.scenario["seconds"]
         first = self.groups[0]["rtt"]
         self.start(["ping", "-n", "-D", "-i", "0.02", "-w", str(seconds), "-I", self.address(first), RECEIVER], "ping", "senders")
-        clients = []
-        for place, group in enumerate(self.groups):
-            words = ["iperf3", "--client", RECEIVER, "--bind", self.address(group["rtt"]), "--port", str(PORT + place), "--time", str(seconds),
-                     "--parallel", str(group["count"]), "--json"]
-            words += ["--udp", "--bitrate", str(group["udp"]), "--length", "1448"] if group["udp"] else ["--congestion", group["control"]]
-            clients.append(self.start(words, f"client{place}", "senders"))
+        clients = [self.send_group(place) for place, group in enumerate(self.groups) if not group["since"]]
         if self.scenario["short"]:
             self.start([sys.executable, __file__, "send", self.address(first), str(seconds), self.scenario["short"], self.folder.name],
                        "short", "senders")
         return begun, clients
+
+    def send_group(self, place):
+        group = self.groups[place]
+        words = ["iperf3", "--client", RECEIVER, "--bind", self.address(group["rtt"]), "--port", str(PORT + place),
+                 "--time", f"{group['until'] - group['since']:g}", "--parallel", str(group["count"]), "--json"]
+        words += ["--udp", "--bitrate", str(group["udp"]), "--length", "1448"] if group["udp"] else ["--congestion", group["control"]]
+        return self.start(words, f"client{place}", "senders")
+
+    def later(self):
+        """What happens after the traffic's beginning, by its moment: groups that begin then, and at a router the changes of the rate."""
+        groups = [(group["since"], self.send_group, (place,)) for place, group in enumerate(self.groups) if group["since"]]
+        rates = [(moment, self.set_rate, (rate, "change")) for moment, rate in self.rates[1:] if self.queue["kind"] != "ours"]
+        return sorted(groups + rates, key=lambda it: it[0])
 
     def go(self):
         self.set_up()
         self.listen()
         begun, clients = self.send()
         start = time.monotonic()
-        if self.queue["kind"] != "ours":
-            for moment, rate in self.rates[1:]:
-                time.sleep(max(0.0, start + moment - time.monotonic()))
-                self.set_rate(rate, "change")
+        for moment, call, words in self.later():
+            time.sleep(max(0.0, start + moment - time.monotonic()))
+            clients.append(call(*words))
         for client in clients:
-            client.wait(timeout=self.scenario["seconds"] + 60)
+            if client:
+                client.wait(timeout=self.scenario["seconds"] + 60)
         if self.queue["kind"] == "ours":
             self.link.terminate()
             self.link.wait()
@@ -250,6 +258,8 @@ def main():
     for number in range(1, scenario["runs"] + 1):
         for queue in scenario["queues"]:
             place = folder / f"{number}-{queue['name']}"
+            if scenario["go_on"] and (place / "run.json").exists():
+                continue
             place.mkdir(exist_ok=True)
             run = Run(scenario, queue, place)
             try:

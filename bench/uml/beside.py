@@ -15,7 +15,7 @@ usage: bench/uml/beside.py PIE FOLDER [OPTIONS]
   --ecn      all TCP asks for ECN, and every queue marks that can;  --tupdate 15ms, --target 15ms: of all PIEs;  --grant 5ms: of the link alone
   --offload  senders hand over up to 64 kB at once, as a network card's segmentation offload has them; else a packet at a time
   --from 5   the table has the beginning of the run apart, until this second
-  --same A:B ..                   pairs that are tested for equivalence, stamp:pie and rate:pie-rate where nothing is said and both are there
+  --same A:B ..                   pairs that are tested for equivalence; stamp:pie, rate:pie-rate and half:stamp where nothing is said
   --late     runs with late updates count too, for a look at a busy machine
   --go-on    runs that are in the folder already are kept;  --again: runs nothing, and makes the tables of a folder anew
 UML_LINUX=FILE in the environment is another Linux than Debian's, as build.sh makes one whose time is simulated.
@@ -86,11 +86,17 @@ def queue_of(name, words):
     return {"name": name, "kind": "theirs", "words": text.split()}
 
 
+def calm():
+    """What iperf3's clients are begun with where time is simulated."""
+    file = Path(os.environ.get("UML_LINUX", "/")).resolve().parent / "calm.so"
+    return str(file) if file.exists() else ""
+
+
 def scenario_of(words):
     rates = rates_of(words.rate)
     return {"queues": [queue_of(name, words) for name in words.queues.split(",")], "runs": words.runs, "seconds": words.seconds, "rates": rates,
             "groups": [group_of(text, words.seconds) for text in words.flows], "short": words.short, "ecn": int(words.ecn),
-            "offload": words.offload, "go_on": words.go_on, "limit": int(rates[0][1] / 8 * number(words.limit, "ms", "s"))}
+            "offload": words.offload, "go_on": words.go_on, "preload": calm(), "limit": int(rates[0][1] / 8 * number(words.limit, "ms", "s"))}
 
 
 def last_of(values, share):
@@ -354,7 +360,7 @@ def main():
     tell(kept, scenario, names)
     if took:
         tell_short(took)
-    pairs = words.same if words.same is not None else ["stamp:pie", "rate:pie-rate"]
+    pairs = words.same if words.same is not None else ["stamp:pie", "rate:pie-rate", "half:stamp"]
     tell_same(kept, [pair for pair in pairs if set(pair.split(":")) <= set(names)])
     if late:
         print(f"\nlate updates{'' if words.late else ', so in no mean'}: {', '.join(late)}")

@@ -116,6 +116,7 @@ class Found:
         about = json.loads((folder / "run.json").read_text())
         self.pings = [(float(moment) - about["begun"], float(took) - scenario["groups"][0]["rtt"] / 1e3) for moment, took in
                       re.findall(r"^\[([\d.]+)\].*time=([\d.]+) ms", (folder / "ping").read_text(), re.M)]
+        self.delays = [self.delay_of(place, about["begun"]) for place in range(len(scenario["groups"]))]
         self.flows = []         # of each flow its group, and pairs of a moment and the bytes that its receiver got until then from the moment before
         for place in range(len(scenario["groups"])):
             self.read_server(place, folder / f"server{place}")
@@ -128,8 +129,20 @@ class Found:
                 self.audit = subprocess.run([program, "audit"], stdin=file, capture_output=True, text=True).stdout.strip()
         self.queue = json.loads((folder / "queue.json").read_text()) if (folder / "queue.json").exists() else None
 
+    def delay_of(self, place, begun):
+        """How long after the traffic's beginning a group's server began to count: a round trip before its client sent. Where the group begins with the
+        traffic, and the link is idle, that is the same in each run of a scenario."""
+        group = self.scenario["groups"][place]
+        noted = sorted(self.folder.parent.glob(f"*/begun{place}"))
+        own = self.folder / f"begun{place}"
+        if own in noted:
+            return float(own.read_text()) - begun - group["rtt"] / 1e6
+        for it in noted if not group["since"] else []:
+            return float(it.read_text()) - json.loads((it.parent / "run.json").read_text())["begun"] - group["rtt"] / 1e6
+        return group["since"]
+
     def read_server(self, place, file):
-        flows, since = {}, self.scenario["groups"][place]["since"]
+        flows, since = {}, self.delays[place]
         for interval in json.loads(file.read_text())["intervals"]:
             for it in interval["streams"]:
                 flows.setdefault(it["socket"], []).append((since + it["start"], since + it["end"], it["bytes"]))
@@ -210,12 +223,14 @@ def phases(scenario, beginning):
 def rows_of(found, scenario, words, queue, run):
     steps = [moment for moment, _ in scenario["rates"]]
     for begin, end in phases(scenario, words.beginning):
-        waits = three([wait for moment, wait, _ in found.departures if begin <= moment < end])
-        pings = three([wait for moment, wait in found.pings if begin <= moment < end])
+        # (the first counts from when something is sent)
+        since = begin or min(found.delays)
+        waits = three([wait for moment, wait, _ in found.departures if since <= moment < end])
+        pings = three([wait for moment, wait in found.pings if since <= moment < end])
         until = min([step for step in steps if step > begin], default=scenario["seconds"])
-        settled = found.settled(begin, until, number(words.target, "ms", "us")) if begin in steps else None
-        groups = [found.goodput(begin, end, place) for place in range(len(scenario["groups"]))]
-        yield dict(zip(FIELDS, [queue, run, begin, end, sum(groups), "/".join(f"{it:.3f}" for it in groups), found.jain(begin, end), *waits, *pings,
+        settled = found.settled(since, until, number(words.target, "ms", "us")) if begin in steps else None
+        groups = [found.goodput(since, end, place) for place in range(len(scenario["groups"]))]
+        yield dict(zip(FIELDS, [queue, run, begin, end, sum(groups), "/".join(f"{it:.3f}" for it in groups), found.jain(since, end), *waits, *pings,
                                 *found.dropped(begin, end), found.link_bytes(begin, end), settled, found.late, found.audit]))
 
 
@@ -326,9 +341,10 @@ def main():
     program, folder = os.path.abspath(words.program), Path(words.folder).resolve()
     folder.mkdir(parents=True, exist_ok=True)
     scenario = scenario_of(words)
+    places = [f"{run}-{queue['name']}" for queue in scenario["queues"] for run in range(1, scenario["runs"] + 1)]
     if not words.again:
         (folder / "scenario.json").write_text(json.dumps(scenario, indent=1))
-        if run_all(folder):
+        if not (words.go_on and all((folder / it / "run.json").exists() for it in places)) and run_all(folder):
             sys.exit((folder / "said").read_text())
     rows, took, failed = [], {}, []
     names = [queue["name"] for queue in scenario["queues"]]
@@ -351,7 +367,7 @@ def main():
     with open(folder / "results.csv", "w", newline="") as file:
         out = csv.DictWriter(file, FIELDS)
         out.writeheader()
-        out.writerows(rows)
+        out.writerows({key: round(it, 4) if isinstance(it, float) else it for key, it in row.items()} for row in rows)
     late = sorted({f"{row['run']}-{row['queue']}" for row in rows if row["late"]})
     kept = [row for row in rows if words.late or not row["late"]]
     flows = " and ".join(words.flows)

@@ -173,7 +173,8 @@ class Run:
         time.sleep(max(0.0, self.begun + LEAD - time.monotonic()))
         begun, seconds = time.time(), self.scenario["seconds"]
         first = self.groups[0]["rtt"]
-        self.start(["ping", "-n", "-D", "-i", "0.02", "-w", str(seconds), "-I", self.address(first), RECEIVER], "ping", "senders")
+        self.start(["ping", "-n", "-D", "-i", "0.02", "-w", str(seconds), "-I", self.address(first), RECEIVER], "ping", "senders",
+                   env=os.environ | self.calm())
         clients = [self.send_group(place) for place, group in enumerate(self.groups) if not group["since"]]
         if self.scenario["short"]:
             self.start([sys.executable, __file__, "send", self.address(first), str(seconds), self.scenario["short"], self.folder.name],
@@ -185,9 +186,12 @@ class Run:
         words = ["iperf3", "--client", RECEIVER, "--bind", self.address(group["rtt"]), "--port", str(PORT + place),
                  "--time", f"{group['until'] - group['since']:g}", "--parallel", str(group["count"]), "--json"]
         words += ["--udp", "--bitrate", str(group["udp"]), "--length", "1448"] if group["udp"] else ["--congestion", group["control"]]
-        # (UDP is paced by the same questions)
-        calm = {} if group["udp"] or not self.scenario["preload"] else {"LD_PRELOAD": self.scenario["preload"]}
+        calm = self.calm() | {"CALM_BEGUN": str(self.folder / f"begun{place}")} | ({"CALM_NOT": "1"} if group["udp"] else {})
         return self.start(words, f"client{place}", "senders", env=os.environ | calm)
+
+    def calm(self):
+        """What programs have in their environment that would spin in simulated time (calm.c)."""
+        return {"LD_PRELOAD": self.scenario["preload"]} if self.scenario["preload"] else {}
 
     def later(self):
         """What happens after the traffic's beginning, by its moment: groups that begin then, and at a router the changes of the rate."""

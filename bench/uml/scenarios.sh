@@ -8,32 +8,30 @@
 set -eu
 here=$(cd "$(dirname "$0")" && pwd)
 
-# the ones that tell most come first; at the other rates and with many flows a run takes long
+# the ones that tell most come first; at 50 Mbit/s a run takes longest
 scenarios='
 farreno  8 stamp,half,pie,fq_codel         --seconds 12 --from 0 --flows 4:reno:100ms
 far      5 stamp,half,pie                  --seconds 15 --from 5 --flows 4:cubic:100ms
-onoff    5 stamp,half,pie,fq_codel         --seconds 25 --from 0 --flows 2:cubic:20ms 16:cubic:20ms:5s-10s 16:cubic:20ms:15s-20s
 four     5 tail,stamp,half,rate,pfifo,pie,pie-rate,fq_codel,cake  --seconds 15 --from 5
-start    8 stamp,half,pie                  --seconds 5 --from 0
-step     5 stamp,half,rate,pie,pie-rate,fq_codel  --seconds 40 --from 0 --rate 10mbit,10s:2mbit,20s:10mbit
+step     5 stamp,rate,pie,pie-rate,fq_codel  --seconds 40 --from 0 --rate 10mbit,10s:2mbit,20s:10mbit
+onoff 5 stamp,half,pie,fq_codel --seconds 25 --flows 2:cubic:20ms 8:cubic:20ms:5s-10s 8:cubic:20ms:5s-10s 8:cubic:20ms:15s-20s 8:cubic:20ms:15s-20s
 udp      5 stamp,pie,fq_codel              --seconds 12 --from 4 --flows 4:cubic:20ms 1:udp=12mbit:20ms
-bbrcubic 5 tail,stamp,pie,fq_codel         --seconds 15 --from 5 --flows 2:cubic:20ms 2:bbr:20ms
-mixed    5 tail,stamp,pie,fq_codel         --seconds 25 --from 5 --flows 2:cubic:10ms 2:cubic:50ms 2:cubic:200ms
-short    5 tail,stamp,half,pie,fq_codel    --seconds 20 --from 5 --flows 1:cubic:20ms --short 1460x2,14600x2,146000x0.5,730000x0.1
-one      8 stamp,half,pie                  --seconds 15 --from 5 --flows 1:cubic:20ms
+short    5 tail,stamp,pie,fq_codel         --seconds 20 --from 5 --flows 1:cubic:20ms --short 1460x2,14600x2,146000x0.5,730000x0.1
+one      8 stamp,pie                       --seconds 15 --from 5 --flows 1:cubic:20ms
 sixteen  5 stamp,pie                       --seconds 15 --from 5 --flows 16:cubic:20ms
 hundred  5 tail,stamp,pie,fq_codel         --seconds 15 --from 5 --flows 100:cubic:20ms
 near     5 stamp,pie                       --seconds 15 --from 5 --flows 4:cubic:10ms
-reno     5 stamp,pie                       --seconds 15 --from 5 --flows 4:reno:20ms
-bbr      5 tail,stamp,pie,fq_codel         --seconds 15 --from 5 --flows 4:bbr:20ms
-slow     5 stamp,rate,pie,pie-rate,fq_codel  --seconds 40 --from 10 --rate 500kbit --limit 1s
-two      5 stamp,pie,fq_codel              --seconds 20 --from 5 --rate 2mbit
-ecn      5 stamp,pie,fq_codel              --seconds 12 --from 4 --ecn
-ecnmany  5 stamp,marks,pie                 --seconds 12 --from 4 --ecn --flows 16:cubic:20ms
 grant5   5 stamp,rate                      --seconds 12 --from 4 --grant 5ms
 grant30  5 stamp,rate                      --seconds 12 --from 4 --grant 30ms
+bbrcubic 5 tail,stamp,pie,fq_codel         --seconds 15 --from 5 --flows 2:cubic:20ms 2:bbr:20ms
+mixed    5 tail,stamp,pie,fq_codel         --seconds 20 --from 5 --flows 2:cubic:10ms 2:cubic:50ms 2:cubic:200ms
+slow     5 stamp,rate,pie,pie-rate         --seconds 30 --from 10 --rate 500kbit --limit 1s
+two      5 stamp,pie                       --seconds 20 --from 5 --rate 2mbit
+ecn      5 stamp,pie                       --seconds 12 --from 4 --ecn
+ecnmany  5 stamp,marks,pie                 --seconds 12 --from 4 --ecn --flows 16:cubic:20ms
+bbr      5 stamp,pie                       --seconds 15 --from 5 --flows 4:bbr:20ms
 fifty    5 stamp,pie                       --seconds 10 --from 4 --rate 50mbit
-down     5 stamp,rate,pie,pie-rate         --seconds 20 --from 0 --rate 50mbit,5s:10mbit,12s:50mbit
+down     5 stamp,rate,pie                  --seconds 18 --from 0 --rate 50mbit,4s:10mbit,11s:50mbit
 '
 if [ "${1:-}" = --list ]; then
     printf '%s' "${scenarios#?}"
@@ -59,6 +57,9 @@ one() {
         ours) queues=$(tr , '\n' <<< "$queues" | grep -v -x -E 'pfifo|pie|pie-rate|fq_codel|cake' | paste -s -d,) || return 0 ;;
     esac
     mkdir -p "$folder/$name"
+    # (one that another batch is at is its)
+    exec 9> "$folder/$name/lock"
+    flock -n 9 || return 0
     "$here/beside.py" "$program" "$folder/$name" --go-on --runs "$runs" --queues "$queues" "$@" > "$folder/$name/table" ||
         echo "bench/uml/scenarios.sh: $name: see $folder/$name/table"
 }

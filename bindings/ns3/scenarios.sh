@@ -32,8 +32,7 @@ results=$folder/results.csv
 # at each rate: flows, round trip, ECN, UDP; few, so that each has runs enough to be judged
 scenarios='4 40 0 0
 30 40 0 0
-4 40 1 0
-1 40 0 0'
+4 40 1 0'
 scenarios=${7:-$scenarios}
 
 one() {

@@ -116,8 +116,8 @@ STEP uint64_t delay(uint64_t bytes, uint64_t average, uint64_t threshold) {
     return delay_by(bytes, average, threshold);
 }
 
-/* The next probability (sections 4.2 and 5.5). */
-static inline uint64_t probability_after(const struct params *p, uint64_t prob, uint64_t delay, uint64_t old) {
+/* The next probability (sections 4.2 and 5.5), which decays here or doesn't. */
+static inline uint64_t probability_by(const struct params *p, uint64_t prob, uint64_t delay, uint64_t old, int decays) {
     __int128 step = (__int128)p->alpha * ((__int128)delay - p->target) + (__int128)p->beta * ((__int128)delay - old);
     step /= prob < 1000000ull        ? 2048
             : prob < 10000000ull     ? 512
@@ -129,9 +129,14 @@ static inline uint64_t probability_after(const struct params *p, uint64_t prob, 
     if (prob >= 100000000000ull && step > 20000000000ll)
         step = 20000000000ll;
     step += prob;
-    if (delay == 0 && old == 0)
+    if (decays)
         step = step * 98 / 100;
     return step < 0 ? 0 : step > (__int128)ONE ? ONE : (uint64_t)step;
+}
+
+/* It decays where both delays are 0. */
+static inline uint64_t probability_after(const struct params *p, uint64_t prob, uint64_t delay, uint64_t old) {
+    return probability_by(p, prob, delay, old, delay == 0 && old == 0);
 }
 
 STEP uint64_t next_probability(const struct params *p, uint64_t prob, uint64_t delay, uint64_t old) {
@@ -139,14 +144,19 @@ STEP uint64_t next_probability(const struct params *p, uint64_t prob, uint64_t d
 }
 
 /* An update: the probability, and then the burst allowance (section 4.4). */
-static inline struct control control_after(const struct control *control, const struct params *p, uint64_t delay,
-                                           uint64_t moment) {
+static inline struct control control_by(const struct control *control, const struct params *p, uint64_t delay,
+                                        uint64_t moment, int decays) {
     uint64_t old = control->old_delay;
-    uint64_t prob = probability_after(p, control->prob, delay, old);
+    uint64_t prob = probability_by(p, control->prob, delay, old, decays);
     uint64_t burst = control->burst > p->t_update ? control->burst - p->t_update : 0;
     if (prob == 0 && 2 * delay < p->target && 2 * old < p->target)
         burst = p->max_burst;
     return (struct control){prob, delay, burst, moment};
+}
+
+static inline struct control control_after(const struct control *control, const struct params *p, uint64_t delay,
+                                           uint64_t moment) {
+    return control_by(control, p, delay, moment, delay == 0 && control->old_delay == 0);
 }
 
 STEP void updated(struct control *control, const struct params *p, uint64_t delay, uint64_t moment) {

@@ -106,12 +106,22 @@ struct change {
     uint64_t delay;
 };
 
+static uint64_t delay_with(unsigned set_of, const struct change *it) {
+    return set_of >> (PACKETS - UNSIGNED) & 1 ? it->before->packets * (it->before->rate.average >> 14) : it->delay;
+}
+
+static bool decays_with(unsigned set_of, const struct change *it) {
+    struct registers chosen = *it->before;
+    chosen.decays_below_half = chosen.decays_below_half || (set_of >> (HALF - UNSIGNED) & 1);
+    return decays_after(&chosen, delay_with(set_of, it), chosen.control.old_delay);
+}
+
 /* The probability by this rule with a set of DPDK's differences. */
 static bool comes_to(unsigned set_of, const void *of) {
     const struct change *it = of;
     const struct registers *before = it->before;
     bool is_unsigned = set_of >> (UNSIGNED - UNSIGNED) & 1, is_cycles = set_of >> (CYCLES - UNSIGNED) & 1;
-    uint64_t delay = set_of >> (PACKETS - UNSIGNED) & 1 ? before->packets * (before->rate.average >> 14) : it->delay;
+    uint64_t delay = delay_with(set_of, it);
     uint64_t old = before->control.old_delay, target = before->params.target;
     double over = is_unsigned ? (double)(delay - target) : (double)delay - (double)target;
     double rise = is_unsigned ? (double)(delay - old) : (double)delay - (double)old;
@@ -120,8 +130,7 @@ static bool comes_to(unsigned set_of, const void *of) {
     if (prob >= 0.1 && step > 0.02)
         step = 0.02;
     prob += step;
-    bool decays = set_of >> (HALF - UNSIGNED) & 1 ? 2 * delay < target && 2 * old < target : delay == 0 && old == 0;
-    prob = fmin(fmax(prob * (decays ? 0.98 : 1), 0), 1);
+    prob = fmin(fmax(prob * (decays_with(set_of, it) ? 0.98 : 1), 0), 1);
     return near(prob, pie.drop_prob, 1e-11);
 }
 
@@ -137,6 +146,7 @@ static const char *see_update(const struct registers *before, const struct step 
     int found = fewest(DIFFERENCES - UNSIGNED, comes_to, &it);
     if (found < 0)
         return "DPDK comes to another probability, by no difference that is named";
+    other_decays += decays_after(before, step->delay, before->control.old_delay) && before->control.prob != 0 && decays_with((unsigned)found, &it);
     return count_differences(differences, found << UNSIGNED) ? NULL : "unnamed";
 }
 

@@ -60,7 +60,7 @@ enum { QUEUED, DROPPED };
 
 #include "linux_pie.c"
 
-enum { BURST, LAST_DELAY, SMALL, AT_TEN, LIMIT, STAYS, ARRIVAL_DIFFERENCES, FAR = ARRIVAL_DIFFERENCES, DECAY, HOLDS, BOUND, CALM, DIFFERENCES };
+enum { BURST, LAST_DELAY, SMALL, AT_TEN, LIMIT, STAYS, ARRIVAL_DIFFERENCES, FAR = ARRIVAL_DIFFERENCES, DECAY, HOLDS, BOUND, ZERO, CALM, DIFFERENCES };
 
 static struct difference differences[] = {
     [BURST] = {"burst allowance falls by the time between two departures", 0},
@@ -73,6 +73,7 @@ static struct difference differences[] = {
     [DECAY] = {"decays by a 64th and not by a 50th", 0},
     [HOLDS] = {"doesn't decay while packets wait", 0},
     [BOUND] = {"has no upper bound", 0},
+    [ZERO] = {"decays at two delays of 0 alone", 0},
     [CALM] = {"accumulated probability is 0 once all is calm", 0},
 };
 
@@ -161,6 +162,7 @@ static const char *see_departure(const struct registers *before, const struct pa
 struct change {
     const struct registers *before;
     double delay, found, grain;
+    bool decays; /* by the history's own choice */
 };
 
 /* The probability by this rule with a set of Linux's differences. */
@@ -176,7 +178,8 @@ static bool comes_to(unsigned set, const void *of) {
     if (set >> (FAR - FAR) & 1 && it->delay > 0.25)
         step += 0.02;
     prob = fmax(prob + step, 0);
-    if (it->delay == 0 && old == 0 && !(set >> (HOLDS - FAR) & 1))
+    bool is_idle = it->delay == 0 && old == 0;
+    if (it->decays && !(set >> ((is_idle ? HOLDS : ZERO) - FAR) & 1))
         prob *= decay;
     return near(set >> (BOUND - FAR) & 1 ? prob : fmin(prob, 1), it->found, it->grain);
 }
@@ -191,10 +194,12 @@ static const char *see_update(const struct registers *before, const struct step 
     vars->accu_prob = share(before->accu);
     vars->qdelay_old = PSCHED_NS2TICKS(before->control.old_delay);
     pie_calculate_probability(&queue.params, vars, (u32)before->bytes);
-    struct change it = {before, (double)step->delay / 1e9, (double)vars->prob / MAX_PROB, grain + 2e-12};
+    bool decays_here = decays_after(before, step->delay, before->control.old_delay);
+    struct change it = {before, (double)step->delay / 1e9, (double)vars->prob / MAX_PROB, grain + 2e-12, decays_here};
     int set = fewest(CALM - FAR, comes_to, &it);
     if (set < 0)
         return "Linux comes to another probability, by no difference that is named";
+    other_decays += decays_here && prob != 0 && !(set >> (HOLDS - FAR) & 1) && !(set >> (ZERO - FAR) & 1);
     bool is_calm = vars->accu_prob == 0 && before->accu != 0;
     if (is_calm && after->control.burst != before->params.max_burst)
         return "Linux forgets the accumulated probability where not all is calm";

@@ -46,6 +46,9 @@ if [ $# = 0 ]; then
         python3 "$here/trace.py" $seed stamp 100000000000 > "$work/trace" && "$program" run "$work/trace" > "$work/stamp$seed"
         python3 "$here/trace.py" $seed rate 0 > "$work/trace" && "$program" run "$work/trace" > "$work/rate$seed"
     done
+    # and by the decay below half the target, which DPDK has and Linux hasn't
+    python3 "$here/trace.py" 3 stamp 100000000000 40 half > "$work/trace" && "$program" run "$work/trace" > "$work/stamp3"
+    python3 "$here/trace.py" 3 rate 0 40 half > "$work/trace" && "$program" run "$work/trace" > "$work/rate3"
     set -- "$work"/stamp? "$work"/rate?
 fi
 for history in "$@"; do

@@ -1,7 +1,7 @@
 /* A history's steps as this project's rule takes them (bench/pie_step.h), for linux.c and dpdk.c, which hand each step to other code: the registers
  * before it and after it, what was decided, and which of the named differences tell where the other code came to something else.
  *
- * A history has the usual optional elements but for its delay, and no reset and no change of parameters. */
+ * A history has the usual optional elements but for its delay and its decay, and no reset and no change of parameters. */
 #ifndef STEPS_H
 #define STEPS_H
 
@@ -29,7 +29,7 @@ struct registers {
     struct rate rate;
     uint64_t accu, moment, bytes, waited;
     uint32_t packets, most_packets;
-    bool by_stamps;
+    bool by_stamps, decays_below_half;
 };
 
 /* One step: what the history says of it. */
@@ -49,6 +49,7 @@ struct difference {
 static struct packet waiting[MOST_WAITING];
 static uint32_t first_waiting;
 static unsigned long arrivals, departures, updates, alike;
+static unsigned long decays, other_decays; /* updates at which this rule's probability decays, and the other code's */
 
 __attribute__((noreturn)) static void stop(const char *name, unsigned long line, const char *why) {
     fprintf(stderr, "%s:%lu: %s\n", name, line, why);
@@ -68,20 +69,27 @@ static uint64_t number(const char *word) {
     return strtoull(word, NULL, 10);
 }
 
+/* An opening has 11 fields, 20 with parameters, and one more where it tells the decay. */
 static bool open_registers(struct registers *registers, char **words, int count) {
     static const char *const usual[] = {"derandomized", "capped", "unscaled"};
-    if ((count != 11 && count != 20) || strcmp(words[0], "open3") != 0 || strcmp(words[1], "1") != 0)
+    const bool tells_decay = count == 12 || count == 21;
+    if ((count != 11 && count != 20 && !tells_decay) || strcmp(words[0], "open3") != 0 || strcmp(words[1], "1") != 0)
         return false;
     for (int i = 0; i < 3; i++)
         if (strcmp(words[3 + i], usual[i]) != 0)
             return false;
-    *registers = (struct registers){.params = default_params, .most_packets = (uint32_t)number(words[8])};
+    const bool is_half = tells_decay && strcmp(words[6], "half") == 0;
+    if (tells_decay && !is_half && strcmp(words[6], "zero") != 0)
+        return false;
+    char **behind = words + 6 + tells_decay; /* the mode, the moment, packets, .. */
+    *registers = (struct registers){.params = default_params, .most_packets = (uint32_t)number(behind[2])};
     registers->by_stamps = strcmp(words[2], "stamp") == 0;
-    registers->moment = number(words[7]);
-    if (count == 20) {
+    registers->decays_below_half = is_half;
+    registers->moment = number(behind[1]);
+    if (count >= 20) {
         uint64_t nine[9];
         for (int i = 0; i < 9; i++)
-            nine[i] = number(words[11 + i]);
+            nine[i] = number(behind[5 + i]);
         memcpy(&registers->params, nine, sizeof nine);
     }
     registers->control.burst = registers->params.max_burst;
@@ -118,10 +126,19 @@ static struct packet take_departure(struct registers *registers) {
     return packet;
 }
 
+/* Whether the probability decays after these delays: where both are 0, or by the other decay below half the target. */
+static bool decays_after(const struct registers *registers, uint64_t delay, uint64_t old) {
+    const uint64_t target = registers->params.target;
+    return registers->decays_below_half ? 2 * delay < target && 2 * old < target : delay == 0 && old == 0;
+}
+
 static bool take_update(struct registers *registers, const struct step *step) {
-    uint64_t delay = registers->by_stamps ? registers->waited
-                                          : delay_by(registers->bytes, registers->rate.average, registers->params.dq_threshold);
-    registers->control = control_after(&registers->control, &registers->params, delay, registers->moment);
+    const struct params *params = &registers->params;
+    const struct control before = registers->control;
+    uint64_t delay = registers->by_stamps ? registers->waited : delay_by(registers->bytes, registers->rate.average, params->dq_threshold);
+    const bool is_decayed = decays_after(registers, delay, before.old_delay);
+    registers->control = control_by(&before, params, delay, registers->moment, is_decayed);
+    decays += is_decayed && before.prob != 0;
     return delay == step->delay && registers->control.prob == step->prob;
 }
 
@@ -204,6 +221,7 @@ static void read_history(const char *name, const struct other *other) {
 /* What was found of all histories; a difference that never told is told too. */
 static void tell(const char *whose, const struct difference *differences, int count) {
     printf("%s: %lu arrivals, %lu departures and %lu updates; %lu of these steps came out alike\n", whose, arrivals, departures, updates, alike);
+    printf("the probability decays on %lu updates of the histories; there on %lu\n", decays, other_decays);
     for (int i = 0; i < count; i++)
         printf("%8lu  %s\n", differences[i].steps, differences[i].words);
 }

@@ -4,19 +4,20 @@ Linux in a process (run.sh). Prints one table; every history of the link is audi
 
 usage: bench/uml/beside.py PIE FOLDER [OPTIONS]
   PIE        the built program, crates/pie/out/pie;  FOLDER: gets each run's history and what the programs said, and results.csv
-  --queues stamp,pie,fq_codel     of the link: tail, stamp, rate (where the delay is from), half (the other decay); of the kernel: pfifo, pie,
-                                  pie-rate (its dq_rate_estimator), fq_codel, cake
+  --queues stamp,pie,fq_codel     of the link: tail, stamp, rate (where the delay is from), half (the other decay), marks (whatever the
+                                  probability); of the kernel: pfifo, pie, pie-rate (its dq_rate_estimator), fq_codel, cake
   --runs 3   of each queue, in turn;  --seconds 20: of each run
   --rate 10mbit,10s:2mbit         and so on: moments count from the traffic's beginning
-  --flows 4:cubic:20ms ..         groups of TCP: how many, congestion control, round trip without a queue; 1:udp=12mbit:20ms is UDP at such a rate
+  --flows 4:cubic:20ms ..         groups of TCP: how many, congestion control, round trip without a queue; 1:udp=12mbit:20ms is UDP at such a rate;
+                                  8:cubic:20ms:5s-10s: from the fifth to the tenth second alone
   --short 14600x2,146000x0.5      short flows beside them: of so many bytes, so many a second
   --limit 200ms                   of the queue: so long at the first rate, in bytes here and in packets of 1500 at the kernel's
   --ecn      all TCP asks for ECN, and every queue marks that can;  --tupdate 15ms, --target 15ms: of all PIEs;  --grant 5ms: of the link alone
   --offload  senders hand over up to 64 kB at once, as a network card's segmentation offload has them; else a packet at a time
   --from 5   the table has the beginning of the run apart, until this second
-  --same A:B ..                   pairs that are tested for equivalence, stamp:pie and rate:pie-rate where nothing is said and both are there
+  --same A:B ..                   pairs that are tested for equivalence; stamp:pie, rate:pie-rate and half:stamp where nothing is said
   --late     runs with late updates count too, for a look at a busy machine
-  --again    runs nothing, and makes the tables of a folder anew
+  --go-on    runs that are in the folder already are kept;  --again: runs nothing, and makes the tables of a folder anew
 UML_LINUX=FILE in the environment is another Linux than Debian's, as build.sh makes one whose time is simulated.
 
 A wait is from arrival to departure, in ms: by packet from histories, and for all queues by a ping each 20 ms, less the round trip. `settled`: the
@@ -38,7 +39,7 @@ sys.path.insert(0, str(HERE.parent))
 sys.dont_write_bytecode = True
 from equivalence import compare  # noqa: E402
 
-OURS = {"tail": ["--queue", "tail"], "stamp": [], "rate": ["--delay", "rate"], "half": ["--decay", "half"]}
+OURS = {"tail": ["--queue", "tail"], "stamp": [], "rate": ["--delay", "rate"], "half": ["--decay", "half"], "marks": ["--mark_ecnth", "100%"]}
 THEIRS = {
     "pfifo": "pfifo limit {packets}",
     "pie": "pie limit {packets} target TARGET tupdate TUPDATE",
@@ -63,10 +64,12 @@ def rates_of(text):
     return [(number(part[0], "ms", "s") if len(part) == 2 else 0, int(number(part[-1], "bit", "kbit", "mbit", "gbit"))) for part in parts]
 
 
-def group_of(text):
-    count, control, rtt = text.split(":")
+def group_of(text, seconds):
+    count, control, rtt, *lasts = text.split(":")
     udp = int(number(control[4:], "kbit", "mbit")) if control.startswith("udp=") else 0
-    return {"count": int(count), "control": control, "rtt": round(number(rtt, "us", "ms", "s") * 1e6), "udp": udp}
+    since, until = (number(moment, "ms", "s") for moment in lasts[0].split("-")) if lasts else (0, seconds)
+    trip = round(number(rtt, "us", "ms", "s") * 1e6)
+    return {"count": int(count), "control": control, "rtt": trip, "udp": udp, "since": since, "until": until}
 
 
 def queue_of(name, words):
@@ -83,11 +86,17 @@ def queue_of(name, words):
     return {"name": name, "kind": "theirs", "words": text.split()}
 
 
+def calm():
+    """What iperf3's clients are begun with where time is simulated."""
+    file = Path(os.environ.get("UML_LINUX", "/")).resolve().parent / "calm.so"
+    return str(file) if file.exists() else ""
+
+
 def scenario_of(words):
     rates = rates_of(words.rate)
     return {"queues": [queue_of(name, words) for name in words.queues.split(",")], "runs": words.runs, "seconds": words.seconds, "rates": rates,
-            "groups": [group_of(text) for text in words.flows], "short": words.short, "ecn": int(words.ecn), "offload": words.offload,
-            "limit": int(rates[0][1] / 8 * number(words.limit, "ms", "s"))}
+            "groups": [group_of(text, words.seconds) for text in words.flows], "short": words.short, "ecn": int(words.ecn),
+            "offload": words.offload, "go_on": words.go_on, "preload": calm(), "limit": int(rates[0][1] / 8 * number(words.limit, "ms", "s"))}
 
 
 def last_of(values, share):
@@ -107,6 +116,7 @@ class Found:
         about = json.loads((folder / "run.json").read_text())
         self.pings = [(float(moment) - about["begun"], float(took) - scenario["groups"][0]["rtt"] / 1e3) for moment, took in
                       re.findall(r"^\[([\d.]+)\].*time=([\d.]+) ms", (folder / "ping").read_text(), re.M)]
+        self.delays = [self.delay_of(place, about["begun"]) for place in range(len(scenario["groups"]))]
         self.flows = []         # of each flow its group, and pairs of a moment and the bytes that its receiver got until then from the moment before
         for place in range(len(scenario["groups"])):
             self.read_server(place, folder / f"server{place}")
@@ -119,11 +129,23 @@ class Found:
                 self.audit = subprocess.run([program, "audit"], stdin=file, capture_output=True, text=True).stdout.strip()
         self.queue = json.loads((folder / "queue.json").read_text()) if (folder / "queue.json").exists() else None
 
+    def delay_of(self, place, begun):
+        """How long after the traffic's beginning a group's server began to count: a round trip before its client sent. Where the group begins with the
+        traffic, and the link is idle, that is the same in each run of a scenario."""
+        group = self.scenario["groups"][place]
+        noted = sorted(self.folder.parent.glob(f"*/begun{place}"))
+        own = self.folder / f"begun{place}"
+        if own in noted:
+            return float(own.read_text()) - begun - group["rtt"] / 1e6
+        for it in noted if not group["since"] else []:
+            return float(it.read_text()) - json.loads((it.parent / "run.json").read_text())["begun"] - group["rtt"] / 1e6
+        return group["since"]
+
     def read_server(self, place, file):
-        flows = {}
+        flows, since = {}, self.delays[place]
         for interval in json.loads(file.read_text())["intervals"]:
             for it in interval["streams"]:
-                flows.setdefault(it["socket"], []).append((it["start"], it["end"], it["bytes"]))
+                flows.setdefault(it["socket"], []).append((since + it["start"], since + it["end"], it["bytes"]))
         self.flows += [(place, parts) for parts in flows.values()]
 
     def read_history(self, lead):
@@ -193,19 +215,22 @@ class Found:
 
 def phases(scenario, beginning):
     seconds = scenario["seconds"]
-    bounds = sorted({0, *([beginning] if 0 < beginning < seconds else []), *(moment for moment, _ in scenario["rates"]), seconds})
+    moments = {moment for moment, _ in scenario["rates"]} | {group[end] for group in scenario["groups"] for end in ("since", "until")}
+    bounds = sorted({0, seconds} | ({beginning} if 0 < beginning < seconds else set()) | moments)
     return list(zip(bounds, bounds[1:])) + ([(0, seconds)] if len(bounds) > 2 else [])
 
 
 def rows_of(found, scenario, words, queue, run):
     steps = [moment for moment, _ in scenario["rates"]]
     for begin, end in phases(scenario, words.beginning):
-        waits = three([wait for moment, wait, _ in found.departures if begin <= moment < end])
-        pings = three([wait for moment, wait in found.pings if begin <= moment < end])
+        # (the first counts from when something is sent)
+        since = begin or min(found.delays)
+        waits = three([wait for moment, wait, _ in found.departures if since <= moment < end])
+        pings = three([wait for moment, wait in found.pings if since <= moment < end])
         until = min([step for step in steps if step > begin], default=scenario["seconds"])
-        settled = found.settled(begin, until, number(words.target, "ms", "us")) if begin in steps else None
-        groups = [found.goodput(begin, end, place) for place in range(len(scenario["groups"]))]
-        yield dict(zip(FIELDS, [queue, run, begin, end, sum(groups), "/".join(f"{it:.3f}" for it in groups), found.jain(begin, end), *waits, *pings,
+        settled = found.settled(since, until, number(words.target, "ms", "us")) if begin in steps else None
+        groups = [found.goodput(since, end, place) for place in range(len(scenario["groups"]))]
+        yield dict(zip(FIELDS, [queue, run, begin, end, sum(groups), "/".join(f"{it:.3f}" for it in groups), found.jain(since, end), *waits, *pings,
                                 *found.dropped(begin, end), found.link_bytes(begin, end), settled, found.late, found.audit]))
 
 
@@ -298,7 +323,7 @@ def options():
     parser.add_argument("--ecn", action="store_true")
     parser.add_argument("--from", dest="beginning", type=float, default=5)
     parser.add_argument("--same", nargs="*")
-    for flag in ("--offload", "--late", "--again"):
+    for flag in ("--offload", "--late", "--go-on", "--again"):
         parser.add_argument(flag, action="store_true")
     return parser.parse_args()
 
@@ -316,9 +341,10 @@ def main():
     program, folder = os.path.abspath(words.program), Path(words.folder).resolve()
     folder.mkdir(parents=True, exist_ok=True)
     scenario = scenario_of(words)
+    places = [f"{run}-{queue['name']}" for queue in scenario["queues"] for run in range(1, scenario["runs"] + 1)]
     if not words.again:
         (folder / "scenario.json").write_text(json.dumps(scenario, indent=1))
-        if run_all(folder):
+        if not (words.go_on and all((folder / it / "run.json").exists() for it in places)) and run_all(folder):
             sys.exit((folder / "said").read_text())
     rows, took, failed = [], {}, []
     names = [queue["name"] for queue in scenario["queues"]]
@@ -341,7 +367,7 @@ def main():
     with open(folder / "results.csv", "w", newline="") as file:
         out = csv.DictWriter(file, FIELDS)
         out.writeheader()
-        out.writerows(rows)
+        out.writerows({key: round(it, 4) if isinstance(it, float) else it for key, it in row.items()} for row in rows)
     late = sorted({f"{row['run']}-{row['queue']}" for row in rows if row["late"]})
     kept = [row for row in rows if words.late or not row["late"]]
     flows = " and ".join(words.flows)
@@ -350,7 +376,7 @@ def main():
     tell(kept, scenario, names)
     if took:
         tell_short(took)
-    pairs = words.same if words.same is not None else ["stamp:pie", "rate:pie-rate"]
+    pairs = words.same if words.same is not None else ["stamp:pie", "rate:pie-rate", "half:stamp"]
     tell_same(kept, [pair for pair in pairs if set(pair.split(":")) <= set(names)])
     if late:
         print(f"\nlate updates{'' if words.late else ', so in no mean'}: {', '.join(late)}")

@@ -6,6 +6,8 @@ Three namespaces: senders, the bottleneck, receivers. The bottleneck is examples
 kernel below it. At the receivers' end netem delays what goes back, by its destination, so that flows can differ in their round trip.
 
 usage: bench/uml/network.py SCENARIO.json"""
+import contextlib
+import ctypes
 import json
 import os
 import random
@@ -27,17 +29,39 @@ SPACES = ("senders", "bottleneck", "receivers")
 BEFORE_OTHERS = ("chrt", "--fifo", "50")    # a link that is woken late sends late and updates late
 
 
+@contextlib.contextmanager
+def within(space):
+    """This process, and what it begins meanwhile, is in that namespace. (`ip netns exec` would be a program more each time, and programs are what a
+    Linux in a process begins slowly.)"""
+    if not space:
+        yield
+        return
+    with open("/proc/self/ns/net") as here, open(f"/run/netns/{space}") as there:
+        enter(there)
+        try:
+            yield
+        finally:
+            enter(here)
+
+
+def enter(namespace):
+    if ctypes.CDLL(None, use_errno=True).setns(namespace.fileno(), 0):
+        raise RuntimeError(f"setns: {os.strerror(ctypes.get_errno())}")
+
+
 def do(words, space=None):
     """Runs a command, and says why it failed."""
     words = shlex.split(words) if isinstance(words, str) else words
-    found = subprocess.run([*inside(space), *words], capture_output=True, text=True)
+    with within(space):
+        found = subprocess.run(words, capture_output=True, text=True)
     if found.returncode:
         raise RuntimeError(f"{shlex.join(words)}: {found.stderr.strip()}")
     return found.stdout
 
 
-def inside(space):
-    return ["ip", "netns", "exec", space] if space else []
+def set_number(space, name, number):
+    with within(space):
+        Path(f"/proc/sys/net/ipv4/{name}").write_text(str(number))
 
 
 def wait_for(is_there, what):
@@ -60,7 +84,8 @@ class Run:
     def start(self, words, name, space=None, **more):
         file = open(self.folder / name, "w")
         self.files.append(file)
-        begun = subprocess.Popen([*inside(space), *words], stdout=file, stderr=subprocess.STDOUT, stdin=subprocess.DEVNULL, **more)
+        with within(space):
+            begun = subprocess.Popen(words, stdout=file, stderr=subprocess.STDOUT, stdin=subprocess.DEVNULL, **more)
         self.started.append(begun)
         return begun
 
@@ -74,7 +99,8 @@ class Run:
         for space in SPACES:
             do(f"ip netns add {space}")
             do("ip link set lo up", space)
-            do("sysctl -q -w net.ipv4.tcp_ecn=%d net.ipv4.tcp_no_metrics_save=1" % self.scenario["ecn"], space)
+            set_number(space, "tcp_ecn", self.scenario["ecn"])
+            set_number(space, "tcp_no_metrics_save", 1)
         (self.set_up_link if self.queue["kind"] == "ours" else self.set_up_router)()
         for place in range(len(self.round_trips())):
             do(f"ip addr add 10.1.0.{place + 1}/24 dev senders", "senders")
@@ -107,7 +133,7 @@ class Run:
             do(f"ip link add {space} netns {space} type veth peer name {device} netns bottleneck")
         do("ip addr add 10.1.0.254/24 dev near", "bottleneck")
         do("ip addr add 10.2.0.254/24 dev far", "bottleneck")
-        do("sysctl -q -w net.ipv4.ip_forward=1", "bottleneck")
+        set_number("bottleneck", "ip_forward", 1)
         do("ip link set near up", "bottleneck")
         do("ip link set far up", "bottleneck")
         do("tc qdisc add dev far root handle 1: stab overhead -14 linklayer ethernet htb default 1", "bottleneck")
@@ -142,33 +168,48 @@ class Run:
     def send(self):
         """Begins the traffic, and says when."""
         # (neighbours are looked for now, and not by the first packet of the traffic)
-        subprocess.run([*inside("senders"), "ping", "-c", "1", "-W", "2", RECEIVER], stdout=subprocess.DEVNULL)
+        with within("senders"):
+            subprocess.run(["ping", "-c", "1", "-W", "2", RECEIVER], stdout=subprocess.DEVNULL)
         time.sleep(max(0.0, self.begun + LEAD - time.monotonic()))
         begun, seconds = time.time(), self.scenario["seconds"]
         first = self.groups[0]["rtt"]
-        self.start(["ping", "-n", "-D", "-i", "0.02", "-w", str(seconds), "-I", self.address(first), RECEIVER], "ping", "senders")
-        clients = []
-        for place, group in enumerate(self.groups):
-            words = ["iperf3", "--client", RECEIVER, "--bind", self.address(group["rtt"]), "--port", str(PORT + place), "--time", str(seconds),
-                     "--parallel", str(group["count"]), "--json"]
-            words += ["--udp", "--bitrate", str(group["udp"]), "--length", "1448"] if group["udp"] else ["--congestion", group["control"]]
-            clients.append(self.start(words, f"client{place}", "senders"))
+        self.start(["ping", "-n", "-D", "-i", "0.02", "-w", str(seconds), "-I", self.address(first), RECEIVER], "ping", "senders",
+                   env=os.environ | self.calm())
+        clients = [self.send_group(place) for place, group in enumerate(self.groups) if not group["since"]]
         if self.scenario["short"]:
             self.start([sys.executable, __file__, "send", self.address(first), str(seconds), self.scenario["short"], self.folder.name],
                        "short", "senders")
         return begun, clients
+
+    def send_group(self, place):
+        group = self.groups[place]
+        words = ["iperf3", "--client", RECEIVER, "--bind", self.address(group["rtt"]), "--port", str(PORT + place),
+                 "--time", f"{group['until'] - group['since']:g}", "--parallel", str(group["count"]), "--json"]
+        words += ["--udp", "--bitrate", str(group["udp"]), "--length", "1448"] if group["udp"] else ["--congestion", group["control"]]
+        calm = self.calm() | {"CALM_BEGUN": str(self.folder / f"begun{place}")} | ({"CALM_NOT": "1"} if group["udp"] else {})
+        return self.start(words, f"client{place}", "senders", env=os.environ | calm)
+
+    def calm(self):
+        """What programs have in their environment that would spin in simulated time (calm.c)."""
+        return {"LD_PRELOAD": self.scenario["preload"]} if self.scenario["preload"] else {}
+
+    def later(self):
+        """What happens after the traffic's beginning, by its moment: groups that begin then, and at a router the changes of the rate."""
+        groups = [(group["since"], self.send_group, (place,)) for place, group in enumerate(self.groups) if group["since"]]
+        rates = [(moment, self.set_rate, (rate, "change")) for moment, rate in self.rates[1:] if self.queue["kind"] != "ours"]
+        return sorted(groups + rates, key=lambda it: it[0])
 
     def go(self):
         self.set_up()
         self.listen()
         begun, clients = self.send()
         start = time.monotonic()
-        if self.queue["kind"] != "ours":
-            for moment, rate in self.rates[1:]:
-                time.sleep(max(0.0, start + moment - time.monotonic()))
-                self.set_rate(rate, "change")
+        for moment, call, words in self.later():
+            time.sleep(max(0.0, start + moment - time.monotonic()))
+            clients.append(call(*words))
         for client in clients:
-            client.wait(timeout=self.scenario["seconds"] + 60)
+            if client:
+                client.wait(timeout=self.scenario["seconds"] + 60)
         if self.queue["kind"] == "ours":
             self.link.terminate()
             self.link.wait()
@@ -193,12 +234,14 @@ class Run:
 
 
 def device_is_there(space, device):
-    return subprocess.run(["ip", "-n", space, "link", "show", device], capture_output=True).returncode == 0
+    with within(space):
+        return device in [name for _, name in socket.if_nameindex()]
 
 
 def listens(space, port):
     # (there is no tcp6 until something has asked for IPv6)
-    found = subprocess.run([*inside(space), "cat", "/proc/net/tcp", "/proc/net/tcp6"], capture_output=True, text=True).stdout
+    with within(space):
+        found = "".join(file.read_text() for file in (Path("/proc/net/tcp"), Path("/proc/net/tcp6")) if file.exists())
     return any(f":{port:04X} " in line and " 0A " in line for line in found.splitlines())
 
 
@@ -250,6 +293,8 @@ def main():
     for number in range(1, scenario["runs"] + 1):
         for queue in scenario["queues"]:
             place = folder / f"{number}-{queue['name']}"
+            if scenario["go_on"] and (place / "run.json").exists():
+                continue
             place.mkdir(exist_ok=True)
             run = Run(scenario, queue, place)
             try:

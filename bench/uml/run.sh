@@ -44,7 +44,8 @@ elif nice -n -15 true 2> /dev/null && [ "$(id -u)" = 0 ]; then
 fi
 # shellcheck disable=SC2086
 $before_others timeout --kill-after=5 "${UML_SECONDS:-3600}" "$linux_program" "${words[@]}" "mem=${UML_MEMORY:-1024M}" \
-    root=/dev/root rootfstype=hostfs rootflags=/ rw "init=$here/boot.sh" "STATE=$state" "uml_dir=$state" con=null con0=null,fd:1 quiet > "$state/kernel" 2>&1 < /dev/null &
+    root=/dev/root rootfstype=hostfs rootflags=/ rw "init=$here/boot.sh" "STATE=$state" "uml_dir=$state" con=null con0=null,fd:1 quiet \
+    > "$state/kernel" 2>&1 < /dev/null &
 linux=$!
 tail --quiet --bytes=+1 --sleep-interval=0.2 --follow --pid="$linux" "$state/out" &
 tail --quiet --bytes=+1 --sleep-interval=0.2 --follow --pid="$linux" "$state/err" >&2 &

@@ -42,7 +42,7 @@ runs() {
         echo "bindings/ns3/check.sh: $queue: $found of $events events, $marks marks, $drops drops"
         exit 1
     fi
-    if ! awk -F, -v marks="$marks" -v drops="$drops" 'END { exit !($16 + $17 == drops && $18 == marks) }' "$work/record"; then
+    if ! awk -F, -v marks="$marks" -v drops="$drops" 'END { exit !($17 + $18 == drops && $19 == marks) }' "$work/record"; then
         echo "bindings/ns3/check.sh: $queue: ns-3 counted otherwise than the $marks marks and $drops drops of the history:"
         cat "$work/record"
         exit 1

@@ -50,6 +50,7 @@ struct Counts
     double early = 0;          /* the sum of those before, and their number */
     uint64_t earlyPackets = 0;
     std::vector<uint64_t> received; /* bytes of each TCP flow after the warm-up */
+    uint64_t sent = 0;              /* bytes that left the shared link's queue after it, with their headers */
 };
 
 Counts g_counts;
@@ -67,6 +68,16 @@ SeeWait(Time wait)
     {
         g_counts.early += ms;
         g_counts.earlyPackets++;
+    }
+}
+
+/* (What a receiver reads is no measure of the link: bytes behind a gap are read when it closes, even where they came before the warm-up's end.) */
+void
+SeeSent(Ptr<const QueueDiscItem> item)
+{
+    if (Simulator::Now() >= g_warmUp)
+    {
+        g_counts.sent += item->GetSize();
     }
 }
 
@@ -131,6 +142,18 @@ ChoicesOf(const std::string& asked)
     return {!isAll && asked != "-stamp", !isAll && asked != "-random", !isAll && asked != "-uncapped"};
 }
 
+/* Takes this beginning off a word, and answers whether the word has it. */
+bool
+TakesOff(std::string& word, const std::string& beginning)
+{
+    if (word.rfind(beginning, 0) != 0)
+    {
+        return false;
+    }
+    word.erase(0, beginning.size());
+    return true;
+}
+
 /* The queue of the shared link. What is not set here has the default of RFC 8033 in both. */
 TrafficControlHelper
 QueueOf(const Scenario& scenario)
@@ -155,12 +178,12 @@ QueueOf(const Scenario& scenario)
     }
     else if (scenario.queue.rfind("pie", 0) == 0)
     {
-        bool isChanged = scenario.queue.rfind("pie-mark", 0) == 0;
-        NS_ABORT_MSG_UNLESS(!isChanged || scenario.queue == "pie-mark" || scenario.queue == "pie-mark-burst",
-                            "unknown queue " << scenario.queue);
         /* what ChangedPieQueueDisc changes: at a mark, and at the burst allowance */
-        Config::SetDefault("ns3::ChangedPieQueueDisc::WholeAllowanceWhenCalm", BooleanValue(scenario.queue == "pie-mark-burst"));
-        Choices choices = ChoicesOf(isChanged ? "" : scenario.queue.substr(3));
+        std::string choice = scenario.queue.substr(3);
+        bool isChanged = TakesOff(choice, "-mark");
+        bool isWhole = isChanged && TakesOff(choice, "-burst");
+        Config::SetDefault("ns3::ChangedPieQueueDisc::WholeAllowanceWhenCalm", BooleanValue(isWhole));
+        Choices choices = ChoicesOf(choice);
         helper.SetRootQueueDisc(isChanged ? "ns3::ChangedPieQueueDisc" : "ns3::PieQueueDisc",
                                 "MeanPktSize", UintegerValue(MEAN_PKT),
                                 "MaxSize", limit,
@@ -302,7 +325,7 @@ Fairness(const std::vector<uint64_t>& received)
 }
 
 constexpr const char* HEADER =
-    "queue,mbit,flows,rtt_ms,ecn,udp,seed,goodput_mbit,fairness,wait_mean_ms,wait_median_ms,wait_p95_ms,wait_p99_ms,"
+    "queue,mbit,flows,rtt_ms,ecn,udp,seed,goodput_mbit,link_mbit,fairness,wait_mean_ms,wait_median_ms,wait_p95_ms,wait_p99_ms,"
     "start_wait_mean_ms,sent,early,tail,marked";
 
 void
@@ -315,11 +338,12 @@ Print(const Scenario& s, const Dumbbell& net)
     double start = g_counts.earlyPackets == 0 ? 0 : g_counts.early / static_cast<double>(g_counts.earlyPackets);
     uint64_t bytes = std::accumulate(g_counts.received.begin(), g_counts.received.end(), uint64_t(0));
     double goodput = static_cast<double>(bytes) * 8 / (s.seconds - s.warmUp) / 1e6;
+    double sent = static_cast<double>(g_counts.sent) * 8 / (s.seconds - s.warmUp) / 1e6;
     const QueueDisc::Stats& stats = net.queue->GetStats();
     uint32_t early = stats.GetNDroppedPackets(RecordedPieQueueDisc::EARLY_DROP) +
                      stats.GetNDroppedPackets(PieQueueDisc::UNFORCED_DROP);
-    std::printf("%s,%g,%u,%g,%d,%g,%u,%.4f,%.4f,%.3f,%.3f,%.3f,%.3f,%.3f,%u,%u,%u,%u\n",
-                s.queue.c_str(), s.megabits, s.flows, s.roundTrip, s.ecn, s.udp, s.seed, goodput,
+    std::printf("%s,%g,%u,%g,%d,%g,%u,%.4f,%.4f,%.4f,%.3f,%.3f,%.3f,%.3f,%.3f,%u,%u,%u,%u\n",
+                s.queue.c_str(), s.megabits, s.flows, s.roundTrip, s.ecn, s.udp, s.seed, goodput, sent,
                 Fairness(g_counts.received), mean, Quantile(waits, 0.5), Quantile(waits, 0.95), Quantile(waits, 0.99),
                 start, stats.nTotalDequeuedPackets, early, stats.nTotalDroppedPackets - early, stats.nTotalMarkedPackets);
 }
@@ -332,7 +356,7 @@ Read(int count, char** words)
     CommandLine line(__FILE__);
     line.AddValue("queue",
                   "recorded or pie, with -stamp, -random, -uncapped or -all for another choice; recorded-scaled, recorded-half; fifo; pie-mark, "
-                  "pie-mark-burst: pie with points changed",
+                  "pie-mark-burst: pie with points changed, also with a choice behind",
                   s.queue);
     line.AddValue("rate", "Mbit/s of the shared link", s.megabits);
     line.AddValue("flows", "TCP flows", s.flows);
@@ -365,6 +389,7 @@ main(int count, char** words)
     g_counts.received.assign(scenario.flows, 0);
     Dumbbell net = Build(scenario);
     net.queue->TraceConnectWithoutContext("SojournTime", MakeCallback(&SeeWait));
+    net.queue->TraceConnectWithoutContext("Dequeue", MakeCallback(&SeeSent));
     StartFlows(scenario, net);
     if (scenario.udp > 0)
     {

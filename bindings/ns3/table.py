@@ -1,9 +1,11 @@
 #!/usr/bin/env python3
 """Makes tables of the records that scenarios.sh left. Goodput in Mbit/s, waits in ms.
 
-usage: bindings/ns3/table.py RESULTS.csv [full | beside | plot | choices] [stamp | random | uncapped | all | scaled]
+usage: bindings/ns3/table.py RESULTS.csv [full | same | beside | plot | choices] [stamp | random | uncapped | all | scaled]
 
 full    for each scenario a table with a line for each queue: of each figure the mean over the runs, and in brackets the least and the greatest
+same    whether this repository's PIE and PieQueueDisc come to the same: two one-sided tests of the bytes that left the link, within 5 per cent, and
+        of the mean wait, within 2 ms, with their power (bench/equivalence.py)
 beside  a line for each scenario: this repository's PIE beside PieQueueDisc with de-randomization; then all scenarios together; both with another
         of RFC 8033's optional elements where one is named, or with all three
 plot    the mean waits, for draw.sh
@@ -22,6 +24,11 @@ import math
 import random
 import sys
 from collections import defaultdict
+from pathlib import Path
+
+sys.path.insert(0, str(Path(__file__).resolve().parents[2] / "bench"))
+sys.dont_write_bytecode = True
+from equivalence import compare  # noqa: E402
 
 QUEUES = {
     "fifo": "tail drop",
@@ -38,6 +45,7 @@ CHOICES = {
 }
 FIGURES = {
     "goodput_mbit": "goodput",
+    "link_mbit": "link",
     "wait_mean_ms": "wait mean",
     "wait_median_ms": "median",
     "wait_p95_ms": "95th",
@@ -218,6 +226,25 @@ def print_choices(runs, scenarios):
         print(f"| {CHOICES[choice]} | " + " | ".join(cells) + " |")
 
 
+def print_same(runs, scenarios, choice=None):
+    """Of each scenario the rate at the link and the mean wait, tested for equivalence: the changed PieQueueDisc too, where it was run."""
+    ours, theirs = beside_of(choice)
+    behind = f"-{choice}" if choice else ""
+    others = {theirs: "PieQueueDisc", f"pie-mark{behind}": "its marks changed", f"pie-mark-burst{behind}": "and its bursts"}
+    print("| scenario | runs | of | here | beside | theirs | difference, 90 % interval | verdict | power |\n|" + "---|" * 9)
+    for scenario in scenarios:
+        for queue, name in others.items():
+            both = [runs.get((scenario, it), []) for it in (ours, queue)]
+            if min(map(len, both)) < 2:
+                continue
+            for figure in ("link_mbit", "wait_mean_ms"):
+                one, other = (values(it, figure) for it in both)
+                margin = 0.05 * mean(other) if figure == "link_mbit" else 2.0
+                difference, least, most, verdict, power = compare(one, other, margin)
+                print(f"| {name_of(scenario)} | {len(one)}, {len(other)} | {FIGURES[figure]} | {shown(both[0], figure)} | {name} "
+                      f"| {shown(both[1], figure)} | {difference:.2f} ({least:.2f} to {most:.2f}) | {verdict} | {power:.2f} |")
+
+
 def print_plot(runs, scenarios):
     """Of each scenario its rate, its place among those of this rate, its name, and of each queue mean, least and greatest."""
     for rate in dict.fromkeys(scenario[0] for scenario in scenarios):
@@ -233,7 +260,7 @@ def print_plot(runs, scenarios):
 def main():
     runs = read(sys.argv[1])
     scenarios = sorted({scenario for scenario, _ in runs}, key=lambda it: (float(it[0]), it[3], it[4], float(it[2]) != 40, float(it[2]), int(it[1])))
-    kinds = {"full": print_full, "beside": print_beside, "choices": print_choices, "plot": print_plot}
+    kinds = {"full": print_full, "same": print_same, "beside": print_beside, "choices": print_choices, "plot": print_plot}
     kinds[sys.argv[2] if len(sys.argv) > 2 else "full"](runs, scenarios, *sys.argv[3:])
 
 

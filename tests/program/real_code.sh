@@ -6,11 +6,12 @@
 # needs: program
 . "$(dirname "$0")/../shared/script.sh"
 steps=$top/bench/steps
-for kind in 'stamp 100000000000' 'rate 0'; do
+# (an opening of 20 fields, and one of 21, which tells the decay)
+for kind in '1 stamp 100000000000' '1 rate 0' '3 stamp 100000000000 20 half' '3 rate 0 20 half'; do
     # shellcheck disable=SC2086
-    python3 "$steps/trace.py" 1 $kind > "$work/trace" && "$program" run "$work/trace" > "$work/${kind% *}" || exit 1
+    python3 "$steps/trace.py" $kind > "$work/trace" && "$program" run "$work/trace" > "$work/$(tr ' ' - <<< "$kind")" || exit 1
 done
-"$steps/run.sh" "$program" "$work/stamp" "$work/rate" > "$work/found" 2>&1
+"$steps/run.sh" "$program" "$work"/[13]-* > "$work/found" 2>&1
 status=$?
 if [ $status = 3 ]; then
     echo "NOT RUN: $script: no decision was compared with Linux's and DPDK's code: $(cat "$work/found"); bench/steps/install.sh installs it"
@@ -18,11 +19,12 @@ if [ $status = 3 ]; then
 fi
 cat "$work/found"
 [ $status = 0 ] || exit 1
+grep -q '[1-9][0-9]*  decays at two delays of 0 alone' "$work/found" || fail "Linux decayed wherever the history with the other decay does"
 while IFS='|' read -r old new; do
     cp "$steps/out/linux_pie.h" "$work/"
     sed "s|$old|$new|" "$steps/out/linux_pie.c" > "$work/linux_pie.c"
     cmp -s "$steps/out/linux_pie.c" "$work/linux_pie.c" && fail "no $old in Linux's code"
-    LINUX_CODE=$work "$steps/run.sh" "$program" "$work/stamp" > "$work/wrong" 2>&1 && fail "with $new in the place of $old nothing was found"
+    LINUX_CODE=$work "$steps/run.sh" "$program" "$work"/1-stamp-* > "$work/wrong" 2>&1 && fail "with $new in the place of $old nothing was found"
 done <<'END'
 vars->prob / 64|vars->prob / 32
 MAX_PROB / 100) \* 85|MAX_PROB / 100) * 80

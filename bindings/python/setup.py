@@ -1,0 +1,41 @@
+"""Makes libpie.so for the wheel, by library.sh; the rest stands in pyproject.toml. The wheel is for this processor and this system's C library, and
+for any Python 3: the module reaches the library by ctypes."""
+import subprocess
+import tempfile
+from pathlib import Path
+
+from setuptools import Distribution, setup
+from setuptools.command.build_py import build_py
+from wheel.bdist_wheel import bdist_wheel
+
+HERE = Path(__file__).resolve().parent
+MADE = HERE / "out"
+
+
+class WithLibrary(build_py):
+    def run(self):
+        super().run()
+        with tempfile.TemporaryDirectory() as folder:
+            if subprocess.run([HERE / "library.sh", folder], stdout=subprocess.DEVNULL).returncode:
+                raise SystemExit("setup.py: libpie.so was not made")
+            (made,) = Path(folder).iterdir()
+            package = Path(self.build_lib) / "juniperbowls"
+            self.copy_file(str(made), str(package / "libpie.so.0"))
+
+
+class OfThisProcessor(Distribution):
+    def has_ext_modules(self):
+        return True
+
+
+class ForAnyPython(bdist_wheel):
+    def get_tag(self):
+        return "py3", "none", super().get_tag()[2]
+
+
+MADE.mkdir(exist_ok=True)
+setup(
+    distclass=OfThisProcessor,
+    cmdclass={"build_py": WithLibrary, "bdist_wheel": ForAnyPython},
+    options={"build": {"build_base": "out/build"}, "egg_info": {"egg_base": "out"}},
+)

@@ -15,12 +15,12 @@ print(jb.audit(history), jb.frame(events).groupby("answer").size().to_dict())
 # %% The first chart of a report
 import matplotlib.pyplot as plt  # noqa: E402
 rows = jb.explain(history, "--every", period)
-rows.index, left, updated = rows.first_moment / 1e9, rows.left > 0, rows.updates > 0
-chart = plt.figure(figsize=(11, 4)).gca(title="Queueing delay and waits, ms", xlabel="s")
-for name, column, chosen in [("queueing delay at updates", "greatest_delay", updated), ("mean wait of packets that left", "mean_wait", left),
-                             ("greatest wait", "greatest_wait", left), ("burst allowance", "last_burst_allowance", slice(None)),
-                             ("target", "last_target", slice(None))]:
-    chart.plot(rows[column][chosen] / 1e6, label=name)
+rows.index = rows.first_moment / 1e9
+chart = plt.figure(figsize=(11, 4)).add_subplot(title="Queueing delay and waits, ms", xlabel="s")
+for name, column, counts in [("queueing delay at updates", "greatest_delay", "updates"), ("mean wait of packets that left", "mean_wait", "left"),
+                             ("greatest wait", "greatest_wait", "left"), ("burst allowance", "last_burst_allowance", "events"),
+                             ("target", "last_target", "events")]:
+    chart.plot(rows[column][rows[counts] > 0] / 1e6, label=name)
 chart.legend()
 
 # %% The same arrivals with other targets

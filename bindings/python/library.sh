@@ -46,5 +46,5 @@ printf -- '-Wl,--require-defined=%s\n' $exported > "$work/wanted"
 "$cc" -O2 -std=c11 -Wall -Wextra -Werror -fPIC -I"$include" -c -o "$work/pie_arrays.o" "$here/native/pie_arrays.c"
 mkdir -p "$folder"
 "$cc" -shared -o "$folder/libpie.so.$version" "$work/pie_arrays.o" "@$work/wanted" "$static" -Wl,-soname,"libpie.so.${version%%.*}" \
-    -Wl,--version-script="$work/exports" -Wl,--gc-sections -Wl,--as-needed -Wl,-z,defs -Wl,-z,relro -Wl,-z,now -Wl,--strip-debug
+    -Wl,--version-script="$work/exports" -Wl,-Bsymbolic -Wl,--gc-sections -Wl,--as-needed -Wl,-z,defs -Wl,-z,relro -Wl,-z,now -Wl,--strip-debug
 echo "$folder/libpie.so.$version"

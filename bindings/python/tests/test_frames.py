@@ -26,7 +26,7 @@ def same(frame, rows):
         assert name in ("kind", "verdict", "cause", "ecn") or frame[name].dtype in ("uint64", "UInt64"), name
 
 
-@pytest.mark.parametrize("options", [["--all"], ["--lost"], ["--summary"], ["--every", "100ms"], ["--tag", "200"]], ids=" ".join)
+@pytest.mark.parametrize("options", [["--all"], ["--lost"], ["--summary"], ["--every", "100ms"], ["--tag", "20"]], ids=" ".join)
 @pytest.mark.parametrize("history", HISTORIES, ids=lambda it: it.stem)
 def test_an_explanation(history, options):
     rows = printed(history, *options)

@@ -98,7 +98,7 @@ def test_a_step_at_a_time(tmp_path):
     assert jb.audit(place, PIE).is_clean
     assert place.read_text().count("\nrefused,") == 1
     told = jb.explain(place, "--all", "--wall", pie=PIE)
-    assert str(told.wall.iloc[-1]) == "2026-11-24 20:00:03+00:00" and (told.verdict == "mark").sum() > 0
+    assert str(told.wall.iloc[-1]) == "2026-11-24 20:00:03+00:00" and (told.verdict == "early").sum() > 0
 
 
 def test_a_seed_begins_the_random_words():

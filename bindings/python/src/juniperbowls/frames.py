@@ -121,9 +121,9 @@ def _table(names: list[str], body: bytes, first: int) -> pd.DataFrame:
     for name, missing in zip(names, empty.T):
         column = found[name]
         if name == "wall":
-            columns[name] = pd.to_datetime(column.mask(missing), utc=True)
+            columns[name] = pd.to_datetime(column.mask(missing), utc=True).array
         elif name in _WORDS:
-            columns[name] = column.cat.remove_categories([it for it in column.cat.categories if it == "0"])
+            columns[name] = column.cat.remove_categories([it for it in column.cat.categories if it == "0"]).array
         else:
             columns[name] = _numbers(column.to_numpy(), missing)
     return pd.DataFrame(columns, index=pd.RangeIndex(first, first + len(found)))

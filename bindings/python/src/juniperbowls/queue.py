@@ -9,7 +9,7 @@ from typing import Any, NamedTuple
 import numpy as np
 import numpy.typing as npt
 
-from ._library import ALL, EVENTS, GROW, KIND, LIBRARY, REFUSED, RawEvent, RawQueue, number
+from ._library import ALL, EVENTS, GROW, KIND, LIBRARY, OUT, REFUSED, RawEvent, RawQueue, number
 from .controller import Ecn, Kind, State, Updated, Verdict, event, opened, set_params
 from .history import EVENT, Events, Place, Recorder
 from .opening import Opening, Params, whole
@@ -35,11 +35,12 @@ def column(name: str, values: npt.ArrayLike, kind: str, count: int | None = None
     found = np.asarray(values)
     if found.dtype.kind not in "iu" and found.size:
         raise TypeError(f"{name}: these are not whole numbers that fit in 64 bits")
-    if found.size and not (found.min() >= 0 and int(found.max()) <= np.iinfo(kind).max):
+    is_within = not found.size or (found.dtype.kind == "u" or found.min() >= 0) and (found.dtype == kind or int(found.max()) <= np.iinfo(kind).max)
+    if not is_within:
         raise ValueError(f"{name}: a number does not fit in {np.iinfo(kind).bits} bits without a sign")
     if found.ndim > 1 or (count is not None and found.ndim == 1 and len(found) != count):
         raise ValueError(f"{name}: there are {found.shape} numbers, and {count} are wanted")
-    numbers: npt.NDArray[Any] = np.atleast_1d(found.astype(kind))
+    numbers: npt.NDArray[Any] = np.atleast_1d(found.astype(kind, copy=False))
     return np.broadcast_to(numbers, (count,)) if count is not None and found.ndim == 0 else numbers
 
 
@@ -169,22 +170,25 @@ class Queue:
         if not 1 <= self._queue.rate < 1 << 60:
             raise ValueError("rate: a link has a rate of 1 bit a second to 2^60 - 1")
         arrivals = self._arriving(moments, sizes, ecn, words, tags, caller)
-        end, taken = whole("until", until), 0
+        end, taken, made = whole("until", until), 0, 0
         parts: list[Events] = []
+        # (memory that nothing is written to costs nothing)
+        out = np.empty(2 * len(arrivals) + _SPARE, EVENT)
         while True:
-            # (memory that nothing is written to costs nothing)
-            out = np.empty(2 * (len(arrivals) - taken) + _SPARE, EVENT)
-            made = LIBRARY.pie_array_offer(byref(self._state), byref(self._queue), arrivals[taken:].ctypes.data, len(arrivals) - taken, end,
-                                           out.ctypes.data, len(out))
+            more = LIBRARY.pie_array_offer(byref(self._state), byref(self._queue), arrivals[taken:].ctypes.data, len(arrivals) - taken, end,
+                                           out[made:].ctypes.data, len(out) - made)
             taken += self._queue.taken
             self._arrivals += self._queue.taken
-            self._record(out[:made])
-            parts.append(out[:made])
+            self._record(out[made:made + more])
+            made += more
             if self._queue.why == REFUSED:
                 self._record(out[made:made + 1])
                 raise Refused(int(out[made]["answer"]), f"arrival {taken}" if out[made]["kind"] == Kind.ARRIVE else "the link", taken)
             if self._queue.why == ALL:
-                return np.concatenate(parts) if len(parts) > 1 else parts[0]
+                return np.concatenate([*parts, out[:made]]) if parts else out[:made]
+            if self._queue.why == OUT:
+                parts.append(out)
+                out, made = np.empty(2 * (len(arrivals) - taken) + _SPARE, EVENT), 0
             self._go_on()
 
     def _arriving(self, moments: npt.ArrayLike, sizes: npt.ArrayLike, ecn: npt.ArrayLike, words: npt.ArrayLike | None, tags: npt.ArrayLike | None,

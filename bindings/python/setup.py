@@ -1,5 +1,6 @@
 """Makes libpie.so for the wheel, by library.sh; the rest stands in pyproject.toml. The wheel is for this processor and this system's C library, and
 for any Python 3: the module reaches the library by ctypes."""
+import shutil
 import subprocess
 import tempfile
 from pathlib import Path
@@ -33,6 +34,8 @@ class ForAnyPython(bdist_wheel):
         return "py3", "none", super().get_tag()[2]
 
 
+# (what an earlier wheel was made of may be gone)
+shutil.rmtree(MADE / "build", ignore_errors=True)
 MADE.mkdir(exist_ok=True)
 setup(
     distclass=OfThisProcessor,

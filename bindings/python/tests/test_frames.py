@@ -127,7 +127,7 @@ def test_parquet(tmp_path):
 def test_many_rows_stay_in_order(tmp_path):
     place, opening = tmp_path / "history", jb.Opening.for_rate("100mbit")
     with jb.Queue(opening, place, seed=1) as queue:
-        events = queue.offer(np.arange(60_000) * 100_000, 1250, "90mbit", ecn=1)
+        events = queue.offer(np.arange(20_000) * 100_000, 1250, "90mbit", ecn=1)
     told = jb.explain(place, pie=PIE)
     assert np.array_equal(told.number, np.arange(1, len(events) + 1)) and np.array_equal(told.moment, events["moment"])
     assert np.array_equal(told.probability_after[events["kind"] == 3], events["prob"][events["kind"] == 3])

@@ -105,7 +105,8 @@ def set_params(state: RawState, params: Params, asked: RawEvent) -> None:
 
 class Controller:
     """PIE for a queue of the caller's, who has the packets, the clock and the random words. Each call is one of include/pie.h, which says what its
-    caller owes; what is refused raises `Refused` and changes nothing. With a `Recorder` each call leaves its record, refused ones too.
+    caller owes; what is refused raises `Refused` and changes nothing. With a `Recorder` each call leaves its record, refused ones too. It is for one
+    thread at a time.
 
     >>> pie = Controller(Opening.for_rate("100mbit"))
     >>> pie.arrive(queued=3000, size=1500, room=7, ecn=Ecn.ECT0, word=0x9e3779b97f4a7c15, moment=10)

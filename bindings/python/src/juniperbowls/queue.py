@@ -58,7 +58,7 @@ def events(kinds: npt.ArrayLike, moments: npt.ArrayLike, **columns: npt.ArrayLik
 class Queue:
     """Packets in order, with PIE in front. What is refused raises `Refused` and changes nothing. `history` names a file, or is a `Recorder`: then
     every event is recorded, by the library's writers, and `pie audit` finds the history clean. Random words that are not handed in come from a
-    generator that `seed` begins.
+    generator that `seed` begins. It is for one thread at a time.
 
     >>> queue = Queue(Opening.for_rate("10mbit"), history="link.history", seed=1)
     >>> queue.arrive(moment="1ms", size=1500, ecn=Ecn.ECT0)
@@ -165,7 +165,7 @@ class Queue:
               words: npt.ArrayLike | None = None, tags: npt.ArrayLike | None = None, until: int | str = 0, caller: int = 1) -> Events:
         """Offers packets that arrive at these moments to a link of this rate, which takes the oldest as soon as it has sent the one before; an update
         is made whenever one is due. Gives back all events in their order: arrivals, departures by caller 2, updates by caller 3. After the last
-        arrival it goes on to the moment `until`; a later call goes on from there."""
+        arrival it goes on to the moment `until`; a later call goes on from there. A pause is as many updates as come due in it."""
         self._queue.rate = whole("rate", rate)
         if not 1 <= self._queue.rate < 1 << 60:
             raise ValueError("rate: a link has a rate of 1 bit a second to 2^60 - 1")

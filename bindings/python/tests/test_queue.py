@@ -69,6 +69,11 @@ def test_a_link_is_what_its_single_calls_are(changes, tmp_path):
     assert np.array_equal(jb.read_events(place), events) and jb.read_opening(place) == opening
 
 
+def test_of_one_moment_a_departure_is_first_then_an_update():
+    events = Queue(Opening.for_rate(0)).offer([0, 0, 15_000_000], 1500, 800_000)
+    assert list(events["kind"]) == [1, 2, 1, 2, 3, 1] and list(events["moment"]) == [0, 0, 0, *[15_000_000] * 3]
+
+
 def test_the_ring_grows():
     opening = Opening.for_rate("1gbit", packets=5000)
     queue = Queue(opening)

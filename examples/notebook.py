@@ -5,10 +5,11 @@ import numpy as np
 
 import juniperbowls as jb
 
-random, history, period = np.random.default_rng(1), "overload.history", "20ms"
+random, history, period = np.random.default_rng(1), "notebook.history", "20ms"
 time = np.cumsum(random.exponential(np.repeat([1.0e6, 0.615e6, 1.0e6], [1000, 6500, 4000]))).astype("u8")
 arrivals = {"moments": time, "sizes": 1000, "ecn": random.choice([0, 1], len(time)), "words": random.integers(2**64, size=len(time), dtype="u8")}
-with jb.Queue(jb.Opening.for_rate("10mbit"), history) as queue:
+opening = jb.Opening.for_rate("10mbit", choices=jb.Choices.DELAY_STAMP | jb.Choices.DECAY_HALF)
+with jb.Queue(opening, history) as queue:
     events = queue.offer(**arrivals, rate="10mbit", until="12s")
 print(jb.audit(history), jb.frame(events).groupby("answer").size().to_dict())
 
@@ -25,7 +26,7 @@ chart.legend()
 
 # %% The same arrivals with other targets
 for target in ("5ms", "15ms", "50ms"):
-    other = jb.frame(jb.Queue(jb.Opening.for_rate("10mbit", target=target)).offer(**arrivals, rate="10mbit", until="12s"))
+    other = jb.frame(jb.Queue(opening.replace(target=target)).offer(**arrivals, rate="10mbit", until="12s"))
     print(f"target {target}: {(other.answer == 'early').sum()} dropped early, {(other.answer == 'mark').sum()} marked, "
           f"a mean delay of {other.delay.mean() / 1e6:.1f} ms")
 plt.show()

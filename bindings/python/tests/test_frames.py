@@ -116,9 +116,7 @@ def test_faults_and_differences(tmp_path):
 
 
 def test_parquet(tmp_path):
-    if not any(map(__import__("importlib").util.find_spec, ("pyarrow",))):
-        print("NOT RUN: bindings/python: no pyarrow here, so no frame was written as Parquet")
-        pytest.skip("no pyarrow")
+    pytest.importorskip("pyarrow")
     for name, frame in (("told", jb.explain(OVERLOAD, pie=PIE)), ("events", jb.read_history(OVERLOAD))):
         frame.to_parquet(tmp_path / name)
         pd.testing.assert_frame_equal(pd.read_parquet(tmp_path / name), frame)

@@ -215,16 +215,20 @@ def read_events(history: Place) -> Events:
     was opened otherwise. New parameters are events of the kind 5 without the parameters."""
     with open(history, "rb") as text:
         lines = text.read().split(b"\n")
-    kinds = [line.partition(b",")[0] for line in lines]
-    found, places = [], []
-    for (kind, count), names in _FIELDS.items():
-        at = [n for n, it in enumerate(kinds) if it == kind and lines[n].count(b",") == count - 1]
-        found.append(_events_of(kind, names, [lines[n] for n in at]))
-        places.append(np.array(at, np.int64))
-    wrong = sum(it in {kind for kind, _ in _FIELDS} for it in kinds) - sum(map(len, found))
+    places: dict[tuple[bytes, int], list[int]] = {it: [] for it in _FIELDS}
+    known, wrong = {kind for kind, _ in _FIELDS}, 0
+    for n, line in enumerate(lines):
+        kind = line.partition(b",")[0]
+        if kind in known:
+            at = places.get((kind, line.count(b",") + 1))
+            if at is None:
+                wrong += 1
+            else:
+                at.append(n)
     if wrong:
         raise ValueError(f"{fspath(history)}: {wrong} records have a wrong number of fields")
-    return np.concatenate(found)[np.argsort(np.concatenate(places))]
+    found = [_events_of(kind, names, [lines[n] for n in places[kind, count]]) for (kind, count), names in _FIELDS.items()]
+    return np.concatenate(found)[np.argsort(np.concatenate([np.array(at, np.int64) for at in places.values()]))]
 
 
 def _events_of(kind: bytes, names: tuple[str, ...], lines: list[bytes]) -> Events:

@@ -42,7 +42,9 @@ case $wheel in
     *) echo "bindings/python/check.sh: the wheel is named $wheel" && exit 1 ;;
 esac
 "$python" -m pip install --quiet --no-deps --target "$work/installed" "$wheel"
-[ -e "$work/installed/juniperbowls/libpie.so.0" ] || { echo "bindings/python/check.sh: the wheel has no library" && exit 1; }
+for file in libpie.so.0 py.typed LICENSE-MIT; do
+    [ -e "$work/installed/juniperbowls/$file" ] || { echo "bindings/python/check.sh: the wheel has no $file" && exit 1; }
+done
 export PYTHONPATH=$work/installed PYTHONDONTWRITEBYTECODE=1
 words=(-q -p no:cacheprovider)
 if ! has "$python" matplotlib; then

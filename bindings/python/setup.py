@@ -16,12 +16,14 @@ MADE = HERE / "out"
 class WithLibrary(build_py):
     def run(self):
         super().run()
+        package = Path(self.build_lib) / "juniperbowls"
         with tempfile.TemporaryDirectory() as folder:
             if subprocess.run([HERE / "library.sh", folder], stdout=subprocess.DEVNULL).returncode:
                 raise SystemExit("setup.py: libpie.so was not made")
             (made,) = Path(folder).iterdir()
-            package = Path(self.build_lib) / "juniperbowls"
             self.copy_file(str(made), str(package / "libpie.so.0"))
+        for licence in HERE.parent.parent.glob("LICENSE-*"):
+            self.copy_file(str(licence), str(package / licence.name))
 
 
 class OfThisProcessor(Distribution):

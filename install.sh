@@ -1,6 +1,6 @@
 #!/usr/bin/env bash
 # Installs below a prefix what was built: the program pie with its manual page and completions, pie-report with its own, and the libraries for C
-# with their headers and their pkg-config files.
+# with their headers and pkg-config files, the one for one thread also as a shared library, which a C compiler links.
 #
 # usage: ./install.sh PREFIX [program|library]..   both, where neither is named; DESTDIR, where it is set, is put before PREFIX
 #        ./install.sh --archive FILE               all of it as an archive, by its ending (.tar, .tar.gz, .tar.xz), which is unpacked anywhere, and
@@ -19,7 +19,7 @@ archive() {
     trap 'rm -rf "$work"' RETURN
     DESTDIR=$work "$here/install.sh" "/$folder" program library > "$work/installed" || return 1
     # shellcheck disable=SC2016
-    sed -i 's|^prefix=.*|prefix=${pcfiledir}/../..|' "$work/$folder"/lib/pkgconfig/pie_*.pc
+    sed -i 's|^prefix=.*|prefix=${pcfiledir}/../..|' "$work/$folder/lib/pkgconfig"/*.pc
     tar --create --auto-compress --file "$1" --sort=name --mtime='2000-01-01 00:00:00Z' --owner=0 --group=0 --numeric-owner -C "$work" "$folder"
     echo "$1"
 }
@@ -64,25 +64,37 @@ program() {
 }
 
 library() {
-    local version
+    local version name
     version=$(sed -n 's/^#define PIE_VERSION "\(.*\)"$/\1/p' include/pie.h)
     put 644 crates/pie_c/out/libpie_c.a lib/libpie_c.a
     put 644 include/pie.h include/pie.h
     put 644 include/pie_ring.h include/pie_ring.h
     put 644 include/pie_flight.h include/pie_flight.h
-    # shellcheck disable=SC2016
-    printf '%s\n' "prefix=$prefix" 'libdir=${prefix}/lib' 'includedir=${prefix}/include' '' 'Name: pie_c' \
-        'Description: PIE (RFC 8033) for a packet queue that its caller owns' "Version: $version" \
-        'Libs: -L${libdir} -lpie_c' 'Cflags: -I${includedir}' > "$work/pie_c.pc"
-    put 644 "$work/pie_c.pc" lib/pkgconfig/pie_c.pc
+    told_to_pkg_config pie_c -lpie_c
     # the link, for a program that has several threads; it stands over the other, whose calls open it and write its events
     put 644 crates/pie_link_c/out/libpie_link_c.a lib/libpie_link.a
     put 644 include/pie_link.h include/pie_link.h
+    told_to_pkg_config pie_link "-lpie_link -lpie_c -pthread"
+    if ! command -v "${CC:-cc}" > /dev/null; then
+        echo "install.sh: no C compiler (${CC:-cc}) here, so libpie.so was not linked, and is left out" >&2
+        return
+    fi
+    bindings/python/library.sh "$work" > /dev/null
+    put 644 "$work/libpie.so.$version" "lib/libpie.so.$version"
+    for name in "libpie.so.${version%%.*}" libpie.so; do
+        ln -sf "libpie.so.$version" "$root/lib/$name"
+        echo "$prefix/lib/$name"
+    done
+    told_to_pkg_config pie -lpie
+}
+
+# told_to_pkg_config NAME LIBRARIES: how a program is linked with them
+told_to_pkg_config() {
     # shellcheck disable=SC2016
-    printf '%s\n' "prefix=$prefix" 'libdir=${prefix}/lib' 'includedir=${prefix}/include' '' 'Name: pie_link' \
-        'Description: PIE (RFC 8033) with its queue, for several threads' "Version: $version" \
-        'Libs: -L${libdir} -lpie_link -lpie_c -pthread' 'Cflags: -I${includedir}' > "$work/pie_link.pc"
-    put 644 "$work/pie_link.pc" lib/pkgconfig/pie_link.pc
+    printf '%s\n' "prefix=$prefix" 'libdir=${prefix}/lib' 'includedir=${prefix}/include' '' "Name: $1" \
+        'Description: PIE (RFC 8033) for a packet queue that its caller owns' "Version: $version" \
+        "Libs: -L\${libdir} $2" 'Cflags: -I${includedir}' > "$work/$1.pc"
+    put 644 "$work/$1.pc" lib/pkgconfig/"$1.pc"
 }
 
 # what is asked for, and whether all of it was built, before anything is installed

@@ -4,6 +4,8 @@
 # DESTDIR as packagers do; installs the program, where it was built; and makes the archive of all, unpacks it elsewhere, and uses program and library
 # with nothing of the toolchain in reach. What is missing here is told on a line that begins with NOT RUN.
 #
+# The same of the shared library, which is made of what was installed too.
+#
 # usage: tests/libraries/package.sh
 # needs: library, program
 set -eu
@@ -63,6 +65,18 @@ else
         (cd "$work/empty" && $compiler $warnings $(pkg-config --cflags pie_c) -c -o ring.o "$repository/tests/libraries/ring.c") ||
             fail "$compiler does not build a program over pie_ring.h"
     done
+    if command -v "${CC:-cc}" > /dev/null; then
+        # shellcheck disable=SC2046
+        (cd "$work/empty" && "${CC:-cc}" $(pkg-config --cflags pie) -o example example.c $(pkg-config --libs pie)) ||
+            fail "the README's example is not built over libpie.so"
+        expect "the README's example over libpie.so" "$wanted" env LD_LIBRARY_PATH="$prefix/lib" "$work/empty/example"
+        cp -r bindings/python "$work/module"
+        for known in "PIE_C_PREFIX=$prefix" "PKG_CONFIG_PATH=$PKG_CONFIG_PATH"; do
+            env "$known" "$work/module/library.sh" "$work/shared" > /dev/null || fail "library.sh makes nothing of what was installed ($known)"
+            cmp "$work/shared/libpie.so.$version" "$prefix/lib/libpie.so.$version" || fail "library.sh makes another library of what was installed"
+            rm -r "$work/shared"
+        done
+    fi
 fi
 
 # a program in Rust that depends on the crate, over the installed library: named by PIE_C_PREFIX, then found by pkg-config
@@ -103,6 +117,7 @@ fi
 # command calls hands out what was built here, since a build in the clone would take minutes
 mkdir -p "$work/clone/crates/pie" "$work/clone/crates/pie_c" "$work/clone/crates/pie_link_c" "$work/bin"
 cp -r install.sh include report man completions LICENSE-MIT LICENSE-APACHE "$work/clone"
+cp -r --parents bindings/python/library.sh bindings/python/native "$work/clone"
 printf '%s\n' '#!/bin/sh' 'here=$(basename "$PWD")' 'mkdir -p out' 'case "$here $1" in' \
     "'pie run') cp \"$repository/crates/pie/out/pie\" out ;;" "'pie_c lib') cp \"$repository/crates/pie_c/out/libpie_c.a\" out ;;" \
     "'pie_link_c lib') cp \"$repository/crates/pie_link_c/out/libpie_link_c.a\" out ;;" \
@@ -151,10 +166,14 @@ if [ -e "$repository/crates/pie/out/pie" ]; then
         env -i PATH=/usr/bin:/bin HOME=/nonexistent "$@"
     }
     only='^(linux-vdso\.so\.1|libc\.so\.6|libm\.so\.6|/lib64/ld-linux-x86-64\.so\.2|statically|not)$'
-    needed=$(bare ldd "$unpacked/bin/pie" 2>&1 | awk '{ print $1 }' | grep -v -E "$only" || true)
-    [ -z "$needed" ] || fail "the program of the archive needs $needed"
-    newest=$(grep -a -o 'GLIBC_2\.[0-9]*' "$unpacked/bin/pie" | sort -V | tail -n 1)
-    [ "$(printf '%s\n' "${newest:-GLIBC_2.0}" GLIBC_2.36 | sort -V | tail -n 1)" = GLIBC_2.36 ] || fail "the program of the archive needs $newest"
+    for file in "$unpacked/bin/pie" "$unpacked"/lib/libpie.so; do
+        [ -e "$file" ] || continue # (without a C compiler there is no shared library)
+        needed=$(bare ldd "$file" 2>&1 | awk '{ print $1 }' | grep -v -E "$only" || true)
+        [ -z "$needed" ] || fail "$(basename "$file") of the archive needs $needed"
+        newest=$(grep -a -o 'GLIBC_2\.[0-9]*' "$file" | sort -V | tail -n 1)
+        [ "$(printf '%s\n' "${newest:-GLIBC_2.0}" GLIBC_2.36 | sort -V | tail -n 1)" = GLIBC_2.36 ] ||
+            fail "$(basename "$file") of the archive needs $newest"
+    done
     expect "the program of the archive" "pie $version" bare "$unpacked/bin/pie" --version
     events=$(grep -c -E '^(arrive|depart|update|reset|params),' examples/burst.history)
     expect "an audit by the program of the archive" "clean,$events" bare "$unpacked/bin/pie" audit < examples/burst.history
@@ -166,6 +185,10 @@ if [ -e "$repository/crates/pie/out/pie" ]; then
         (cd "$work/empty" && export PKG_CONFIG_PATH=$unpacked/lib/pkgconfig && bare cc -o example example.c \
             $(pkg-config --cflags --libs pie_c)) || fail "the README's example is not built over the archive"
         expect "the README's example over the archive" "$wanted" "$work/empty/example"
+        # shellcheck disable=SC2046
+        (cd "$work/empty" && export PKG_CONFIG_PATH=$unpacked/lib/pkgconfig && bare cc -o example example.c \
+            $(pkg-config --cflags --libs pie)) || fail "the README's example is not built over libpie.so of the archive"
+        expect "the README's example over libpie.so of the archive" "$wanted" env LD_LIBRARY_PATH="$unpacked/lib" "$work/empty/example"
     fi
 else
     not_run "crates/pie/out/pie was not built, so the program was not installed, and no archive made"

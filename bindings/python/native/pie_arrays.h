@@ -1,0 +1,73 @@
+/* Loops over the calls of pie.h for whoever has many events in an array, as bindings/python has in numpy's. They decide nothing of their own: each
+ * event is one call of the library. They are tested, not proved, and take no memory. Their callers hand in what the comments say; nothing is checked
+ * but what the library checks. */
+#ifndef PIE_ARRAYS_H
+#define PIE_ARRAYS_H
+
+#include "pie.h"
+
+#ifdef __cplusplus
+extern "C" {
+#endif
+
+/* Why a loop ended. */
+enum {
+    PIE_ARRAY_ALL = 0,     /* all was done */
+    PIE_ARRAY_REFUSED = 1, /* a call was refused: the event that comes next says why, and nothing changed by it */
+    PIE_ARRAY_GROW = 2,    /* the ring's memory is full, and more packets may wait: call again with more of it */
+    PIE_ARRAY_EVENTS = 3,  /* there were as many events as the opening allows */
+    PIE_ARRAY_KIND = 4,    /* the event that comes next is of no kind that the loop decides, or writes */
+    PIE_ARRAY_OUT = 5      /* there is no room for one more event */
+};
+
+/* A packet that waits: its ECN field as it will leave, and the state's moment right after it arrived. */
+struct pie_array_packet {
+    uint64_t tag;
+    uint64_t since;
+    uint32_t size;
+    uint32_t ecn;
+};
+
+/* A queue of packets in order, in front of a link. */
+struct pie_array_queue {
+    struct pie_array_packet *ring; /* memory for `slots` packets */
+    uint32_t slots;                /* a power of two */
+    uint32_t first;                /* the slot of the oldest */
+    uint32_t packets;              /* how many wait, at most `slots` */
+    uint32_t most_packets;         /* how many may wait */
+    uint64_t bytes;                /* how many bytes wait */
+    uint64_t events;               /* how many events were decided */
+    uint64_t most_events;          /* how many there may be */
+    uint64_t rate;                 /* of the link of pie_array_offer, in bits a second, 1 to 2^60 */
+    uint64_t link_free;            /* when that link has sent what it sends */
+    uint64_t rest;                 /* and by what part of a nanosecond later, in 1 / rate */
+    uint64_t taken;                /* of pie_array_offer: how many of the arrivals were taken */
+    uint64_t why;                  /* why the last loop ended */
+};
+
+/* Decides each event in its turn, and fills it in: arrivals, departures (of the oldest packet, or of none), updates, resets. It ends at the first
+ * that is refused, or with `keeps_refused` passes on. Answers how many events it decided or passed. */
+size_t pie_array_decide(struct pie_state *state, struct pie_array_queue *queue, struct pie_event *events, size_t count, uint32_t keeps_refused);
+
+/* Offers arrivals to the queue at their moments, in the order of the array. The link takes the oldest packet as soon as it is free, and sends it at
+ * `rate`; an update is made at pie_due. Of what comes at one moment a departure is first, then an update, then an arrival. After the last arrival
+ * it goes on to the moment `until`. Departures have the caller 2, updates 3. Answers how many events it wrote to `out`; where one was refused
+ * that one lies behind them. */
+size_t pie_array_offer(struct pie_state *state, struct pie_array_queue *queue, const struct pie_event *arrivals, size_t count, uint64_t until,
+                       struct pie_event *out, size_t room);
+
+/* Writes the records of events, one after another, while PIE_RECORD_ROOM bytes are left of `room`; of one that was refused that it was, where
+ * histories know the refusal. `records` is how many records there are, and goes on; `untold` how many refusals were left out. It ends at new
+ * parameters, and at what is no event. Answers how many events it passed; `length` is how many bytes it wrote. */
+size_t pie_array_write(const struct pie_event *events, size_t count, uint64_t *records, uint64_t *untold, unsigned char *out, size_t room,
+                       size_t *length);
+
+/* pie_text and PIE_VERSION, for whoever has no compiler of C. */
+const char *pie_array_text(uint64_t code);
+const char *pie_array_version(void);
+
+#ifdef __cplusplus
+}
+#endif
+
+#endif

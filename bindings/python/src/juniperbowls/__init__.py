@@ -1,0 +1,21 @@
+"""PIE (RFC 8033) in a notebook: the proved controller of libpie.so, one event at a time or a numpy array of them; histories that `pie audit` decides
+again; and what `pie explain` says of them as pandas frames.
+
+Moments and times are whole nanoseconds from a start of the caller's choosing, at most 2^60 - 1; probabilities are whole numbers of 10^-12; sizes are
+in bytes. Where a number is asked for, a text with a unit does too, as tc(8) has them: "15ms", "100mbit", "256kb". What is refused raises `Refused`,
+with the library's words, and changes nothing.
+"""
+from ._library import VERSION
+from .controller import Controller, Ecn, Kind, State, Updated, Verdict
+from .frames import Fault, Finding, audit, explain, explain_parts, frame, read_events, read_history, read_opening
+from .history import EVENT, Recorder, text_of
+from .opening import Choices, Mode, Opening, Params, Profile, read_packets, read_rate, read_size, read_time
+from .queue import Exhausted, Packet, Queue, events
+from .refusal import Refusal, Refused
+
+__version__ = VERSION
+__all__ = [
+    "EVENT", "VERSION", "Choices", "Controller", "Ecn", "Exhausted", "Fault", "Finding", "Kind", "Mode", "Opening", "Packet", "Params", "Profile",
+    "Queue", "Recorder", "Refusal", "Refused", "State", "Updated", "Verdict", "audit", "events", "explain", "explain_parts", "frame", "read_events",
+    "read_history", "read_opening", "read_packets", "read_rate", "read_size", "read_time", "text_of",
+]

@@ -1,0 +1,173 @@
+"""A controller for whoever has the queue: it is told of arrivals and departures, one at a time."""
+from __future__ import annotations
+
+from ctypes import byref
+from dataclasses import dataclass
+from enum import IntEnum
+from typing import NamedTuple
+
+from ._library import LIBRARY, RawEvent, RawState, number
+from .history import Recorder
+from .opening import Choices, Opening, Params, Profile, whole
+from .refusal import Refusal, Refused
+
+
+class Verdict(IntEnum):
+    """What becomes of a packet that arrives."""
+    ENQUEUE = 0
+    MARK = 1
+    EARLY = 2
+    BYTES = 3
+    PACKETS = 4
+
+    @property
+    def is_queued(self) -> bool:
+        """Whether the packet is to be queued: as it is, or marked."""
+        return self <= Verdict.MARK
+
+
+class Ecn(IntEnum):
+    """The ECN field of an IP header (RFC 3168, section 5)."""
+    NOT = 0
+    ECT1 = 1
+    ECT0 = 2
+    CE = 3
+
+
+class Kind(IntEnum):
+    """What an event is."""
+    ARRIVE = 1
+    DEPART = 2
+    UPDATE = 3
+    RESET = 4
+    PARAMS = 5
+    LOST = 6
+
+
+class Updated(NamedTuple):
+    """What an update answers: the moment from which the next isn't too soon, the delay that it took (ns), and after it the probability (10^-12) and
+    the burst allowance (ns)."""
+    due: int
+    delay: int
+    prob: int
+    burst: int
+
+
+@dataclass(frozen=True)
+class State:
+    """A controller's registers, as include/pie.h has them."""
+    params: Params
+    moment: int
+    prob: int
+    old_delay: int
+    burst: int
+    last: int
+    accu: int
+    average: int
+    measuring: int
+    cycle_start: int
+    cycle_count: int
+    profile: Profile
+    active: int
+    choices: Choices
+    waited: int
+
+    @classmethod
+    def of(cls, raw: RawState) -> State:
+        """Those of a struct."""
+        numbers = {name: getattr(raw, name) for name, *_ in RawState._fields_[1:]}
+        numbers |= {"profile": Profile(raw.profile), "choices": Choices(raw.choices)}
+        return cls(Params.of(raw.params), **numbers)
+
+
+def opened(opening: Opening) -> RawState:
+    """The state of a controller that is opened by this."""
+    state = RawState()
+    code = LIBRARY.pie_open(byref(state), byref(opening.raw()))
+    if code:
+        raise Refused(code, opening.params.check() or "")
+    return state
+
+
+def event(kind: Kind, moment: int | str, caller: int, **rest: int) -> RawEvent:
+    """An event that is to be decided."""
+    bits = {"size": 32, "ecn": 8}
+    numbers = {name: number(name, value, bits.get(name, 64)) for name, value in rest.items()}
+    return RawEvent(kind=kind, moment=whole("moment", moment), caller=number("caller", caller, 16), **numbers)
+
+
+def set_params(state: RawState, params: Params, asked: RawEvent) -> None:
+    """Puts new parameters in force."""
+    code = LIBRARY.pie_set_params_event(byref(state), byref(params.raw()), byref(asked))
+    if code:
+        raise Refused(code, params.check() or "" if code == Refusal.BAD_PARAMS else "")
+
+
+class Controller:
+    """PIE for a queue of the caller's, who has the packets, the clock and the random words. Each call is one of include/pie.h, which says what its
+    caller owes; what is refused raises `Refused` and changes nothing. With a `Recorder` each call leaves its record, refused ones too. It is for one
+    thread at a time.
+
+    >>> pie = Controller(Opening.for_rate("100mbit"))
+    >>> pie.arrive(queued=3000, size=1500, room=7, ecn=Ecn.ECT0, word=0x9e3779b97f4a7c15, moment=10)
+    <Verdict.ENQUEUE: 0>
+    >>> pie.depart(size=1500, left=3000, arrived=10, moment=25)
+    >>> pie.update(queued=3000, moment=pie.due).due
+    30000000
+    """
+
+    def __init__(self, opening: Opening, history: Recorder | None = None):
+        self._state, self._history = opened(opening), history
+
+    @property
+    def state(self) -> State:
+        """The registers."""
+        return State.of(self._state)
+
+    @property
+    def due(self) -> int:
+        """The moment from which the next update isn't too soon."""
+        return int(LIBRARY.pie_due(byref(self._state)))
+
+    def arrive(self, queued: int, size: int, room: int, ecn: int, word: int, moment: int | str, *, tag: int = 0, caller: int = 1) -> Verdict:
+        """Decides on a packet that arrives, with so many bytes in the queue, room for so many packets more, and a random word of 64 bits."""
+        asked = event(Kind.ARRIVE, moment, caller, size=size, ecn=ecn, word=word, tag=tag)
+        waiting, packets = number("queued", queued), number("room", room, 32)
+        return Verdict(self._told(LIBRARY.pie_arrive_event(byref(self._state), waiting, packets, byref(asked)), asked))
+
+    def depart(self, size: int, left: int, arrived: int, moment: int | str, *, tag: int = 0, ecn: int = Ecn.NOT, caller: int = 2) -> None:
+        """Takes in that a packet left, with so many bytes behind it. `arrived` is `state.moment` as it was right after its arrival."""
+        asked = event(Kind.DEPART, moment, caller, size=size, ecn=ecn, tag=tag)
+        self._told(LIBRARY.pie_depart_event(byref(self._state), number("left", left), number("arrived", arrived), byref(asked)), asked)
+
+    def empty(self, moment: int | str, *, caller: int = 2) -> None:
+        """Takes in that a departure found the queue empty."""
+        asked = event(Kind.DEPART, moment, caller)
+        self._told(LIBRARY.pie_empty_event(byref(self._state), byref(asked)), asked)
+
+    def update(self, queued: int, moment: int | str, *, caller: int = 3) -> Updated:
+        """Makes an update, from `due` on, with so many bytes in the queue."""
+        asked = event(Kind.UPDATE, moment, caller)
+        self._told(LIBRARY.pie_update_event(byref(self._state), number("queued", queued), byref(asked)), asked)
+        return Updated(self.due, asked.delay, asked.prob, asked.burst)
+
+    def reset(self, moment: int | str, *, caller: int = 3) -> None:
+        """Starts anew: probability, delays and rate estimate are 0, and the burst allowance is whole."""
+        asked = event(Kind.RESET, moment, caller)
+        self._told(LIBRARY.pie_reset_event(byref(self._state), byref(asked)), asked)
+
+    def set_params(self, params: Params, moment: int | str, *, caller: int = 3) -> None:
+        """Puts new parameters in force, and clears the rate estimate."""
+        asked = event(Kind.PARAMS, moment, caller)
+        try:
+            set_params(self._state, params, asked)
+        finally:
+            if self._history:
+                self._history.record_params(asked, params)
+
+    def _told(self, answer: int, asked: RawEvent) -> int:
+        if self._history:
+            self._history.record(asked)
+        if answer > 100:
+            raise Refused(answer)
+        return answer

@@ -1,0 +1,250 @@
+"""What the program `pie` says of a history, and a history's events, as pandas frames. Whole numbers stay whole: a column in which some are missing is
+of the type UInt64, words are categories, times of day datetimes."""
+from __future__ import annotations
+
+import io
+import os
+import subprocess
+import tempfile
+from collections.abc import Iterator
+from os import fspath
+from typing import IO, TYPE_CHECKING, Any, NamedTuple
+
+import numpy as np
+import numpy.typing as npt
+
+from .controller import Kind
+from .history import EVENT, Events, Place
+from .opening import Choices, Mode, Opening, Params, Profile
+
+if TYPE_CHECKING:
+    import pandas as pd
+
+ECN = ("not", "ect1", "ect0", "ce")
+VERDICTS = ("enqueue", "mark", "early", "bytes", "packets")
+ANSWERS = (*VERDICTS, "left", "empty", "updated", "done", "refused")
+_WORDS = ("kind", "verdict", "cause", "ecn")
+
+
+class Fault(RuntimeError):
+    """What `pie` says of a history that it can't read to its end, or of an event in it that is not what the rules give."""
+
+    def __init__(self, text: str, status: int):
+        super().__init__(text)
+        #: the program's: 1 for a fault, 2 for an event that differs
+        self.status = status
+
+
+class Finding(NamedTuple):
+    """What an audit found: `clean`, and the last event's number, or `differs`, and that of the first event that does."""
+    word: str
+    event: int
+
+    @property
+    def is_clean(self) -> bool:
+        """Whether each event is what the rules give."""
+        return self.word == "clean"
+
+
+def _program(pie: str | None) -> str:
+    """The program: that which is named, else $PIE, else `pie` on the path."""
+    return pie or os.environ.get("PIE") or "pie"
+
+
+def audit(history: Place, pie: str | None = None) -> Finding:
+    """Decides all of a history again, by `pie audit` (`pie`: the program, else $PIE, else the one on the path)."""
+    with open(history, "rb") as text:
+        done = subprocess.run([_program(pie), "audit"], stdin=text, capture_output=True, text=True, check=False)
+    if done.returncode not in (0, 2):
+        raise Fault(done.stderr.strip(), done.returncode)
+    word, _, event = done.stdout.strip().partition(",")
+    return Finding(word, int(event))
+
+
+def explain(history: Place, *options: str, pie: str | None = None) -> pd.DataFrame:
+    """What `pie explain` says of a history with these options, `--all` where there are none: `explain(place, "--every", "100ms")`. The columns are
+    those of docs/FORMATS.md, "Explanations". A `Fault` where the history has one, or an event differs."""
+    import pandas as pd
+
+    parts = list(explain_parts(history, *options, pie=pie))
+    if len(parts) == 1:
+        return parts[0]
+    every = {name: pd.api.types.union_categoricals([part[name] for part in parts]) for name in _WORDS if name in parts[0]}
+    whole = pd.concat([part.drop(columns=list(every)) for part in parts], ignore_index=True)
+    return whole.assign(**every)[list(parts[0])]
+
+
+def explain_parts(history: Place, *options: str, rows: int = 500_000, pie: str | None = None) -> Iterator[pd.DataFrame]:
+    """The same in parts of some so many rows, for histories that are larger than the memory: each part can be written and forgotten."""
+    words = [_program(pie), "explain", *(options or ("--all",)), "--csv", "--", fspath(history)]
+    with tempfile.TemporaryFile() as errors:
+        with subprocess.Popen(words, stdout=subprocess.PIPE, stderr=errors) as process:
+            assert process.stdout is not None
+            try:
+                yield from _parts(process.stdout, rows)
+            except GeneratorExit:
+                process.kill()
+                raise
+        if process.returncode:
+            errors.seek(0)
+            raise Fault(errors.read().decode(errors="replace").strip(), process.returncode)
+
+
+def _parts(stream: IO[bytes], rows: int) -> Iterator[pd.DataFrame]:
+    names, most, count, rest = stream.readline().decode().rstrip("\n").split(","), 0, 0, b""
+    while names != [""]:
+        # (the first part is of few rows, which say how long one is)
+        block = stream.read(most or 1 << 16)
+        if not block and count and not rest:
+            return
+        whole, line_feed, rest = (rest + block).rpartition(b"\n") if block else (rest, b"", b"")
+        part = _table(names, whole + line_feed, count)
+        count += len(part)
+        most = most or max(len(whole) // max(len(part), 1), 1) * rows
+        yield part
+        if not block:
+            return
+
+
+def _table(names: list[str], body: bytes, first: int) -> pd.DataFrame:
+    """Rows of comma-separated fields, whole numbers and words without commas, some of them empty. pandas by itself takes a column with empty fields
+    for one of floating point, which has no room for a random word."""
+    import pandas as pd
+
+    text = np.frombuffer(body, np.uint8)
+    ends = np.flatnonzero((text == ord(",")) | (text == ord("\n")))
+    empty = (np.diff(ends, prepend=-1) == 1).reshape(-1, len(names))
+    filled = body.replace(b",,", b",0,").replace(b",,", b",0,").replace(b",\n", b",0\n")
+    kinds = {name: "category" if name in _WORDS else "string" if name == "wall" else "uint64" for name in names}
+    found = pd.read_csv(io.BytesIO(filled), names=names, dtype=kinds, na_filter=False, index_col=False)
+    columns: dict[str, Any] = {}
+    for name, missing in zip(names, empty.T):
+        column = found[name]
+        if name == "wall":
+            columns[name] = pd.to_datetime(column.mask(missing), utc=True).array
+        elif name in _WORDS:
+            columns[name] = column.cat.remove_categories([it for it in column.cat.categories if it == "0"]).array
+        else:
+            columns[name] = _numbers(column.to_numpy(), missing)
+    return pd.DataFrame(columns, index=pd.RangeIndex(first, first + len(found)))
+
+
+def _numbers(values: npt.NDArray[Any], missing: npt.NDArray[np.bool_]) -> Any:
+    """Whole numbers, of which some may be missing."""
+    import pandas as pd
+
+    return pd.arrays.IntegerArray(values.astype(np.uint64), missing.copy()) if missing.any() else values
+
+
+def frame(events: Events, first: int = 1) -> pd.DataFrame:
+    """Events, as `Queue.decide` and `Queue.offer` give them and `read_events` reads them, a row each, in the words of a history. `first` is the
+    number of the first; one that was refused has none."""
+    import pandas as pd
+
+    kind, is_refused = events["kind"], events["answer"] > 100
+    arrives, departs, updates = ((kind == it) & ~is_refused for it in (Kind.ARRIVE, Kind.DEPART, Kind.UPDATE))
+    left = departs & (events["answer"] == 0)
+    answer = np.full(len(events), ANSWERS.index("done"))
+    answer[arrives] = events["answer"][arrives]
+    answer[left], answer[departs & ~left] = ANSWERS.index("left"), ANSWERS.index("empty")
+    answer[updates], answer[is_refused] = ANSWERS.index("updated"), ANSWERS.index("refused")
+    columns: dict[str, Any] = {
+        "number": _numbers(np.cumsum(~is_refused).astype(np.uint64) + np.uint64(first - 1), is_refused),
+        "kind": pd.Categorical.from_codes(kind.astype(int) - 1, [it.name.lower() for it in Kind]),
+        "caller": events["caller"],
+        "moment": events["moment"],
+        "answer": pd.Categorical.from_codes(answer, ANSWERS),
+    }
+    has_packet = arrives | left
+    columns["ecn"] = pd.Categorical.from_codes(np.where(has_packet, events["ecn"], -1), ECN)
+    for name, has in (("tag", has_packet), ("size", has_packet), ("word", arrives), ("delay", updates), ("prob", updates), ("burst", updates)):
+        columns[name] = _numbers(events[name], ~has)
+    return pd.DataFrame(columns)
+
+
+def read_history(history: Place) -> pd.DataFrame:
+    """A history's events as a frame, as `frame` makes it. It is not audited: `audit` does that."""
+    with open(history, "rb") as text:
+        beginning = text.readline().split(b",")
+    return frame(read_events(history), int(beginning[_count_at(beginning)]) + 1 if beginning[0] == b"resume" else 1)
+
+
+def _count_at(fields: list[bytes]) -> int:
+    """The place of the number of events before a text that resumes: 29, or 30 where the decay is told."""
+    return 29 + (fields[6] in (b"zero", b"half"))
+
+
+def read_opening(history: Place) -> Opening:
+    """What a history, or a trace, was opened with. A `ValueError` where its first record says no opening."""
+    with open(history, encoding="utf-8-sig") as text:
+        kind, *fields = text.readline().rstrip("\r\n").split(",")
+    profile, choices = Profile.ALWAYS_ON, Choices.USUAL
+    try:
+        if kind in ("open2", "open3", "resume"):
+            profile = Profile(int(fields.pop(0)))
+        if kind in ("open3", "resume"):
+            words = [fields.pop(0) for _ in range(5 if fields[4] in ("zero", "half") else 4)]
+            choices = Choices(sum(_CHOSEN[at].index(word) << at for at, word in enumerate(words)))
+        mode = _MODES[kind if kind in ("open", "rolling") else fields.pop(0)]
+        numbers = [int(it) for it in fields[:13]]
+        params = Params(*numbers[4:]) if len(numbers) > 4 else Params.default()
+        moment, packets, tail, events = numbers[:4]
+    except (KeyError, IndexError, TypeError, ValueError):
+        raise ValueError(f"{fspath(history)}: its first record says no opening") from None
+    return Opening(params, moment, profile, choices, mode, packets, tail, events)
+
+
+_MODES = {"open": Mode.BOUNDED, "bounded": Mode.BOUNDED, "rolling": Mode.ROLLING}
+_CHOSEN = (("rate", "stamp"), ("derandomized", "random"), ("capped", "uncapped"), ("unscaled", "scaled"), ("zero", "half"))
+
+
+# of each kind of record, by how many fields it has: the fields behind caller and moment
+_FIELDS: dict[tuple[bytes, int], tuple[str, ...]] = {
+    (b"arrive", 8): ("tag", "size", "ecn", "word", "answer"),
+    (b"depart", 7): ("answer", "tag", "size", "ecn"),
+    (b"depart", 4): ("answer",),
+    (b"update", 6): ("delay", "prob", "burst"),
+    (b"reset", 4): ("answer",),
+    (b"params", 13): (*(f"parameter {it}" for it in range(9)), "answer"),
+}
+_CODES = {"enqueue": 0, "mark": 1, "early": 2, "bytes": 3, "packets": 4, "left": 0, "empty": 5, "done": 0}
+
+
+def read_events(history: Place) -> Events:
+    """A history's events, as `pie` and the library write them, in a numpy array, without its notes. So they can be decided again, by a `Queue` that
+    was opened otherwise. New parameters are events of the kind 5 without the parameters."""
+    with open(history, "rb") as text:
+        lines = text.read().split(b"\n")
+    places: dict[tuple[bytes, int], list[int]] = {it: [] for it in _FIELDS}
+    known, wrong = {kind for kind, _ in _FIELDS}, 0
+    for n, line in enumerate(lines):
+        kind = line.partition(b",")[0]
+        if kind in known:
+            at = places.get((kind, line.count(b",") + 1))
+            if at is None:
+                wrong += 1
+            else:
+                at.append(n)
+    if wrong:
+        raise ValueError(f"{fspath(history)}: {wrong} records have a wrong number of fields")
+    found = [_events_of(kind, names, [lines[n] for n in places[kind, count]]) for (kind, count), names in _FIELDS.items()]
+    return np.concatenate(found)[np.argsort(np.concatenate([np.array(at, np.int64) for at in places.values()]))]
+
+
+def _events_of(kind: bytes, names: tuple[str, ...], lines: list[bytes]) -> Events:
+    """The events of records of one kind."""
+    import pandas as pd
+
+    made = np.zeros(len(lines), EVENT)
+    made["kind"] = Kind[kind.decode().upper()]
+    if not lines:
+        return made
+    types = {name: "category" if name in ("ecn", "answer", "kind") else "uint64" for name in ("kind", "caller", "moment", *names)}
+    table = pd.read_csv(io.BytesIO(b"\n".join(lines)), names=list(types), dtype=types, na_filter=False)
+    for name in types:
+        if name in ("ecn", "answer"):
+            codes = {word: code for code, word in enumerate(ECN)} if name == "ecn" else _CODES
+            made[name] = np.array([codes[it] for it in table[name].cat.categories], np.uint32)[table[name].cat.codes]
+        elif name in (EVENT.names or ()) and name != "kind":
+            made[name] = table[name]
+    return made

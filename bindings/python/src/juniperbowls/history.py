@@ -1,0 +1,126 @@
+"""Histories: their events in numpy arrays, written by the library's writers, and read again."""
+from __future__ import annotations
+
+import ctypes
+import io
+from collections.abc import Callable
+from ctypes import byref, c_size_t, c_uint64
+from os import PathLike, fspath
+from types import TracebackType
+from typing import Any, BinaryIO, Union
+
+import numpy as np
+import numpy.typing as npt
+
+from ._library import LIBRARY, RECORD_ROOM, RawEvent, number
+from .opening import Opening, Params, whole
+
+#: One event: the numpy type of include/pie.h's struct pie_event.
+EVENT = np.dtype([*((name, "<u8") for name in ("moment", "tag", "word", "delay", "prob", "burst")), ("size", "<u4"), ("answer", "<u4"),
+                  ("caller", "<u2"), ("kind", "u1"), ("ecn", "u1"), ("reserved", "<u4")])
+Events = npt.NDArray[np.void]
+Place = Union[str, "PathLike[str]"]
+_AT_ONCE = 4096
+
+
+class Recorder:
+    """Writes a history into a file, which it names or which is open for bytes: the opening, and then each event in its order. `pie audit` decides all
+    of it again. Close it, or use it by `with`: until then the end may not be in the file.
+
+    >>> with Recorder("link.history", opening) as history:
+    ...     pie = Controller(opening, history)
+    """
+
+    def __init__(self, out: Place | BinaryIO, opening: Opening):
+        text = _text(lambda to, room: LIBRARY.pie_write_opening(byref(opening.raw()), to, room))
+        if not text:
+            raise ValueError(f"an opening that no history has: {opening}")
+        #: how many records there are, with the opening
+        self.records = 1
+        #: how many refused calls were left out, which histories have no code for
+        self.untold = 0
+        self._has_clock = text.startswith(b"open3,")
+        self._is_own = isinstance(out, (str, PathLike))
+        self._out: Any = open(fspath(out), "wb") if isinstance(out, (str, PathLike)) else out
+        self._out.write(text)
+
+    def record(self, events: RawEvent | Events) -> None:
+        """Writes the records of events; of one that was refused that it was. A `ValueError` where one is none that a history has, behind those
+        before it."""
+        if isinstance(events, RawEvent):
+            self._record(ctypes.addressof(events), 1, 0)
+            return
+        data = np.ascontiguousarray(np.atleast_1d(events), dtype=EVENT)
+        for at in range(0, len(data), _AT_ONCE):
+            part = data[at:at + _AT_ONCE]
+            self._record(part.ctypes.data, len(part), at)
+
+    def _record(self, events: int, count: int, at: int) -> None:
+        room = count * RECORD_ROOM
+        text, length, records, untold = ctypes.create_string_buffer(room), c_size_t(), c_uint64(self.records), c_uint64(self.untold)
+        passed = LIBRARY.pie_array_write(events, count, byref(records), byref(untold), text, room, byref(length))
+        self.records, self.untold = records.value, untold.value
+        self._out.write(memoryview(text)[:length.value])
+        if passed < count:
+            raise ValueError(f"event {at + passed} is none that a history has, or has new parameters")
+
+    def record_params(self, event: RawEvent, params: Params) -> None:
+        """Writes the record of new parameters, or that they were refused."""
+        if event.answer > 100:
+            text = _text(lambda to, room: LIBRARY.pie_write_refused(self.records + 1, event.answer, to, room))
+            self.untold += not text
+        else:
+            text = _text(lambda to, room: LIBRARY.pie_write_params(byref(event), byref(params.raw()), to, room))
+        self._put(text)
+
+    def clock(self, moment: int | str, unix_time: int) -> None:
+        """Writes the time of day: it was `unix_time` (ns since 1970, as `time.time_ns()`) at this moment. A history has it where its opening has
+        `events` above 2^40, as the default opening does."""
+        at, time = whole("moment", moment), number("unix_time", unix_time)
+        text = _text(lambda to, room: LIBRARY.pie_write_clock(at, time, to, room)) if self._has_clock else b""
+        if not text:
+            raise ValueError("a time of day that this history cannot have")
+        self._put(text)
+
+    def lost(self, count: int) -> None:
+        """Writes that so many events are missing: no audit is clean then."""
+        missing = number("count", count)
+        text = _text(lambda to, room: LIBRARY.pie_write_lost(missing, to, room))
+        if not text:
+            raise ValueError("no event is missing")
+        self._put(text)
+
+    def _put(self, text: bytes) -> None:
+        self.records += bool(text)
+        self._out.write(text)
+
+    def flush(self) -> None:
+        """Hands what was written to the file."""
+        self._out.flush()
+
+    def close(self) -> None:
+        """Ends the history, and closes a file that it opened."""
+        if self._is_own:
+            self._out.close()
+        else:
+            self._out.flush()
+
+    def __enter__(self) -> Recorder:
+        return self
+
+    def __exit__(self, kind: type[BaseException] | None, value: BaseException | None, trace: TracebackType | None) -> None:
+        self.close()
+
+
+def _text(write: Callable[[ctypes.Array[ctypes.c_char], int], Any]) -> bytes:
+    """What a call writes into the room that it is given."""
+    room = ctypes.create_string_buffer(RECORD_ROOM)
+    length = write(room, RECORD_ROOM)
+    return room.raw[:length]
+
+
+def text_of(opening: Opening, events: Events) -> bytes:
+    """The history's text of these events, which follow the opening."""
+    out = io.BytesIO()
+    Recorder(out, opening).record(events)
+    return out.getvalue()

@@ -1,0 +1,151 @@
+"""What a controller is opened with: parameters, and the rest. Numbers may be told as texts with units, as tc has them."""
+from __future__ import annotations
+
+from ctypes import byref, c_uint64
+from dataclasses import dataclass, fields, replace
+from enum import IntEnum, IntFlag
+
+from ._library import LIBRARY, NINE, RawOpening, RawParams, number
+from .refusal import Refused
+
+
+class Profile(IntEnum):
+    """Whether the controller turns itself on and off (RFC 8033, section 5.3)."""
+    ALWAYS_ON = 1
+    ON_AND_OFF = 2
+
+
+class Choices(IntFlag):
+    """RFC 8033's optional elements that are chosen otherwise than usual."""
+    USUAL = 0
+    DELAY_STAMP = 1
+    PICK_RANDOM = 2
+    STEP_UNCAPPED = 4
+    SIZE_SCALED = 8
+    DECAY_HALF = 16
+
+
+class Mode(IntEnum):
+    """What the event log of a history does when it is full."""
+    BOUNDED = 0
+    ROLLING = 1
+
+
+def _read(kind: str, text: str) -> int:
+    data, found = text.encode(), c_uint64()
+    code = getattr(LIBRARY, f"pie_read_{kind}")(data, len(data), byref(found))
+    if code:
+        raise Refused(code, repr(text))
+    return found.value
+
+
+def read_time(text: str) -> int:
+    """Nanoseconds: "1.5ms" is 1500000. A unit has to be there."""
+    return _read("time", text)
+
+
+def read_rate(text: str) -> int:
+    """Bits a second: "100mbit" is 100000000, "1kbps" (bytes) 8000. A unit has to be there."""
+    return _read("rate", text)
+
+
+def read_size(text: str) -> int:
+    """Bytes: "256kb" is 262144, "1500" is 1500."""
+    return _read("size", text)
+
+
+def read_packets(text: str) -> int:
+    """Packets: "1000p", or "1000"."""
+    return _read("packets", text)
+
+
+READ = {**dict.fromkeys(("target", "t_update", "max_burst", "moment", "until"), read_time), "rate": read_rate, "packets": read_packets,
+        **dict.fromkeys(("mean_pkt", "limit_bytes", "dq_threshold"), read_size)}
+
+
+def whole(name: str, value: int | str) -> int:
+    """A number, or a text with a unit where this name has one."""
+    return READ[name](value) if isinstance(value, str) and name in READ else number(name, value)
+
+
+@dataclass(frozen=True)
+class Params:
+    """The nine parameters, in ns, bytes, thousandths per second (alpha, beta) and 10^-12 (mark_ecnth); docs/PARAMETERS.md says how to choose them."""
+    target: int
+    t_update: int
+    max_burst: int
+    alpha: int
+    beta: int
+    mean_pkt: int
+    limit_bytes: int
+    mark_ecnth: int
+    dq_threshold: int
+
+    @classmethod
+    def default(cls) -> Params:
+        """Those of RFC 8033, where it has them."""
+        raw = RawParams()
+        LIBRARY.pie_default_params(byref(raw))
+        return cls.of(raw)
+
+    @classmethod
+    def for_rate(cls, rate: int | str, **changes: int | str) -> Params:
+        """The defaults for a link of this rate, with some changed: `Params.for_rate("100mbit", target="20ms")`."""
+        raw = RawParams()
+        LIBRARY.pie_params_for(whole("rate", rate), byref(raw))
+        return cls.of(raw).replace(**changes)
+
+    @classmethod
+    def of(cls, raw: RawParams) -> Params:
+        """Those of a struct."""
+        return cls(*(getattr(raw, name) for name in NINE))
+
+    def raw(self) -> RawParams:
+        """As a struct."""
+        return RawParams(*(number(name, getattr(self, name)) for name in NINE))
+
+    def replace(self, **changes: int | str) -> Params:
+        """The same with some changed, which may be texts: `replace(target="20ms")`."""
+        return replace(self, **{name: whole(name, value) for name, value in changes.items()})
+
+    def check(self) -> str | None:
+        """The name of the first parameter that is out of its range, or nothing."""
+        first = LIBRARY.pie_check_params(byref(self.raw()))
+        return NINE[first - 1] if first else None
+
+
+@dataclass(frozen=True)
+class Opening:
+    """What a controller is opened with. Of the last four the history alone knows."""
+    params: Params
+    #: of the opening, in ns
+    moment: int
+    profile: Profile
+    choices: Choices
+    mode: Mode
+    #: that the queue holds at most
+    packets: int
+    #: events that the log holds
+    tail: int
+    #: events that there may be in all
+    events: int
+
+    @classmethod
+    def for_rate(cls, rate: int | str = 0, **changes: int | str) -> Opening:
+        """The default opening for a link of this rate (0: RFC 8033's defaults), with some of its numbers or parameters changed:
+        `Opening.for_rate("100mbit", target="20ms", choices=Choices.DELAY_STAMP)`."""
+        raw = RawOpening()
+        LIBRARY.pie_default_opening(byref(raw), whole("rate", rate))
+        params = Params.of(raw.params)
+        profile, choices, mode = Profile(raw.profile), Choices(raw.choices), Mode(raw.mode)
+        return cls(params, raw.moment, profile, choices, mode, raw.packets, raw.tail, raw.events).replace(**changes)
+
+    def replace(self, **changes: int | str) -> Opening:
+        """The same with some of its numbers or parameters changed, which may be texts."""
+        numbers = {name: whole(name, value) for name, value in changes.items()}
+        params = self.params.replace(**{name: numbers.pop(name) for name in NINE if name in numbers})
+        return replace(self, params=params, **numbers)
+
+    def raw(self) -> RawOpening:
+        """As a struct."""
+        return RawOpening(self.params.raw(), *(number(it.name, getattr(self, it.name)) for it in fields(self)[1:]))

@@ -1,0 +1,75 @@
+"""What the tests share: where things are, and worked traces run through a `Queue`."""
+import csv
+import io
+import os
+from pathlib import Path
+
+import juniperbowls as jb
+from juniperbowls.frames import ECN
+
+ROOT = Path(__file__).resolve().parents[3]
+PIE = os.environ.get("PIE", str(ROOT / "crates/pie/out/pie"))
+HISTORIES = sorted((ROOT / "examples").glob("*.history"))
+EVENT_KINDS = ("arrive", "depart", "update", "reset", "params")
+
+
+def worked_rows():
+    """Each trace whose history was worked out, but those that end with a fault."""
+    rows = [*(ROOT / "tests/rows").glob("*.in"), *(ROOT / "tests/rows/choices").glob("*.in")]
+    rows = [(it, it.with_suffix(".out")) for it in sorted(rows) if not it.with_suffix(".fault").exists()]
+    return rows + [(it.with_suffix(".trace"), it) for it in HISTORIES]
+
+
+def records(place):
+    """The records of a text."""
+    return [it for it in csv.reader(io.StringIO(place.read_text(encoding="utf-8-sig"))) if it]
+
+
+def told(text):
+    """Of a history's records its events, and the codes of its refusals that a controller makes: those of a full log are the book's."""
+    every = list(csv.reader(text.splitlines()))
+    return [it if it[0] in EVENT_KINDS else it[2] for it in every if it[0] in EVENT_KINDS or it[0] == "refused" and it[2] in "1237"]
+
+
+def step(queue, record):
+    """One record of a trace by its call. What is refused is in the history."""
+    kind, caller, moment, *rest = record
+    words = {"moment": int(moment), "caller": int(caller)}
+    try:
+        if kind == "arrive":
+            tag, size, ecn, word = rest
+            return queue.arrive(size=int(size), ecn=ECN.index(ecn), word=int(word), tag=int(tag), **words)
+        if kind == "params":
+            return queue.set_params(jb.Params(*map(int, rest)), **words)
+        return getattr(queue, kind)(**words)
+    except (jb.Refused, jb.Exhausted) as why:
+        return why
+
+
+def asked(chosen):
+    """Records of a trace, but new parameters, as an array of events."""
+    made = jb.events([jb.Kind[it[0].upper()] for it in chosen], [int(it[2]) for it in chosen], caller=[int(it[1]) for it in chosen])
+    for event, record in zip(made, chosen):
+        if record[0] == "arrive":
+            event["tag"], event["size"], event["ecn"], event["word"] = int(record[3]), int(record[4]), ECN.index(record[5]), int(record[6])
+    return made
+
+
+def run(trace, by_arrays):
+    """The history of a trace, by single calls or by as few arrays as can be."""
+    out, opening, waiting = io.BytesIO(), jb.read_opening(trace), []
+    queue = jb.Queue(opening, jb.Recorder(out, opening))
+    for record in [*(it for it in records(trace) if it[0] in EVENT_KINDS), None]:
+        if by_arrays and record and record[0] != "params":
+            waiting.append(record)
+            continue
+        if waiting:
+            try:
+                queue.decide(asked(waiting), keeps_refused=True)
+            except jb.Exhausted:
+                pass
+            waiting = []
+        if record:
+            step(queue, record)
+    queue.close()
+    return out.getvalue().decode(), queue

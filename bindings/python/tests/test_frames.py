@@ -1,0 +1,131 @@
+"""Histories and explanations as frames: each number is the one that `pie` printed."""
+import csv
+import io
+import subprocess
+
+import numpy as np
+import pandas as pd
+import pytest
+from shared import HISTORIES, PIE, ROOT, records
+
+import juniperbowls as jb
+
+OVERLOAD = ROOT / "examples/overload.history"
+
+
+def printed(history, *options):
+    done = subprocess.run([PIE, "explain", *options, "--csv", history], capture_output=True, text=True, check=True)
+    return list(csv.DictReader(io.StringIO(done.stdout)))
+
+
+def same(frame, rows):
+    """Whether a frame has these rows, each field as it was printed."""
+    assert list(frame.columns) == list(rows[0]) and len(frame) == len(rows)
+    for name in frame:
+        assert ["" if pd.isna(it) else str(it) for it in frame[name]] == [row[name] for row in rows], name
+        assert name in ("kind", "verdict", "cause", "ecn") or frame[name].dtype in ("uint64", "UInt64"), name
+
+
+@pytest.mark.parametrize("options", [["--all"], ["--lost"], ["--summary"], ["--every", "100ms"], ["--tag", "20"]], ids=" ".join)
+@pytest.mark.parametrize("history", HISTORIES, ids=lambda it: it.stem)
+def test_an_explanation(history, options):
+    rows = printed(history, *options)
+    if rows:
+        same(jb.explain(history, *options, pie=PIE), rows)
+    else:
+        assert len(jb.explain(history, *options, pie=PIE)) == 0
+
+
+def test_parts_are_the_whole():
+    rows = printed(OVERLOAD, "--all")
+    parts = list(jb.explain_parts(OVERLOAD, rows=100, pie=PIE))
+    assert len(parts) > 3 and [it for part in parts for it in part.index] == list(range(len(rows)))
+    same(pd.concat([part.astype({"kind": str, "verdict": str, "cause": object, "ecn": object}) for part in parts]), rows)
+    whole = jb.explain(OVERLOAD, pie=PIE)
+    same(whole, rows)
+    assert whole.kind.dtype == "category" and whole.word.dtype == "UInt64" and whole.moment.dtype == "uint64"
+    early = iter(jb.explain_parts(OVERLOAD, rows=1, pie=PIE))
+    next(early)
+    early.close()
+
+
+def test_a_large_number_stays_whole(tmp_path):
+    place, opening = tmp_path / "history", jb.Opening.for_rate("10mbit")
+    with jb.Queue(opening, place) as queue:
+        queue.arrive(2**60 - 1, 1500, word=2**64 - 1, tag=2**64 - 3)
+        queue.depart(2**60 - 1)
+        queue.clock(5, 1_795_550_400_000_000_123)
+        queue.decide(jb.events(2, [6]))
+    told = jb.explain(place, "--all", "--wall", pie=PIE)
+    assert list(told.tag[:2]) == [2**64 - 3] * 2 and told.word[0] == 2**64 - 1 and told.word[1] is pd.NA
+    assert list(told.wall.isna()) == [True, True, False] and told.wall[2].year == 2063
+    again = jb.read_history(place)
+    assert list(again.tag[:2]) == [2**64 - 3] * 2 and again.word[0] == 2**64 - 1 and list(again.answer) == ["enqueue", "left", "empty"]
+
+
+@pytest.mark.parametrize("history", HISTORIES, ids=lambda it: it.stem)
+def test_a_history(history):
+    frame, told = jb.read_history(history), jb.explain(history, pie=PIE)
+    assert list(frame.number) == list(told.number) and list(frame.kind.astype(str)) == list(told.kind)
+    for name, other in (("answer", "verdict"), ("tag", "tag"), ("size", "size"), ("word", "word"), ("ecn", "ecn"), ("moment", "moment")):
+        assert list(frame[name].astype(object).fillna("")) == list(told[other].astype(object).fillna("")), name
+    updates = frame[frame.kind == "update"]
+    assert list(updates.prob) == list(told.probability_after[frame.kind == "update"])
+    assert list(updates.burst) == list(told.burst_allowance_after[frame.kind == "update"])
+
+
+def test_events_as_a_frame():
+    queue = jb.Queue(jb.Opening.for_rate("10mbit"))
+    frame = jb.frame(queue.decide(jb.events([1, 3, 2, 2], [5, 6, 7, 8], size=[99, 0, 0, 0]), keeps_refused=True), first=10)
+    assert list(frame.number.astype(object)) == [10, pd.NA, 11, 12] and list(frame.answer) == ["enqueue", "refused", "left", "empty"]
+    assert list(frame["size"].fillna(0)) == [99, 0, 99, 0]
+    assert len(jb.frame(queue.decide(jb.events([], [])))) == 0
+
+
+def test_a_text_that_resumes(tmp_path):
+    done = subprocess.run([PIE, "cut", "--last", "30", OVERLOAD], capture_output=True, check=True)
+    place = tmp_path / "part"
+    place.write_bytes(done.stdout)
+    frame = jb.read_history(place)
+    last = sum(it[0] in ("arrive", "depart", "update", "reset") for it in records(OVERLOAD))
+    assert list(frame.number) == list(range(last - 29, last + 1)) and list(jb.explain(place, pie=PIE).number) == list(frame.number)
+    assert jb.read_opening(place).params == jb.Params.default()
+
+
+def test_faults_and_differences(tmp_path):
+    text = OVERLOAD.read_text()
+    (tmp_path / "fault").write_text(text + "nothing,1\n")
+    (tmp_path / "differs").write_text(text.replace(",enqueue", ",mark", 1))
+    (tmp_path / "fields").write_text(text + "depart,1\n")
+    for call in (jb.audit, jb.explain):
+        with pytest.raises(jb.Fault, match="unknown kind") as why:
+            call(tmp_path / "fault", pie=PIE)
+        assert why.value.status == 1
+    assert jb.audit(tmp_path / "differs", PIE) == jb.Finding("differs", 1) and not jb.audit(tmp_path / "differs", PIE).is_clean
+    with pytest.raises(jb.Fault) as why:
+        jb.explain(tmp_path / "differs", pie=PIE)
+    assert why.value.status == 2
+    with pytest.raises(ValueError, match="1 records"):
+        jb.read_events(tmp_path / "fields")
+    for beginning in ("", "arrive,1\n", "open,1\n", "open3,1,rate\n", "open2,1,other,0,1,1,1\n"):
+        (tmp_path / "none").write_text(beginning)
+        with pytest.raises(ValueError, match="no opening"):
+            jb.read_opening(tmp_path / "none")
+    with pytest.raises(FileNotFoundError):
+        jb.audit(tmp_path / "missing", PIE)
+
+
+def test_parquet(tmp_path):
+    pytest.importorskip("pyarrow")
+    for name, frame in (("told", jb.explain(OVERLOAD, pie=PIE)), ("events", jb.read_history(OVERLOAD))):
+        frame.to_parquet(tmp_path / name)
+        pd.testing.assert_frame_equal(pd.read_parquet(tmp_path / name), frame)
+
+
+def test_many_rows_stay_in_order(tmp_path):
+    place, opening = tmp_path / "history", jb.Opening.for_rate("100mbit")
+    with jb.Queue(opening, place, seed=1) as queue:
+        events = queue.offer(np.arange(20_000) * 100_000, 1250, "90mbit", ecn=1)
+    told = jb.explain(place, pie=PIE)
+    assert np.array_equal(told.number, np.arange(1, len(events) + 1)) and np.array_equal(told.moment, events["moment"])
+    assert np.array_equal(told.probability_after[events["kind"] == 3], events["prob"][events["kind"] == 3])

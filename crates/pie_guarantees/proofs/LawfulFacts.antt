@@ -2,31 +2,37 @@
 use Rattle.std.proofs.Common.{◌≡◌, ◌≤◌, ◌<◌, ◌+◌, ◌==◌, ℕ, List, [], ◌∷◌, ◌++◌, Bool, true, false, refl, sym, subst, ap, ◌∙◌, arith, max}
 use Rattle.std.specs.Prelude.{⊤}
 use Rattle.std.proofs.Common.{if◌then◌else◌, All, None, Some, nat_lt, nat_le, length, ◌^◌}
-use Rattle.std.proofs.lemmas.Bool.{leb-true, ltb-false}
+use Rattle.std.proofs.lemmas.Bool.{eqb-false, leb-true, ltb-false}
 use Rattle.std.proofs.lemmas.List.{append-nil, append_assoc}
 use Rattle.std.proofs.lemmas.List.Elements.{All-cons, All-head, All-nil, All-tail}
 use Rattle.pie_params.specs.Range.{first_bad}
-use Rattle.pie_event.specs.Deed.{deed, deed_of, handed_in}
+use Rattle.pie_queue.specs.Queue.{bytes_of}
+use Rattle.pie_event.specs.Deed.{arrival_deed, deed, deed_of, departure_deed, handed_in}
 use Rattle.pie_event.specs.Opening as Opens
+use Rattle.pie_event.specs.Verdict.{answer_of}
+use Rattle.pie_event.specs.declared.verdict.Verdict.TheVariants as verdict
 use Rattle.pie_event.specs.declared.refusal.OpenRefusal.TheVariants as open_refusal
+use Rattle.pie_early.specs.declared.early.Choice.{Choice}
+use Rattle.pie_early.specs.declared.early.Choice.TheVariants.{Enqueue, Mark}
 use Rattle.pie_event.specs.declared.refusal.Refusal.TheVariants as refusal
 use Rattle.pie_aqm.specs.Calls.{IsTaken, after_call}
 use Rattle.pie_aqm.specs.Held.{Held, IsSound}
 use Rattle.pie_aqm.specs.Places.{places}
-use Rattle.pie_aqm.specs.Steps.{now_at}
+use Rattle.pie_aqm.specs.Steps as Steps
+use Rattle.pie_aqm.specs.Steps.{chosen, now_at}
 use Rattle.pie_aqm.proofs.Places.{place_of}
 use Rattle.pie_aqm.proofs.Sounds.{Sound_call, Sound_opened}
-use Rattle.pie_book.specs.Types.{Waiting, Command, Arrive, Depart, Update, Reset, SetParams, Event, Opening, Refusal}
-use Rattle.pie_book.specs.Call.{call_of, departure_call}
+use Rattle.pie_book.specs.Types.{Packet, Waiting, Command, Arrive, Depart, Update, Reset, SetParams, Event, Opening, Refusal}
+use Rattle.pie_book.specs.Call.{arrival_of, call_of, departure_call}
 use Rattle.pie_book.specs.Core.{CoreView, Shows, closed}
-use Rattle.pie_book.specs.Decision.{IsLegalAt, has_bad_size, is_too_soon, refusal_by_rule, refusal_with}
+use Rattle.pie_book.specs.Decision.{IsLegalAt, answer_to_departure, has_bad_size, is_too_soon, refusal_by_rule, refusal_with}
 use Rattle.pie_book.specs.Estimates.{due_after, held_after}
 use Rattle.pie_book.specs.History.{effective_moment, waiting_after}
 use Rattle.pie_book.specs.Step.{after_command, answer_in, call_in, waiting_next}
 use Rattle.pie_book.proofs.CoreFacts.{at_place, departed-of-legal, held-is}
 use Rattle.pie_book.proofs.HistoryFacts.{effective_moment-push, waiting_after-push}
 use Rattle.pie_book.proofs.LegalFacts.{first-shows, first_core, next-core, next-legal}
-use Rattle.pie_book.proofs.RangeFacts.{has-room, waiting_next-room}
+use Rattle.pie_book.proofs.RangeFacts.{HasRoom, waiting_next-room}
 use Rattle.pie_guarantees.specs.Lawful.{IsLawful, SetsInRange}
 
 -- ---- which commands are taken
@@ -94,6 +100,28 @@ call-taken core (Depart moment) handed fit = by core.waiting
 call-taken core (Update moment) handed fit = handed
 call-taken core (Reset moment) handed fit = handed
 call-taken core (SetParams moment params) handed fit = (handed, fit)
+
+-- a packet is queued only where the ring has room
+verdict-room : (over full : Bool) (choice : Choice) (packet : Packet) (waiting : List Waiting) (packets : ℕ) → (length waiting == packets) ≡ full
+    → length waiting ≤ packets
+    → HasRoom (arrival_deed packet (answer_of (if over then verdict.DroppedBytes else if full then verdict.DroppedPackets else chosen choice)))
+    waiting packets
+verdict-room false false Enqueue packet waiting packets is within = omega (arith, eqb-false (length waiting) packets is)
+verdict-room false false Mark packet waiting packets is within = omega (arith, eqb-false (length waiting) packets is)
+verdict-room _ _ _ packet waiting packets is within = tt
+
+departure-room : (all waiting : List Waiting) (packets : ℕ) → HasRoom (departure_deed (answer_to_departure all)) waiting packets
+departure-room [] waiting packets = tt
+departure-room (oldest ∷ others) waiting packets = tt
+
+has-room : (core : CoreView) (command : Command) → length core.waiting ≤ core.packets
+    → HasRoom (deed command (answer_in core command)) core.waiting core.packets
+unfolding Steps.verdict
+has-room core (Arrive moment packet word) within =
+    verdict-room (nat_lt core.held.params.limit_bytes (bytes_of core.waiting + packet.size)) (length core.waiting == core.packets)
+    (Steps.choice core.held (arrival_of core.waiting core.packets packet word)) packet core.waiting core.packets refl within
+has-room core (Depart moment) within = departure-room core.waiting core.waiting core.packets
+has-room core _ within = tt
 
 stands-next : (opening : Opening) (before : List Event) (event : Event) → Stands opening before → IsLegalAt opening (place_of before event)
     → SetsInRange event.command → Stands opening (before ++ event ∷ [])

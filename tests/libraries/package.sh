@@ -103,6 +103,7 @@ fi
 # command calls hands out what was built here, since a build in the clone would take minutes
 mkdir -p "$work/clone/crates/pie" "$work/clone/crates/pie_c" "$work/clone/crates/pie_link_c" "$work/bin"
 cp -r install.sh include report man completions LICENSE-MIT LICENSE-APACHE "$work/clone"
+install -D bindings/c/library.py "$work/clone/bindings/c/library.py"
 printf '%s\n' '#!/bin/sh' 'here=$(basename "$PWD")' 'mkdir -p out' 'case "$here $1" in' \
     "'pie run') cp \"$repository/crates/pie/out/pie\" out ;;" "'pie_c lib') cp \"$repository/crates/pie_c/out/libpie_c.a\" out ;;" \
     "'pie_link_c lib') cp \"$repository/crates/pie_link_c/out/libpie_link_c.a\" out ;;" \

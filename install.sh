@@ -111,7 +111,7 @@ for part in "${parts[@]}"; do
         program) built crates/pie/out/pie "cd crates/pie && rt run > /dev/null" ;;
         library)
             built crates/pie_c/out/libpie_c.a "cd crates/pie_c && rt lib"
-            built crates/pie_link_c/out/libpie_link_c.a "cd crates/pie_link_c && rt lib"
+            built crates/pie_link_c/out/libpie_link_c.a "bindings/c/library.py pie_link_c"
             ;;
     esac
 done

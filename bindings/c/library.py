@@ -11,6 +11,7 @@ import os
 import shutil
 import subprocess
 import sys
+import tempfile
 
 sys.dont_write_bytecode = True
 ROOT = os.path.dirname(os.path.dirname(os.path.dirname(os.path.abspath(__file__))))
@@ -25,6 +26,16 @@ def toolchain():
     sys.modules["rtlib"] = module
     loader.exec_module(module)
     return module
+
+
+def with_memory():
+    """What the link asks memory by, which `rt lib` leaves to whoever links: the toolchain's few lines of C over malloc, realloc and free."""
+    archive = f"crates/{CRATE}/out/lib{CRATE}.a"
+    if CRATE == "pie_c" or b"heap.pic.o" in subprocess.run(["ar", "t", archive], capture_output=True, check=True).stdout:
+        return
+    with tempfile.TemporaryDirectory() as work:
+        subprocess.run(["ar", "x", f"{toolchain().KIT}/c/liblibc_c.a", "heap.pic.o"], cwd=work, check=True)
+        subprocess.run(["ar", "r", archive, f"{work}/heap.pic.o"], capture_output=True, check=True)
 
 
 def newest(folder):
@@ -51,16 +62,21 @@ def main():
         if left:
             library = f"{crate.folder}/out/lib{CRATE}.a"
             if os.path.isfile(library) and max(left, newest(crate.folder)) < os.path.getmtime(library):
+                with_memory()
                 return
             print("bindings/c/library.py: over the libraries that rt ci has proved", flush=True)
             # (by one process: two take a fifth more of the processors, which other scripts wait for)
             if crate.build_static(["--jobs", "1"]) == 0:
+                with_memory()
                 return
     except (AttributeError, OSError, StopIteration, TypeError) as why:
         # (another toolchain may be arranged otherwise)
         print(f"bindings/c/library.py: {type(why).__name__}: {why}", flush=True)
     print("bindings/c/library.py: by rt lib", flush=True)
-    sys.exit(subprocess.run(["rt", "lib"], cwd=f"crates/{CRATE}").returncode)
+    status = subprocess.run(["rt", "lib"], cwd=f"crates/{CRATE}").returncode
+    if status == 0:
+        with_memory()
+    sys.exit(status)
 
 
 main()

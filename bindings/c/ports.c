@@ -68,7 +68,7 @@ static void calls(void) {
     event = event_at(40, 99);
     CHECK(pie_link_update(&port, &event) == PIE_TOO_SOON && event.tag == 0);
     event = event_at(15000000, 99);
-    CHECK(pie_link_update(&port, &event) == PIE_DONE && event.kind == PIE_EVENT_UPDATE && event.burst < 150000000);
+    CHECK(pie_link_update(&port, &event) == PIE_DONE && event.kind == PIE_EVENT_UPDATE && event.burst == 150000000);
     event = event_at(15000001, 99);
     CHECK(pie_link_reset(&port, &event) == PIE_DONE && event.kind == PIE_EVENT_RESET);
     params = opening.params;
@@ -85,7 +85,7 @@ static void calls(void) {
     CHECK(event.word == UINT64_C(0x9e3779b97f4a7c15) * 8 && event.ecn == PIE_ECT0 && params.target == 0);
     CHECK(pie_link_fold(&other, &event, &params) == PIE_DONE && event.kind == PIE_EVENT_DEPART && event.caller == 0 && event.tag == 7);
     CHECK(pie_link_fold(&other, &event, &params) == PIE_DONE && event.kind == PIE_EVENT_DEPART && event.answer == PIE_NONE);
-    CHECK(pie_link_fold(&other, &event, &params) == PIE_DONE && event.kind == PIE_EVENT_UPDATE && event.burst < 150000000);
+    CHECK(pie_link_fold(&other, &event, &params) == PIE_DONE && event.kind == PIE_EVENT_UPDATE && event.burst == 150000000);
     CHECK(pie_link_fold(&other, &event, &params) == PIE_DONE && event.kind == PIE_EVENT_RESET);
     CHECK(pie_link_fold(&other, &event, &params) == PIE_DONE && event.kind == PIE_EVENT_PARAMS && params.target == 5000000);
     CHECK(params.dq_threshold == opening.params.dq_threshold);

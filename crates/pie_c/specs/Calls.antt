@@ -11,6 +11,7 @@ use Rattle.pie_aqm.specs.Held.{Held}
 use Rattle.pie_aqm.specs.History.{Shows}
 use Rattle.pie_aqm.specs.Steps.{arrived, delay_answered, due, is_too_soon, updated, verdict}
 use Rattle.pie_abi.specs.declared.params.PieParams.{PieParams}
+use Rattle.pie_abi.specs.Packets.{ecn_at, is_bad_size, verdict_number}
 use Rattle.pie_c.specs.declared.state.PieState.{PieState}
 use Rattle.pie_c.specs.declared.updated.PieUpdated.{PieUpdated}
 use Rattle.pie_abi.specs.Choices.{last_moment}

@@ -117,11 +117,8 @@ fi
 # command calls hands out what was built here, since a build in the clone would take minutes
 mkdir -p "$work/clone/crates/pie" "$work/clone/crates/pie_c" "$work/clone/crates/pie_link_c" "$work/bin"
 cp -r install.sh include report man completions LICENSE-MIT LICENSE-APACHE "$work/clone"
-<<<<<<< HEAD
 cp -r --parents bindings/python/library.sh bindings/python/native "$work/clone"
-=======
 install -D bindings/c/library.py "$work/clone/bindings/c/library.py"
->>>>>>> 03b3eadbdd533b87d28ab54989e9b93718a3c5a1
 printf '%s\n' '#!/bin/sh' 'here=$(basename "$PWD")' 'mkdir -p out' 'case "$here $1" in' \
     "'pie run') cp \"$repository/crates/pie/out/pie\" out ;;" "'pie_c lib') cp \"$repository/crates/pie_c/out/libpie_c.a\" out ;;" \
     "'pie_link_c lib') cp \"$repository/crates/pie_link_c/out/libpie_link_c.a\" out ;;" \

@@ -1,10 +1,12 @@
 #!/usr/bin/env python3
-"""Tries mutations: the wrong bodies of crates/NAME/mutations/, each of which the prover has to refuse. Each is made in a copy of its crate, where the
-functions that it changes are checked, over the libraries in out/. The whole crate is checked where an edit is outside functions, and where those
-functions are still proved, since a caller may refuse it. The last line says how many were refused, in how long. Exit status 1 where one was not.
+"""Tries mutations: the wrong bodies of crates/NAME/mutations/, each of which the prover has to refuse. Those of a crate that change other functions
+are made in one copy of it, where one check judges each function by itself: so a mutation costs some seconds, and not a crate's loading. What can't be
+judged so is tried alone: where an edit is outside functions, or its functions are still proved and a caller may refuse it, the whole crate is
+checked, or the functions that a line `check: NAME` of the edit has. The last line says how many were refused, in how long. Exit status 1 where one
+was not.
 
-With --share it is part of the gate, after `rt ci`, whose libraries it takes: a fortieth of all, every fortieth in the order of their names, begun at
-the day of the commit. So each crate has its share in each, 40 days try all, and the same commit tries the same.
+With --share it is part of the gate, after `rt ci`, whose libraries it takes: a fortieth of all, by the day of the commit, in shares that cost about
+the same. So 40 days try all, and the same commit tries the same. One that wants a whole crate is told there as NOT RUN.
 
 usage: tests/mutations.py [--jobs N] [NAME | NAME/EDIT ..]      as pie_book, or pie_book/departs_half; all, where none is named
        tests/mutations.py [--jobs N] --share [DAY]              DAY: in place of the commit's, as a number of days"""
@@ -25,6 +27,8 @@ from pathlib import Path
 ROOT = Path(__file__).resolve().parent.parent
 ME = "tests/mutations.py"
 SHARES, DAY = 40, 24 * 60 * 60
+# As many mutations are made in one copy at most: a check keeps all that it finds in memory.
+MOST = 12
 PARTS = ("src", "specs", "proofs")
 # A line of crates.txt: a crate, whether it is a static library, and what it stands on.
 LINE = re.compile(r"(\w+)([\w= +]*):([^#]*)")
@@ -69,13 +73,13 @@ class Mutation:
     def __init__(self, path):
         self.path, self.crate, self.folder = path, path.parent.parent.name, path.parent.parent
         self.name = f"{self.crate}/{path.stem}"
-        self.texts, self.functions = {}, []
+        self.functions, self.checked, texts = [], [], {}
         for file, old, new in self.steps():
-            text = self.texts.get(file) or (self.folder / file).read_text()
+            text = texts.get(file) or (self.folder / file).read_text()
             if text.count(old) != 1:
                 sys.exit(f"{ME}: {self.name}: it does not stand in {file} once: {old.strip()}")
             self.functions.append(function_at(file, text, text.index(old)))
-            self.texts[file] = text.replace(old, new)
+            texts[file] = text.replace(old, new)
 
     def steps(self):
         file = old = None
@@ -85,8 +89,15 @@ class Mutation:
                 file = text.strip()
             elif word == "old":
                 old = text
+            elif word == "check":
+                self.checked.append(text.strip())
             elif line.startswith("new:"):
                 yield file, old, text
+
+    def goals(self):
+        """The functions that are to be refused; none where the whole crate has to be checked."""
+        known = self.checked or self.functions
+        return [] if None in known else sorted(set(known))
 
     def has_libraries(self):
         return all(is_built(it) for it in below(self.crate))
@@ -149,15 +160,29 @@ def words(kit, crate, functions):
     return found
 
 
-def checked(kit, mutation, functions):
-    """What the prover answers where the mutation stands in a copy of its crate."""
+def put(mutation, texts):
+    """These texts of the crate's files with a mutation made in them; none where it no longer stands in one of them once."""
+    texts = dict(texts)
+    for file, old, new in mutation.steps():
+        text = texts.get(file) or (mutation.folder / file).read_text()
+        if text.count(old) != 1:
+            return None
+        texts[file] = text.replace(old, new)
+    return texts
+
+
+def checked(kit, mutations, functions):
+    """What the prover answers where these mutations stand in a copy of their crate."""
+    texts = {}
+    for it in mutations:
+        texts = put(it, texts)
     with tempfile.TemporaryDirectory(prefix="pie-mutation-") as room:
         for part in PARTS:
-            if (mutation.folder / part).is_dir():
-                shutil.copytree(mutation.folder / part, Path(room, part))
-        for file, text in mutation.texts.items():
+            if (mutations[0].folder / part).is_dir():
+                shutil.copytree(mutations[0].folder / part, Path(room, part))
+        for file, text in texts.items():
             Path(room, file).write_text(text)
-        run = lambda: subprocess.run(words(kit, mutation.crate, functions), cwd=room, stdin=subprocess.DEVNULL, stdout=subprocess.PIPE,
+        run = lambda: subprocess.run(words(kit, mutations[0].crate, functions), cwd=room, stdin=subprocess.DEVNULL, stdout=subprocess.PIPE,
             stderr=subprocess.STDOUT, errors="replace", check=False)
         done = run()
         # most likely for memory
@@ -183,12 +208,53 @@ def judged(done):
     return True, f"refused{only}{': ' if first else ''}{first[:140]}"
 
 
-def tried(kit, mutation):
+def tried_alone(kit, mutation, is_share):
     """Whether the prover refuses a mutation, and what to say of it."""
-    known = [] if None in mutation.functions else sorted(set(mutation.functions))
-    found = judged(checked(kit, mutation, known)) if known else None
-    found = found or judged(checked(kit, mutation, []))
+    found = judged(checked(kit, [mutation], mutation.goals())) if mutation.goals() else None
+    if found is None and is_share:
+        return None, "NOT RUN: it wants its whole crate checked"
+    found = found or judged(checked(kit, [mutation], []))
     return found or (False, "NOT REFUSED: the crate is still proved with it")
+
+
+def verdicts(done):
+    """What one check says of each function, by its whole name; nothing where it ended in no verdict."""
+    if done.returncode != 1 or not re.match(r"only=\d+ proved=", done.stdout.rstrip("\n").rpartition("\n")[2]):
+        return {}
+    return dict(re.findall(r"^fn (\S+): (proved|not proved|no proof)", done.stdout, re.MULTILINE))
+
+
+def tried(kit, batch, is_share):
+    """Of each mutation of a batch whether the prover refuses it, and what to say of it."""
+    told = {}
+    if len(batch) > 1:
+        found = verdicts(checked(kit, batch, sorted({name for it in batch for name in it.goals()})))
+        for it in batch:
+            said = [verdict for name in it.goals() for whole, verdict in found.items() if f"::{whole}".endswith(f"::{name}")]
+            if len(said) == len(it.goals()) and any(verdict != "proved" for verdict in said):
+                told[it] = True, "refused"
+        if not found:
+            # (one of them stops the check before any proof)
+            half = len(batch) // 2
+            return [*tried(kit, batch[:half], is_share), *tried(kit, batch[half:], is_share)]
+    return [(it, *(told.get(it) or tried_alone(kit, it, is_share))) for it in batch]
+
+
+def batches(mutations):
+    """The mutations in groups that one check can judge: of one crate, and no two of a group change the same function."""
+    found = []
+    for it in mutations:
+        for group in found if it.goals() else ():
+            texts, names = group["texts"], {*group["names"]}
+            if it.crate == group["crate"] and len(group["all"]) < MOST and not names & {*it.goals(), *it.functions} and put(it, texts) is not None:
+                group["all"].append(it)
+                group["names"] += [*it.goals(), *it.functions]
+                group["texts"] = put(it, texts)
+                break
+        else:
+            is_open = bool(it.goals()) and None not in it.functions
+            found.append({"crate": it.crate if is_open else "", "all": [it], "names": [*it.goals(), *it.functions], "texts": put(it, {})})
+    return [group["all"] for group in found]
 
 
 def named(wanted):
@@ -199,6 +265,19 @@ def named(wanted):
     if missing:
         sys.exit(f"{ME}: there is no mutation {', '.join(missing)}")
     return [path for path in every if not wanted or any(is_in(path, word) for word in wanted)]
+
+
+def cost(batch):
+    """About how many seconds of a processor a batch takes: a crate loads what it stands on, and a function is judged in some four."""
+    return 10 + 1.5 * len(below(batch[0].crate)) + 4 * len(batch)
+
+
+def shared(groups):
+    """The batches in as many shares as there are days, each of which costs about the same."""
+    shares = [[] for _ in range(SHARES)]
+    for batch in sorted(groups, key=lambda it: (-cost(it), it[0].name)):
+        min(shares, key=lambda it: sum(map(cost, it))).append(batch)
+    return shares
 
 
 def commit_day():
@@ -228,24 +307,27 @@ def main():
     mutations = [Mutation(path) for path in named(given.names)]
     if given.share is not None:
         day = commit_day() if given.share < 0 else given.share
-        share = mutations[day % SHARES :: SHARES] if day is not None else []
-        mutations = [it for it in share if it.has_libraries()]
-        if not rt or not mutations:
+        share = shared(batches(mutations))[day % SHARES] if day is not None else []
+        groups = [it for it in share if it[0].has_libraries()]
+        if not rt or not groups:
             print(f"NOT RUN: {ME}: a share of the mutations, without rt, the commit's date or the libraries of rt ci")
             return 0
-        print(f"{ME}: day {day}, so share {day % SHARES} of {SHARES}: {len(share)}, of which {len(mutations)} have their libraries here", flush=True)
+        every, here = (sum(map(len, it)) for it in (share, groups))
+        print(f"{ME}: day {day}, so share {day % SHARES} of {SHARES}: {every}, of which {here} have their libraries here", flush=True)
     elif not rt:
         sys.exit(f"{ME}: there is no rt")
     else:
         build_below(mutations)
-    kit, begun, used, refused = Path(rt).resolve().parent.parent, time.monotonic(), seconds(), 0
+        groups = batches(mutations)
+    kit, begun, used, counts = Path(rt).resolve().parent.parent, time.monotonic(), seconds(), {True: 0, False: 0, None: 0}
     with ThreadPoolExecutor(max(given.jobs, 1)) as pool:
-        for it, (is_refused, text) in zip(mutations, pool.map(lambda it: tried(kit, it), mutations)):
-            refused += is_refused
-            print(f"{ME}: {it.name}: {text}", flush=True)
+        for found in pool.map(lambda it: tried(kit, it, given.share is not None), groups):
+            for it, is_refused, text in found:
+                counts[is_refused] += 1
+                print(f"{'NOT RUN: ' if is_refused is None else ''}{ME}: {it.name}: {text}", flush=True)
     took, spent = time.monotonic() - begun, seconds() - used
-    print(f"{ME}: {refused} refused, {len(mutations) - refused} not, in {took:.0f} s and {spent:.0f} processor seconds")
-    return int(refused != len(mutations))
+    print(f"{ME}: {counts[True]} refused, {counts[False]} not, {counts[None]} not tried, in {took:.0f} s and {spent:.0f} processor seconds")
+    return int(counts[False] > 0 or not counts[True])
 
 
 sys.exit(main())

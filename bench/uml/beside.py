@@ -4,8 +4,9 @@ Linux in a process (run.sh). Prints one table; every history of the link is audi
 
 usage: bench/uml/beside.py PIE FOLDER [OPTIONS]
   PIE        the built program, crates/pie/out/pie;  FOLDER: gets each run's history and what the programs said, and results.csv
-  --queues stamp,pie,fq_codel     of the link: tail, stamp, rate (where the delay is from), half (the other decay), marks (whatever the
-                                  probability); of the kernel: pfifo, pie, pie-rate (its dq_rate_estimator), fq_codel, cake
+  --queues stamp,pie,fq_codel     of the link: tail, stamp, rate (where the delay is from), half (the other decay), mtu (so many bytes are the
+                                  mean packet, as at the kernel's), marks (whatever the probability); of the kernel: pfifo, pie, pie-rate (its
+                                  dq_rate_estimator), fq_codel, cake
   --runs 3   of each queue, in turn;  --seconds 20: of each run
   --rate 10mbit,10s:2mbit         and so on: moments count from the traffic's beginning
   --flows 4:cubic:20ms ..         groups of TCP: how many, congestion control, round trip without a queue; 1:udp=12mbit:20ms is UDP at such a rate;
@@ -39,7 +40,14 @@ sys.path.insert(0, str(HERE.parent))
 sys.dont_write_bytecode = True
 from equivalence import compare  # noqa: E402
 
-OURS = {"tail": ["--queue", "tail"], "stamp": [], "rate": ["--delay", "rate"], "half": ["--decay", "half"], "marks": ["--mark_ecnth", "100%"]}
+OURS = {
+    "tail": ["--queue", "tail"],
+    "stamp": [],
+    "rate": ["--delay", "rate"],
+    "half": ["--decay", "half"],
+    "mtu": ["--mean_pkt", "1514b"],
+    "marks": ["--mark_ecnth", "100%"],
+}
 THEIRS = {
     "pfifo": "pfifo limit {packets}",
     "pie": "pie limit {packets} target TARGET tupdate TUPDATE",
@@ -130,7 +138,7 @@ class Found:
         self.queue = json.loads((folder / "queue.json").read_text()) if (folder / "queue.json").exists() else None
 
     def delay_of(self, place, begun):
-        """How long after the traffic's beginning a group's server began to count: a round trip before its client sent. Where the group begins with the
+        """How long after the traffic began a group's server began to count: a round trip before its client sent. Where the group begins with the
         traffic, and the link is idle, that is the same in each run of a scenario."""
         group = self.scenario["groups"][place]
         noted = sorted(self.folder.parent.glob(f"*/begun{place}"))

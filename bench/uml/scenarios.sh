@@ -10,7 +10,7 @@ here=$(cd "$(dirname "$0")" && pwd)
 
 # the ones that tell most come first; at 50 Mbit/s a run takes longest
 scenarios='
-farreno  8 stamp,half,pie,fq_codel         --seconds 12 --from 0 --flows 4:reno:100ms
+farreno  8 stamp,half,mtu,pie,fq_codel         --seconds 12 --from 0 --flows 4:reno:100ms
 far      5 stamp,half,pie                  --seconds 15 --from 5 --flows 4:cubic:100ms
 four     5 tail,stamp,half,rate,pfifo,pie,pie-rate,fq_codel,cake  --seconds 15 --from 5
 step     5 stamp,rate,pie,pie-rate,fq_codel  --seconds 40 --from 0 --rate 10mbit,10s:2mbit,20s:10mbit
@@ -19,12 +19,12 @@ udp      5 stamp,pie,fq_codel              --seconds 12 --from 4 --flows 4:cubic
 short    5 tail,stamp,pie,fq_codel         --seconds 20 --from 5 --flows 1:cubic:20ms --short 1460x2,14600x2,146000x0.5,730000x0.1
 one      8 stamp,pie                       --seconds 15 --from 5 --flows 1:cubic:20ms
 sixteen  5 stamp,pie                       --seconds 15 --from 5 --flows 16:cubic:20ms
-hundred  5 tail,stamp,pie,fq_codel         --seconds 15 --from 5 --flows 100:cubic:20ms
+hundred  5 stamp,pie,fq_codel              --seconds 15 --from 5 --flows 100:cubic:20ms
 near     5 stamp,pie                       --seconds 15 --from 5 --flows 4:cubic:10ms
 grant5   5 stamp,rate                      --seconds 12 --from 4 --grant 5ms
 grant30  5 stamp,rate                      --seconds 12 --from 4 --grant 30ms
-bbrcubic 5 tail,stamp,pie,fq_codel         --seconds 15 --from 5 --flows 2:cubic:20ms 2:bbr:20ms
-mixed    5 tail,stamp,pie,fq_codel         --seconds 20 --from 5 --flows 2:cubic:10ms 2:cubic:50ms 2:cubic:200ms
+bbrcubic 5 stamp,pie,fq_codel              --seconds 15 --from 5 --flows 2:cubic:20ms 2:bbr:20ms
+mixed    5 stamp,pie,fq_codel              --seconds 20 --from 5 --flows 2:cubic:10ms 2:cubic:50ms 2:cubic:200ms
 slow     5 stamp,rate,pie,pie-rate         --seconds 30 --from 10 --rate 500kbit --limit 1s
 two      5 stamp,pie                       --seconds 20 --from 5 --rate 2mbit
 ecn      5 stamp,pie                       --seconds 12 --from 4 --ecn

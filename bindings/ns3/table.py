@@ -79,7 +79,7 @@ def mean(numbers):
 
 def shown(records, figure):
     numbers = values(records, figure)
-    digits = 1 if figure == "goodput_mbit" or mean(numbers) < 1 and max(numbers) > 0 else 0
+    digits = 1 if figure.endswith("_mbit") or mean(numbers) < 1 and max(numbers) > 0 else 0
     text = f"{mean(numbers):.{digits}f}"
     if len(numbers) > 1 and min(numbers) < max(numbers):
         text += f" ({min(numbers):.{digits}f} to {max(numbers):.{digits}f})"

@@ -7,6 +7,7 @@
 #include <pthread.h>
 #include <stdio.h>
 #include <stdlib.h>
+#include <threads.h>
 
 enum { PACKETS = 20000 };
 static struct pie_port ports[4]; /* of the link, of each sender, of the writer: one thread each */
@@ -37,6 +38,8 @@ static void *transmit(void *of) {
     while (working > 1 || code != PIE_NONE) {
         event.moment = now();
         code = pie_link_depart(of, &event); /* event.tag is the packet that leaves */
+        if (code != PIE_DONE)
+            thrd_sleep(&(struct timespec){.tv_nsec = 20000}, NULL); /* (it finds nothing, or a full log) */
         event.moment = now();
         pie_link_update(of, &event); /* PIE_TOO_SOON, most of the time */
     }

@@ -1,5 +1,6 @@
 -- What this crate's laws say of events: they are as lines that tell them.
-use Rattle.pie_audit.specs.Names.{◌≡◌, All, List, length, map, Event, Made, event_count}
+use Rattle.std.specs.Prelude.{◌≡◌}
+use Rattle.pie_audit.specs.Names.{All, List, length, map, Event, Made, event_count}
 use Rattle.pie_audit.specs.Finding.{events_of}
 use Rattle.pie_audit.specs.Legal.{CanBeMade}
 

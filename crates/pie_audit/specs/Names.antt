@@ -1,7 +1,7 @@
 -- What the files of this folder take from below, in one place.
 pub use Rattle.std.specs.List.{filter_map, find, last_or}
-pub use Rattle.std.specs.Prelude.{All, Bool, Err, List, None, Ok, Option, Result, Some, [], codes, false, if◌then◌else◌, length, map, min, nat_lt}
-pub use Rattle.std.specs.Prelude.{not, option_map, true, unwrap_or, ℕ, ⊤, ◌&&◌, ◌++◌, ◌+◌, ◌-◌, ◌==◌, ◌^◌, ◌||◌, ◌∷◌, ◌≡◌, ◌≤◌}
+pub use Rattle.std.specs.Prelude.{All, Bool, Err, List, None, Ok, Option, Result, Some, [], codes, false, length, map, min, nat_lt}
+pub use Rattle.std.specs.Prelude.{not, option_map, true, unwrap_or, ℕ, ⊤}
 pub use Rattle.pie_audit.specs.declared.auditor.Finding.{Finding}
 pub use Rattle.pie_audit.specs.declared.auditor.Finding.TheVariants.{Clean, Differs}
 pub use Rattle.pie_book.specs.Core.{CoreView, Shows}

@@ -3,8 +3,8 @@ pub use Rattle.std.specs.Fmt.{decimal}
 unfoldable pub use Rattle.std.specs.Fmt.{digits}
 pub use Rattle.std.specs.List.{filter_map, flat_map, last_or}
 pub use Rattle.std.specs.Option.{ok_or, option_and_then}
-pub use Rattle.std.specs.Prelude.{All, Bool, Err, List, None, Ok, Option, Result, Some, Vec, [], codes, cond, count_by, drop, false, if◌then◌else◌}
-pub use Rattle.std.specs.Prelude.{length, map, min, nat_lt, suc, true, zero, ℕ, ⊤, ◌&&◌, ◌++◌, ◌+◌, ◌-◌, ◌<◌, ◌==◌, ◌^◌, ◌||◌, ◌∷◌, ◌≡◌, ◌≤◌, ◌⊎◌}
+pub use Rattle.std.specs.Prelude.{All, Bool, Err, List, None, Ok, Option, Result, Some, Vec, [], codes, cond, count_by, drop, false}
+pub use Rattle.std.specs.Prelude.{length, map, min, nat_lt, suc, true, zero, ℕ, ⊤}
 pub use Rattle.std.specs.Str.{bytes_eq}
 pub use Rattle.csv.specs.Reading.{default_config}
 unfoldable pub use Rattle.csv.specs.Reading.{records_from, strip_bom}

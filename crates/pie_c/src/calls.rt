@@ -14,16 +14,16 @@ ghost use Rattle.pie_c.specs.Calls.{Arrives, Leaves, Makes, Takes, arrival_of, a
 ghost use Rattle.pie_c.specs.Calls.{moment_refusal, params_refusal, reset_refusal, state_refusal, unless_refused, update_refusal, updated_by, waited_refusal};
 
 use crate::checked::{is_sound, raw, raw_with, takes_stamps, usual_but_delay};
+use crate::state::PieState;
+use crate::updated::PieUpdated;
+use pie_abi::PieParams;
 use pie_abi::choices::elements;
-use pie_abi::packet::{ecn, is_bad_size};
-use pie_abi::params::are_in_range;
 use pie_abi::code::{
     BAD_ARRIVED, BAD_ECN, BAD_MOMENT, BAD_PARAMS, BAD_QUEUE, BAD_SIZE, BAD_STATE, DONE, NOT_WAITED,
     TOO_SOON, of_verdict,
 };
-use pie_abi::PieParams;
-use crate::state::PieState;
-use crate::updated::PieUpdated;
+use pie_abi::packet::{ecn, is_bad_size};
+use pie_abi::params::are_in_range;
 use pie_aqm::{Arrival, calls_keep_it_sound, calls_look_back};
 use pie_fixed::MAX_NANOS;
 use pie_params::Elements;

@@ -1,5 +1,5 @@
-/* Calls at the ports of a link, as C11 and C++11: what each answers and leaves, by one thread; then sixteen threads that count what they asked, four of
- * which are cancelled between two calls; then each request for memory refused in turn. bindings/c/threads.sh builds and runs it. */
+/* Calls at the ports of a link, as C11 and C++11: what each answers and leaves, by one thread; then sixteen threads that count what they asked,
+ * four of which are cancelled between two calls; then each request for memory refused in turn. bindings/c/threads.sh builds and runs it. */
 #include "pie_link.h"
 
 #include <pthread.h>
@@ -7,12 +7,12 @@
 #include <stdlib.h>
 #include <string.h>
 
-#define CHECK(c)                                                                                                                                             \
-    do {                                                                                                                                                     \
-        if (!(c)) {                                                                                                                                          \
-            fprintf(stderr, "bindings/c/ports.c:%d: %s\n", __LINE__, #c);                                                                                    \
-            exit(1);                                                                                                                                         \
-        }                                                                                                                                                    \
+#define CHECK(c) \
+    do { \
+        if (!(c)) { \
+            fprintf(stderr, "bindings/c/ports.c:%d: %s\n", __LINE__, #c); \
+            exit(1); \
+        } \
     } while (0)
 
 static struct pie_event event_at(uint64_t moment, uint64_t tag) {

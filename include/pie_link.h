@@ -18,7 +18,8 @@
  * waits is ever served; and what every caller in C owes, since nothing can check it:
  *
  * - A port is one thread's at a time. It goes to another thread by what orders memory between them: a mutex, a thread's start or join, a
- *   sequentially consistent atomic. A struct pie_port is moved, never copied to be used twice, and all zeros before it is opened.
+ *   sequentially consistent atomic. (That what it points to may is proved; that this struct may, and that calls run at once, is trusted.) A
+ *   struct pie_port is moved, never copied to be used twice, and all zeros before it is opened.
  * - Pointers point to structs that no other thread reads or writes during the call, and that do not overlap.
  * - pie_link_gather is handed two ports of one link.
  * - Each packet is a name here, `tag`: the link has the order in which packets leave, and the caller has the packets.

@@ -6,7 +6,7 @@ Each script says in its head what it needs, on a line `needs: WORD, WORD..`, and
   nothing          nothing that is built: it runs before the proofs
   program          crates/pie/out/pie, which `rt run` in crates/pie builds and the gate leaves there
   CRATE            the program of that crate
-  library          crates/pie_c/out/libpie_c.a, which is built first
+  library          the static libraries of pie_c and pie_link_c, which are built first
   root             leave to make network namespaces; without it the script itself says what was NOT RUN
   quiet            the machine to itself: it runs after the others, alone
   an early start   it takes longest

@@ -1,8 +1,8 @@
 #!/usr/bin/env python3
-"""Builds the static library, crates/pie_c/out/libpie_c.a, or that of the crate that is named (pie_link_c). `rt lib` does that too, and proves again what
-it has no kept work of: in a fresh clone all crates below. Where the gate has just proved these (`rt ci` leaves each library in out/rlib, with no
-stamp), and no source is newer than they are, the crate alone is proved and compiled, over them; and where the library is newer than all of these,
-it stays.
+"""Builds the static libraries, crates/pie_c/out/libpie_c.a and crates/pie_link_c/out/libpie_link_c.a, or that of the crate that is named. `rt lib`
+does that too, and proves again what it has no kept work of: in a fresh clone all crates below. Where the gate has just proved these (`rt ci` leaves each
+library in out/rlib, with no stamp), and no source is newer than they are, the crate alone is proved and compiled, over them; and where the library is
+newer than all of these, it stays.
 
 usage: bindings/c/library.py [CRATE]"""
 import importlib.machinery
@@ -74,9 +74,11 @@ def main():
         print(f"bindings/c/library.py: {type(why).__name__}: {why}", flush=True)
     print("bindings/c/library.py: by rt lib", flush=True)
     status = subprocess.run(["rt", "lib"], cwd=f"crates/{CRATE}").returncode
-    if status == 0:
-        with_memory()
-    sys.exit(status)
+    if status:
+        sys.exit(status)
+    with_memory()
 
 
 main()
+if len(sys.argv) == 1:
+    sys.exit(subprocess.run([os.path.abspath(__file__), "pie_link_c"]).returncode)

@@ -24,7 +24,7 @@ from pathlib import Path
 sys.path.insert(0, f"{os.path.dirname(os.path.abspath(__file__))}/../shared")
 from checks import NAME, ROOT, check, finish  # noqa: E402
 
-BUILT = ["crates/pie/out/pie", "crates/pie_c/out/libpie_c.a"]
+BUILT = ["crates/pie/out/pie", "crates/pie_c/out/libpie_c.a", "crates/pie_link_c/out/libpie_link_c.a"]
 RUN = ["README.md", "bindings/**/*.md", "examples/**/*.md"]
 LINKED = [*RUN, "*.md", "docs/*.md", "bench/*.md"]
 LINK = re.compile(r"\]\(([^)\s]+)\)")

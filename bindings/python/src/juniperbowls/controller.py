@@ -103,7 +103,23 @@ def set_params(state: RawState, params: Params, asked: RawEvent) -> None:
         raise Refused(code, params.check() or "" if code == Refusal.BAD_PARAMS else "")
 
 
-class Controller:
+class Held:
+    """What holds a controller's numbers."""
+
+    _state: RawState
+
+    @property
+    def state(self) -> State:
+        """The registers."""
+        return State.of(self._state)
+
+    @property
+    def due(self) -> int:
+        """The moment from which the next update isn't too soon."""
+        return int(LIBRARY.pie_due(byref(self._state)))
+
+
+class Controller(Held):
     """PIE for a queue of the caller's, who has the packets, the clock and the random words. Each call is one of include/pie.h, which says what its
     caller owes; what is refused raises `Refused` and changes nothing. With a `Recorder` each call leaves its record, refused ones too. It is for one
     thread at a time.
@@ -118,16 +134,6 @@ class Controller:
 
     def __init__(self, opening: Opening, history: Recorder | None = None):
         self._state, self._history = opened(opening), history
-
-    @property
-    def state(self) -> State:
-        """The registers."""
-        return State.of(self._state)
-
-    @property
-    def due(self) -> int:
-        """The moment from which the next update isn't too soon."""
-        return int(LIBRARY.pie_due(byref(self._state)))
 
     def arrive(self, queued: int, size: int, room: int, ecn: int, word: int, moment: int | str, *, tag: int = 0, caller: int = 1) -> Verdict:
         """Decides on a packet that arrives, with so many bytes in the queue, room for so many packets more, and a random word of 64 bits."""

@@ -10,7 +10,7 @@ import numpy as np
 import numpy.typing as npt
 
 from ._library import ALL, EVENTS, GROW, KIND, LIBRARY, OUT, REFUSED, RawEvent, RawQueue, number
-from .controller import Ecn, Kind, State, Updated, Verdict, event, opened, set_params
+from .controller import Ecn, Held, Kind, Updated, Verdict, event, opened, set_params
 from .history import EVENT, Events, Place, Recorder
 from .opening import Opening, Params, whole
 from .refusal import Refused
@@ -55,7 +55,7 @@ def events(kinds: npt.ArrayLike, moments: npt.ArrayLike, **columns: npt.ArrayLik
     return made
 
 
-class Queue:
+class Queue(Held):
     """Packets in order, with PIE in front. What is refused raises `Refused` and changes nothing. `history` names a file, or is a `Recorder`: then
     every event is recorded, by the library's writers, and `pie audit` finds the history clean. Random words that are not handed in come from a
     generator that `seed` begins. It is for one thread at a time.
@@ -74,16 +74,6 @@ class Queue:
         self._history = history if isinstance(history, Recorder) or history is None else Recorder(history, opening)
         self._random = np.random.default_rng(seed)
         self._arrivals = 0
-
-    @property
-    def state(self) -> State:
-        """The controller's registers."""
-        return State.of(self._state)
-
-    @property
-    def due(self) -> int:
-        """The moment from which the next update isn't too soon."""
-        return int(LIBRARY.pie_due(byref(self._state)))
 
     @property
     def packets(self) -> int:

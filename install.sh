@@ -1,6 +1,6 @@
 #!/usr/bin/env bash
-# Installs below a prefix what was built: the program pie with its manual page and completions, pie-report with its own, and the libraries for C
-# with their headers and pkg-config files, the one for one thread also as a shared library, which a C compiler links.
+# Installs below a prefix what was built: the program pie with its manual page and completions, pie-report and pie-metrics with theirs, a dashboard for
+# Grafana, and the libraries for C with their headers and pkg-config files, the one for one thread also as a shared library, which a C compiler links.
 #
 # usage: ./install.sh PREFIX [program|library]..   both, where neither is named; DESTDIR, where it is set, is put before PREFIX
 #        ./install.sh --archive FILE               all of it as an archive, by its ending (.tar, .tar.gz, .tar.xz), which is unpacked anywhere, and
@@ -52,10 +52,12 @@ program() {
     local part
     put 755 crates/pie/out/pie bin/pie
     put 755 report/pie-report bin/pie-report
-    for part in page.html page.css page.js; do
+    put 755 report/pie-metrics bin/pie-metrics
+    for part in page.html page.css page.js grafana.json; do
         put 644 report/$part share/pie/$part
     done
     put 644 man/pie-report.1 share/man/man1/pie-report.1
+    put 644 man/pie-metrics.1 share/man/man1/pie-metrics.1
     # the manual page and completions, where the repository has them
     [ ! -e man/pie.1 ] || put 644 man/pie.1 share/man/man1/pie.1
     [ ! -e completions/pie.bash ] || put 644 completions/pie.bash share/bash-completion/completions/pie

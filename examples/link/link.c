@@ -6,6 +6,7 @@
 #define _GNU_SOURCE
 #include "flight_file.h"
 #include "history.h"
+#include "metrics.h"
 #include "options.h"
 #include "packet.h"
 #include "pie.h"
@@ -32,11 +33,6 @@
 #define WORDS 128          /* random words taken at once */
 #define LOOK_TIME 1000000  /* ns that the history's thread waits where there is no event */
 
-/* What was counted. */
-struct counts {
-    uint64_t arrivals, verdicts[PIE_PACKETS + 1], departures, updates, late, lost;
-};
-
 struct bottleneck {
     const struct options *options;
     int from, to;          /* the devices */
@@ -51,9 +47,11 @@ struct bottleneck {
     uint64_t next_update;  /* the moment from which an update is not too soon */
     struct history history;
     struct flight_file flight;
-    pthread_t writer;      /* of the history, and of the flight recorder's text */
+    pthread_t writer;      /* of the history, of the flight recorder's text, and of the metrics */
     atomic_bool is_closed; /* whether the writer has to end */
-    struct counts counts;
+    struct metrics counted;
+    struct metrics_file metrics;
+    uint64_t lost;         /* packets, at the devices */
 };
 
 static volatile sig_atomic_t is_stopped;
@@ -119,7 +117,7 @@ static int open_device(const char *name) {
 /* Hands a packet to a device. One that the device does not take, since it is down or full, is lost, as on a wire. */
 static void send_packet(struct bottleneck *link, int device, struct packet *packet) {
     if (write(device, packet->bytes, packet->size) != (ssize_t)packet->size)
-        link->counts.lost++;
+        link->lost++;
     free(packet);
 }
 
@@ -133,7 +131,7 @@ static void release(struct bottleneck *link, struct packets *packets, int device
 static void arrive(struct bottleneck *link, struct packet *packet, uint64_t now) {
     struct pie_event *event = next_event(&link->history, SENDER, now);
     uint32_t room = (uint32_t)link->options->control.opening.packets - link->queue.count;
-    packet->tag = ++link->counts.arrivals;
+    packet->tag = link->counted.arrived + 1;
     packet->moment = now;
     packet->ecn = ecn_of(packet->bytes, packet->size);
     event->tag = packet->tag;
@@ -144,8 +142,8 @@ static void arrive(struct bottleneck *link, struct packet *packet, uint64_t now)
     if (verdict > PIE_PACKETS)
         die_refused("pie_arrive_event", verdict);
     keep_event(&link->flight, &link->pie, event);
+    count_event(&link->counted, event, 0);
     packet->arrived = link->pie.moment;
-    link->counts.verdicts[verdict]++;
     if (verdict == PIE_MARK) {
         set_ce(packet->bytes, packet->size);
         packet->ecn = PIE_CE;
@@ -162,7 +160,7 @@ static void turn_back(struct bottleneck *link, struct packet *packet, uint64_t n
     if (link->back.count < BACK_PACKETS) {
         push(&link->back, packet);
     } else {
-        link->counts.lost++;
+        link->lost++;
         free(packet);
     }
 }
@@ -203,7 +201,7 @@ static void depart(struct bottleneck *link, uint64_t now, uint64_t until) {
     if (code != PIE_DONE)
         die_refused("pie_depart_event", code);
     keep_event(&link->flight, &link->pie, event);
-    link->counts.departures++;
+    count_event(&link->counted, event, link->pie.moment - packet->arrived);
     packet->moment = until;
     push(&link->there, packet);
 }
@@ -243,12 +241,11 @@ static void update(struct bottleneck *link, uint64_t now) {
     struct pie_event *event = next_event(&link->history, TIMER, now);
     uint32_t code = pie_update_event(&link->pie, link->queue.bytes, event);
     keep_event(&link->flight, &link->pie, event);
-    if (code == PIE_DONE) {
-        link->counts.updates++;
-        link->counts.late += now - link->next_update > link->pie.params.t_update;
-    } else if (code != PIE_TOO_SOON) {
+    count_event(&link->counted, event, 0);
+    if (code == PIE_DONE)
+        link->counted.late += now - link->next_update > link->pie.params.t_update;
+    else if (code != PIE_TOO_SOON)
         die_refused("pie_update_event", code);
-    }
     link->next_update = pie_due(&link->pie);
 }
 
@@ -270,6 +267,21 @@ static void wait_for_work(struct bottleneck *link, const sigset_t *signals) {
         die("ppoll");
 }
 
+/* Hands what was counted to the thread that writes, once a second. */
+static void tell(struct bottleneck *link, uint64_t now) {
+    struct metrics *counted = &link->counted;
+    if (!is_metrics_due(&link->metrics, now))
+        return;
+    counted->lost = link->history.file != NULL ? link->history.ring.lost_in_all : 0;
+    counted->prob = link->pie.prob;
+    counted->delay = link->pie.old_delay;
+    counted->target = link->pie.params.target;
+    counted->burst = link->pie.burst;
+    counted->packets = link->queue.count;
+    counted->bytes = link->queue.bytes;
+    tell_metrics(&link->metrics, counted, now);
+}
+
 /* Moves what has to move now. */
 static void step(struct bottleneck *link) {
     uint64_t now = moment_of(link);
@@ -281,6 +293,7 @@ static void step(struct bottleneck *link) {
     receive(link, link->to, turn_back);
     serve(link, moment_of(link));
     publish_events(&link->history);
+    tell(link, now);
 }
 
 /* Writes what the flight recorder holds, where somebody asked for it. */
@@ -293,12 +306,13 @@ static void write_if_asked(const struct bottleneck *link) {
     fprintf(stderr, "link: %s.history: %s\n", flight->name, flight_text(answer));
 }
 
-/* The thread that writes the history, and the flight recorder's text. */
+/* The thread that writes the history, the flight recorder's text, and the metrics. */
 static void *write_history(void *argument) {
     struct bottleneck *link = argument;
     const struct timespec pause = {.tv_nsec = LOOK_TIME};
     while (!atomic_load(&link->is_closed)) {
         write_if_asked(link);
+        write_told_metrics(&link->metrics, "link");
         if (!write_events(&link->history))
             nanosleep(&pause, NULL);
     }
@@ -312,11 +326,11 @@ static void hold_signals(sigset_t *before) {
     sigset_t held;
     sigemptyset(&action.sa_mask);
     sigemptyset(&held);
-    sigaddset(&held, SIGINT);
-    sigaddset(&held, SIGTERM);
-    sigaddset(&held, SIGUSR1);
-    if (sigaction(SIGINT, &action, NULL) != 0 || sigaction(SIGTERM, &action, NULL) != 0 || sigaction(SIGUSR1, &action, NULL) != 0 ||
-        sigprocmask(SIG_BLOCK, &held, before) != 0)
+    const int numbers[] = {SIGINT, SIGTERM, SIGHUP, SIGUSR1};
+    for (size_t i = 0; i < sizeof numbers / sizeof numbers[0]; i++)
+        if (sigaddset(&held, numbers[i]) != 0 || sigaction(numbers[i], &action, NULL) != 0)
+            die("signals");
+    if (sigprocmask(SIG_BLOCK, &held, before) != 0)
         die("signals");
 }
 
@@ -336,26 +350,29 @@ static void open_link(struct bottleneck *link, const struct options *options) {
     if (!open_flight(&link->flight, options->flight, opening, &link->pie))
         die(options->flight);
     tell_flight(&link->flight, moment, unix_time);
+    open_metrics(&link->metrics, options->metrics, options->to);
     if (pthread_create(&link->writer, NULL, write_history, link) != 0)
         die("a thread for the history");
 }
 
 static void close_link(struct bottleneck *link) {
-    const struct counts *counts = &link->counts;
+    const struct metrics *counted = &link->counted;
     free_all(&link->queue);
     free_all(&link->there);
     free_all(&link->back);
     atomic_store(&link->is_closed, true);
     pthread_join(link->writer, NULL);
+    if (!remove_metrics())
+        die(link->options->metrics);
     if (!close_history(&link->history))
         die("history");
     if (link->history.text.lost != 0)
         fprintf(stderr, "link: %" PRIu64 " events are missing in the history\n", link->history.text.lost);
     printf("link: %" PRIu64 " packets arrived: %" PRIu64 " waited, %" PRIu64 " marked, %" PRIu64 " dropped early, %" PRIu64
            " for want of bytes, %" PRIu64 " of room; %" PRIu64 " left, %" PRIu64 " lost at the devices\n",
-           counts->arrivals, counts->verdicts[PIE_ENQUEUE], counts->verdicts[PIE_MARK], counts->verdicts[PIE_EARLY],
-           counts->verdicts[PIE_BYTES], counts->verdicts[PIE_PACKETS], counts->departures, counts->lost);
-    printf("link: %" PRIu64 " updates, %" PRIu64 " of them later than by a whole period\n", counts->updates, counts->late);
+           counted->arrived, counted->enqueued, counted->marked, counted->early, counted->over_bytes, counted->over_packets, counted->departed,
+           link->lost);
+    printf("link: %" PRIu64 " updates, %" PRIu64 " of them later than by a whole period\n", counted->updates, counted->late);
 }
 
 int main(int count, char **words) {

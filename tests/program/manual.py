@@ -1,8 +1,8 @@
 #!/usr/bin/env python3
 """Holds the manual page and the completions to the program: each subcommand and each long option that `--help` tells is in man/pie.1 and in
 the completions for bash, zsh and fish, under its subcommand, and they have no others; the page's synopsis has those of each subcommand too, but
-where it ends in dots. Where bash, zsh and fish are there, what they offer is asked of them. So are the options of man/pie-report.1 those that
-`pie-report --help` tells. Exit status 1 where something is missing or too much.
+where it ends in dots. Where bash, zsh and fish are there, what they offer is asked of them. So are the options of man/pie-report.1 and of
+man/pie-metrics.1 those that `pie-report --help` and `pie-metrics --help` tell. Exit status 1 where something is missing or too much.
 
 usage: tests/program/manual.py [PROGRAM]      PROGRAM: crates/pie/out/pie where none is given
 needs: program
@@ -53,13 +53,13 @@ def tagged(text):
     return {option.replace("\\", ""): bool(value) for value, option in TAGGED.findall(text)}
 
 
-def hold_report():
-    """The manual page of pie-report beside its help."""
-    text = (ROOT / "man/pie-report.1").read_text(encoding="utf-8").split(".SH OPTIONS\n")[1].split(".SH EXIT")[0]
-    help_text = section(output([ROOT / "report/pie-report", "--help"]), "Options")
+def hold_script(script):
+    """The manual page of a script of report/ beside its help."""
+    text = (ROOT / f"man/{script}.1").read_text(encoding="utf-8").split(".SH OPTIONS\n")[1].split(".SH EXIT")[0]
+    help_text = section(output([ROOT / "report" / script, "--help"]), "Options")
     wanted = {option: bool(value) for option, value in re.findall(r"^ +(?:-\w, )?--([\w-]+)( <\w+>)?", help_text, re.M)}
     if tagged(text) != wanted or "output" not in wanted:
-        fail("man/pie-report.1: options", tagged(text), "and not", wanted)
+        fail(f"man/{script}.1: options", tagged(text), "and not", wanted)
 
 
 def manual():
@@ -126,7 +126,8 @@ def main():
     if f'"{version}"' not in page:
         fail("man/pie.1 is of another version than", version)
     listed, cut = synopsis(page)
-    hold_report()
+    for script in ("pie-report", "pie-metrics"):
+        hold_script(script)
     zsh = zsh_options(names)
     for name in ["", *names]:
         # Each subcommand has --help; the manual page says so once.
@@ -149,7 +150,7 @@ def main():
     if shutil.which("zsh") and subprocess.run(["zsh", "-n", ROOT / "completions/_pie"], check=False).returncode != 0:
         fail("completions/_pie: zsh can't read it")
     if shutil.which("man"):
-        for page in ("pie.1", "pie-report.1"):
+        for page in ("pie.1", "pie-report.1", "pie-metrics.1"):
             read = ["man", "--warnings", "-l", ROOT / "man" / page]
             if subprocess.run(read, stdout=subprocess.DEVNULL, stderr=subprocess.PIPE, check=False).stderr:
                 fail(f"man/{page}: man warns of it")

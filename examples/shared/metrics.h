@@ -1,0 +1,92 @@
+/* The numbers of a queue as metrics, in the text format of Prometheus, for node_exporter's textfile collector. Their names and labels have their
+ * home in metrics.c, and in docs/FORMATS.md; report/pie-metrics writes the same from records. */
+#ifndef SHARED_METRICS_H
+#define SHARED_METRICS_H
+
+#include "pie.h"
+
+#include <stdatomic.h>
+#include <stdbool.h>
+#include <stddef.h>
+#include <stdint.h>
+
+#define METRICS_WAITS 13 /* sorts of waits that are counted .. */
+#define METRICS_PROBS 13 /* .. and of probabilities; the last of each has no bound */
+
+/* The longest wait of a sort: 250 us, 500 us and so on to 512 ms, in nanoseconds. */
+static inline uint64_t metrics_wait_bound(uint32_t sort) {
+    return UINT64_C(250000) << sort;
+}
+
+/* The greatest probability of a sort, in units of 10^-12: 0.0001, 0.0002, 0.0005, 0.001 and so on to 0.5. */
+static inline uint64_t metrics_prob_bound(uint32_t sort) {
+    uint64_t bound = sort % 3 == 0 ? 100000000 : sort % 3 == 1 ? 200000000 : 500000000;
+    for (; sort >= 3; sort -= 3)
+        bound *= 10;
+    return bound;
+}
+
+/* A queue: what was counted since it was opened, which never falls, and what it holds now. */
+struct metrics {
+    uint64_t arrived, arrived_bytes; /* that the controller decided on; by its verdicts: */
+    uint64_t enqueued;               /* without a mark */
+    uint64_t marked;
+    uint64_t early;                  /* dropped by early drop */
+    uint64_t over_bytes;             /* dropped by the byte limit */
+    uint64_t over_packets;           /* dropped, the queue had no room for another packet */
+    uint64_t oversized, refused;     /* dropped undecided: for a size outside 1 to 65535 bytes, and by a refusal */
+    uint64_t departed, departed_bytes;
+    uint64_t updates, late;          /* and of these, later than by a whole period */
+    uint64_t lost;                   /* events that the history lacks */
+    uint64_t waits[METRICS_WAITS];   /* packets that departed, by their waits .. */
+    unsigned __int128 waited;        /* .. and these together, in nanoseconds: 64 bits would wrap in days */
+    uint64_t probs[METRICS_PROBS];   /* updates, by the probability after them .. */
+    unsigned __int128 probs_sum;     /* .. and these together, in 10^-12 */
+    uint64_t prob, delay, target, burst; /* the probability in 10^-12, and nanoseconds */
+    uint64_t packets, bytes;         /* in the queue */
+};
+
+/* Counts a call that ends in _event, but not one that was refused; `waited`: of a departure, how long its packet had waited, in nanoseconds. */
+void count_event(struct metrics *metrics, const struct pie_event *event, uint64_t waited);
+
+/* A queue by its labels: of which link it is, and which queue of that. */
+struct metrics_queue {
+    const char *link;
+    unsigned int queue;
+    const struct metrics *metrics;
+};
+
+/* Writes the metrics of `count` queues beside a file and moves them there, so that a reader finds the old text or the new one; false where that
+ * fails, with errno. When the program ends by exit the file goes, since there is no queue any more of which it tells. One file a program. */
+bool write_metrics(const char *path, const struct metrics_queue *queues, size_t count);
+
+/* Takes the file away, for who wants to know whether it went; false where that fails, with errno. */
+bool remove_metrics(void);
+
+/* The metrics of one queue on their way from the thread that decides to one that writes. Neither waits for the other. */
+struct metrics_file {
+    const char *path; /* NULL where none are written */
+    struct metrics_queue queue;
+    struct metrics told;
+    uint64_t due;            /* the moment from which they are told again */
+    atomic_bool is_told;     /* `told` is the writer's; else the other's */
+    bool is_refused;         /* it was said that the file cannot be written */
+};
+
+#define METRICS_PERIOD UINT64_C(1000000000) /* ns */
+
+/* Names the file (NULL: none), and the link of the one queue. */
+void open_metrics(struct metrics_file *file, const char *path, const char *link);
+
+/* By the thread that decides: whether a second has passed, and the metrics before it were written. */
+static inline bool is_metrics_due(const struct metrics_file *file, uint64_t moment) {
+    return file->path != NULL && moment >= file->due && !atomic_load_explicit(&file->is_told, memory_order_acquire);
+}
+
+/* Hands the metrics over, where they are due. */
+void tell_metrics(struct metrics_file *file, const struct metrics *metrics, uint64_t moment);
+
+/* By the thread that writes: writes what was told; says once, for `program`, where that cannot be done. */
+void write_told_metrics(struct metrics_file *file, const char *program);
+
+#endif

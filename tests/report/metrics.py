@@ -1,0 +1,401 @@
+#!/usr/bin/env python3
+"""Metrics (report/pie-metrics, examples/shared/metrics.c). The counters of pie-metrics are those of `pie explain --summary`, to the number: of the
+records of examples/, of records that a writer goes on with, that begin anew, or that are written again, and of what a flight recorder wrote. With
+--state none falls and no period is lost; the file goes when its writer ended or fell silent. Then the link of examples/link, by an overload of UDP
+in a namespace of its own: its metrics, its history and its flight recorder's memory tell the same numbers, its file goes at each signal, and what
+it writes has the names of pie-metrics. promtool, where it is, says nothing of any of it.
+
+usage: tests/report/metrics.py [PROGRAM]      PROGRAM: crates/pie/out/pie where none is named
+needs: program, library, root
+"""
+import contextlib
+import csv
+import io
+import os
+import re
+import shutil
+import signal
+import socket
+import subprocess
+import sys
+import tempfile
+import time
+from pathlib import Path
+
+sys.path.insert(0, f"{os.path.dirname(os.path.abspath(__file__))}/../shared")
+from checks import NAME, ROOT, check, finish, program  # noqa: E402
+
+PROGRAM = program()
+METRICS = ROOT / "report/pie-metrics"
+LINK = ROOT / "examples/link"
+# The counters, by the fields of a summary.
+COUNTERS = {"arrived_packets": "arrivals", "arrived_bytes": "arrived_bytes", "enqueued_packets": "enqueue", "marked_packets": "mark",
+            "early_drops": "early", "byte_limit_drops": "bytes", "packet_limit_drops": "packets", "departed_packets": "left",
+            "departed_bytes": "carried_bytes", "updates": "updates"}
+GAUGES = {"probability_ratio": ("last_probability", 1e12), "delay_seconds": ("last_delay", 1e9), "target_seconds": ("last_target", 1e9),
+          "burst_allowance_seconds": ("last_burst_allowance", 1e9), "period_wait_99_seconds": ("wait_99", 1e9)}
+HOSTS = ("10.99.0.1", "10.99.0.2")
+linted = []
+
+
+def explain(path, *words):
+    return subprocess.run([PROGRAM, "explain", "--csv", *words, "--", path], capture_output=True, text=True, check=True).stdout
+
+
+def cut(path, *words):
+    return subprocess.run([PROGRAM, "cut", *words, path], capture_output=True, text=True, check=True).stdout
+
+
+def table(text):
+    return [{name: int(value) for name, value in row.items()} for row in csv.DictReader(io.StringIO(text))]
+
+
+def summary(path):
+    return table(explain(path, "--summary"))[0]
+
+
+def metrics(path, *words):
+    done = subprocess.run([METRICS, "--pie", PROGRAM, "--flight-text", LINK / "out/flight_text", *words, path], capture_output=True, text=True,
+                          check=False)
+    return done.returncode, done.stdout, done.stderr
+
+
+def read(text):
+    """The samples, by their names behind pie_ and without link and queue; of a bucket with its bound."""
+    if text not in linted:
+        linted.append(text)
+    samples = {}
+    for line in text.splitlines():
+        if not line.startswith("# "):
+            found = re.fullmatch(r'pie_(\w+)\{link="(?:[^"\\]|\\.)*",queue="(?:[^"\\]|\\.)*"(?:,le="([^"]+)")?\} ([\d.]+)', line)
+            check(found, f"a sample: {line}")
+            samples[found[1] + (f" {found[2]}" if found[2] else "")] = float(found[3]) if "." in found[3] else int(found[3])
+    return samples
+
+
+def families(text):
+    return set(re.findall(r"^# (?:HELP|TYPE) .*$", text, re.M))
+
+
+def lint():
+    """promtool finds nothing wrong with any text."""
+    if shutil.which("promtool") is None:
+        print(f"NOT RUN: {NAME}: no promtool here, so nothing else than this script read the metrics (bindings/dpdk/install.sh)")
+        return
+    for text in linted:
+        done = subprocess.run(["promtool", "check", "metrics"], input=text, capture_output=True, text=True, check=False)
+        check((done.returncode, done.stdout, done.stderr) == (0, "", ""), "promtool:", done.stdout, done.stderr)
+
+
+def hold_counters(what, samples, wanted, fields=COUNTERS):
+    for name in fields:
+        check(samples[f"{name}_total"] == wanted[COUNTERS[name]], f"{what}: {name}: {samples[f'{name}_total']}, not {wanted[COUNTERS[name]]}")
+
+
+def hold_histogram(what, samples, name, count):
+    buckets = [value for key, value in samples.items() if key.startswith(f"{name}_bucket ")]
+    check(buckets == sorted(buckets) and buckets[-1] == samples[f"{name}_count"] == count, f"{what}: {name}: {buckets}, not {count}")
+
+
+def periods_of(path, time_of_period="50ms"):
+    head, *rows = explain(path, f"--every={time_of_period}").splitlines(keepends=True)
+    return head, rows
+
+
+def of_records(folder):
+    """All examples, whole."""
+    for path in sorted((ROOT / "examples").glob("*.history")):
+        records, (head, rows) = Path(folder, f"{path.stem}.csv"), periods_of(path)
+        records.write_text("".join([head, *rows]))
+        status, text, errors = metrics(records)
+        check((status, errors) == (0, ""), f"{path.name}: {status}, {errors}")
+        samples, last = read(text), table(head + rows[-1])[0]
+        hold_counters(path.name, samples, summary(path))
+        hold_histogram(path.name, samples, "wait_seconds", samples["departed_packets_total"])
+        waited = sum(row["left"] * row["mean_wait"] for row in table("".join([head, *rows])))
+        check(abs(samples["wait_seconds_sum"] - waited / 1e9) < 1e-8, f"{path.name}: what packets waited")
+        for name, (field, parts) in GAUGES.items():
+            check(abs(samples[name] - last[field] / parts) < 1e-12, f"{path.name}: {name}")
+        check(f'{{link="{path.stem}",queue="0"' in text, f"{path.name}: its labels")
+
+
+class Watched:
+    """Looks at records again and again with a state: no counter falls."""
+
+    def __init__(self, folder, name):
+        self.records, self.state, self.output = (Path(folder, f"{name}.{ending}") for ending in ("csv", "state", "prom"))
+        self.name, self.before = name, {}
+
+    def look(self, text=None):
+        if text is not None:
+            self.records.write_text(text)
+        status, printed, errors = metrics(self.records, "--state", self.state, "-o", self.output)
+        check((status, printed, errors) == (0, "", ""), f"{self.name}: {status}, {errors}")
+        samples = read(self.output.read_text())
+        for name, value in samples.items():
+            if name.endswith(("_total", "_sum", "_count")) or "_bucket" in name:
+                check(value >= self.before.get(name, 0), f"{self.name}: {name} falls from {self.before.get(name)} to {value}")
+        self.before = samples
+        check(not Path(f"{self.output}.new").exists() and not Path(f"{self.state}.new").exists(), f"{self.name}: a file is left beside it")
+        return samples
+
+
+def sums(*rows):
+    return {field: sum(row[field] for row in rows) for field in COUNTERS.values()}
+
+
+def goes_on(folder):
+    """A writer that goes on, in pieces of several periods and in the middle of a record; then others begin anew, the last with the same file's name
+    for a history that grew within its last period."""
+    watched = Watched(folder, "goes-on")
+    overload, marks = ROOT / "examples/overload.history", ROOT / "examples/marks.history"
+    head, rows = periods_of(overload)
+    text, whole = "".join([head, *rows]), summary(overload)
+    check(len(rows) > 12, "goes-on: too few periods")
+    for end in (len(head + rows[0]), len(head + rows[0]) + 30, *range(len(head) + 700, len(text), 777), len(text), len(text)):
+        samples = watched.look(text[:end])
+        hold_counters(f"{end} bytes of records", samples, sums(*table(text[:end].rpartition("\n")[0])))
+    hold_counters("a writer that went on", samples, whole)
+    other_head, other = periods_of(marks)
+    samples = watched.look("".join([other_head, *other[:3]]))
+    samples = watched.look("".join([other_head, *other]))
+    hold_counters("records that began anew", samples, sums(whole, summary(marks)))
+    again = Watched(folder, "again")
+    lines = overload.read_text().splitlines(keepends=True)
+    for count in (501, 502, 700, len(lines)):
+        part = Path(folder, "part.history")
+        part.write_text("".join(lines[:count]))
+        head, rows = periods_of(part)
+        hold_counters(f"{count} events, written again", again.look("".join([head, *rows])), summary(part))
+    head, rows = periods_of(overload, "10ms")
+    hold_counters("shorter periods: another file", again.look("".join([head, *rows])), sums(whole, whole))
+    again.look("".join([head, *rows[:5]]))  # (one that lost its end: what is right nobody knows, but nothing falls)
+
+
+def is_gone(what, watched, status, said, *words):
+    """A look after which there is no file, and which says why."""
+    got, _, errors = metrics(watched.records, "-o", watched.output, *words)
+    check(got == status and said in errors and not watched.output.exists(), f"{what}: {got}, {errors}, {watched.output.exists()}")
+
+
+def ends(folder):
+    """Where the writer ended or fell silent, or its records have a fault, the file goes."""
+    watched = Watched(folder, "ends")
+    head, rows = periods_of(ROOT / "examples/overload.history")
+    watched.look("".join([head, *rows]))
+    old = time.time() - 100
+    os.utime(watched.records, (old, old))
+    is_gone("silent", watched, 3, "nothing was written for 100 s")
+    check(metrics(watched.records, "--stale", "120", "-o", watched.output)[0] == 0 and watched.output.exists(), "--stale: told as silent")
+    for what, text, status, said in (("no record", head, 3, "no period is over yet"), ("nothing", "", 3, "nothing is there"),
+                                     ("nonsense", head + "1,2,3\n", 1, "no record of a period"), ("no records", "nonsense\n", 1, "neither"),
+                                     ("a hostile record", head + rows[0].replace(",", ',"', 1), 1, "no record of a period")):
+        watched.output.write_text("old")
+        watched.records.write_text(text)
+        is_gone(what, watched, status, said)
+    watched.records.unlink()
+    watched.output.write_text("old")
+    is_gone("no file", watched, 3, "No such file")
+    watched.records.write_text(head + rows[0])
+    for state in ("{", "[]", '{"base": {}, "known": {"records": {}}}', '{"base": 5, "known": {}}'):
+        watched.state.write_text(state)
+        is_gone(f"a state {state}", watched, 1, "no state of this program", "--state", watched.state)
+    for number in (signal.SIGTERM, signal.SIGINT, signal.SIGHUP):
+        words = [METRICS, "--again", "0.1", "-o", watched.output, watched.records]
+        with ended(subprocess.Popen(words, stderr=subprocess.PIPE, text=True)) as process:
+            wait_for(watched.output.exists)
+            watched.records.rename(f"{watched.records}.away")
+            wait_for(lambda: not watched.output.exists())
+            Path(f"{watched.records}.away").rename(watched.records)
+            wait_for(watched.output.exists)
+            process.send_signal(number)
+            errors = process.communicate(timeout=10)[1]
+        check(process.returncode == 0 and errors.count("\n") == 1, f"--again: {process.returncode}, {errors}")
+        check(not watched.output.exists() and not Path(f"{watched.output}.new").exists(), f"--again: its file is left at {number.name}")
+    hostile = 'a"b\\c\nd'
+    text = metrics(watched.records, "--link", hostile, "--queue", hostile)[1]
+    check(text.count('{link="a\\"b\\\\c\\nd",queue="a\\"b\\\\c\\nd"') == len(read(text)), "hostile labels")
+
+
+@contextlib.contextmanager
+def ended(process):
+    """A process that is gone afterwards, whatever happens."""
+    with process:
+        try:
+            yield process
+        finally:
+            if process.poll() is None and sys.exc_info()[0]:
+                process.kill()
+
+
+def wait_for(holds, seconds=20):
+    end = time.monotonic() + seconds
+    while not holds():
+        if time.monotonic() > end:
+            raise TimeoutError("it does not come about")
+        time.sleep(0.02)
+
+
+def of_flights(folder):
+    """Texts that resume: the statistics are those of the whole history, and histograms have the events of the texts, each once."""
+    history = ROOT / "examples/overload.history"
+    fields = [name for name in COUNTERS if name != "arrived_bytes"]
+    rows = list(csv.DictReader(io.StringIO(explain(history, "--all"))))
+    numbers = range(1, len(rows) + 1)
+    state, seen, unseen, before = Path(folder, "flight.state"), set(), 0, 0
+    for first, last in ((200, 500), (300, 500), (450, 700), (800, len(rows)), (800, len(rows))):
+        text, part = Path(folder, "flight.text"), Path(folder, "flight.history")
+        part.write_text("".join(history.read_text().splitlines(keepends=True)[: last + 1]))
+        text.write_text(cut(part, "--event", str((first + last) // 2), "--around", str((last - first + 1) // 2)))
+        begins = int(text.read_text().split("\n", 1)[0].split(",")[-31]) + 1
+        seen |= {number for number in numbers if max(begins, before + 1) <= number <= last}
+        unseen, before = unseen + max(begins - before - 1, 0), last
+        status, printed, errors = metrics(text, "--state", state)
+        check((status, errors) == (0, ""), f"a text of a flight recorder: {status}, {errors}")
+        samples, what = read(printed), f"events {first} to {last}"
+        whole = summary(part)
+        hold_counters(what, samples, whole, fields)
+        of = [rows[number - 1] for number in seen]
+        check(samples["unseen_events_total"] == unseen, f"{what}: {samples['unseen_events_total']} went by unseen, not {unseen}")
+        check(samples["arrived_bytes_total"] == sum(int(row["size"]) for row in of if row["kind"] == "arrive"), f"{what}: bytes that arrived")
+        waits = [int(row["waited"]) for row in of if row["verdict"] == "left"]
+        hold_histogram(what, samples, "wait_seconds", len(waits))
+        check(samples["wait_seconds_bucket 0.064"] == sum(it <= 64000000 for it in waits), f"{what}: waits up to 64 ms")
+        check(abs(samples["wait_seconds_sum"] - sum(waits) / 1e9) < 1e-8, f"{what}: the waits' sum")
+        updates = [int(row["probability_after"]) for row in of if row["kind"] == "update"]
+        hold_histogram(what, samples, "updated_probability_ratio", len(updates))
+        check(samples["updated_probability_ratio_bucket 0.05"] == sum(it <= 5 * 10**10 for it in updates), f"{what}: probabilities up to 5 %")
+        end = rows[last - 1]
+        for name, field, parts in (("queue_packets", "packets_after", 1), ("queue_bytes", "bytes_after", 1), ("delay_seconds", "delay_after", 1e9),
+                                   ("probability_ratio", "probability_after", 1e12), ("burst_allowance_seconds", "burst_allowance_after", 1e9)):
+            check(abs(samples[name] - int(end[field]) / parts) < 1e-12, f"{what}: {name}: {samples[name]}, not {end[field]}")
+        check(samples["target_seconds"] == 0.015, f"{what}: the target")
+    other = Path(folder, "other.text")
+    other.write_text(cut(ROOT / "examples/marks.history", "--last", "100"))
+    samples = read(metrics(other, "--state", state)[1])
+    hold_counters("another recorder", samples, sums(summary(history), summary(ROOT / "examples/marks.history")), fields)
+    stale = Path(folder, "stale.text")
+    stale.write_text("open3,1,rate,derandomized,capped,unscaled,bounded,0,8,32,100\nclock,0,1764000000000000000\n"
+                     "arrive,1,0,1,1024,not,0\ndepart,1,5\n")
+    done = subprocess.run([PROGRAM, "run", "-o", Path(folder, "stale.history"), stale], capture_output=True, text=True, check=False)
+    check(done.returncode == 0, "a history with a time of day:", done.stderr)
+    stale.write_text(cut(Path(folder, "stale.history"), "--last", "1"))
+    status, printed, errors = metrics(stale)
+    check(status == 3 and "nothing was written for" in errors and not printed, f"a recorder that fell silent: {status}, {errors}")
+
+
+# ----- The link
+
+def overload_link(folder):
+    """In a namespace of its own: 3 s of UDP through the link at twice its rate, whose metrics are read when the queue is empty again."""
+    files = {name: Path(folder, f"link.{name}") for name in ("history", "flight", "prom")}
+    for file in Path(folder).glob("link.*"):
+        file.unlink()
+    words = ["--from", "north", "--to", "south", "--rate", "4mbit", "--for", "60s", "--rtt", "1ms", "--limit", "60p", "--history", files["history"],
+             "--flight", files["flight"], "--metrics", files["prom"]]
+    process = subprocess.Popen([LINK / "out/link", *words], stdout=subprocess.PIPE, stderr=subprocess.PIPE, text=True)
+    wait_for(lambda: Path("/sys/class/net/south").exists() and files["prom"].exists())
+    for line in ("link set north up", "link set south up", f"addr add {HOSTS[0]} peer {HOSTS[1]} dev north"):
+        subprocess.run(["ip", *line.split()], check=True)
+    with socket.socket(socket.AF_INET, socket.SOCK_DGRAM) as sender:
+        end, sent = time.monotonic() + 3, 0
+        while time.monotonic() < end:
+            sender.sendto(b"x" * (500 + sent % 700), (HOSTS[1], 9))
+            sent += 1
+            time.sleep(0.0007)
+    wait_for(lambda: queue_of(files["prom"].read_text()) == 0)
+    return process, files, sent
+
+
+def queue_of(text):
+    return read(text)["queue_packets"]
+
+
+def of_link(folder):
+    process, files, sent = overload_link(folder)
+    text = files["prom"].read_text()
+    flight = metrics(files["flight"], "--link", "south")
+    check(flight[0] == 0, f"the flight recorder's memory: {flight}")
+    process.send_signal(signal.SIGTERM)
+    printed, errors = process.communicate(timeout=20)
+    check(process.returncode == 0, f"the link: {process.returncode}, {errors}")
+    check(not files["prom"].exists() and not Path(f"{files['prom']}.new").exists(), "the link: its file is left")
+    whole, samples, other = summary(files["history"]), read(text), read(flight[1])
+    still = [name for name in COUNTERS if name != "updates"]  # (the timer went on)
+    hold_counters("the link", samples, whole, still)
+    hold_counters("its flight recorder", other, whole, still)
+    check(samples["arrived_packets_total"] >= sent and samples["early_drops_total"] > 0, f"the link: no overload: {sent} sent, {samples}")
+    check(0 < samples["updates_total"] <= other["updates_total"] <= whole["updates"], "the link: updates")
+    for name in ("wait_seconds", "updated_probability_ratio"):
+        hold_histogram("the link", samples, name, samples["departed_packets_total" if name == "wait_seconds" else "updates_total"])
+    for name, value in samples.items():
+        if name.startswith("wait_seconds"):
+            check(abs(other[name] - value) < 1e-8, f"{name}: {value} of the link, {other[name]} of its flight recorder")
+    check(samples["target_seconds"] == other["target_seconds"] and samples["queue_bytes"] == other["queue_bytes"] == 0, "the link: gauges")
+    own = families(text) - families(flight[1])
+    check({line.split()[2] for line in own} == {f"pie_{name}_total" for name in ("oversized_drops", "refused_drops", "late_updates", "lost_events")},
+          "families of the link alone:", own)
+    check({line.split()[2] for line in families(flight[1]) - families(text)} == {"pie_unseen_events_total"}, "families of pie-metrics alone")
+    check('{link="south",queue="0"} ' in text, "the link: its labels")
+    return sent
+
+
+def of_signals(folder):
+    """The link's file goes at each signal that ends it, and where its last second failed."""
+    for number in (signal.SIGINT, signal.SIGHUP):
+        prom = Path(folder, "signal.prom")
+        words = [LINK / "out/link", "--from", "north", "--to", "south", "--metrics", prom]
+        with ended(subprocess.Popen(words, stdout=subprocess.DEVNULL)) as process:
+            wait_for(prom.exists)
+            process.send_signal(number)
+        check(process.returncode == 0 and not prom.exists(), f"the link: its file is left at {number.name}")
+    prom = Path(folder, "full.prom")
+    words = ["--from", "north", "--to", "south", "--for", "2s", "--history", "/dev/full", "--metrics", prom]
+    with ended(subprocess.Popen([LINK / "out/link", *words], stdout=subprocess.DEVNULL, stderr=subprocess.DEVNULL)) as process:
+        wait_for(prom.exists)
+    check(process.returncode == 1 and not prom.exists(), "the link: its file is left where it ended by a fault")
+    words = ["--from", "north", "--to", "south", "--for", "2100ms", "--metrics", "/nowhere/link.prom"]
+    done = subprocess.run([LINK / "out/link", *words], capture_output=True, text=True, check=False)
+    check(done.returncode == 0 and done.stderr.count("--metrics /nowhere/link.prom: No such file") == 1, f"a file that can't be: {done.stderr}")
+
+
+def missing():
+    """What the link lacks here."""
+    for program_of, why in (("cc", "a C compiler"), ("make", "make"), ("ip", "ip"), ("unshare", "unshare")):
+        if shutil.which(program_of) is None:
+            return why
+    if os.geteuid() != 0 or not Path("/dev/net/tun").exists():
+        return "root or /dev/net/tun"
+    done = subprocess.run(["unshare", "--net", "--mount", "true"], check=False, stderr=subprocess.DEVNULL)
+    return None if done.returncode == 0 else "leave to make namespaces"
+
+
+def link(folder):
+    lacks = missing()
+    if lacks:
+        print(f"NOT RUN: {NAME}: no packet went through the link, for want of {lacks}")
+        return
+    subprocess.run(["make", "-s", "-C", LINK], check=True)
+    if "inside" not in sys.argv:
+        done = subprocess.run(["unshare", "--net", "--mount", "sh", "-c", 'mount -t sysfs sysfs /sys; exec "$@"', "sh", __file__, PROGRAM, "inside"],
+                              check=False)
+        check(done.returncode == 0, "the link")
+        return
+    subprocess.run(["ip", "link", "set", "lo", "up"], check=True)
+    print(f"{NAME}: {of_link(folder)} packets through the link")
+    of_signals(folder)
+
+
+def main():
+    with tempfile.TemporaryDirectory() as folder:
+        if "inside" not in sys.argv:
+            of_records(folder)
+            goes_on(folder)
+            ends(folder)
+            of_flights(folder)
+        link(folder)
+        lint()
+    finish()
+
+
+main()

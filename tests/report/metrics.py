@@ -381,6 +381,10 @@ def link(folder):
                               check=False)
         check(done.returncode == 0, "the link")
         return
+    for which in ("all", "default"):  # (the kernel's own packets would come in between)
+        place = Path(f"/proc/sys/net/ipv6/conf/{which}/disable_ipv6")
+        if place.exists():
+            place.write_text("1")
     subprocess.run(["ip", "link", "set", "lo", "up"], check=True)
     print(f"{NAME}: {of_link(folder)} packets through the link")
     of_signals(folder)

@@ -21,6 +21,8 @@ static const char help_of_link[] =
     "  --history FILE       write every decision, for pie audit and pie explain\n"
     "  --flight FILE        keep the last 100000 events at the least in this file, also if the program is killed: flight_text FILE\n"
     "                       writes them as such a text, and SIGUSR1 has the link write them to FILE.history while it runs\n"
+    "  --flows FILE         write whose packets come: a flow's number stands in the upper 32 bits of each tag, and FILE tells each number's\n"
+    "                       addresses and ports; and print twice a second which flow most bytes came of\n"
     "  --for 60s            end after this time\n"
     "\n"
     "The other options are those of pie params. Times, rates and sizes are read as tc reads them, but never rounded. It has to be root, or\n"
@@ -72,6 +74,7 @@ int read_options(int count, char **words, struct options *options) {
         {"--history", option_text, &options->history}, {"--flight", option_text, &options->flight},
         {"--rate", read_rates, options},               {"--rtt", option_time, &options->rtt},
         {"--grant", option_time, &options->grant},     {"--for", option_time, &options->lasts},
+        {"--flows", option_text, &options->flows},
     };
     const struct command command = {"link", {help_of_use, help_of_link}, own, sizeof own / sizeof own[0], MOST_PACKETS};
     *options = (struct options){.rtt = 20000000, .lasts = 60000000000};

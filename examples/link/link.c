@@ -5,6 +5,7 @@
  * Nothing here touches another device: what comes in by the one TUN device goes out by the other. */
 #define _GNU_SOURCE
 #include "flight_file.h"
+#include "flow.h"
 #include "history.h"
 #include "metrics.h"
 #include "options.h"
@@ -47,7 +48,10 @@ struct bottleneck {
     uint64_t next_update;  /* the moment from which an update is not too soon */
     struct history history;
     struct flight_file flight;
-    pthread_t writer;      /* of the history, of the flight recorder's text, and of the metrics */
+    struct flows flows;
+    struct flow_top top;   /* the last period that ended with packets, until it is told; by `telling` */
+    pthread_mutex_t telling;
+    pthread_t writer;      /* of the history, of flows, of the metrics, and of the flight recorder's text */
     atomic_bool is_closed; /* whether the writer has to end */
     struct metrics counted;
     struct metrics_file metrics;
@@ -127,11 +131,23 @@ static void release(struct bottleneck *link, struct packets *packets, int device
         send_packet(link, device, pop(packets));
 }
 
+/* The packet's tag: its number among the arrivals, and with --flows its flow's above it. What came in a period that ended goes to the writer. */
+static uint64_t tag_of(struct bottleneck *link, const struct packet *packet, uint64_t now) {
+    struct flow_top ended;
+    uint64_t tag = note_flow(&link->flows, packet->bytes, packet->size, packet->size, now, link->counted.arrived + 1, &ended);
+    if (ended.total != 0) {
+        pthread_mutex_lock(&link->telling);
+        link->top = ended;
+        pthread_mutex_unlock(&link->telling);
+    }
+    return tag;
+}
+
 /* An arrival: the library says whether the packet waits, is marked or is dropped. */
 static void arrive(struct bottleneck *link, struct packet *packet, uint64_t now) {
     struct pie_event *event = next_event(&link->history, SENDER, now);
     uint32_t room = (uint32_t)link->options->control.opening.packets - link->queue.count;
-    packet->tag = link->counted.arrived + 1;
+    packet->tag = tag_of(link, packet, now);
     packet->moment = now;
     packet->ecn = ecn_of(packet->bytes, packet->size);
     event->tag = packet->tag;
@@ -306,12 +322,30 @@ static void write_if_asked(const struct bottleneck *link) {
     fprintf(stderr, "link: %s.history: %s\n", flight->name, flight_text(answer));
 }
 
-/* The thread that writes the history, the flight recorder's text, and the metrics. */
+/* Writes the flows that are new, and tells the one with the most bytes of the last period that ended. */
+static void tell_flows(struct bottleneck *link) {
+    char words[LONGEST_FLOW];
+    write_flows(&link->flows);
+    pthread_mutex_lock(&link->telling);
+    const struct flow_top top = link->top;
+    link->top.total = 0;
+    pthread_mutex_unlock(&link->telling);
+    if (top.total == 0)
+        return;
+    const struct flow_row *row = &link->flows.rows[top.place];
+    flow_words(&row->flow, words);
+    printf("link: at %.1f s most came of flow 0x%08" PRIx32 ", %s: %.1f %% of %" PRIu64 " bytes\n",
+           (double)(top.period + 1) * FLOW_PERIOD / 1e9, row->number, words, 100.0 * (double)top.bytes / (double)top.total, top.total);
+    fflush(stdout);
+}
+
+/* The thread that writes the history, flows, the metrics, and the flight recorder's text. */
 static void *write_history(void *argument) {
     struct bottleneck *link = argument;
     const struct timespec pause = {.tv_nsec = LOOK_TIME};
     while (!atomic_load(&link->is_closed)) {
         write_if_asked(link);
+        tell_flows(link);
         write_told_metrics(&link->metrics, "link");
         if (!write_events(&link->history))
             nanosleep(&pause, NULL);
@@ -350,8 +384,10 @@ static void open_link(struct bottleneck *link, const struct options *options) {
     if (!open_flight(&link->flight, options->flight, opening, &link->pie))
         die(options->flight);
     tell_flight(&link->flight, moment, unix_time);
+    if (!open_flows(&link->flows, options->flows))
+        die(options->flows);
     open_metrics(&link->metrics, options->metrics, options->to);
-    if (pthread_create(&link->writer, NULL, write_history, link) != 0)
+    if (pthread_mutex_init(&link->telling, NULL) != 0 || pthread_create(&link->writer, NULL, write_history, link) != 0)
         die("a thread for the history");
 }
 
@@ -366,6 +402,10 @@ static void close_link(struct bottleneck *link) {
         die(link->options->metrics);
     if (!close_history(&link->history))
         die("history");
+    if (!close_flows(&link->flows))
+        die("flows");
+    if (link->flows.missing != 0)
+        fprintf(stderr, "link: flows of %" PRIu64 " packets are missing in the file: there were too many\n", link->flows.missing);
     if (link->history.text.lost != 0)
         fprintf(stderr, "link: %" PRIu64 " events are missing in the history\n", link->history.text.lost);
     printf("link: %" PRIu64 " packets arrived: %" PRIu64 " waited, %" PRIu64 " marked, %" PRIu64 " dropped early, %" PRIu64

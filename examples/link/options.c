@@ -22,6 +22,8 @@ static const char help_of_link[] =
     "  --flight FILE        keep the last 100000 events at the least in this file, also if the program is killed: flight_text FILE\n"
     "                       writes them as such a text, and SIGUSR1 has the link write them to FILE.history while it runs\n"
     "  --metrics FILE       the numbers of the queue for node_exporter (*.prom), replaced each second, gone at the end\n"
+    "  --flows FILE         write whose packets come: a flow's number stands in the upper 32 bits of each tag, and FILE tells each number's\n"
+    "                       addresses and ports; and print twice a second which flow most bytes came of\n"
     "  --for 60s            end after this time\n"
     "\n"
     "The other options are those of pie params. Times, rates and sizes are read as tc reads them, but never rounded. It has to be root, or\n"
@@ -74,6 +76,7 @@ int read_options(int count, char **words, struct options *options) {
         {"--rate", read_rates, options},               {"--rtt", option_time, &options->rtt},
         {"--grant", option_time, &options->grant},     {"--for", option_time, &options->lasts},
         {"--metrics", option_text, &options->metrics},
+        {"--flows", option_text, &options->flows},
     };
     const struct command command = {"link", {help_of_use, help_of_link}, own, sizeof own / sizeof own[0], MOST_PACKETS};
     *options = (struct options){.rtt = 20000000, .lasts = 60000000000};

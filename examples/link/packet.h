@@ -7,7 +7,7 @@
 
 struct packet {
     struct packet *next;
-    uint64_t tag;    /* its number among the arrivals */
+    uint64_t tag;    /* its number among the arrivals, and above it its flow's */
     uint64_t moment; /* when it arrived, and later when it may go on; ns */
     uint64_t arrived; /* the controller's moment right after its arrival */
     uint32_t size;

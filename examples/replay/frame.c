@@ -92,6 +92,8 @@ int read_frame(int link, const uint8_t *bytes, size_t caught, size_t length, str
         type = two_bytes(bytes + at + 2);
         at += VLAN_TAG;
     }
+    packet->bytes = bytes + at;
+    packet->caught = caught - at;
     if (type == TYPE_IPV4 && bytes[at] >> 4 == 4)
         return read_ipv4(bytes + at, caught - at, length - at, packet);
     if (type == TYPE_IPV6 && bytes[at] >> 4 == 6)

@@ -7,6 +7,8 @@
 #include <stdint.h>
 
 struct ip_packet {
+    const uint8_t *bytes; /* of its header on, of which so many were captured */
+    size_t caught;
     uint32_t size;    /* bytes, by its header; of a super-packet whose header has no length, by the frame */
     uint32_t headers; /* bytes of the IP and TCP or UDP header, which each segment of it has */
     uint32_t ecn;     /* the ECN field (RFC 3168, section 5) */

@@ -17,6 +17,8 @@ static const char help_of_use[] =
     "\n"
     "  -o FILE              the history; standard output where none is named\n"
     "  -w FILE              the capture as pcapng, with a comment at each packet that was dropped or marked\n"
+    "  --flows FILE         whose packets they are: a flow's number stands in the upper 32 bits of each tag, and FILE tells each number's\n"
+    "                       addresses and ports\n"
     "  --seed 1             of the random words: the same seed, the same history\n"
     "  --split 1500b        split larger packets, as offloading joins them before they are captured, into packets of so many bytes\n";
 
@@ -24,7 +26,7 @@ static const char help_of_units[] =
     "\n"
     "The options of the link are those of pie params. Times, rates and sizes are read as tc reads them, but never rounded. A packet has the\n"
     "bytes of its IP header's length. A packet's tag in the history is its frame's number in the capture, from 1, as Wireshark numbers\n"
-    "them. Caller 1 is the sender, 2 the link, 3 the timer. Example:\n"
+    "them; with --flows the tag's lower 32 bits are. Caller 1 is the sender, 2 the link, 3 the timer. Example:\n"
     "\n"
     "  replay --rate 50mbit --ecn -o history -w commented.pcapng yesterday.pcap 'dst net 192.0.2.0/24'\n";
 
@@ -45,6 +47,7 @@ int read_options(int count, char **words, struct options *options) {
     const struct option own[] = {
         {"-o", option_text, &options->history},
         {"-w", option_text, &options->commented},
+        {"--flows", option_text, &options->flows},
         {"--seed", option_number, &options->seed},
         {"--split", option_size, &options->split},
     };

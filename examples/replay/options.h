@@ -9,6 +9,7 @@ struct options {
     char *filter;           /* in libpcap's language; empty: every packet */
     const char *history;    /* the file for the history; "-": standard output */
     const char *commented;  /* the file for the capture with comments; NULL with none */
+    const char *flows;      /* the file that tells flows; NULL with none */
     uint64_t seed;          /* of the random words */
     uint64_t split;         /* super-packets are split into packets of at most so many bytes; 0: they are not */
     struct control control; /* the link and its queue */

@@ -1,6 +1,7 @@
 /* The packets of a capture, sent through a link of a given rate whose queue PIE manages, at the times of the capture. The clock is the
  * capture's: a departure, an update and an arrival come in the order of their moments, and at the same moment in this order. */
 #include "commented.h"
+#include "flow.h"
 #include "frame.h"
 #include "history.h"
 #include "options.h"
@@ -15,7 +16,7 @@
 #define USUAL_MTU 1500               /* bytes: larger packets are told of */
 
 struct waiting {
-    uint64_t tag, arrived; /* the frame's number; the controller's moment right after the arrival */
+    uint64_t tag, arrived; /* the frame's number, and above it the flow's; the controller's moment right after the arrival */
     uint32_t size, ecn;
 };
 
@@ -29,6 +30,7 @@ struct replay {
     struct options options;
     struct pie_state pie;
     struct history history;
+    struct flows flows;
     struct waiting queue[MOST_PACKETS];
     uint64_t first, packets, bytes; /* the queue's: of its first packet the place, and how many packets and bytes wait */
     uint64_t now;                   /* the greatest moment of an arrival */
@@ -162,6 +164,8 @@ static void tell(char *comment, const uint32_t *answers, uint32_t parts, const s
 static void send_packet(struct replay *replay, const struct ip_packet *packet, char *comment) {
     const uint64_t mtu = replay->options.split;
     const struct pie_state before = replay->pie;
+    struct flow_top ended; /* that nobody asks for */
+    const uint64_t tag = note_flow(&replay->flows, packet->bytes, packet->caught, packet->size, replay->now, replay->counts.frames, &ended);
     uint32_t answers[PIE_PACKETS + 1] = {0}, parts = 1, left = packet->size, most = packet->size, again = 0;
     if (mtu != 0 && packet->size > mtu && packet->headers < mtu) {
         again = packet->headers;
@@ -171,7 +175,7 @@ static void send_packet(struct replay *replay, const struct ip_packet *packet, c
     replay->counts.large += most > USUAL_MTU;
     for (uint32_t i = 0; i < parts; i++) {
         uint32_t size = left < most ? left : most;
-        uint32_t answer = arrive(replay, packet, size, replay->counts.frames);
+        uint32_t answer = arrive(replay, packet, size, tag);
         left -= size - (i + 1 < parts ? again : 0);
         if (answer <= PIE_PACKETS)
             answers[answer]++;
@@ -266,6 +270,7 @@ static void summarize(const struct replay *replay) {
     say(counts->wrong, "frames with lengths that can't be, passed over");
     say(counts->backwards, "frames earlier than one before them, sent at that one's time");
     say(counts->large, "frames with packets above 1500 bytes, as offloading joins them: --split splits them");
+    say(replay->flows.missing, "packets of more flows than the file can tell");
     say(counts->refused, "packets that were refused, as those above 65535 bytes are");
 }
 
@@ -282,12 +287,16 @@ int main(int count, char **words) {
         die_refused("the opening", code);
     if (!open_history(&replay.history, replay.options.history, opening))
         die(replay.options.history, strerror(errno));
+    if (!open_flows(&replay.flows, replay.options.flows))
+        die(replay.options.flows, strerror(errno));
     replay.word = replay.options.seed;
     bool is_whole = read_capture(&replay, &capture);
     while (is_whole && replay.packets != 0)
         go_on(&replay, replay.free_at);
     if (!close_history(&replay.history))
         die(replay.options.history, "could not be written");
+    if (!close_flows(&replay.flows))
+        die(replay.options.flows, "could not be written");
     if (capture.commented != NULL && fclose(capture.commented) != 0)
         die(replay.options.commented, "could not be written");
     pcap_freecode(&capture.filter);

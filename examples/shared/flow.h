@@ -1,0 +1,80 @@
+/* Whose a packet is: its flow's number, which stands in the upper 32 bits of its tag, and a file that tells each number's flow, in the format of
+ * docs/FORMATS.md. A flow is told by addresses, protocol and ports; fragments, and protocols without ports, by addresses and protocol. */
+#ifndef SHARED_FLOW_H
+#define SHARED_FLOW_H
+
+#include <stdbool.h>
+#include <stddef.h>
+#include <stdint.h>
+#include <stdio.h>
+
+#ifdef __cplusplus
+extern "C" {
+#endif
+
+#define MOST_FLOWS 262144         /* that the file tells */
+#define FLOW_PLACES 524288        /* of their table: a power of two */
+#define FLOW_PERIOD 500000000     /* ns after which the flow with the most bytes is told */
+#define FLOW_BYTES 256            /* of a packet, that are enough to tell its flow, but of rare ones with long extension headers */
+#define LONGEST_FLOW 128          /* bytes of its words, with the end */
+
+struct flow {
+    uint8_t source[16], destination[16]; /* addresses as in the packet; of IPv4 the first four bytes */
+    uint16_t source_port, destination_port;
+    uint8_t version, protocol; /* 4 or 6; of IPv6 that behind its extension headers */
+    bool has_ports;
+};
+
+/* Reads a packet that begins with its IP header, as far as it is there; false where it is none. */
+bool read_flow(const uint8_t *bytes, size_t size, struct flow *flow);
+
+/* A flow's number: a hash of what tells it. Two flows may have the same. */
+uint32_t flow_number(const struct flow *flow);
+
+/* The flow in words, as udp 192.0.2.1:53 > 198.51.100.7:4242. */
+void flow_words(const struct flow *flow, char words[LONGEST_FLOW]);
+
+/* What arrived of a flow, in one period. */
+struct flow_top {
+    uint64_t period;       /* its number, from 0 on */
+    uint32_t place;        /* of the flow with the most bytes */
+    uint64_t bytes, total; /* of that flow, and of all */
+};
+
+struct flow_row {
+    struct flow flow;
+    uint32_t number;
+    uint64_t period, bytes; /* the last in which a packet came, and the bytes since its begin */
+};
+
+/* All flows that were seen. One thread notes them, and the same or another one writes them. */
+struct flows {
+    FILE *file;           /* NULL where nobody asks for flows */
+    uint32_t *places;     /* in `rows`, from 1 on, by the number; 0 where there is none */
+    struct flow_row *rows;
+    uint32_t count;       /* of the rows: stored last by the thread that notes, and loaded first by that which writes */
+    uint32_t written;
+    uint64_t missing;     /* packets whose flows have no row, since there are too many */
+    struct flow_top top;  /* of this period */
+};
+
+/* Opens the file (NULL: none), and writes its header; false where that cannot be done. */
+bool open_flows(struct flows *flows, const char *name);
+
+/* Notes the flow of a packet of so many bytes on the wire, which arrives at this moment in ns and begins with its IP header. Answers the tag: the
+ * flow's number, 0 where it is no IP packet, above the lower 32 bits of the counter. Without a file the counter is the tag. Where a period ended
+ * before this packet, in which some came, `ended` is what came in it, and else its total is 0. */
+uint64_t note_flow(struct flows *flows, const uint8_t *bytes, size_t caught, uint32_t size, uint64_t moment, uint64_t counter,
+                   struct flow_top *ended);
+
+/* Writes the flows that came since the last call. */
+void write_flows(struct flows *flows);
+
+/* Writes what is left, and closes the file; false where anything could not be written. */
+bool close_flows(struct flows *flows);
+
+#ifdef __cplusplus
+}
+#endif
+
+#endif

@@ -1,5 +1,7 @@
 #include "fwd_flight.h"
 
+#include "fwd_queues.h"
+
 #include <errno.h>
 #include <limits.h>
 #include <stdio.h>
@@ -31,11 +33,10 @@ static int write_beside(const char *beside, struct pie_stage *stage) {
     return fclose(file) == 0 ? answer : PIE_FLIGHT_STOPPED;
 }
 
-void fwd_flight_write(const char *path, struct pie_stage *stage) {
-    char beside[PATH_MAX], before[PATH_MAX];
+void fwd_flight_write(const char *name, uint32_t queue, struct pie_stage *stage) {
+    char path[PATH_MAX], beside[PATH_MAX], before[PATH_MAX];
     int answer = PIE_FLIGHT_STOPPED;
-    errno = ENAMETOOLONG;
-    if ((size_t)snprintf(beside, sizeof beside, "%s.new", path) < sizeof beside &&
+    if (fwd_queue_name(path, name, queue) && (size_t)snprintf(beside, sizeof beside, "%s.new", path) < sizeof beside &&
         (size_t)snprintf(before, sizeof before, "%s.before", path) < sizeof before)
         answer = write_beside(beside, stage);
     if (answer == PIE_FLIGHT_DONE && ((rename(path, before) != 0 && errno != ENOENT) || rename(beside, path) != 0))

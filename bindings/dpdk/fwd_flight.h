@@ -4,7 +4,7 @@
 
 #include "pie_stage.h"
 
-/* Writes it to FILE, and says so on stderr, or why that failed; what FILE held goes to FILE.before. */
-void fwd_flight_write(const char *path, struct pie_stage *stage);
+/* Writes that of a queue to its file (fwd_queue_name), and says so on stderr, or why that failed; what the file held goes to FILE.before. */
+void fwd_flight_write(const char *name, uint32_t queue, struct pie_stage *stage);
 
 #endif

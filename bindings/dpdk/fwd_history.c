@@ -1,5 +1,7 @@
 #include "fwd_history.h"
 
+#include "fwd_queues.h"
+
 #include <errno.h>
 #include <inttypes.h>
 #include <stdlib.h>
@@ -29,12 +31,12 @@ static bool open_next(struct fwd_history *history) {
     return true;
 }
 
-bool fwd_history_open(struct fwd_history *history, const char *path, uint64_t rotate, uint64_t segments) {
-    *history = (struct fwd_history){.path = path, .rotate = rotate, .segments = segments};
+bool fwd_history_open(struct fwd_history *history, const char *path, uint32_t queue, uint64_t rotate, uint64_t segments) {
+    *history = (struct fwd_history){.rotate = rotate, .segments = segments};
     if (path == NULL)
         return true;
     history->text = malloc(ROOM);
-    return history->text != NULL && open_next(history);
+    return history->text != NULL && fwd_queue_name(history->path, path, queue) && open_next(history);
 }
 
 static void say_broken(struct fwd_history *history) {

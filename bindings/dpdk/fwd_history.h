@@ -9,7 +9,7 @@
 
 struct fwd_history {
     FILE *file;            /* NULL where none is written, or no more */
-    const char *path;
+    char path[PATH_MAX];
     char name[PATH_MAX];   /* of the file: the path, or PATH.<segment> */
     uint64_t rotate;       /* bytes, after which a segment ends; 0: it is one text */
     uint64_t segments;     /* that are kept, the last ones; 0: all */
@@ -19,8 +19,8 @@ struct fwd_history {
     unsigned char *text;
 };
 
-/* Opens the file, NULL for none; false where that fails, with errno. */
-bool fwd_history_open(struct fwd_history *history, const char *path, uint64_t rotate, uint64_t segments);
+/* Opens the file of a queue (fwd_queue_name), NULL for none; false where that fails, with errno. */
+bool fwd_history_open(struct fwd_history *history, const char *path, uint32_t queue, uint64_t rotate, uint64_t segments);
 
 /* Writes some of what waits, and answers whether there was anything; a segment that is long enough, or that tells a gap, is the last of its file.
  * Where the file takes no more, it says so once on stderr and writes nothing from then on: the stage counts as lost what is not taken out. */

@@ -22,6 +22,8 @@ static const char help[] =
 static const char more_help[] =
     "\n"
     "  --one-way             forward nothing from port 1 to port 0\n"
+    "  --queues 4            so many queues of the link, 1 to 8, each with a controller and limits of its own: a packet goes to one by the three\n"
+    "                        highest bits of its DS field, and the sender takes from each in turn. Files of all but the first end in -1, -2 and so on\n"
     "  --metrics FILE        the same numbers for node_exporter (*.prom), replaced each second, gone at the end\n"
     "  --json FILE           the same numbers in the shape of tc -s -j, replaced each second\n"
     "  --flight FILE         the last decisions, for pie audit and pie explain, written at SIGUSR1 (pie-fwd.flight)\n"
@@ -52,6 +54,8 @@ static const char *fault_of(const struct fwd_options *options, uint64_t flight) 
         return "--rate";
     if (options->received != 0 && !is_rate(options->received))
         return "--receive";
+    if (options->queues < 1 || options->queues > FWD_QUEUES)
+        return "--queues";
     if (options->mbufs < 1024 || options->mbufs > MOST_MBUFS)
         return "--total-num-mbufs";
     if (flight > PIE_STAGE_MAX_EVENTS)
@@ -59,7 +63,7 @@ static const char *fault_of(const struct fwd_options *options, uint64_t flight) 
     if (options->rotate != 0 && options->rotate < LEAST_SEGMENT)
         return "--rotate";
     // a queue that takes all mbufs leaves the card none to receive with, and then the card drops, and not PIE
-    return options->stage.opening.packets > options->mbufs / 2 ? "--limit" : NULL;
+    return options->stage.opening.packets * options->queues > options->mbufs / 2 ? "--limit" : NULL;
 }
 
 int fwd_read_options(int count, char **words, struct fwd_options *options) {
@@ -71,10 +75,11 @@ int fwd_read_options(int count, char **words, struct fwd_options *options) {
         {"--flight-events", option_number, &flight},     {"--total-num-mbufs", option_packets, &options->mbufs},
         {"--history", option_text, &options->history},   {"--metrics", option_text, &options->metrics},
         {"--json", option_text, &options->json},         {"--one-way", NULL, &options->is_one_way},
+        {"--queues", option_number, &options->queues},
     };
     const struct command command = {"pie-fwd", {help, more_help}, own, sizeof own / sizeof own[0], MOST_QUEUED};
     struct control control;
-    *options = (struct fwd_options){.mbufs = 8192, .flight = "pie-fwd.flight"};
+    *options = (struct fwd_options){.mbufs = 8192, .queues = 1, .flight = "pie-fwd.flight"};
     int place = read_words(&command, count, words, &control);
     if (place < 0)
         return place == WORDS_HELP ? FWD_HELP : FWD_WRONG;

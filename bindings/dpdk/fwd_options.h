@@ -2,6 +2,7 @@
 #ifndef FWD_OPTIONS_H
 #define FWD_OPTIONS_H
 
+#include "fwd_queues.h"
 #include "pie_stage.h"
 
 struct fwd_options {
@@ -10,6 +11,7 @@ struct fwd_options {
     uint64_t received;     /* bits a second that are received at the most, 0: no bound */
     uint64_t lasts;        /* nanoseconds, 0: until a signal */
     uint64_t mbufs;        /* in the pool */
+    uint64_t queues;       /* of the link, 1 to FWD_QUEUES */
     bool is_one_way;       /* nothing is forwarded from port 1 to port 0 */
     const char *metrics; /* files, or NULL */
     const char *json;

@@ -1,6 +1,6 @@
 #!/usr/bin/env python3
-"""Runs pie-fwd between a null port and a ring, several at once: what it refuses, its end by an interrupt, its files, and its history, at full speed
-and by a device that is full, in segments, and of the last events alone; no mbuf is lost. With --real-time it runs nothing else than one that holds
+"""Runs pie-fwd between a null port and a ring, several at once: what it refuses, its end by an interrupt, its files, its telemetry, by which
+parameters are set, and its history, at full speed and by a device that is full, in segments, and of the last events alone; no mbuf is lost. With --real-time it runs nothing else than one that holds
 its target in real time, at raised priority, for which a processor has to be free.
 
 usage: bindings/dpdk/fwd_test.py PIE_FWD PIE [--real-time]"""
@@ -9,6 +9,7 @@ import os
 import re
 import shutil
 import signal
+import socket
 import subprocess
 import sys
 import tempfile
@@ -48,6 +49,9 @@ def refused():
         (RING, ["--history", "/nowhere/history"], "the file of --history: No such file"),
         (RING, ["--history", "/dev/null", "--total-num-mbufs", "4194304", "--limit", "1048577p"], "--limit: out of its range"),
         (RING, ["--limit", "4097p"], "--limit: out of its range"),
+        (RING, ["--limit", "2049p", "--queues", "2"], "--limit: out of its range"),
+        (RING, ["--queues", "9"], "--queues: out of its range"),
+        (RING, ["--queues", "0"], "--queues: out of its range"),
         (RING, ["--limit", "1000"], "--limit 1000: a unit has to say of what it is"),
         (RING, ["--flight-events", "16777217"], "--flight-events: out of its range"),
         (RING, ["--history", "/dev/null", "--rotate", "1kb"], "--rotate: out of its range"),
@@ -89,23 +93,26 @@ def files(metrics, queues):
         else:
             name, number = line.rsplit(" ", 1)
             numbers[name] = float(number)
-            assert re.fullmatch(r'pie_\w+\{port="net_ring0"(,(reason|le)="[\w.+]+")?\}', name), name
+            assert re.fullmatch(r'pie_\w+\{link="net_ring0",queue="0"(,le="[\w.+]+")?\}', name), name
             ending = name.split("{")[0].removeprefix(family)
             assert ending in ({"_bucket", "_count", "_sum"} if kind == "histogram" else {""}), line
             assert kind != "counter" or family.endswith("_total"), line
     assert all(words == {"TYPE", "HELP"} for words in kinds.values()), kinds
     waits = [number for name, number in numbers.items() if name.startswith("pie_wait_seconds_bucket")]
-    assert len(waits) == 13 and waits == sorted(waits) and waits[-1] == numbers['pie_wait_seconds_count{port="net_ring0"}']
-    assert {"pie_late_updates_total", "pie_burst_allowance_seconds"} <= set(kinds)
+    of = {name.partition("{")[0].removeprefix("pie_"): number for name, number in numbers.items() if "le=" not in name}
+    assert len(waits) == 13 and waits == sorted(waits) and waits[-1] == of["wait_seconds_count"] == of["departed_packets_total"]
+    assert of["updated_probability_ratio_count"] == of["updates_total"] and {"pie_late_updates_total", "pie_burst_allowance_seconds"} <= set(kinds)
+    early, over_bytes, over_packets = (of[f"{which}_drops_total"] for which in ("early", "byte_limit", "packet_limit"))
+    assert of["arrived_packets_total"] == of["enqueued_packets_total"] + of["marked_packets_total"] + early + over_bytes + over_packets
     lint(metrics)
     (queue,) = queues
-    if queue["packets"] != numbers['pie_departed_packets_total{port="net_ring0"}']:
+    if queue["packets"] != of["departed_packets_total"]:
         return False
     assert queue["kind"] == "pie" and queue["options"]["target"] == 15000 and queue["options"]["alpha"] == 2
     assert queue["packets"] > 0
-    assert queue["backlog"] == numbers['pie_waiting_bytes{port="net_ring0"}'] and queue["prob"] == numbers['pie_probability_ratio{port="net_ring0"}']
-    drops = sum(count for name, count in numbers.items() if name.startswith("pie_dropped_packets_total"))
-    assert queue["drops"] == drops and queue["pkts_in"] - queue["packets"] == queue["qlen"]
+    assert queue["backlog"] == of["queue_bytes"] and queue["prob"] == of["probability_ratio"]
+    drops = sum(count for name, count in of.items() if name.endswith("_drops_total"))
+    assert queue["drops"] == drops and queue["pkts_in"] - queue["packets"] == queue["qlen"] == of["queue_packets"]
     return True
 
 
@@ -143,7 +150,52 @@ def tells_time(path, since):
 
 
 def events_of(numbers):
-    return sum(numbers[word] for word in ("packets queued", "dropped early", "for want of bytes", "of room", "left", "updates"))
+    words = ("packets queued", "dropped early", "for want of bytes", "of room", "left", "updates", "changes of parameters")
+    return sum(numbers[word] for word in words)
+
+
+def ask(telemetry, command):
+    """What DPDK's telemetry answers."""
+    telemetry.send(command.encode())
+    return json.loads(telemetry.recv(1 << 16))[command.partition(",")[0]]
+
+
+def telemetry():
+    """What it tells of the stage while that runs, and new parameters, which are in force from then on and stand in the history."""
+    prefix = f"pie-fwd-test-{os.getpid()}"
+    places = [Path(base, "dpdk", prefix) for base in ("/var/run", os.environ.get("XDG_RUNTIME_DIR", "/tmp"))]
+    with tempfile.TemporaryDirectory() as work:
+        path = f"{work}/history"
+        words = [word for word in command(PACED, "--rate", "20mbit", "--receive", "24mbit", "--history", path) if word != "--no-telemetry"]
+        words[1:1] = ["--file-prefix", prefix]
+        process = subprocess.Popen(words, stdout=subprocess.PIPE, stderr=subprocess.DEVNULL, text=True)
+        assert LINE.match(process.stdout.readline())
+        with socket.socket(socket.AF_UNIX, socket.SOCK_SEQPACKET) as one:
+            one.connect(str(next(place / "dpdk_telemetry.v2" for place in places if place.exists())))
+            one.recv(1 << 16)
+            assert ask(one, "/pie/list") == ["pie-fwd"]
+            before = ask(one, "/pie/params,0")
+            stats = ask(one, "/pie/stats,0")
+            assert stats["name"] == "pie-fwd" and sum(stats["waits"]) == stats["departed"] > 0 and sum(stats["probs"]) == stats["updates"] > 0
+            wanted = before | {"target": 3000000, "t_update": 5000000, "limit_bytes": 50 << 10, "alpha": 250}
+            assert before["target"] == 15000000 and ask(one, "/pie/set,0,target=3ms,t_update=5ms,limit_bytes=50k,alpha=250") == wanted
+            for wrong in ("/pie/set,0,target=1ms,beta=1000001", "/pie/set,0,target=1", "/pie/set,0,colour=1", "/pie/set,0,target=", "/pie/set,0",
+                          "/pie/set,1,target=1ms", "/pie/set,0,target=1ms,alpha", "/pie/params,1", "/pie/params,", "/pie/stats", "/pie/stats,0,1",
+                          "/pie/stats,18446744073709551616"):
+                assert not ask(one, wrong), wrong
+            assert ask(one, "/pie/params,0") == wanted
+            assert LINE.match(process.stdout.readline()) and LINE.match(process.stdout.readline())
+            after = ask(one, "/pie/stats,0")
+            assert (after["changes"], after["target"]) == (1, 3000000) and after["updates"] - stats["updates"] > 200, (stats, after)
+        process.send_signal(signal.SIGHUP)
+        printed = process.communicate(timeout=30)[0]
+        assert process.returncode == 0 and told(printed)["changes of parameters"] == 1, printed
+        text = Path(path).read_text()
+        assert re.findall(r"^params,.*$", text, re.M)[0].split(",")[3:] == [*map(str, wanted.values()), "done"]
+        assert audited(path)[1] == events_of(told(printed))
+        for place in places:
+            shutil.rmtree(place, ignore_errors=True)
+    return "telemetry"
 
 
 def full_speed():
@@ -180,6 +232,31 @@ def history_lines(history):
             yield whole + newline
         rest = after
     assert rest == b""
+
+
+def queues():
+    """Two queues, of which packets without an IP header take the first: lines, metrics, JSON, histories and flight recorders of each."""
+    with tempfile.TemporaryDirectory() as work:
+        words = ["--rate", "20mbit", "--receive", "24mbit", "--queues", "2", "--limit", "400p", "--history", f"{work}/history", "--flight", f"{work}/flight",
+                 "--metrics", f"{work}/pie.prom", "--json", f"{work}/json"]
+        process = subprocess.Popen(command(PACED, *words), stdout=subprocess.PIPE, stderr=subprocess.PIPE, text=True)
+        lines = [process.stdout.readline() for _ in range(4)]
+        process.send_signal(signal.SIGUSR1)
+        said = [process.stderr.readline() for _ in range(2)]
+        metrics, two = Path(work, "pie.prom").read_text(), json.loads(Path(work, "json").read_text())
+        process.send_signal(signal.SIGTERM)
+        printed = process.communicate(timeout=30)[0]
+        assert process.returncode == 0 and said == [f"pie-fwd: --flight {work}/flight{it}: written\n" for it in ("", "-1")], (printed, said)
+        assert [line.partition(": ")[0] for line in lines] == ["queue 0", "queue 1"] * 2 and all(LINE.match(line.partition(": ")[2]) for line in lines)
+        lint(metrics)
+        assert len(set(re.findall(r"^# TYPE .*$", metrics, re.M))) == metrics.count("# TYPE ")
+        departed = dict(re.findall(r'^pie_departed_packets_total\{link="net_ring0",queue="(\d)"\} (\d+)$', metrics, re.M))
+        assert set(departed) == {"0", "1"} and int(departed["0"]) > 0 and departed["1"] == "0", departed
+        assert [queue["packets"] > 0 for queue in two] == [True, False], two
+        ends = [audited(f"{work}/history{it}")[1] for it in ("", "-1")]
+        assert sum(ends) == events_of(told(printed)) and ends[1] > 0, (ends, printed)
+        assert all(audited(f"{work}/flight{it}")[1] <= end for it, end in zip(("", "-1"), ends))
+    return "queues"
 
 
 def device_full():
@@ -286,7 +363,7 @@ def main():
     if shutil.which("promtool") is None:
         print("NOT RUN: bindings/dpdk/fwd_test.py: no promtool here, so nothing else than this script read the metrics (bindings/dpdk/install.sh)")
     with ThreadPoolExecutor(max_workers=3) as pool:
-        print("; ".join(pool.map(lambda it: it(), (full_speed, flight, interrupt, paced, segments, device_full, refused))))
+        print("; ".join(pool.map(lambda it: it(), (full_speed, flight, interrupt, paced, segments, telemetry, queues, device_full, refused))))
 
 
 main()

@@ -3,7 +3,9 @@
 #include "fwd_history.h"
 #include "fwd_options.h"
 #include "fwd_pace.h"
+#include "fwd_queues.h"
 #include "fwd_report.h"
+#include "metrics.h"
 #include "pie_stage.h"
 
 #include <errno.h>
@@ -30,8 +32,8 @@ enum { IN, OUT }; /* the ports, by their numbers */
 static struct {
     struct fwd_options options;
     struct rte_mempool *pool;
-    struct pie_stage *stage;
-    struct fwd_history history;
+    struct fwd_queues queues;
+    struct fwd_history histories[FWD_QUEUES];
     uint16_t receivers; /* lcores that receive, and queues of port 0 */
     uint64_t unsent;    /* packets that a port did not take */
     int is_stopped;
@@ -81,7 +83,7 @@ static int receive(void *argument) {
             continue;
         if (is_bounded)
             fwd_pace_move(&pace, bytes_of(mbufs, count));
-        pie_stage_enqueue(forward.stage, mbufs, count, rte_rdtsc());
+        fwd_queues_enqueue(&forward.queues, mbufs, count, rte_rdtsc());
     }
     return 0;
 }
@@ -100,7 +102,7 @@ static void serve(struct fwd_pace *pace) {
     uint64_t now = rte_rdtsc(), bytes = fwd_pace_bytes(pace, now);
     if (bytes == 0)
         return;
-    uint32_t count = pie_stage_dequeue_bytes(forward.stage, mbufs, BURST, bytes, now);
+    uint32_t count = fwd_queues_dequeue(&forward.queues, mbufs, BURST, bytes, now);
     if (count == 0) {
         fwd_pace_rest(pace, now);
         return;
@@ -116,7 +118,7 @@ static int send_packets(void *argument) {
     (void)argument;
     while (!is_stopped()) {
         serve(&pace);
-        pie_stage_update(forward.stage, rte_rdtsc());
+        fwd_queues_update(&forward.queues, rte_rdtsc());
         if (forward.options.is_one_way)
             continue;
         uint16_t count = rte_eth_rx_burst(OUT, 0, mbufs, BURST);
@@ -166,11 +168,11 @@ static bool open_all(void) {
     forward.pool = rte_pktmbuf_pool_create("pie-fwd", (unsigned int)forward.options.mbufs, 128, 0, RTE_MBUF_DEFAULT_BUF_SIZE, SOCKET_ID_ANY);
     if (forward.pool == NULL)
         return fail("the pool of mbufs", rte_errno);
-    forward.stage = pie_stage_create("pie-fwd", &forward.options.stage, SOCKET_ID_ANY);
-    if (forward.stage == NULL)
+    if (!fwd_queues_create(&forward.queues, (uint32_t)forward.options.queues, "pie-fwd", &forward.options.stage))
         return fail("the stage", rte_errno);
-    if (!fwd_history_open(&forward.history, forward.options.history, forward.options.rotate, forward.options.segments))
-        return fail("the file of --history", errno);
+    for (uint32_t i = 0; i < forward.queues.count; i++)
+        if (!fwd_history_open(&forward.histories[i], forward.options.history, i, forward.options.rotate, forward.options.segments))
+            return fail("the file of --history", errno);
     return open_port(IN, forward.receivers) && open_port(OUT, 1);
 }
 
@@ -186,40 +188,58 @@ static void launch(void) {
     }
 }
 
-/* Writes the flight recorder's text where a signal asked for it, or where a wait did and the last text is a second old. */
-static void write_flight(uint64_t *written) {
+/* Writes a flight recorder's text where a signal asked for it, or where a wait did and the last text of that queue is a second old. */
+static void write_flights(uint64_t *written) {
     bool is_asked = __atomic_exchange_n(&forward.is_asked, 0, __ATOMIC_RELAXED) != 0;
-    if (!is_asked && (rte_rdtsc() - *written < rte_get_tsc_hz() || !pie_stage_flight_is_asked(forward.stage)))
-        return;
-    fwd_flight_write(forward.options.flight, forward.stage);
-    *written = rte_rdtsc();
+    for (uint32_t i = 0; i < forward.queues.count; i++) {
+        struct pie_stage *stage = forward.queues.stages[i];
+        if (!is_asked && (rte_rdtsc() - written[i] < rte_get_tsc_hz() || !pie_stage_flight_is_asked(stage)))
+            continue;
+        fwd_flight_write(forward.options.flight, i, stage);
+        written[i] = rte_rdtsc();
+    }
+}
+
+static void read_all(struct pie_stage_stats *stats) {
+    for (uint32_t i = 0; i < forward.queues.count; i++)
+        pie_stage_read(forward.queues.stages[i], &stats[i]);
+}
+
+/* Writes some of each history; whether there was anything. */
+static bool write_histories(void) {
+    bool is_any = false;
+    for (uint32_t i = 0; i < forward.queues.count; i++)
+        is_any |= fwd_history_write(&forward.histories[i], forward.queues.stages[i]);
+    return is_any;
 }
 
 /* A line a second, the history, and the flight recorder's text, until the end. */
 static void report(void) {
     char port[RTE_ETH_NAME_MAX_LEN];
-    struct pie_stage_stats before = {0}, after;
-    uint64_t hz = rte_get_tsc_hz(), start = rte_rdtsc(), told = start, written = start - hz;
+    struct pie_stage_stats before[FWD_QUEUES] = {0}, after[FWD_QUEUES];
+    uint64_t hz = rte_get_tsc_hz(), start = rte_rdtsc(), told = start, written[FWD_QUEUES];
     bool is_told_of_file = false, is_quick = forward.options.history != NULL || forward.options.stage.flight_wait != 0;
     rte_eth_dev_get_name_by_port(OUT, port);
+    for (uint32_t i = 0; i < FWD_QUEUES; i++)
+        written[i] = start - hz;
     for (;;) {
         uint64_t now = rte_rdtsc();
         bool is_over = is_stopped() || (forward.options.lasts != 0 && (double)(now - start) / (double)hz * 1e9 >= (double)forward.options.lasts);
         if (now - told >= hz || is_over) {
-            pie_stage_read(forward.stage, &after);
-            fwd_print_line(&before, &after, (double)(now - told) / (double)hz);
-            if (!fwd_write_files(&forward.options, port, &after) && !is_told_of_file) {
+            read_all(after);
+            fwd_print_lines(forward.queues.count, before, after, (double)(now - told) / (double)hz);
+            if (!fwd_write_files(&forward.options, port, after) && !is_told_of_file) {
                 fprintf(stderr, "pie-fwd: the file of --metrics or --json: %s\n", strerror(errno));
                 is_told_of_file = true;
             }
-            before = after;
+            memcpy(before, after, sizeof before);
             told = now;
         }
-        write_flight(&written);
+        write_flights(written);
         // (who reads the lines may go: then it is over too)
         if (is_over || ferror(stdout) != 0)
             return;
-        if (!fwd_history_write(&forward.history, forward.stage))
+        if (!write_histories())
             nanosleep(&(struct timespec){.tv_nsec = is_quick ? 1000000 : 10000000}, NULL);
     }
 }
@@ -235,14 +255,16 @@ static void drain(uint16_t port, uint16_t queues) {
 /* Frees everything; false where an mbuf is missing, or the history is not whole on its file. */
 static bool close_all(void) {
     uint16_t port;
-    struct pie_stage_stats stats = {0};
-    bool is_written = fwd_history_close(&forward.history, forward.stage);
-    if (!fwd_remove_metrics(&forward.options)) {
+    struct pie_stage_stats all[FWD_QUEUES];
+    bool is_written = true;
+    for (uint32_t i = 0; i < FWD_QUEUES; i++)
+        is_written &= fwd_history_close(&forward.histories[i], i < forward.queues.count ? forward.queues.stages[i] : NULL);
+    if (!remove_metrics()) {
         fprintf(stderr, "pie-fwd: --metrics %s: %s\n", forward.options.metrics, strerror(errno));
         is_written = false;
     }
-    if (forward.stage != NULL)
-        pie_stage_read(forward.stage, &stats);
+    read_all(all);
+    struct pie_stage_stats stats = fwd_sum(forward.queues.count, all);
     RTE_ETH_FOREACH_DEV(port) {
         struct rte_eth_dev_info info;
         if (forward.pool != NULL && rte_eth_dev_info_get(port, &info) == 0 && info.nb_rx_queues != 0)
@@ -250,15 +272,16 @@ static bool close_all(void) {
         rte_eth_dev_stop(port);
         rte_eth_dev_close(port);
     }
-    pie_stage_free(forward.stage);
+    fwd_queues_free(&forward.queues);
     if (forward.pool == NULL)
         return is_written;
     unsigned int there = rte_mempool_avail_count(forward.pool), missing = (unsigned int)forward.options.mbufs - there;
     rte_mempool_free(forward.pool);
     printf("pie-fwd: %" PRIu64 " packets queued, %" PRIu64 " marked, %" PRIu64 " dropped early, %" PRIu64 " for want of bytes, %" PRIu64
            " of room; %" PRIu64 " left, %" PRIu64 " not taken by a port; %" PRIu64 " updates; %" PRIu64
-           " events lost to the history; %u mbufs missing\n",
-           stats.queued, stats.marked, stats.early, stats.bytes, stats.full, stats.departed, forward.unsent, stats.updates, stats.lost, missing);
+           " changes of parameters; %" PRIu64 " events lost to the history; %u mbufs missing\n",
+           stats.queued, stats.marked, stats.early, stats.bytes, stats.full, stats.departed, forward.unsent, stats.updates,
+           stats.changes, stats.lost, missing);
     return is_written && missing == 0;
 }
 
@@ -276,6 +299,7 @@ int main(int count, char **words) {
     }
     signal(SIGINT, stop);
     signal(SIGTERM, stop);
+    signal(SIGHUP, stop);
     signal(SIGUSR1, ask);
     signal(SIGPIPE, SIG_IGN); // (a write fails then, and everything is freed)
     bool is_open = open_all();

@@ -2,6 +2,7 @@
 
 #include "pie_ring.h"
 #include "stage_packet.h"
+#include "stage_telemetry.h"
 #include "stage_words.h"
 
 #include <rte_branch_prediction.h>
@@ -100,7 +101,7 @@ struct pie_stage {
     uint64_t arrivals; /* that were decided on: the tag of the latest */
     struct pie_flight flight;
     struct pie_stage_stats stats;
-    uint64_t waited_high, most_bytes, greatest_delay; /* what the history's statistics have beside these */
+    uint64_t most_bytes, greatest_delay; /* what the history's statistics have beside these */
     bool is_asked;                                    /* a packet waited longer than `longest` */
     struct stage_words words;
     struct pie_ring events; /* (its reader's part lies on lines of its own) */
@@ -215,6 +216,7 @@ struct pie_stage *pie_stage_create(const char *name, const struct pie_stage_para
         rte_errno = fault;
         return NULL;
     }
+    stage_telemetry_add(stage, name);
     return stage;
 }
 
@@ -222,6 +224,7 @@ void pie_stage_free(struct pie_stage *stage) {
     struct waiting oldest;
     if (stage == NULL)
         return;
+    stage_telemetry_remove(stage);
     while (rte_ring_dequeue_elem(stage->ring, &oldest, sizeof oldest) == 0)
         rte_pktmbuf_free(oldest.mbuf);
     rte_ring_free(stage->ring);
@@ -257,10 +260,11 @@ static struct pie_stats history_stats(const struct pie_stage *stage) {
         .left = stats->departed,
         .left_bytes = stats->departed_bytes,
         .updates = stats->updates,
+        .changes = stats->changes,
         .largest_queue = stage->most_bytes,
         .largest_delay = stage->greatest_delay,
         .waited = stats->waited,
-        .waited_high = stage->waited_high,
+        .waited_high = stats->waited_high,
     };
 }
 
@@ -287,19 +291,36 @@ static inline void keep(struct pie_stage *stage, const struct pie_flight_burst *
         take_snapshot(stage);
 }
 
+/* Under the lock, takes in from the controller what packets are looked at by. */
+static inline void show_controller(struct pie_stage *stage) {
+    __atomic_store_n(&stage->due, pie_due(&stage->pie), __ATOMIC_RELAXED);
+    __atomic_store_n(&stage->picks, stage->pie.prob != 0, __ATOMIC_RELAXED);
+}
+
+/* Under the lock, counts an update. */
+static void count_update(struct pie_stage *stage, const struct pie_event *event, bool is_late) {
+    struct pie_stage_stats *stats = &stage->stats;
+    uint32_t sort = 0;
+    while (sort + 1 < PIE_STAGE_PROBS && event->prob > pie_stage_prob_bound(sort))
+        sort++;
+    stats->probs[sort]++;
+    stats->probs_sum += event->prob;
+    stats->probs_high += stats->probs_sum < event->prob;
+    stats->updates++;
+    stats->late += is_late;
+    stage->greatest_delay = RTE_MAX(stage->greatest_delay, event->delay);
+}
+
 /* Under the lock, makes an update that may be due. */
 static __rte_noinline bool update(struct pie_stage *stage, const struct turn *turn) {
     struct pie_event kept = {.moment = turn->moment, .caller = turn->caller}, *event = stage->slots != NULL ? event_at(stage, turn) : &kept;
     struct pie_flight_burst burst = pie_flight_begin(&stage->flight);
     uint64_t due = stage->due;
     uint32_t code = pie_update_event(&stage->pie, stage->bytes, event);
-    __atomic_store_n(&stage->due, pie_due(&stage->pie), __ATOMIC_RELAXED);
-    __atomic_store_n(&stage->picks, stage->pie.prob != 0, __ATOMIC_RELAXED);
+    show_controller(stage);
     if (code != PIE_DONE)
         return false;
-    stage->stats.updates++;
-    stage->stats.late += turn->moment - due > stage->pie.params.t_update;
-    stage->greatest_delay = RTE_MAX(stage->greatest_delay, event->delay);
+    count_update(stage, event, turn->moment - due > stage->pie.params.t_update);
     if (stage->memory != NULL)
         pie_flight_other(&burst, &stage->pie, event);
     keep(stage, &burst);
@@ -326,6 +347,34 @@ bool pie_stage_update(struct pie_stage *stage, uint64_t now) {
     publish(stage);
     rte_spinlock_unlock(&stage->lock);
     return is_made;
+}
+
+uint32_t pie_stage_set_params(struct pie_stage *stage, const struct pie_params *params, uint64_t now) {
+    if (pie_check_params(params) != 0)
+        return PIE_BAD_PARAMS;
+    rte_spinlock_lock(&stage->lock);
+    struct turn turn = begin(stage, moment_of(stage, now));
+    struct pie_flight_burst burst = pie_flight_begin(&stage->flight);
+    struct pie_event kept = {0}, *event = stage->slots != NULL ? pie_ring_params_slot(&stage->events, params) : &kept;
+    event->moment = turn.moment;
+    event->caller = turn.caller;
+    uint32_t code = pie_set_params_event(&stage->pie, params, event);
+    show_controller(stage);
+    if (code == PIE_DONE) {
+        stage->stats.changes++;
+        if (stage->memory != NULL)
+            pie_flight_other(&burst, &stage->pie, event);
+        keep(stage, &burst);
+    }
+    publish(stage);
+    rte_spinlock_unlock(&stage->lock);
+    return code;
+}
+
+void pie_stage_read_params(struct pie_stage *stage, struct pie_params *params) {
+    rte_spinlock_lock(&stage->lock);
+    *params = stage->pie.params;
+    rte_spinlock_unlock(&stage->lock);
 }
 
 /* Whether headers are looked at before the lock is taken. While the probability is 0 no packet is picked, so there is nothing to mark, and its
@@ -384,7 +433,8 @@ static __rte_always_inline uint32_t decide(struct pie_stage *stage, uint64_t byt
 }
 
 /* Under the lock, counts a packet that is dropped. */
-static __rte_noinline void count_drop(struct pie_stage_stats *stats, uint32_t verdict) {
+static __rte_noinline void count_drop(struct pie_stage_stats *stats, uint32_t verdict, uint32_t size) {
+    stats->dropped_bytes += verdict <= PIE_PACKETS ? size : 0;
     stats->early += verdict == PIE_EARLY;
     stats->bytes += verdict == PIE_BYTES;
     stats->full += verdict == PIE_PACKETS;
@@ -405,7 +455,7 @@ static __rte_always_inline uint32_t arrive_burst(struct pie_stage *stage, struct
         struct rte_mbuf *mbuf = mbufs[from + i];
         uint32_t verdict = decide(stage, bytes, &seen[i], room - taken, turn, &burst, record);
         if (unlikely(verdict > PIE_MARK)) {
-            count_drop(&stage->stats, verdict);
+            count_drop(&stage->stats, verdict, seen[i].size);
             continue;
         }
         if (unlikely(verdict == PIE_MARK)) {
@@ -525,8 +575,8 @@ static __rte_always_inline uint32_t depart_burst(struct pie_stage *stage, struct
     stats->departed += taken;
     stats->departed_bytes += sent;
     stats->waited += waited;
+    stats->waited_high += stats->waited < waited;
     if (record != NOTHING) {
-        stage->waited_high += stats->waited < waited;
         keep(stage, &burst);
         if (unlikely(longest > stage->longest))
             __atomic_store_n(&stage->is_asked, true, __ATOMIC_RELAXED);
@@ -569,6 +619,7 @@ void pie_stage_read(struct pie_stage *stage, struct pie_stage_stats *stats) {
     stats->prob = stage->pie.prob;
     stats->delay = stage->pie.old_delay;
     stats->burst = stage->pie.burst;
+    stats->target = stage->pie.params.target;
     rte_spinlock_unlock(&stage->lock);
 }
 
@@ -607,7 +658,7 @@ static size_t end_text(struct pie_stage *stage, unsigned char *text) {
 size_t pie_stage_history(struct pie_stage *stage, unsigned char *text, size_t room) {
     const struct cut *cut = &stage->cut;
     struct pie_event event;
-    struct pie_params unused;
+    struct pie_params params;
     size_t size = 0;
     if (stage->slots == NULL || room < PIE_RECORD_ROOM)
         return 0;
@@ -620,8 +671,8 @@ size_t pie_stage_history(struct pie_stage *stage, unsigned char *text, size_t ro
         stage->is_timed = true;
     }
     while (room - size >= PIE_RECORD_ROOM && !(cut->state == AHEAD_OF_US && stage->events.tail == cut->at) &&
-           pie_ring_take(&stage->events, &event, &unused))
-        size += pie_text_event(&stage->text, &event, &unused, text + size, room - size);
+           pie_ring_take(&stage->events, &event, &params))
+        size += pie_text_event(&stage->text, &event, &params, text + size, room - size);
     return size == 0 && cut->state == AHEAD_OF_US ? end_text(stage, text) : size;
 }
 
@@ -661,7 +712,7 @@ static void cut_here(struct pie_stage *stage) {
     cut->gap_size = pie_ring_last_gap(&stage->events, &stage->text, cut->gap, sizeof cut->gap);
     cut->pie = stage->pie;
     cut->stats = history_stats(stage);
-    cut->count = stage->arrivals + stage->stats.departed + stage->stats.updates;
+    cut->count = stage->arrivals + stage->stats.departed + stage->stats.updates + stage->stats.changes;
     cut->bytes = stage->bytes;
     cut->first = stage->stats.departed;
     cut->packets = stage->packets;

@@ -9,6 +9,8 @@
  *   pie_stage_update(stage, rte_rdtsc());                                        // on a timer
  *   pie_stage_free(stage);
  *
+ * DPDK's telemetry (dpdk-telemetry.py) shows the stages of a process, and sets their parameters (stage_telemetry.h).
+ *
  * `now` is rte_rdtsc() or rte_get_tsc_cycles(), in cycles of the TSC (rte_get_tsc_hz() a second). It need not be the same on all lcores
  * to the cycle: one that is earlier than the latest so far counts as the latest so far, which statistics count as `earlier`. So after one `now`
  * far ahead all later ones count as that one, until the clock gets there.
@@ -56,11 +58,20 @@ struct pie_stage;
 #define PIE_STAGE_MAX_EVENTS (1u << 24) /* the most events of the history's ring, and of the flight recorder */
 #define PIE_STAGE_FLIGHT (1u << 14)     /* those of the flight recorder by default */
 
-#define PIE_STAGE_WAITS 13 /* how many sorts of waits are counted */
+#define PIE_STAGE_WAITS 13 /* how many sorts of waits are counted .. */
+#define PIE_STAGE_PROBS 13 /* .. and of probabilities */
 
 /* The longest wait of each sort but the last, which has no bound: 250 us, 500 us and so on to 512 ms, in nanoseconds. */
 static inline uint64_t pie_stage_wait_bound(uint32_t sort) {
     return UINT64_C(250000) << sort;
+}
+
+/* The greatest probability of each sort but the last, in units of 10^-12: 0.0001, 0.0002, 0.0005, 0.001 and so on to 0.5. */
+static inline uint64_t pie_stage_prob_bound(uint32_t sort) {
+    uint64_t bound = sort % 3 == 0 ? 100000000 : sort % 3 == 1 ? 200000000 : 500000000;
+    for (; sort >= 3; sort -= 3)
+        bound *= 10;
+    return bound;
 }
 
 struct pie_stage_params {
@@ -82,6 +93,7 @@ struct pie_stage_stats {
     uint64_t early;          /* dropped by early drop */
     uint64_t bytes;          /* dropped since the queue would exceed limit_bytes */
     uint64_t full;           /* dropped since the queue has no room for another packet */
+    uint64_t dropped_bytes;  /* bytes of the packets that were dropped so, by these three */
     uint64_t oversized;      /* dropped for a size outside 1 to 65535 bytes */
     uint64_t refused;        /* dropped since the controller refused the arrival: 0 in a sound program */
     uint64_t no_ip;          /* packets without an IP header where the stage looked for it: they are never marked. It looks at headers while the
@@ -90,11 +102,16 @@ struct pie_stage_stats {
                                 of those whose header it looked at */
     uint64_t departed;       /* packets handed to the sender */
     uint64_t departed_bytes; /* their bytes */
-    uint64_t waited;         /* nanoseconds that they waited, all together */
+    uint64_t waited;         /* nanoseconds that they waited, all together: the low 64 bits */
+    uint64_t waited_high;    /* .. and the high 64 bits */
     uint64_t longest;        /* nanoseconds that the longest of these waits took */
     uint64_t waits[PIE_STAGE_WAITS]; /* packets by their waits: those of a sort waited no longer than its bound, and longer than that before it */
     uint64_t updates;        /* updates made */
     uint64_t late;           /* of these, updates made more than t_update after they were due */
+    uint64_t probs[PIE_STAGE_PROBS]; /* updates by the probability after them: those of a sort had no more than its bound */
+    uint64_t probs_sum;      /* these probabilities, all together: the low 64 bits */
+    uint64_t probs_high;     /* .. and the high 64 bits */
+    uint64_t changes;        /* changes of the parameters */
     uint64_t earlier;        /* calls with packets whose `now` was earlier than one before it */
     uint64_t most;           /* packets, the most that the queue held */
     uint64_t lost;           /* events that the history lacks, since it was not taken out as fast as they came */
@@ -104,6 +121,7 @@ struct pie_stage_stats {
     uint64_t prob;           /* the probability, 0 to 10^12 */
     uint64_t delay;          /* the delay that the last update took, in ns */
     uint64_t burst;          /* the burst allowance, in ns */
+    uint64_t target;         /* the target in force, in ns */
 };
 
 /* Default parameters for a link of this rate, in bits a second: pie_default_opening, but a queue with room for limit_bytes of packets of
@@ -130,6 +148,13 @@ uint32_t pie_stage_dequeue_bytes(struct pie_stage *stage, struct rte_mbuf **mbuf
 
 /* Makes an update where one is due, and answers whether it did. Enqueuing and dequeuing packets does so too; a timer is for the times without. */
 bool pie_stage_update(struct pie_stage *stage, uint64_t now);
+
+/* Puts new parameters in force while the stage runs, as pie_set_params of pie.h, and makes an update first where one is due. The history and the
+ * flight recorder have it as an event. The queue's room for packets stays. PIE_DONE, or PIE_BAD_PARAMS where one is out of its range. */
+uint32_t pie_stage_set_params(struct pie_stage *stage, const struct pie_params *params, uint64_t now);
+
+/* Reads the parameters in force. */
+void pie_stage_read_params(struct pie_stage *stage, struct pie_params *params);
 
 /* Reads the statistics, all at one moment. */
 void pie_stage_read(struct pie_stage *stage, struct pie_stage_stats *stats);

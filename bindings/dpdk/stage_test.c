@@ -7,6 +7,7 @@
 #include "stage_test.h"
 
 #include "fwd_pace.h"
+#include "metrics.h"
 #include "stage_packet.h"
 #include "stage_words.h"
 
@@ -377,6 +378,8 @@ static void test_cut(void) {
             mbufs[i] = plain(1000, i % 2 == 0 ? PIE_ECT0 : PIE_NOT_ECT);
         pie_stage_enqueue(stage, mbufs, 8, now);
         rte_pktmbuf_free_bulk(out, pie_stage_dequeue(stage, out, 5, now));
+        params.opening.params.target = 1000000 + (uint64_t)round;
+        EXPECT(round % 7 != 0 || pie_stage_set_params(stage, &params.opening.params, now) == PIE_DONE);
         if (round == 250) { // more than the ring has room for
             for (int i = 0; i < 2000; i++)
                 EXPECT(pie_stage_update(stage, now += hz / 500));
@@ -462,6 +465,97 @@ static void test_waits(void) {
     printf("stage_test: waits by their sorts\n");
 }
 
+/* New parameters while packets wait: they are in force from then on, history and flight recorder have them, and what is refused changes nothing. */
+static void test_params(uint32_t events, uint32_t flight) {
+    struct pie_stage_params params;
+    struct pie_params wanted, found;
+    struct pie_stage_stats stats;
+    struct told told = {0};
+    struct rte_mbuf *mbufs[8], *out[8];
+    char name[64];
+    unrecorded(&params);
+    params.events = events;
+    params.flight = flight;
+    struct pie_stage *stage = stage_of(&params);
+    snprintf(name, sizeof name, "params-%" PRIu32 "-%" PRIu32, events, flight);
+    FILE *file = events != 0 ? open_history(name) : NULL;
+    uint64_t hz = rte_get_tsc_hz(), now = rte_rdtsc();
+    wanted = params.opening.params;
+    for (int round = 0; round < 200; round++, now += hz / 1000) {
+        for (int i = 0; i < 8; i++)
+            mbufs[i] = plain(1000, i % 2 == 0 ? PIE_ECT0 : PIE_NOT_ECT);
+        pie_stage_enqueue(stage, mbufs, 8, now);
+        rte_pktmbuf_free_bulk(out, pie_stage_dequeue(stage, out, 7, now));
+        if (round % 40 != 20)
+            continue;
+        wanted.target = 1000000 + (uint64_t)round * 1000;
+        wanted.t_update = 2000000 - (uint64_t)round;
+        wanted.max_burst = 0;
+        wanted.limit_bytes = 100000 + (uint64_t)round;
+        wanted.dq_threshold = round == 100 ? 1024 : 65536;
+        EXPECT(pie_stage_set_params(stage, &wanted, now) == PIE_DONE);
+        struct pie_params bad = wanted;
+        bad.target = 1;
+        EXPECT(pie_stage_set_params(stage, &bad, now) == PIE_BAD_PARAMS);
+        pie_stage_read_params(stage, &found);
+        pie_stage_read(stage, &stats);
+        EXPECT(memcmp(&found, &wanted, sizeof found) == 0 && stats.target == wanted.target && stats.changes == 1 + (uint64_t)round / 40);
+        uint64_t updates = stats.updates;
+        EXPECT(pie_stage_update(stage, now + wanted.t_update * hz / 500000000)); // (a second t_update behind: due by the new one)
+        now += wanted.t_update * hz / 500000000;
+        pie_stage_read(stage, &stats);
+        EXPECT(stats.updates == updates + 1);
+    }
+    EXPECT(stats.changes == 5 && stats.bytes > 0); // (the new limit drops)
+    if (file != NULL) {
+        take_history(stage, file, true, &told);
+        EXPECT(fclose(file) == 0);
+        expect_told(stage, &told);
+    }
+    if (flight != 0)
+        expect_flight(stage, strcat(name, "-flight"), flight);
+    pie_stage_free(stage);
+    expect_all_back();
+    printf("stage_test: new parameters%s%s\n", events != 0 ? ", recorded" : "", flight != 0 ? ", with a flight recorder" : "");
+}
+
+/* The sorts of waits and probabilities are those of the metrics, and each update is in the first whose bound it doesn't exceed. */
+static void test_sorts(void) {
+    struct pie_stage_params params;
+    struct pie_stage_stats stats;
+    struct rte_mbuf *mbufs[32], *out[32];
+    for (uint32_t sort = 0; sort + 1 < PIE_STAGE_WAITS; sort++)
+        EXPECT(pie_stage_wait_bound(sort) == metrics_wait_bound(sort) && pie_stage_prob_bound(sort) == metrics_prob_bound(sort));
+    EXPECT(pie_stage_prob_bound(0) == 100000000 && pie_stage_prob_bound(4) == 2000000000 && pie_stage_prob_bound(11) == PIE_ONE / 2);
+    unrecorded(&params);
+    params.opening.params.max_burst = 0;
+    struct pie_stage *stage = stage_of(&params);
+    uint64_t hz = rte_get_tsc_hz(), now = rte_rdtsc(), sum = 0, sorts[PIE_STAGE_PROBS] = {0}, bytes = 0;
+    for (int round = 0; round < 3000; round++, now += hz / 500) {
+        for (int i = 0; i < 32; i++, bytes += 1000)
+            mbufs[i] = plain(1000, PIE_NOT_ECT);
+        pie_stage_enqueue(stage, mbufs, 32, now);
+        rte_pktmbuf_free_bulk(out, pie_stage_dequeue(stage, out, round < 2000 ? 25 : 32, now));
+        pie_stage_read(stage, &stats);
+        uint64_t before = 0;
+        for (uint32_t sort = 0; sort < PIE_STAGE_PROBS; sort++)
+            before += sorts[sort];
+        if (stats.updates == before)
+            continue;
+        EXPECT(stats.updates == before + 1);
+        uint32_t sort = 0;
+        while (sort + 1 < PIE_STAGE_PROBS && stats.prob > pie_stage_prob_bound(sort))
+            sort++;
+        sorts[sort]++;
+        sum += stats.prob;
+        EXPECT(memcmp(sorts, stats.probs, sizeof sorts) == 0 && stats.probs_sum == sum && stats.probs_high == 0);
+    }
+    EXPECT(stats.early > 0 && stats.departed_bytes + stats.waiting_bytes + stats.dropped_bytes == bytes);
+    pie_stage_free(stage);
+    expect_all_back();
+    printf("stage_test: probabilities by their sorts\n");
+}
+
 /* Updates are made when due, by enqueuing, dequeuing, or a timer. */
 static void test_updates(void) {
     struct pie_stage_params params;
@@ -506,13 +600,19 @@ int main(int count, char **words) {
         test_decisions(1 << 16, 100);
         test_first_marks();
         test_updates();
+        test_params(0, 0);
+        test_params(1 << 14, 0);
+        test_params(0, 100);
+        test_params(1 << 14, 5000);
         test_waits();
+        test_sorts();
         test_record();
         test_flight(1);
         test_flight(50);
         test_flight(1000);
         test_cut();
         test_pace();
+        test_queues();
         test_threads(4000, 0, 0);
         test_threads(4000, 0, 2000);
     }

@@ -1,5 +1,5 @@
 /* What the parts of the stage's test share: stage_test.c begins, stage_test_frames.c makes frames and tries marks in them, stage_test_texts.c takes
- * histories and the flight recorder's texts out, and stage_test_threads.c tries many threads at once. */
+ * histories and the flight recorder's texts out, stage_test_queues.c has several queues, and stage_test_threads.c many threads at once. */
 #ifndef STAGE_TEST_H
 #define STAGE_TEST_H
 
@@ -27,6 +27,9 @@ void expect_all_back(void);
 
 /* A frame of this size whose ECN field is this, in one segment. */
 struct rte_mbuf *plain(uint16_t size, uint8_t ecn);
+
+/* A frame of IPv6 behind this many VLAN tags. */
+struct rte_mbuf *ipv6(int tags);
 
 /* The default parameters for 100 Mbit/s, without a flight recorder. */
 void unrecorded(struct pie_stage_params *params);
@@ -61,6 +64,9 @@ struct resumed expect_flight(struct pie_stage *stage, const char *name, uint64_t
 
 /* Each decision of a recorded stage stands in its history, or is told as lost. */
 void expect_told(struct pie_stage *stage, const struct told *told);
+
+/* The queues of pie-fwd: classes, and equal shares. */
+void test_queues(void);
 
 void test_marks(void);
 void test_no_ip(void);

@@ -60,6 +60,10 @@ static struct rte_mbuf *frame(int tags, int version, uint8_t ecn) {
     return segments(bytes, write_frame(bytes, tags, version, ecn), 14, 0);
 }
 
+struct rte_mbuf *ipv6(int tags) {
+    return frame(tags, 6, PIE_NOT_ECT);
+}
+
 struct rte_mbuf *plain(uint16_t size, uint8_t ecn) {
     uint8_t bytes[256];
     struct rte_mbuf *mbuf = alloc();

@@ -41,7 +41,7 @@ FILE *open_history(const char *name) {
 }
 
 uint64_t events_of(const struct pie_stage_stats *stats) {
-    return stats->queued + stats->early + stats->bytes + stats->full + stats->departed + stats->updates;
+    return stats->queued + stats->early + stats->bytes + stats->full + stats->departed + stats->updates + stats->changes;
 }
 
 int write_to(void *user, const unsigned char *bytes, size_t count) {

@@ -64,7 +64,8 @@ void test_cut_beside(int cuts) {
     printf("stage_test: a history that is cut while packets come and go\n");
 }
 
-/* Three threads enqueue what they own, one dequeues and gives each packet back to its owner, one updates and reads. */
+/* Three threads enqueue what they own, one dequeues and gives each packet back to its owner, one updates, reads, and sets
+ * parameters. */
 #define SENDERS 3
 #define OWNED 64
 
@@ -121,10 +122,14 @@ static void *take_bursts(void *argument) {
 
 static void *update_and_read(void *argument) {
     struct pie_stage_stats stats;
+    struct pie_params params;
     while (!__atomic_load_n(&are_done, __ATOMIC_SEQ_CST)) {
         pie_stage_update(argument, rte_rdtsc());
         pie_stage_read(argument, &stats);
         EXPECT(stats.queued == stats.departed + stats.waiting);
+        pie_stage_read_params(argument, &params);
+        params.target = 2000 + stats.updates % 100;
+        EXPECT(stats.updates % 16 != 0 || pie_stage_set_params(argument, &params, rte_rdtsc()) == PIE_DONE);
     }
     return NULL;
 }

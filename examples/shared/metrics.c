@@ -44,10 +44,17 @@ static const struct family gauges[] = {
     {"queue_bytes", "Bytes in the queue.", AT(bytes), 1},
 };
 
-/* The sort of a number: the first whose bound it doesn't exceed. */
-static uint32_t sort_of(uint64_t number, uint64_t bound_of(uint32_t sort), uint32_t sorts) {
+/* The sort of a wait: the first whose bound it doesn't exceed. Each bound is twice the one before. */
+static uint32_t sort_of_wait(uint64_t wait) {
+    uint64_t bounds = (wait - (wait != 0)) / metrics_wait_bound(0);
+    uint32_t sort = bounds == 0 ? 0 : 64 - (uint32_t)__builtin_clzll(bounds);
+    return sort < METRICS_WAITS ? sort : METRICS_WAITS - 1;
+}
+
+/* .. and of a probability. */
+static uint32_t sort_of_prob(uint64_t prob) {
     uint32_t sort = 0;
-    while (sort + 1 < sorts && number > bound_of(sort))
+    while (sort + 1 < METRICS_PROBS && prob > metrics_prob_bound(sort))
         sort++;
     return sort;
 }
@@ -67,11 +74,11 @@ void count_event(struct metrics *metrics, const struct pie_event *event, uint64_
         metrics->departed++;
         metrics->departed_bytes += event->size;
         metrics->waited += waited;
-        metrics->waits[sort_of(waited, metrics_wait_bound, METRICS_WAITS)]++;
+        metrics->waits[sort_of_wait(waited)]++;
     } else if (event->kind == PIE_EVENT_UPDATE) {
         metrics->updates++;
         metrics->probs_sum += event->prob;
-        metrics->probs[sort_of(event->prob, metrics_prob_bound, METRICS_PROBS)]++;
+        metrics->probs[sort_of_prob(event->prob)]++;
     }
 }
 

@@ -1,0 +1,40 @@
+/* The queues of the link, a stage each, with one sender: packets go to one by the class of their IP header, and the sender takes from each in turn,
+ * so that each that has packets has the same share of the rate. */
+#ifndef FWD_QUEUES_H
+#define FWD_QUEUES_H
+
+#include "pie_stage.h"
+
+#include <limits.h>
+
+#define FWD_QUEUES 8 /* the most of them: there are eight classes */
+
+struct fwd_queues {
+    uint32_t count;
+    struct pie_stage *stages[FWD_QUEUES];
+    int64_t credits[FWD_QUEUES]; /* of the sender alone: the bytes that a queue may still send in its turn; below 0 what it sent too much */
+    uint32_t turn;
+};
+
+/* Makes so many stages with these parameters, `name` and behind it -1, -2 and so on; false where that fails, with rte_errno. */
+bool fwd_queues_create(struct fwd_queues *queues, uint32_t count, const char *name, const struct pie_stage_params *params);
+
+void fwd_queues_free(struct fwd_queues *queues);
+
+/* A file's name for a queue: that of the first as it is, and of the others with -1, -2 and so on behind it; false where it is too long, with errno. */
+bool fwd_queue_name(char name[PATH_MAX], const char *path, uint32_t queue);
+
+/* The queue of a packet among so many: by the three highest bits of its DS field (the class selector of RFC 2474, section 4.2.2), the eight classes
+ * in equal parts; the first without an IP header. */
+uint32_t fwd_queue_of(const struct rte_mbuf *mbuf, uint32_t count);
+
+/* Enqueues a burst, each packet to its queue; those that are dropped are freed. At most 32 packets. */
+void fwd_queues_enqueue(struct fwd_queues *queues, struct rte_mbuf **mbufs, uint32_t count, uint64_t now);
+
+/* Hands out up to `count` packets as long as fewer than `bytes` were; answers how many. By the one lcore that sends. */
+uint32_t fwd_queues_dequeue(struct fwd_queues *queues, struct rte_mbuf **mbufs, uint32_t count, uint64_t bytes, uint64_t now);
+
+/* Makes the updates that are due. */
+void fwd_queues_update(struct fwd_queues *queues, uint64_t now);
+
+#endif

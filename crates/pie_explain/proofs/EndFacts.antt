@@ -1,26 +1,16 @@
 -- How explaining a history ends, and what it has written.
-use Rattle.std.proofs.Common.{◌≡◌, ◌==◌, ℕ, List, ◌++◌, length, Bool, true, false, refl, sym, ap, ◌∙◌, subst, append_assoc}
-use Rattle.std.specs.Prelude.{Option, Some, None, Result, Ok, Err, OnOk, ◌&&◌, nat_le, nat_lt, if◌then◌else◌}
-use Rattle.std.specs.Io.KnownBytes.{Appends, append_known}
-use Rattle.pie_event.specs.declared.opening.Opening.{Opening}
-use Rattle.pie_record.specs.declared.fault.TraceFault.{TraceFault}
-use Rattle.pie_record.specs.declared.history_record.Line.{Line}
-use Rattle.pie_audit.specs.declared.auditor.Finding.{Finding}
+use Rattle.pie_explain.proofs.Names.{◌≡◌, ℕ, List, ◌++◌, length, Bool, true, false, refl, sym, ap, ◌∙◌, append_assoc, Option, Some, None, Result, Ok}
+use Rattle.pie_explain.proofs.Names.{Err, OnOk, ◌&&◌, nat_le, nat_lt, if◌then◌else◌, Appends, append_known, Opening, TraceFault, Line, Finding}
+use Rattle.pie_explain.proofs.Names.{event_count, first_difference, Explained, Choice, Explains, answered, is_whole, Grows, Start, explanations_since}
+use Rattle.std.proofs.Common.{◌==◌, subst}
 use Rattle.pie_audit.specs.declared.auditor.Finding.TheVariants.{Clean, Differs}
 use Rattle.pie_audit.specs.declared.following.Follower.{Follower}
 use Rattle.pie_audit.specs.Text.{judged}
-use Rattle.pie_record.specs.HistoryLines.{event_count}
-use Rattle.pie_audit.specs.Finding.{finding, finding_by, first_difference}
-use Rattle.pie_explanation.specs.declared.explanation.Explained.{Explained}
-use Rattle.pie_explain.specs.declared.fault.ExplainFault.TheVariants as fault
-use Rattle.pie_explanation.specs.declared.choice.Choice.{Choice}
+use Rattle.pie_audit.specs.Finding.{finding, finding_by}
 use Rattle.pie_explanation.specs.declared.which.Which.{Which}
 use Rattle.pie_explanation.specs.declared.which.Which.TheVariants.{Number, Tag, Lost, Marked, All}
-use Rattle.pie_explain.specs.Answer.{Explains, HasExplained, IsAsAudited, IsSaid, answer_since, answered, none_picked}
-use Rattle.pie_explanation.specs.Choice.{is_whole}
-use Rattle.pie_explanation.specs.Report.{Grows}
-use Rattle.pie_audit.specs.Start.{Start}
-use Rattle.pie_explain.specs.Since.{explanations_since}
+use Rattle.pie_explain.specs.Answer.{HasExplained, IsAsAudited, IsSaid, answer_since, none_picked}
+use Rattle.pie_explain.specs.declared.fault.ExplainFault.TheVariants as fault
 
 -- what waits on the page is ended, and written out
 appends-ended : (old mid now : Option (List ℕ)) (page ended text more : List ℕ) → Appends old (append_known mid page) text → ended ≡ page ++ more

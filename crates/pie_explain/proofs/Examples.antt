@@ -1,13 +1,9 @@
 -- Texts that go on from the middle of a history: what they tell, worked out by hand.
-use Rattle.std.specs.Prelude.{ℕ, ◌≡◌, ◌&&◌, nat_le, nat_lt, Bool, true, false, Some, None, refl}
-use Rattle.std.proofs.Common.{arith}
-use Rattle.std.proofs.lemmas.Bool.Decides.{nat_tests}
+use Rattle.pie_explain.proofs.Names.{ℕ, ◌≡◌, ◌&&◌, nat_le, nat_lt, Bool, true, false, Some, None, refl, arith, nat_tests, no_event, Start}
+use Rattle.pie_explain.proofs.Names.{from_opening, setter_told}
 use Rattle.pie_explain.specs.declared.fault.ExplainFault.TheVariants.{Earlier, NoEvent}
 use Rattle.pie_event.specs.declared.setter.Setter.TheVariants.{Event, Opening, Untold}
-use Rattle.pie_explain.specs.Answer.{no_event}
-use Rattle.pie_event.specs.Setter.{setter_number}
-use Rattle.pie_audit.specs.Start.{Start, from_opening, setter_told}
-use Rattle.pie_event.specs.Setter.{setter_from}
+use Rattle.pie_event.specs.Setter.{setter_number, setter_from}
 
 -- a text of the events from 101 on, which tells what set the probability before them or not
 abbrev after_100 : Bool → Start

@@ -1,30 +1,18 @@
 -- How explaining a history ends: as its audit would, or with nothing to explain.
-use Rattle.std.specs.Prelude.{ℕ, ◌≡◌, ◌==◌, ◌≤◌, nat_lt, nat_le, ◌&&◌, List}
-use Rattle.std.specs.Prelude.{length, Bool, true, false, Option, Some, None, Result, Ok, Err}
-use Rattle.std.specs.Prelude.{if◌then◌else◌}
-use Rattle.std.specs.Io.KnownBytes.{Appends}
-use Rattle.pie_event.specs.declared.opening.Opening.{Opening}
-use Rattle.pie_record.specs.declared.fault.TraceFault.{TraceFault}
-use Rattle.pie_record.specs.declared.history_record.Line.{Line}
+use Rattle.std.specs.Prelude.{◌≡◌, ◌==◌, ◌≤◌, nat_le, ◌&&◌, Ok, if◌then◌else◌}
+use Rattle.pie_explain.specs.Names.{ℕ, nat_lt, List, length, Bool, true, false, Option, Some, None, Result, Err, Appends, Opening, TraceFault, Line}
+use Rattle.pie_explain.specs.Names.{Finding, Audits, AuditorView, event_count, Explained, Setter, Choice, is_whole, Start}
 use Rattle.pie_record.specs.Fault.{is_device}
-use Rattle.pie_audit.specs.declared.auditor.Finding.{Finding}
 use Rattle.pie_audit.specs.declared.auditor.Finding.TheVariants.{Clean}
-use Rattle.pie_audit.specs.declared.auditor.Finding.TheVariants as finding
 use Rattle.pie_audit.specs.declared.following.Follower.{Follower}
-use Rattle.pie_audit.specs.Auditor.{Audits, AuditorView}
 use Rattle.pie_audit.specs.Following.{Follows}
-use Rattle.pie_record.specs.HistoryLines.{event_count}
 use Rattle.pie_audit.specs.Finding.{finding as finding_of}
-use Rattle.pie_explanation.specs.declared.explanation.Explained.{Explained}
 use Rattle.pie_explain.specs.declared.fault.ExplainFault.{ExplainFault}
 use Rattle.pie_explain.specs.declared.fault.ExplainFault.TheVariants.{Trace, Differs, Earlier, NoEvent, NoTag, NoneWithin}
-use Rattle.pie_event.specs.declared.setter.Setter.{Setter}
-use Rattle.pie_explanation.specs.declared.choice.Choice.{Choice}
 use Rattle.pie_explanation.specs.declared.which.Which.{Which}
 use Rattle.pie_explanation.specs.declared.which.Which.TheVariants.{Number, Tag, Lost, Marked, All}
-use Rattle.pie_explanation.specs.Choice.{is_whole}
-use Rattle.pie_audit.specs.Start.{Start}
 use Rattle.pie_explain.specs.Since.{explanations_since}
+use Rattle.pie_audit.specs.declared.auditor.Finding.TheVariants as finding
 
 -- why an event is not explained that is none of those of a text: so many were before it, and so many are up to its end
 abbrev pub no_event : ℕ → ℕ → ℕ → ExplainFault

@@ -1,10 +1,8 @@
 -- What explaining a text answers and writes: a whole history, or one that goes on from the middle of a history.
-use Rattle.std.specs.Prelude.{ℕ, List, Option, Result, Err}
+use Rattle.pie_explain.specs.Names.{ℕ, List, Option, Result, Err, Choice, Explained}
 use Rattle.pie_record.specs.Text.{Row}
 use Rattle.pie_excerpt.specs.Beginning.{is_resumed}
 use Rattle.pie_audit.specs.Told.{TextToldBy}
-use Rattle.pie_explanation.specs.declared.choice.Choice.{Choice}
-use Rattle.pie_explanation.specs.declared.explanation.Explained.{Explained}
 use Rattle.pie_explain.specs.declared.fault.ExplainFault.{ExplainFault}
 use Rattle.pie_explain.specs.declared.fault.ExplainFault.TheVariants.{Trace}
 use Rattle.pie_explain.specs.Answer.{IsSaid, answer_since}

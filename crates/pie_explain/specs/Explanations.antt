@@ -1,19 +1,11 @@
 -- What there is to say of the events of a history's lines.
-use Rattle.std.specs.Prelude.{ℕ, ◌+◌, Bool, true, false, List, [], ◌∷◌, ◌++◌, Option, Some, None, option_map}
-use Rattle.std.specs.List.{filter_map}
-use Rattle.pie_event.specs.declared.opening.Opening.{Opening}
-use Rattle.pie_record.specs.declared.history_record.Line.{Line}
-use Rattle.pie_record.specs.declared.history_record.Line.TheVariants.{Made, Unmakeable, Note}
+use Rattle.std.specs.Prelude.{◌+◌, ◌∷◌, ◌++◌}
+use Rattle.pie_explain.specs.Names.{ℕ, Bool, true, false, List, [], Option, Some, None, option_map, filter_map, Opening, Line, Made, event_count}
+use Rattle.pie_explain.specs.Names.{latest_clock, events_of, first_difference, Explained, Explanation, Choice, Setter, picks, explanation, moment_of}
+use Rattle.pie_explain.specs.Names.{with_after, setter_after, setter_by}
+use Rattle.pie_record.specs.declared.history_record.Line.TheVariants.{Unmakeable, Note}
+use Rattle.pie_audit.specs.Finding.{LinePlace, line_places}
 use Rattle.pie_record.specs.declared.history_record.Line.TheVariants as line
-use Rattle.pie_record.specs.HistoryLines.{event_count, latest_clock}
-use Rattle.pie_audit.specs.Finding.{LinePlace, events_of, first_difference, line_places}
-use Rattle.pie_explanation.specs.declared.explanation.Explained.{Explained}
-use Rattle.pie_explanation.specs.declared.explanation.Explanation.{Explanation}
-use Rattle.pie_explanation.specs.declared.choice.Choice.{Choice}
-use Rattle.pie_event.specs.declared.setter.Setter.{Setter}
-use Rattle.pie_explanation.specs.Choice.{picks}
-use Rattle.pie_explanation.specs.Explanation.{explanation, moment_of, with_after}
-use Rattle.pie_audit.specs.Setters.{setter_after, setter_by}
 
 -- an explanation where this holds
 abbrev pub told_if : Bool → Explanation → Option Explanation

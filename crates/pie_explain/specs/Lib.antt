@@ -1,4 +1,10 @@
+pub mod Names
 pub mod Explanations
 pub mod Since
 pub mod Answer
 pub mod Either
+unfoldable pub use Names.*
+unfoldable pub use Explanations.*
+unfoldable pub use Since.*
+unfoldable pub use Answer.*
+unfoldable pub use Either.*

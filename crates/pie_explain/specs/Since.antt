@@ -1,11 +1,6 @@
 -- What a text gives that goes on from the middle of a history: the explanations of the whole, of the events after its beginning.
-use Rattle.std.specs.Prelude.{nat_lt, List, Option, Some, None, if◌then◌else◌}
-use Rattle.std.specs.List.{filter_map}
-use Rattle.pie_event.specs.declared.opening.Opening.{Opening}
-use Rattle.pie_record.specs.declared.history_record.Line.{Line}
-use Rattle.pie_explanation.specs.declared.explanation.Explained.{Explained}
-use Rattle.pie_explanation.specs.declared.choice.Choice.{Choice}
-use Rattle.pie_audit.specs.Start.{Start, setter_told}
+use Rattle.std.specs.Prelude.{if◌then◌else◌}
+use Rattle.pie_explain.specs.Names.{nat_lt, List, Option, Some, None, filter_map, Opening, Line, Explained, Choice, Start, setter_told}
 use Rattle.pie_explain.specs.Explanations.{explanations}
 
 -- an explanation, as the text gives it

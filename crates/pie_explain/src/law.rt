@@ -1,16 +1,8 @@
 //! How the explanations of an excerpt are those of the whole history.
-ghost use Rattle.std.specs.Prelude.{◌≡◌, ◌++◌, List, Option, length, map, true, false};
-ghost use Rattle.pie_event.specs.declared.command.Event.{Event};
-ghost use Rattle.pie_event.specs.declared.opening.Opening.{Opening};
-ghost use Rattle.pie_record.specs.declared.history_record.Line.{Line};
-ghost use Rattle.pie_record.specs.declared.history_record.Line.TheVariants.{Made};
-ghost use Rattle.pie_explanation.specs.declared.choice.Choice.{Choice};
-ghost use Rattle.pie_record.specs.declared.fault.TraceFault.{TraceFault};
-ghost use Rattle.pie_audit.specs.Start.{Start, from_opening};
+ghost use Rattle.std.specs.Prelude.{◌≡◌, ◌++◌, map};
+ghost use Rattle.pie_explain.specs.{List, Option, length, true, false, Event, Opening, Line, Made, Choice, TraceFault, Start, from_opening};
+ghost use Rattle.pie_explain.specs.{IsAsAudited, answer_since, explanations, as_told, explanations_since};
 ghost use Rattle.pie_audit.specs.Text.{judged};
-ghost use Rattle.pie_explain.specs.Answer.{IsAsAudited, answer_since};
-ghost use Rattle.pie_explain.specs.Explanations.{explanations};
-ghost use Rattle.pie_explain.specs.Since.{as_told, explanations_since};
 
 /// The law of excerpts. A whole history gives all explanations (`whole`). A text that goes on after some events of a history, and tells what set the probability before it, gives exactly the
 /// explanations that the whole history gives after those of these events (`rest`). One that doesn't tell it gives the same, but for what set

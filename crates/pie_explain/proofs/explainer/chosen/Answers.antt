@@ -1,19 +1,6 @@
-use Rattle.std.proofs.Common.{◌≡◌, ◌+◌, ℕ, Bool, List, true, false, refl, rules}
-use Rattle.std.specs.Prelude.{Option, None}
-use Rattle.pie_event.specs.declared.command.Event.{Event}
-use Rattle.pie_event.specs.declared.opening.Opening.{Opening}
+use Rattle.pie_explain.proofs.Names.{◌≡◌, ◌+◌, ℕ, Bool, List, true, false, refl, rules, Option, None, Event, Opening, Clock, Line, Made, Audits}
+use Rattle.pie_explain.proofs.Names.{AuditorView, events_of, Choice, Setter, picks, explanation, moment_of, event_count, told_after, told_if}
 use Rattle.pie_book.specs.Core.{Shows}
-use Rattle.pie_record.specs.declared.clock.Clock.{Clock}
-use Rattle.pie_record.specs.declared.history_record.Line.{Line}
-use Rattle.pie_record.specs.declared.history_record.Line.TheVariants.{Made}
-use Rattle.pie_audit.specs.Auditor.{Audits, AuditorView}
-use Rattle.pie_audit.specs.Finding.{events_of}
-use Rattle.pie_explanation.specs.declared.choice.Choice.{Choice}
-use Rattle.pie_event.specs.declared.setter.Setter.{Setter}
-use Rattle.pie_explanation.specs.Choice.{picks}
-use Rattle.pie_explanation.specs.Explanation.{explanation, moment_of}
-use Rattle.pie_record.specs.HistoryLines.{event_count}
-use Rattle.pie_explain.specs.Explanations.{told_after, told_if}
 use Rattle.pie_explain.proofs.explainer.chosen.Goals as goal
 
 -- what is said of the next event, by the numbers that an auditor holds

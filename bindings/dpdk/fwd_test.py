@@ -4,6 +4,7 @@ parameters are set, and its history, at full speed and by a device that is full,
 its target in real time, at raised priority, for which a processor has to be free.
 
 usage: bindings/dpdk/fwd_test.py PIE_FWD PIE [--real-time]"""
+import contextlib
 import json
 import os
 import re
@@ -13,6 +14,7 @@ import socket
 import subprocess
 import sys
 import tempfile
+import threading
 from concurrent.futures import ThreadPoolExecutor
 from datetime import datetime, timezone
 from pathlib import Path
@@ -154,6 +156,25 @@ def events_of(numbers):
     return sum(numbers[word] for word in words)
 
 
+@contextlib.contextmanager
+def with_telemetry(*words, **settings):
+    """pie-fwd while it runs, and its telemetry."""
+    prefix = f"pie-fwd-test-{os.getpid()}-{threading.get_ident()}"
+    places = [Path(base, "dpdk", prefix) for base in ("/var/run", os.environ.get("XDG_RUNTIME_DIR", "/tmp"))]
+    full = [word for word in command(PACED, *words) if word != "--no-telemetry"]
+    full[1:1] = ["--file-prefix", prefix]
+    with subprocess.Popen(full, stdout=subprocess.PIPE, text=True, **settings) as process, socket.socket(socket.AF_UNIX, socket.SOCK_SEQPACKET) as one:
+        try:
+            assert LINE.search(process.stdout.readline())
+            one.connect(str(next(place / "dpdk_telemetry.v2" for place in places if place.exists())))
+            one.recv(1 << 16)
+            yield process, one
+        finally:
+            process.kill()
+            for place in places:
+                shutil.rmtree(place, ignore_errors=True)
+
+
 def ask(telemetry, command):
     """What DPDK's telemetry answers."""
     telemetry.send(command.encode())
@@ -162,17 +183,10 @@ def ask(telemetry, command):
 
 def telemetry():
     """What it tells of the stage while that runs, and new parameters, which are in force from then on and stand in the history."""
-    prefix = f"pie-fwd-test-{os.getpid()}"
-    places = [Path(base, "dpdk", prefix) for base in ("/var/run", os.environ.get("XDG_RUNTIME_DIR", "/tmp"))]
     with tempfile.TemporaryDirectory() as work:
         path = f"{work}/history"
-        words = [word for word in command(PACED, "--rate", "20mbit", "--receive", "24mbit", "--history", path) if word != "--no-telemetry"]
-        words[1:1] = ["--file-prefix", prefix]
-        process = subprocess.Popen(words, stdout=subprocess.PIPE, stderr=subprocess.DEVNULL, text=True)
-        assert LINE.match(process.stdout.readline())
-        with socket.socket(socket.AF_UNIX, socket.SOCK_SEQPACKET) as one:
-            one.connect(str(next(place / "dpdk_telemetry.v2" for place in places if place.exists())))
-            one.recv(1 << 16)
+        words = ("--rate", "20mbit", "--receive", "24mbit", "--history", path)
+        with with_telemetry(*words, stderr=subprocess.DEVNULL) as (process, one):
             assert ask(one, "/pie/list") == ["pie-fwd"]
             before = ask(one, "/pie/params,0")
             stats = ask(one, "/pie/stats,0")
@@ -187,14 +201,12 @@ def telemetry():
             assert LINE.match(process.stdout.readline()) and LINE.match(process.stdout.readline())
             after = ask(one, "/pie/stats,0")
             assert (after["changes"], after["target"]) == (1, 3000000) and after["updates"] - stats["updates"] > 200, (stats, after)
-        process.send_signal(signal.SIGHUP)
-        printed = process.communicate(timeout=30)[0]
+            process.send_signal(signal.SIGHUP)
+            printed = process.communicate(timeout=30)[0]
         assert process.returncode == 0 and told(printed)["changes of parameters"] == 1, printed
         text = Path(path).read_text()
         assert re.findall(r"^params,.*$", text, re.M)[0].split(",")[3:] == [*map(str, wanted.values()), "done"]
         assert audited(path)[1] == events_of(told(printed))
-        for place in places:
-            shutil.rmtree(place, ignore_errors=True)
     return "telemetry"
 
 
@@ -239,15 +251,24 @@ def queues():
     with tempfile.TemporaryDirectory() as work:
         words = ["--rate", "20mbit", "--receive", "24mbit", "--queues", "2", "--limit", "400p", "--history", f"{work}/history", "--flight", f"{work}/flight",
                  "--metrics", f"{work}/pie.prom", "--json", f"{work}/json"]
-        process = subprocess.Popen(command(PACED, *words), stdout=subprocess.PIPE, stderr=subprocess.PIPE, text=True)
-        lines = [process.stdout.readline() for _ in range(4)]
-        process.send_signal(signal.SIGUSR1)
-        said = [process.stderr.readline() for _ in range(2)]
-        metrics, two = Path(work, "pie.prom").read_text(), json.loads(Path(work, "json").read_text())
-        process.send_signal(signal.SIGTERM)
-        printed = process.communicate(timeout=30)[0]
+        with with_telemetry(*words, stderr=subprocess.PIPE) as (process, one):
+            lines = [process.stdout.readline() for _ in range(4)]
+            assert ask(one, "/pie/list") == ["pie-fwd", "pie-fwd-1"]
+            assert [ask(one, f"/pie/stats,{it}")["name"] for it in (0, 1)] == ["pie-fwd", "pie-fwd-1"]
+            ask(one, "/pie/set,1,target=20ms")
+            assert [ask(one, f"/pie/params,{it}")["target"] for it in (0, 1)] == [15000000, 20000000]
+            process.send_signal(signal.SIGUSR1)
+            said = []
+            while len(said) < 2:  # (DPDK says something too)
+                line = process.stderr.readline()
+                assert line, said
+                said += [line] if line.startswith("pie-fwd: --flight") else []
+            metrics, two = Path(work, "pie.prom").read_text(), json.loads(Path(work, "json").read_text())
+            process.send_signal(signal.SIGTERM)
+            printed = process.communicate(timeout=30)[0]
         assert process.returncode == 0 and said == [f"pie-fwd: --flight {work}/flight{it}: written\n" for it in ("", "-1")], (printed, said)
-        assert [line.partition(": ")[0] for line in lines] == ["queue 0", "queue 1"] * 2 and all(LINE.match(line.partition(": ")[2]) for line in lines)
+        assert [line.partition(": ")[0] for line in lines] == ["queue 1", "queue 0", "queue 1", "queue 0"], lines
+        assert all(LINE.match(line.partition(": ")[2]) for line in lines)
         lint(metrics)
         assert len(set(re.findall(r"^# TYPE .*$", metrics, re.M))) == metrics.count("# TYPE ")
         departed = dict(re.findall(r'^pie_departed_packets_total\{link="net_ring0",queue="(\d)"\} (\d+)$', metrics, re.M))

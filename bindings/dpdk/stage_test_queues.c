@@ -32,13 +32,12 @@ static void test_classes(void) {
     }
 }
 
-/* Sends so many bytes, packet by packet as a link does, and counts those of each queue, which has `sizes` alone. */
+/* Sends so many bytes, some at a time as a link does, and counts those of each queue, which has packets of its size alone. */
 static void send_bytes(struct fwd_queues *queues, uint64_t bytes, const uint16_t *sizes, uint64_t *sent, uint64_t now) {
     struct rte_mbuf *out[BURST];
     for (uint64_t at = 0; at < bytes;) {
         uint32_t count = fwd_queues_dequeue(queues, out, BURST, 1 + at % 3000, now);
-        if (count == 0)
-            return;
+        EXPECT(count != 0);
         for (uint32_t i = 0; i < count; i++) {
             uint32_t size = rte_pktmbuf_pkt_len(out[i]), queue = 0;
             while (sizes[queue] != size)

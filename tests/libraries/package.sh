@@ -157,7 +157,13 @@ if [ -e "$repository/crates/pie/out/pie" ]; then
     expect "the installed program" "pie $version" "$prefix/bin/pie" --version
     "$prefix/bin/pie-report" --pie "$prefix/bin/pie" -o "$work/page.html" "$repository/examples/burst.history" ||
         fail "the installed pie-report makes no page"
-    [ -e "$prefix/share/man/man1/pie-report.1" ] || fail "pie-report has no manual page"
+    "$prefix/bin/pie" explain --every 100ms --csv "$repository/examples/burst.history" > "$work/records.csv"
+    "$prefix/bin/pie-metrics" "$work/records.csv" | grep -q '^pie_arrived_packets_total{link="records",queue="0"} 99$' ||
+        fail "the installed pie-metrics writes other metrics"
+    for page in pie-report pie-metrics; do
+        [ -e "$prefix/share/man/man1/$page.1" ] || fail "$page has no manual page"
+    done
+    [ -e "$prefix/share/pie/grafana.json" ] || fail "the dashboard is not installed"
     # the archive, unpacked elsewhere: it needs libc alone, of Debian 12 or before, and no path of this machine is in what pkg-config tells
     ./install.sh --archive "$work/pie.tar.gz" > /dev/null && ./install.sh --archive "$work/again.tar.gz" > /dev/null || fail "no archive is made"
     cmp "$work/pie.tar.gz" "$work/again.tar.gz" || fail "two archives of the same files differ"

@@ -113,7 +113,7 @@ def hold_places(panels):
 def parse(queries):
     """promtool takes each query, with Grafana's variables as it fills them in."""
     if shutil.which("promtool") is None:
-        print(f"NOT RUN: {NAME}: no promtool here, so nothing else than this script read the queries (bindings/dpdk/install.sh)")
+        print(f"NOT RUN: {NAME}: no promtool here, so nothing else than this script read the queries (report/install.sh)")
         return
     rules = [{"record": f"it:{place}", "expr": query.replace("$__rate_interval", "1m").replace("$link", ".*").replace("$queue", ".*")}
              for place, query in enumerate(queries)]

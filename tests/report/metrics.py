@@ -80,7 +80,7 @@ def families(text):
 def lint():
     """promtool finds nothing wrong with any text."""
     if shutil.which("promtool") is None:
-        print(f"NOT RUN: {NAME}: no promtool here, so nothing else than this script read the metrics (bindings/dpdk/install.sh)")
+        print(f"NOT RUN: {NAME}: no promtool here, so nothing else than this script read the metrics (report/install.sh)")
         return
     for text in linted:
         done = subprocess.run(["promtool", "check", "metrics"], input=text, capture_output=True, text=True, check=False)
@@ -341,7 +341,7 @@ def of_link(folder):
 
 
 def of_signals(folder):
-    """The link's file goes at each signal that ends it, and where its last second failed."""
+    """The link's file goes at each signal that ends it, and where it ended by a fault: a device that is taken away, a history that can't be written."""
     for number in (signal.SIGINT, signal.SIGHUP):
         prom = Path(folder, "signal.prom")
         words = [LINK / "out/link", "--from", "north", "--to", "south", "--metrics", prom]
@@ -349,6 +349,13 @@ def of_signals(folder):
             wait_for(prom.exists)
             process.send_signal(number)
         check(process.returncode == 0 and not prom.exists(), f"the link: its file is left at {number.name}")
+    prom = Path(folder, "away.prom")
+    words = [LINK / "out/link", "--from", "north", "--to", "south", "--metrics", prom]
+    with ended(subprocess.Popen(words, stdout=subprocess.DEVNULL, stderr=subprocess.PIPE, text=True)) as process:
+        wait_for(prom.exists)
+        subprocess.run(["ip", "link", "del", "north"], check=True)
+        errors = process.communicate(timeout=20)[1]
+    check(process.returncode == 1 and "link: read" in errors and not prom.exists(), f"the link without its device: {process.returncode}, {errors}")
     prom = Path(folder, "full.prom")
     words = ["--from", "north", "--to", "south", "--for", "2s", "--history", "/dev/full", "--metrics", prom]
     with ended(subprocess.Popen([LINK / "out/link", *words], stdout=subprocess.DEVNULL, stderr=subprocess.DEVNULL)) as process:

@@ -1,14 +1,14 @@
 /* A bottleneck in user space: two TUN devices, joined by a link of a given rate whose queue PIE manages. One thread; it waits in
  * ppoll for packets, for the end of a transmission, for the delay on the way back, and for the moment when an update is due. Another
- * thread writes the history, so that no packet waits for a file.
+ * thread follows the flight recorder and writes the history, so that no packet waits for a file.
  *
  * Nothing here touches another device: what comes in by the one TUN device goes out by the other. */
 #define _GNU_SOURCE
 #include "flight_file.h"
-#include "history.h"
 #include "options.h"
 #include "packet.h"
 #include "pie.h"
+#include "pie_follow.h"
 
 #include <errno.h>
 #include <fcntl.h>
@@ -30,7 +30,7 @@
 #define AT_ONCE 64         /* packets read from one device before the link is looked at again */
 #define BACK_PACKETS 65536 /* that may be on the way back */
 #define WORDS 128          /* random words taken at once */
-#define LOOK_TIME 1000000  /* ns that the history's thread waits where there is no event */
+#define LOOK_TIME 1000000  /* ns that the history's thread waits before it looks again */
 
 /* What was counted. */
 struct counts {
@@ -49,8 +49,9 @@ struct bottleneck {
     uint64_t granted;      /* bits that a grant's last packet had beyond it */
     size_t step;           /* of the rate, the one in force */
     uint64_t next_update;  /* the moment from which an update is not too soon */
-    struct history history;
     struct flight_file flight;
+    struct pie_flight_follower follower;
+    FILE *history;         /* NULL where none is written */
     pthread_t writer;      /* of the history, and of the flight recorder's text */
     atomic_bool is_closed; /* whether the writer has to end */
     struct counts counts;
@@ -131,19 +132,18 @@ static void release(struct bottleneck *link, struct packets *packets, int device
 
 /* An arrival: the library says whether the packet waits, is marked or is dropped. */
 static void arrive(struct bottleneck *link, struct packet *packet, uint64_t now) {
-    struct pie_event *event = next_event(&link->history, SENDER, now);
+    struct pie_event event = {.moment = now, .word = random_word(), .caller = SENDER};
     uint32_t room = (uint32_t)link->options->control.opening.packets - link->queue.count;
     packet->tag = ++link->counts.arrivals;
     packet->moment = now;
     packet->ecn = ecn_of(packet->bytes, packet->size);
-    event->tag = packet->tag;
-    event->size = packet->size;
-    event->ecn = (uint8_t)packet->ecn;
-    event->word = random_word();
-    uint32_t verdict = pie_arrive_event(&link->pie, link->queue.bytes, room, event);
+    event.tag = packet->tag;
+    event.size = packet->size;
+    event.ecn = (uint8_t)packet->ecn;
+    uint32_t verdict = pie_arrive_event(&link->pie, link->queue.bytes, room, &event);
     if (verdict > PIE_PACKETS)
         die_refused("pie_arrive_event", verdict);
-    keep_event(&link->flight, &link->pie, event);
+    keep_event(&link->flight, &link->pie, &event);
     packet->arrived = link->pie.moment;
     link->counts.verdicts[verdict]++;
     if (verdict == PIE_MARK) {
@@ -195,14 +195,11 @@ static uint64_t rate_at(struct bottleneck *link, uint64_t moment) {
 /* The oldest packet leaves the queue, and is on the link until this moment. */
 static void depart(struct bottleneck *link, uint64_t now, uint64_t until) {
     struct packet *packet = pop(&link->queue);
-    struct pie_event *event = next_event(&link->history, LINK, now);
-    event->tag = packet->tag;
-    event->size = packet->size;
-    event->ecn = (uint8_t)packet->ecn;
-    uint32_t code = pie_depart_event(&link->pie, link->queue.bytes, packet->arrived, event);
+    struct pie_event event = {.moment = now, .tag = packet->tag, .size = packet->size, .caller = LINK, .ecn = (uint8_t)packet->ecn};
+    uint32_t code = pie_depart_event(&link->pie, link->queue.bytes, packet->arrived, &event);
     if (code != PIE_DONE)
         die_refused("pie_depart_event", code);
-    keep_event(&link->flight, &link->pie, event);
+    keep_event(&link->flight, &link->pie, &event);
     link->counts.departures++;
     packet->moment = until;
     push(&link->there, packet);
@@ -240,9 +237,9 @@ static void serve(struct bottleneck *link, uint64_t now) {
 static void update(struct bottleneck *link, uint64_t now) {
     if (now < link->next_update)
         return;
-    struct pie_event *event = next_event(&link->history, TIMER, now);
-    uint32_t code = pie_update_event(&link->pie, link->queue.bytes, event);
-    keep_event(&link->flight, &link->pie, event);
+    struct pie_event event = {.moment = now, .caller = TIMER};
+    uint32_t code = pie_update_event(&link->pie, link->queue.bytes, &event);
+    keep_event(&link->flight, &link->pie, &event);
     if (code == PIE_DONE) {
         link->counts.updates++;
         link->counts.late += now - link->next_update > link->pie.params.t_update;
@@ -280,7 +277,6 @@ static void step(struct bottleneck *link) {
     receive(link, link->from, arrive);
     receive(link, link->to, turn_back);
     serve(link, moment_of(link));
-    publish_events(&link->history);
 }
 
 /* Writes what the flight recorder holds, where somebody asked for it. */
@@ -293,16 +289,30 @@ static void write_if_asked(const struct bottleneck *link) {
     fprintf(stderr, "link: %s.history: %s\n", flight->name, flight_text(answer));
 }
 
+static int write_to(void *user, const unsigned char *bytes, size_t count) {
+    return fwrite(bytes, 1, count, (FILE *)user) == count ? 0 : 1;
+}
+
+/* Writes the events since the last look. */
+static void follow(struct bottleneck *link) {
+    if (link->history == NULL)
+        return;
+    int answer = pie_flight_follow_text(&link->follower, link->flight.scratch, write_to, link->history);
+    if (answer == PIE_FLIGHT_STOPPED)
+        die(link->options->history);
+}
+
 /* The thread that writes the history, and the flight recorder's text. */
 static void *write_history(void *argument) {
     struct bottleneck *link = argument;
     const struct timespec pause = {.tv_nsec = LOOK_TIME};
     while (!atomic_load(&link->is_closed)) {
         write_if_asked(link);
-        if (!write_events(&link->history))
-            nanosleep(&pause, NULL);
+        follow(link);
+        nanosleep(&pause, NULL);
     }
     write_if_asked(link);
+    follow(link);
     return NULL;
 }
 
@@ -331,11 +341,17 @@ static void open_link(struct bottleneck *link, const struct options *options) {
         die_refused("pie_open", code);
     link->next_update = pie_due(&link->pie);
     uint64_t moment = moment_of(link), unix_time = clock_now(CLOCK_REALTIME);
-    if (!open_history(&link->history, options->history, opening) || !write_time(&link->history, moment, unix_time))
-        die(options->history);
-    if (!open_flight(&link->flight, options->flight, opening, &link->pie))
-        die(options->flight);
-    tell_flight(&link->flight, moment, unix_time);
+    if (options->flight != NULL || options->history != NULL) {
+        if (!open_flight(&link->flight, options->flight, opening, &link->pie))
+            die(options->flight != NULL ? options->flight : "memory");
+        tell_flight(&link->flight, moment, unix_time);
+    }
+    if (options->history != NULL) {
+        link->history = strcmp(options->history, "-") == 0 ? stdout : fopen(options->history, "w");
+        if (link->history == NULL)
+            die(options->history);
+        pie_flight_follow_open(&link->follower, link->flight.memory, link->flight.bytes);
+    }
     if (pthread_create(&link->writer, NULL, write_history, link) != 0)
         die("a thread for the history");
 }
@@ -347,10 +363,10 @@ static void close_link(struct bottleneck *link) {
     free_all(&link->back);
     atomic_store(&link->is_closed, true);
     pthread_join(link->writer, NULL);
-    if (!close_history(&link->history))
-        die("history");
-    if (link->history.text.lost != 0)
-        fprintf(stderr, "link: %" PRIu64 " events are missing in the history\n", link->history.text.lost);
+    if (link->history != NULL && (link->history == stdout ? fflush(stdout) : fclose(link->history)) != 0)
+        die(link->options->history);
+    if (link->follower.missed != 0)
+        fprintf(stderr, "link: %" PRIu64 " events are missing in the history\n", link->follower.missed);
     printf("link: %" PRIu64 " packets arrived: %" PRIu64 " waited, %" PRIu64 " marked, %" PRIu64 " dropped early, %" PRIu64
            " for want of bytes, %" PRIu64 " of room; %" PRIu64 " left, %" PRIu64 " lost at the devices\n",
            counts->arrivals, counts->verdicts[PIE_ENQUEUE], counts->verdicts[PIE_MARK], counts->verdicts[PIE_EARLY],

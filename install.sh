@@ -70,8 +70,9 @@ library() {
     version=$(sed -n 's/^#define PIE_VERSION "\(.*\)"$/\1/p' include/pie.h)
     put 644 crates/pie_c/out/libpie_c.a lib/libpie_c.a
     put 644 include/pie.h include/pie.h
-    put 644 include/pie_ring.h include/pie_ring.h
+    put 644 include/pie_text.h include/pie_text.h
     put 644 include/pie_flight.h include/pie_flight.h
+    put 644 include/pie_follow.h include/pie_follow.h
     told_to_pkg_config pie_c -lpie_c
     # the link, for a program that has several threads; it stands over the other, whose calls open it and write its events
     put 644 crates/pie_link_c/out/libpie_link_c.a lib/libpie_link.a

@@ -127,11 +127,11 @@ static int write_out(void *unused, const unsigned char *text, size_t count) {
 }
 
 /* Another thread dumps all the time. */
-static PIE_RING_WORD is_over;
+static PIE_WORD is_over;
 
 static void *dump_all(void *unused) {
     (void)unused;
-    while (!PIE_RING_LOAD(is_over))
+    while (!PIE_LOAD(is_over))
         pie_flight_dump(memory, bytes, scratch, count_bytes, NULL);
     return NULL;
 }
@@ -167,7 +167,7 @@ static void time_beside_dumps(uint64_t packets) {
         double time = time_pairs(kept, CALLS);
         printf("dumped_%" PRIu64 " %.3f ns\n", packets, time / (double)(kept_queue.flight.count - events));
     }
-    PIE_RING_STORE(is_over, 1);
+    PIE_STORE(is_over, 1);
     pthread_join(thread, NULL);
 }
 

@@ -239,6 +239,49 @@ static inline const char *pie_link_text(uint32_t code) {
 
 #ifdef __cplusplus
 }
+
+/* A port that closes itself: it is moved, and never copied. Each call answers as the one in C that it is named after. */
+class pie_link_port {
+public:
+    pie_link_port() noexcept : port() {}
+    pie_link_port(pie_link_port &&other) noexcept : port(other.port) { other.port.at = nullptr; }
+    pie_link_port &operator=(pie_link_port &&other) noexcept {
+        if (this != &other) {
+            pie_link_close(&port);
+            port = other.port;
+            other.port.at = nullptr;
+        }
+        return *this;
+    }
+    pie_link_port(const pie_link_port &) = delete;
+    pie_link_port &operator=(const pie_link_port &) = delete;
+    ~pie_link_port() { pie_link_close(&port); }
+
+    bool is_open() const noexcept { return port.at != nullptr; }
+    uint32_t open(const pie_opening &opening, uint16_t callers) noexcept { return pie_link_open(&opening, callers, &port); }
+    uint32_t share(pie_link_port &added) noexcept { return this != &added ? pie_link_share(&port, &added.port) : with_itself(PIE_OPEN); }
+    uint32_t gather(pie_link_port &other) noexcept { return this != &other ? pie_link_gather(&port, &other.port) : with_itself(PIE_APART); }
+    uint32_t close() noexcept { return pie_link_close(&port); }
+
+    uint32_t try_arrive(pie_event &event) noexcept { return pie_link_try_arrive(&port, &event); }
+    uint32_t try_depart(pie_event &event) noexcept { return pie_link_try_depart(&port, &event); }
+    uint32_t try_update(pie_event &event) noexcept { return pie_link_try_update(&port, &event); }
+    uint32_t try_reset(pie_event &event) noexcept { return pie_link_try_reset(&port, &event); }
+    uint32_t try_set_params(const pie_params &params, pie_event &event) noexcept { return pie_link_try_set_params(&port, &params, &event); }
+    uint32_t try_fold(pie_event &event, pie_params &params) noexcept { return pie_link_try_fold(&port, &event, &params); }
+
+    uint32_t arrive(pie_event &event) noexcept { return pie_link_arrive(&port, &event); }
+    uint32_t depart(pie_event &event) noexcept { return pie_link_depart(&port, &event); }
+    uint32_t update(pie_event &event) noexcept { return pie_link_update(&port, &event); }
+    uint32_t reset(pie_event &event) noexcept { return pie_link_reset(&port, &event); }
+    uint32_t set_params(const pie_params &params, pie_event &event) noexcept { return pie_link_set_params(&port, &params, &event); }
+    uint32_t fold(pie_event &event, pie_params &params) noexcept { return pie_link_fold(&port, &event, &params); }
+
+private:
+    uint32_t with_itself(uint32_t code) const noexcept { return is_open() ? code : uint32_t(PIE_CLOSED); }
+
+    pie_port port;
+};
 #endif
 
 #endif

@@ -45,9 +45,9 @@ static void say_broken(struct fwd_history *history) {
     history->is_broken = true;
 }
 
-/* The same for all that `next` takes out. */
-static bool write_some(struct fwd_history *history, struct pie_stage *stage, size_t next(struct pie_stage *, unsigned char *, size_t)) {
-    size_t size = history->file != NULL && !history->is_broken ? next(stage, history->text, ROOM) : 0;
+/* Writes some of what came since; whether there was anything. */
+static bool write_some(struct fwd_history *history, struct pie_stage *stage) {
+    size_t size = history->file != NULL && !history->is_broken ? pie_stage_history(stage, history->text, ROOM) : 0;
     if (size != 0 && fwrite(history->text, 1, size, history->file) != size)
         say_broken(history);
     history->bytes += size;
@@ -58,7 +58,7 @@ static bool write_some(struct fwd_history *history, struct pie_stage *stage, siz
 static void rotate(struct fwd_history *history, struct pie_stage *stage, uint64_t lost) {
     if (!pie_stage_history_cut(stage))
         return;
-    while (write_some(history, stage, pie_stage_history))
+    while (write_some(history, stage))
         continue;
     if (history->is_broken)
         return;
@@ -71,7 +71,7 @@ static void rotate(struct fwd_history *history, struct pie_stage *stage, uint64_
 
 bool fwd_history_write(struct fwd_history *history, struct pie_stage *stage) {
     struct pie_stage_stats stats;
-    bool is_any = write_some(history, stage, pie_stage_history);
+    bool is_any = write_some(history, stage);
     if (!is_any || history->rotate == 0 || history->is_broken)
         return is_any;
     pie_stage_read(stage, &stats);
@@ -82,7 +82,7 @@ bool fwd_history_write(struct fwd_history *history, struct pie_stage *stage) {
 
 bool fwd_history_close(struct fwd_history *history, struct pie_stage *stage) {
     if (stage != NULL)
-        while (write_some(history, stage, pie_stage_history_end))
+        while (write_some(history, stage))
             continue;
     if (history->file != NULL && fclose(history->file) != 0)
         say_broken(history);

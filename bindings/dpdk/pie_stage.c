@@ -1,6 +1,7 @@
 #include "pie_stage.h"
 
-#include "pie_ring.h"
+#include "pie_follow.h"
+#include "pie_text.h"
 #include "stage_packet.h"
 #include "stage_telemetry.h"
 #include "stage_words.h"
@@ -21,8 +22,7 @@
 #define BURST 32u    /* packets looked at before the lock is taken, and moved at once */
 #define SHIFT 50     /* of the factor of the clock */
 #define SMALLEST 64u /* bytes of an Ethernet frame */
-#define LEAST_EVENTS 16u
-#define AHEAD 12u /* events ahead whose slots are fetched */
+#define AHEAD 12u /* events ahead whose places are fetched */
 #define HANDED_OVER 256u /* packets that wait of which a text is told in one turn at the lock */
 
 /* A packet that waits, in 24 bytes of the ring. */
@@ -39,15 +39,13 @@ struct waiting {
 /* Where the text of a history is cut, and what the next text begins with. */
 struct cut {
     enum { NONE, AHEAD_OF_US, REACHED, BEGUN } state; /* of its writer: none; the old text goes on; 0 was answered; the new text begins */
-    uint64_t at;                                     /* the old text ends before this slot of the ring */
+    uint64_t at;                                     /* the old text ends before the event of this number */
     struct pie_state pie;
     struct pie_stats stats;
     uint64_t count, bytes;  /* events so far, bytes that wait */
     uint64_t first;         /* the number of the oldest packet that waits */
     uint32_t packets, told; /* packets that wait, and those of them that are told */
     struct waiting *queue;  /* memory for those: number n is at the place n modulo the queue's room */
-    unsigned char gap[PIE_RECORD_ROOM];
-    size_t gap_size;
 };
 
 /* What was seen of a packet that arrives. */
@@ -65,30 +63,32 @@ struct unmarkable {
 struct turn {
     uint64_t moment;  /* as it was handed in */
     uint64_t reached; /* the controller's moment from here on: the greatest so far */
-    uint16_t caller;  /* of a recorded stage */
+    uint16_t caller;  /* of a stage that records */
 };
 
 /* What a stage records. */
 enum record {
     NOTHING,
-    FLIGHT, /* the last events */
-    WHOLE   /* the history, and the last events where `memory` is there */
+    FLIGHT /* the last events */
 };
 
 struct pie_stage {
     struct rte_ring *ring;
     uint64_t start;  /* cycles of the TSC at moment 0 */
     uint64_t factor; /* nanoseconds in a cycle, times 2^SHIFT */
-    struct pie_event *slots; /* of the ring of events, NULL where no history is recorded */
-    void *memory, *scratch;  /* of the flight recorder, NULL with none */
+    void *memory;            /* of the flight recorder, NULL with none */
+    void *scratch;           /* for its text, NULL where none is asked for */
+    bool is_followed;        /* the history is written */
     size_t memory_bytes;
     uint64_t longest; /* a wait above this many nanoseconds asks for the flight recorder's text */
     enum record record;
     uint32_t room;
     bool ecn, hands_back;
 
-    struct pie_ring_history text __rte_cache_aligned; /* of who writes the history */
-    bool is_timed;                                    /* the text has told the time of day */
+    struct pie_flight_follower follower __rte_cache_aligned; /* of who writes the history */
+    uint64_t reached, missed;                                /* the number of its next event, and how many it missed, for all to read */
+    struct pie_history text;
+    bool is_timed; /* the text has told the time of day */
     struct pie_opening opening;
     struct cut cut;
 
@@ -104,7 +104,6 @@ struct pie_stage {
     uint64_t most_bytes, greatest_delay; /* what the history's statistics have beside these */
     bool is_asked;                                    /* a packet waited longer than `longest` */
     struct stage_words words;
-    struct pie_ring events; /* (its reader's part lies on lines of its own) */
 };
 
 static uint64_t nanoseconds_of(const struct pie_stage *stage, uint64_t cycles) {
@@ -146,7 +145,8 @@ static int open_stage(struct pie_stage *stage, const struct pie_stage_params *pa
     stage->room = (uint32_t)params->opening.packets;
     stage->ecn = params->ecn;
     stage->hands_back = params->hands_back;
-    stage->record = params->events != 0 ? WHOLE : params->flight != 0 ? FLIGHT : NOTHING;
+    stage->record = params->events != 0 || params->flight != 0 ? FLIGHT : NOTHING;
+    stage->is_followed = params->events != 0;
     stage->longest = params->flight_wait != 0 ? params->flight_wait : UINT64_MAX;
     stage->due = pie_due(&stage->pie);
     stage->factor = (uint64_t)(((unsigned __int128)1000000000u << SHIFT) / rte_get_tsc_hz());
@@ -155,42 +155,30 @@ static int open_stage(struct pie_stage *stage, const struct pie_stage_params *pa
     return 0;
 }
 
-/* Opens the ring of events; 0, or what rte_errno becomes. */
-static int open_events(struct pie_stage *stage, const struct pie_stage_params *params, int socket) {
-    uint32_t events = params->events;
-    if (events == 0)
-        return 0;
-    if (events < LEAST_EVENTS || events > PIE_STAGE_MAX_EVENTS || (events & (events - 1)) != 0)
-        return EINVAL;
-    stage->slots = rte_malloc_socket("pie_stage", events * sizeof *stage->slots, RTE_CACHE_LINE_SIZE, socket);
-    if (stage->slots == NULL)
-        return ENOMEM;
-    stage->cut.queue = rte_malloc_socket("pie_stage", stage->room * sizeof *stage->cut.queue, RTE_CACHE_LINE_SIZE, socket);
-    if (stage->cut.queue == NULL)
-        return ENOMEM;
-    pie_ring_open(&stage->events, stage->slots, events);
-    return 0;
-}
-
 /* Opens the flight recorder; 0, or what rte_errno becomes. The memory for a copy is taken here, so that a text can be written when memory is out. */
 static int open_flight(struct pie_stage *stage, const struct pie_stage_params *params, int socket) {
-    if (params->flight == 0)
+    uint32_t events = RTE_MAX(params->flight, params->events);
+    if (events == 0)
         return 0;
-    if (params->flight > PIE_STAGE_MAX_EVENTS)
+    if (events > PIE_STAGE_MAX_EVENTS)
         return EINVAL;
-    stage->memory_bytes = pie_flight_bulk_bytes(params->flight, stage->room, BURST);
+    stage->memory_bytes = pie_flight_bulk_bytes(events, stage->room, BURST);
     stage->memory = rte_malloc_socket("pie_stage", stage->memory_bytes, RTE_CACHE_LINE_SIZE, socket);
-    stage->scratch = rte_malloc_socket("pie_stage", stage->memory_bytes, RTE_CACHE_LINE_SIZE, socket);
-    if (stage->memory == NULL || stage->scratch == NULL)
+    if (params->flight != 0)
+        stage->scratch = rte_malloc_socket("pie_stage", stage->memory_bytes, RTE_CACHE_LINE_SIZE, socket);
+    if (stage->is_followed)
+        stage->cut.queue = rte_malloc_socket("pie_stage", stage->room * sizeof *stage->cut.queue, RTE_CACHE_LINE_SIZE, socket);
+    if (stage->memory == NULL || (params->flight != 0 && stage->scratch == NULL) || (stage->is_followed && stage->cut.queue == NULL))
         return ENOMEM;
-    return pie_flight_open_bulk(&stage->flight, stage->memory, stage->memory_bytes, params->flight, BURST, &stage->opening, &stage->pie) ? 0 : EINVAL;
+    if (!pie_flight_open_bulk(&stage->flight, stage->memory, stage->memory_bytes, events, BURST, &stage->opening, &stage->pie))
+        return EINVAL;
+    return pie_flight_follow_open(&stage->follower, stage->memory, stage->memory_bytes) ? 0 : EINVAL;
 }
 
 static void free_memory(struct pie_stage *stage) {
     rte_free(stage->scratch);
     rte_free(stage->memory);
     rte_free(stage->cut.queue);
-    rte_free(stage->slots);
     rte_free(stage);
 }
 
@@ -201,8 +189,6 @@ struct pie_stage *pie_stage_create(const char *name, const struct pie_stage_para
         return NULL;
     }
     int fault = open_stage(stage, params);
-    if (fault == 0)
-        fault = open_events(stage, params, socket);
     if (fault == 0)
         fault = open_flight(stage, params, socket);
     if (fault == 0) {
@@ -229,22 +215,6 @@ void pie_stage_free(struct pie_stage *stage) {
         rte_pktmbuf_free(oldest.mbuf);
     rte_ring_free(stage->ring);
     free_memory(stage);
-}
-
-/* Under the lock of a stage with a history, the event that the next call decides on. */
-static inline struct pie_event *event_at(struct pie_stage *stage, const struct turn *turn) {
-    struct pie_event *event = pie_ring_slot(&stage->events);
-    // (the slot of a later event: whoever writes the history had its line of memory last)
-    rte_prefetch0_write(&stage->slots[(stage->events.head + AHEAD) & stage->events.mask]);
-    event->moment = turn->moment;
-    event->caller = turn->caller;
-    return event;
-}
-
-/* Under the lock, hands the events so far to who writes the history. */
-static inline void publish(struct pie_stage *stage) {
-    if (stage->slots != NULL)
-        pie_ring_publish(&stage->events);
 }
 
 /* Under the lock, the statistics of the history so far. */
@@ -284,8 +254,6 @@ static __rte_always_inline struct pie_flight_burst begin_burst(const struct pie_
 
 /* Under the lock, keeps the events of a burst, whose packets are counted already. */
 static inline void keep(struct pie_stage *stage, const struct pie_flight_burst *burst) {
-    if (burst->event == NULL)
-        return;
     pie_flight_end(&stage->flight, burst);
     if (unlikely(pie_flight_is_due(&stage->flight)))
         take_snapshot(stage);
@@ -313,17 +281,18 @@ static void count_update(struct pie_stage *stage, const struct pie_event *event,
 
 /* Under the lock, makes an update that may be due. */
 static __rte_noinline bool update(struct pie_stage *stage, const struct turn *turn) {
-    struct pie_event kept = {.moment = turn->moment, .caller = turn->caller}, *event = stage->slots != NULL ? event_at(stage, turn) : &kept;
+    struct pie_event event = {.moment = turn->moment, .caller = turn->caller};
     struct pie_flight_burst burst = pie_flight_begin(&stage->flight);
     uint64_t due = stage->due;
-    uint32_t code = pie_update_event(&stage->pie, stage->bytes, event);
+    uint32_t code = pie_update_event(&stage->pie, stage->bytes, &event);
     show_controller(stage);
     if (code != PIE_DONE)
         return false;
-    count_update(stage, event, turn->moment - due > stage->pie.params.t_update);
-    if (stage->memory != NULL)
-        pie_flight_other(&burst, &stage->pie, event);
-    keep(stage, &burst);
+    count_update(stage, &event, turn->moment - due > stage->pie.params.t_update);
+    if (stage->record != NOTHING) {
+        pie_flight_other(&burst, &stage->pie, &event);
+        keep(stage, &burst);
+    }
     return true;
 }
 
@@ -344,7 +313,6 @@ bool pie_stage_update(struct pie_stage *stage, uint64_t now) {
         return false;
     rte_spinlock_lock(&stage->lock);
     bool is_made = turn.moment >= stage->due && update(stage, &turn);
-    publish(stage);
     rte_spinlock_unlock(&stage->lock);
     return is_made;
 }
@@ -355,18 +323,16 @@ uint32_t pie_stage_set_params(struct pie_stage *stage, const struct pie_params *
     rte_spinlock_lock(&stage->lock);
     struct turn turn = begin(stage, moment_of(stage, now));
     struct pie_flight_burst burst = pie_flight_begin(&stage->flight);
-    struct pie_event kept = {0}, *event = stage->slots != NULL ? pie_ring_params_slot(&stage->events, params) : &kept;
-    event->moment = turn.moment;
-    event->caller = turn.caller;
-    uint32_t code = pie_set_params_event(&stage->pie, params, event);
+    struct pie_event event = {.moment = turn.moment, .caller = turn.caller};
+    uint32_t code = pie_set_params_event(&stage->pie, params, &event);
     show_controller(stage);
     if (code == PIE_DONE) {
         stage->stats.changes++;
-        if (stage->memory != NULL)
-            pie_flight_other(&burst, &stage->pie, event);
-        keep(stage, &burst);
+        if (stage->record != NOTHING) {
+            pie_flight_other(&burst, &stage->pie, &event);
+            keep(stage, &burst);
+        }
     }
-    publish(stage);
     rte_spinlock_unlock(&stage->lock);
     return code;
 }
@@ -411,24 +377,12 @@ static __rte_always_inline uint32_t decide(struct pie_stage *stage, uint64_t byt
     if (unlikely(seen->size < 1 || seen->size > PIE_MAX_SIZE))
         return PIE_BAD_SIZE;
     uint64_t word = stage->pie.prob != 0 ? stage_word(&stage->words) : 0;
-    uint32_t verdict;
-    if (record == WHOLE) {
-        struct pie_event *event = event_at(stage, turn);
-        event->tag = (stage->arrivals + 1) & TAG_MASK;
-        event->word = word;
-        event->size = seen->size;
-        event->ecn = seen->packet.ecn;
-        verdict = pie_arrive_event(&stage->pie, bytes, room, event);
-    } else {
-        verdict = pie_arrive(&stage->pie, bytes, seen->size, room, seen->packet.ecn, word, turn->moment);
-    }
+    uint32_t verdict = pie_arrive(&stage->pie, bytes, seen->size, room, seen->packet.ecn, word, turn->moment);
     if (record == NOTHING || unlikely(verdict > PIE_PACKETS))
         return verdict;
     stage->arrivals++;
-    if (record == FLIGHT || burst->event != NULL) {
-        rte_prefetch0_write(burst->event + AHEAD * PIE_FLIGHT_EVENT);
-        pie_flight_arrive(burst, turn->moment, stage->arrivals & TAG_MASK, word, seen->size, seen->packet.ecn, verdict, turn->caller);
-    }
+    rte_prefetch0_write(burst->event + AHEAD * PIE_FLIGHT_EVENT);
+    pie_flight_arrive(burst, turn->moment, stage->arrivals & TAG_MASK, word, seen->size, seen->packet.ecn, verdict, turn->caller);
     return verdict;
 }
 
@@ -507,11 +461,8 @@ uint32_t pie_stage_enqueue(struct pie_stage *stage, struct rte_mbuf **mbufs, uin
         stage->stats.shared += unmarkable.shared;
         if (stage->record == NOTHING)
             queued += arrive_burst(stage, mbufs, queued, from, part, seen, &turn, NOTHING);
-        else if (stage->record == FLIGHT)
-            queued += arrive_burst(stage, mbufs, queued, from, part, seen, &turn, FLIGHT);
         else
-            queued += arrive_burst(stage, mbufs, queued, from, part, seen, &turn, WHOLE);
-        publish(stage);
+            queued += arrive_burst(stage, mbufs, queued, from, part, seen, &turn, FLIGHT);
         rte_spinlock_unlock(&stage->lock);
     }
     if (!stage->hands_back && queued < count)
@@ -522,16 +473,8 @@ uint32_t pie_stage_enqueue(struct pie_stage *stage, struct rte_mbuf **mbufs, uin
 /* Under the lock, a packet leaves. */
 static __rte_always_inline void depart(struct pie_stage *stage, const struct waiting *oldest, uint64_t left, const struct turn *turn,
                                        struct pie_flight_burst *burst, const enum record record) {
-    if (record == WHOLE) {
-        struct pie_event *event = event_at(stage, turn);
-        event->tag = oldest->tag;
-        event->size = oldest->size;
-        event->ecn = oldest->ecn;
-        pie_depart_event(&stage->pie, left, oldest->arrived, event);
-    } else {
-        pie_depart_waited(&stage->pie, oldest->size, left, oldest->arrived, turn->moment);
-    }
-    if (record == FLIGHT || (record == WHOLE && burst->event != NULL)) {
+    pie_depart_waited(&stage->pie, oldest->size, left, oldest->arrived, turn->moment);
+    if (record == FLIGHT) {
         rte_prefetch0_write(burst->event + AHEAD * PIE_FLIGHT_EVENT);
         pie_flight_depart(burst, turn->moment, oldest->tag, oldest->arrived, oldest->size, oldest->ecn, turn->caller);
     }
@@ -595,13 +538,10 @@ uint32_t pie_stage_dequeue_bytes(struct pie_stage *stage, struct rte_mbuf **mbuf
         most = RTE_MIN(count - taken, BURST);
         if (stage->record == NOTHING)
             part = depart_burst(stage, mbufs + taken, most, &bytes, &turn, NOTHING);
-        else if (stage->record == FLIGHT)
-            part = depart_burst(stage, mbufs + taken, most, &bytes, &turn, FLIGHT);
         else
-            part = depart_burst(stage, mbufs + taken, most, &bytes, &turn, WHOLE);
+            part = depart_burst(stage, mbufs + taken, most, &bytes, &turn, FLIGHT);
         taken += part;
     } while (part == BURST && taken < count && bytes != 0);
-    publish(stage);
     rte_spinlock_unlock(&stage->lock);
     return taken;
 }
@@ -610,10 +550,19 @@ uint32_t pie_stage_dequeue(struct pie_stage *stage, struct rte_mbuf **mbufs, uin
     return pie_stage_dequeue_bytes(stage, mbufs, count, UINT64_MAX, now);
 }
 
+/* Under the lock, the events that the history lacks: those that were missed, and those that will be, since they are written over already. */
+static uint64_t lost_so_far(const struct pie_stage *stage) {
+    uint64_t room = stage->follower.layout.events, waiting;
+    if (!stage->is_followed)
+        return 0;
+    waiting = stage->flight.count - __atomic_load_n(&stage->reached, __ATOMIC_RELAXED);
+    return __atomic_load_n(&stage->missed, __ATOMIC_RELAXED) + (waiting > room ? waiting - room : 0);
+}
+
 void pie_stage_read(struct pie_stage *stage, struct pie_stage_stats *stats) {
     rte_spinlock_lock(&stage->lock);
     *stats = stage->stats;
-    stats->lost = stage->events.lost_in_all;
+    stats->lost = lost_so_far(stage);
     stats->waiting = stage->packets;
     stats->waiting_bytes = stage->bytes;
     stats->prob = stage->pie.prob;
@@ -644,43 +593,6 @@ static size_t begin_text(struct pie_stage *stage, unsigned char *text, size_t ro
     return size;
 }
 
-/* Writes the end of the old text, and answers 0 once where it is whole. */
-static size_t end_text(struct pie_stage *stage, unsigned char *text) {
-    struct cut *cut = &stage->cut;
-    size_t size = cut->gap_size;
-    memcpy(text, cut->gap, size);
-    cut->gap_size = 0;
-    if (size == 0)
-        cut->state = REACHED;
-    return size;
-}
-
-size_t pie_stage_history(struct pie_stage *stage, unsigned char *text, size_t room) {
-    const struct cut *cut = &stage->cut;
-    struct pie_event event;
-    struct pie_params params;
-    size_t size = 0;
-    if (stage->slots == NULL || room < PIE_RECORD_ROOM)
-        return 0;
-    if (cut->state > AHEAD_OF_US)
-        return begin_text(stage, text, room);
-    if (stage->text.records == 0)
-        size = pie_text_opening(&stage->text, &stage->opening, text, room);
-    if (!stage->is_timed && room - size >= PIE_RECORD_ROOM) {
-        size += pie_text_clock(&stage->text, moment_of(stage, rte_rdtsc()), unix_time(), text + size, room - size);
-        stage->is_timed = true;
-    }
-    while (room - size >= PIE_RECORD_ROOM && !(cut->state == AHEAD_OF_US && stage->events.tail == cut->at) &&
-           pie_ring_take(&stage->events, &event, &params))
-        size += pie_text_event(&stage->text, &event, &params, text + size, room - size);
-    return size == 0 && cut->state == AHEAD_OF_US ? end_text(stage, text) : size;
-}
-
-size_t pie_stage_history_end(struct pie_stage *stage, unsigned char *text, size_t room) {
-    size_t size = pie_stage_history(stage, text, room);
-    return size != 0 || stage->slots == NULL || room < PIE_RECORD_ROOM ? size : pie_ring_last_gap(&stage->events, &stage->text, text, room);
-}
-
 /* Under the lock, hands over the packets that wait from the number `next` on and below `end`, `most` of them at the most, and answers the next
  * number. They are numbered from 0 on, as they were queued; of those that have departed nothing is handed over. */
 static uint64_t hand_turn(struct pie_stage *stage, uint64_t next, uint64_t end, uint64_t most,
@@ -707,9 +619,7 @@ static void copy_packet(void *to, uint64_t number, const struct waiting *packet)
 /* Under the lock, cuts where the packets that wait are copied. */
 static void cut_here(struct pie_stage *stage) {
     struct cut *cut = &stage->cut;
-    pie_ring_publish(&stage->events);
-    cut->at = stage->events.head;
-    cut->gap_size = pie_ring_last_gap(&stage->events, &stage->text, cut->gap, sizeof cut->gap);
+    cut->at = stage->flight.count;
     cut->pie = stage->pie;
     cut->stats = history_stats(stage);
     cut->count = stage->arrivals + stage->stats.departed + stage->stats.updates + stage->stats.changes;
@@ -722,10 +632,8 @@ static void cut_here(struct pie_stage *stage) {
 
 /* The packets that wait are copied first, some in each turn at the lock, and the cut is in the turn that comes to the last of them. Where as many
  * came meanwhile as were copied, the next turn is twice as long. */
-bool pie_stage_history_cut(struct pie_stage *stage) {
+static void cut_history(struct pie_stage *stage) {
     uint64_t next = 0, most = HANDED_OVER, left = UINT64_MAX, before;
-    if (stage->slots == NULL || stage->cut.state != NONE || stage->text.records == 0)
-        return false;
     do {
         before = left;
         rte_spinlock_lock(&stage->lock);
@@ -736,12 +644,55 @@ bool pie_stage_history_cut(struct pie_stage *stage) {
         rte_spinlock_unlock(&stage->lock);
         most *= left >= before ? 2 : 1;
     } while (left != 0);
+}
+
+bool pie_stage_history_cut(struct pie_stage *stage) {
+    if (!stage->is_followed || stage->cut.state != NONE || stage->text.records == 0)
+        return false;
+    cut_history(stage);
     return true;
+}
+
+/* Events were missed, beyond where the text is cut: it is cut anew, and what came until then is missed too. */
+static void miss_the_cut(struct pie_stage *stage, struct pie_event *lost) {
+    struct pie_flight_follower *follower = &stage->follower;
+    cut_history(stage);
+    lost->tag += stage->cut.at - follower->next;
+    follower->missed += stage->cut.at - follower->next;
+    follower->next = stage->cut.at;
+}
+
+size_t pie_stage_history(struct pie_stage *stage, unsigned char *text, size_t room) {
+    struct cut *cut = &stage->cut;
+    struct pie_event event;
+    struct pie_params unused;
+    size_t size = 0;
+    if (!stage->is_followed || room < PIE_RECORD_ROOM)
+        return 0;
+    if (cut->state > AHEAD_OF_US)
+        return begin_text(stage, text, room);
+    if (stage->text.records == 0)
+        size = pie_text_opening(&stage->text, &stage->opening, text, room);
+    if (!stage->is_timed && room - size >= PIE_RECORD_ROOM) {
+        size += pie_text_clock(&stage->text, moment_of(stage, rte_rdtsc()), unix_time(), text + size, room - size);
+        stage->is_timed = true;
+    }
+    while (room - size >= PIE_RECORD_ROOM && !(cut->state == AHEAD_OF_US && stage->follower.next == cut->at) &&
+           pie_flight_follow(&stage->follower, &event, &unused)) {
+        if (event.kind == PIE_EVENT_LOST && cut->state == AHEAD_OF_US && stage->follower.next > cut->at)
+            miss_the_cut(stage, &event);
+        size += pie_text_event(&stage->text, &event, &unused, text + size, room - size);
+    }
+    __atomic_store_n(&stage->missed, stage->follower.missed, __ATOMIC_RELAXED);
+    __atomic_store_n(&stage->reached, stage->follower.next, __ATOMIC_RELAXED);
+    if (size == 0 && cut->state == AHEAD_OF_US)
+        cut->state = REACHED;
+    return size;
 }
 
 /* The memory that a flight recorder's packets are handed over to. */
 struct handed {
-    PIE_RING_WORD *queued;
+    PIE_WORD *queued;
     uint64_t places;
 };
 
@@ -751,7 +702,7 @@ static void tell_packet(void *to, uint64_t number, const struct waiting *packet)
 }
 
 /* Hands over the packets that wait, some in each turn at the lock: those that leave meanwhile are told by their departures. */
-static void hand_over(void *owner, PIE_RING_WORD *queued, uint64_t places) {
+static void hand_over(void *owner, PIE_WORD *queued, uint64_t places) {
     struct pie_stage *stage = owner;
     struct handed handed = {queued, places};
     uint64_t next = 0, end = UINT64_MAX;
@@ -764,7 +715,7 @@ static void hand_over(void *owner, PIE_RING_WORD *queued, uint64_t places) {
 }
 
 int pie_stage_flight(struct pie_stage *stage, pie_flight_write write, void *user) {
-    if (stage->memory == NULL)
+    if (stage->scratch == NULL)
         return PIE_FLIGHT_NONE;
     pie_flight_clock(stage->memory, moment_of(stage, rte_rdtsc()), unix_time());
     return pie_flight_dump_of(stage->memory, stage->memory_bytes, stage->scratch, hand_over, stage, write, user);

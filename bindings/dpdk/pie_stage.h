@@ -31,7 +31,7 @@
  *   if (pie_stage_flight_is_asked(stage))                                        // a packet waited longer than flight_wait
  *       pie_stage_flight(stage, write, file);
  *
- * With `events` above 0 the stage records its whole history, in a ring of memory of its own (pie_ring.h), and one more thread writes it:
+ * With `events` above 0 one more thread follows the flight recorder (pie_follow.h) and writes the whole history:
  *
  *   while ((size = pie_stage_history(stage, text, sizeof text)) != 0)            // on one lcore, again and again
  *       fwrite(text, 1, size, file);
@@ -55,7 +55,7 @@ extern "C" {
 struct rte_mbuf;
 struct pie_stage;
 
-#define PIE_STAGE_MAX_EVENTS (1u << 24) /* the most events of the history's ring, and of the flight recorder */
+#define PIE_STAGE_MAX_EVENTS (1u << 24) /* the most events of the flight recorder */
 #define PIE_STAGE_FLIGHT (1u << 14)     /* those of the flight recorder by default */
 
 #define PIE_STAGE_WAITS 13 /* how many sorts of waits are counted .. */
@@ -79,10 +79,10 @@ struct pie_stage_params {
     bool ecn;                   /* mark packets whose ECN field allows it; else they are dropped, as others */
     bool hands_back;            /* dropped mbufs are handed back to whoever enqueued them; else the stage frees them */
     uint32_t flight;            /* how many of the last events the flight recorder keeps at the least, up to 2^24, each of some 100 bytes with the
-                                   memory for a copy; 0: it keeps none */
+                                   memory for a copy; 0: its text is not asked for */
     uint64_t flight_wait;       /* a packet that waited longer than so many nanoseconds asks for the flight recorder's text; 0: none does */
-    uint32_t events;            /* how many events may wait for who writes the whole history, a power of two from 16 to 2^24, each of 64 bytes;
-                                   0: it is not recorded */
+    uint32_t events;            /* how many events at the least may wait for who writes the whole history, up to 2^24, each of some 50 bytes, in the
+                                   flight recorder's memory; 0: nobody does */
 };
 
 /* What a stage counted since it was made, and what it holds now. Each packet that was enqueued is counted once as queued (of these some are
@@ -114,7 +114,7 @@ struct pie_stage_stats {
     uint64_t changes;        /* changes of the parameters */
     uint64_t earlier;        /* calls with packets whose `now` was earlier than one before it */
     uint64_t most;           /* packets, the most that the queue held */
-    uint64_t lost;           /* events that the history lacks, since it was not taken out as fast as they came */
+    uint64_t lost;           /* events that the history lacks, since it was not written as fast as they came */
 
     uint64_t waiting;        /* packets in the queue */
     uint64_t waiting_bytes;  /* their bytes */
@@ -167,18 +167,15 @@ int pie_stage_flight(struct pie_stage *stage, pie_flight_write write, void *user
 /* Whether a packet waited longer than flight_wait since this was asked last. */
 bool pie_stage_flight_is_asked(struct pie_stage *stage);
 
-/* Takes out of a recorded stage what waits for the history, and writes it as text: whole lines, of the history's first record on. Answers how
- * many bytes there are, 0 where there is nothing now or nothing is recorded. `room` is at least PIE_RECORD_ROOM. One thread at a time; it takes no
- * lock and holds up no other call; after a cut `room` is at least PIE_RESUME_ROOM. Where it came too late, a line `lost,<count>` stands for so many
- * events, where an audit ends. */
+/* Writes the history as text: what came since the last call, whole lines, from the history's first record on. Answers how many bytes there are, 0
+ * where there is nothing now or `events` is 0; once it answers 0 when no other thread calls the stage any more, the history is whole. `room` is at
+ * least PIE_RECORD_ROOM, after a cut PIE_RESUME_ROOM. One thread at a time; it takes no lock and holds up no other call. Where it came too late, a
+ * line `lost,<count>` stands for so many events, where an audit ends; a text that stands alone begins with the next cut. */
 size_t pie_stage_history(struct pie_stage *stage, unsigned char *text, size_t room);
-
-/* The end of the history: the same, when no other thread calls the stage any more; once it answers 0 the history is whole. */
-size_t pie_stage_history_end(struct pie_stage *stage, unsigned char *text, size_t room);
 
 /* Cuts the history here: pie_stage_history writes the text up to this moment, answers 0 once where it is whole, and from then on writes a new
  * text, which resumes (docs/FORMATS.md) and stands alone. A gap stays in the text before the cut. By the thread that writes the history. Answers
- * false, and cuts nothing, where nothing is recorded, nothing was written yet, or the text before the last cut is not yet whole. The lock is held
+ * false, and cuts nothing, where `events` is 0, nothing was written yet, or the text before the last cut is not yet whole. The lock is held
  * for 256 of the packets that wait at once; for more only while packets come as quickly as they are copied. */
 bool pie_stage_history_cut(struct pie_stage *stage);
 

@@ -61,10 +61,10 @@ static void expect_all_back(void) {
     }
 }
 
-/* Writes what the history has now, or to its end; answers whether there was anything. */
-static bool write_history(FILE *file, bool is_end) {
+/* Writes what the history has now; answers whether there was anything. */
+static bool write_history(FILE *file) {
     static unsigned char text[65536];
-    size_t size = (is_end ? pie_stage_history_end : pie_stage_history)(stage, text, sizeof text);
+    size_t size = pie_stage_history(stage, text, sizeof text);
     if (fwrite(text, 1, size, file) != size)
         die("the history");
     return size != 0;
@@ -91,7 +91,7 @@ static FILE *open_segment(const char *folder, int segment) {
 static FILE *next_segment(FILE *history, const char *folder, int segment) {
     if (!pie_stage_history_cut(stage))
         die("a segment");
-    while (write_history(history, false))
+    while (write_history(history))
         continue;
     if (fclose(history) != 0)
         die("the history");
@@ -135,13 +135,13 @@ static double run_slow(enum which which, const char *folder) {
         uint64_t now = start + (uint64_t)arrival;
         which == PEER ? peer_enqueue(&peer, &mbuf, 1, now) : pie_stage_enqueue(stage, &mbuf, 1, now);
         if (which == STAGE)
-            write_history(history, false);
+            write_history(history);
         if (which == STAGE && arrival > 10.0 * (segment + 1) * (double)hz)
             history = next_segment(history, folder, ++segment);
     }
     if (which == STAGE) {
         pie_stage_read(stage, &stats);
-        while (write_history(history, true))
+        while (write_history(history))
             continue;
         if (fclose(history) != 0)
             die("the history");
@@ -222,7 +222,7 @@ static int work(void *argument) {
     FILE *nowhere = argument;
     while (!__atomic_load_n(&is_over, __ATOMIC_RELAXED)) {
         if (number == forwarders()) {
-            if (measured != RECORDED || !write_history(nowhere, false))
+            if (measured != RECORDED || !write_history(nowhere))
                 rte_pause();
             continue;
         }

@@ -43,7 +43,7 @@ struct told {
 };
 
 /* Takes out what the history has now, or to its end, into a file. */
-void take_history(struct pie_stage *stage, FILE *file, bool is_end, struct told *told);
+void take_history(struct pie_stage *stage, FILE *file, struct told *told);
 
 FILE *open_history(const char *name);
 

@@ -15,10 +15,10 @@ struct pie_stage *stage_of(struct pie_stage_params *params) {
     return stage;
 }
 
-void take_history(struct pie_stage *stage, FILE *file, bool is_end, struct told *told) {
+void take_history(struct pie_stage *stage, FILE *file, struct told *told) {
     unsigned char text[4096];
     size_t size;
-    while ((size = (is_end ? pie_stage_history_end : pie_stage_history)(stage, text, sizeof text)) != 0) {
+    while ((size = pie_stage_history(stage, text, sizeof text)) != 0) {
         EXPECT(size <= sizeof text && text[size - 1] == '\n' && fwrite(text, 1, size, file) == size);
         for (unsigned char *line = text; line < text + size; line = (unsigned char *)memchr(line, '\n', size) + 1) {
             bool is_clock = memcmp(line, "clock,", 6) == 0;

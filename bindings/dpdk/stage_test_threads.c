@@ -42,9 +42,9 @@ void test_cut_beside(int cuts) {
     for (int cut = 0; cut < cuts; cut++) {
         FILE *file = open_history(name);
         while (told.lines < 5000) // (so that the queue is long, and what waits at one cut is gone at the next)
-            take_history(stage, file, false, &told);
+            take_history(stage, file, &told);
         EXPECT(pie_stage_history_cut(stage) && !pie_stage_history_cut(stage));
-        take_history(stage, file, false, &told);
+        take_history(stage, file, &told);
         EXPECT(fclose(file) == 0);
         struct resumed resumed = {.before = 0, .events = told.lines - 1};
         if (cut > 0)
@@ -57,7 +57,7 @@ void test_cut_beside(int cuts) {
     __atomic_store_n(&are_done, 1, __ATOMIC_SEQ_CST);
     EXPECT(pthread_join(other, NULL) == 0);
     FILE *file = open_history(name);
-    take_history(stage, file, true, &told);
+    take_history(stage, file, &told);
     EXPECT(fclose(file) == 0);
     pie_stage_free(stage);
     expect_all_back();
@@ -163,7 +163,7 @@ static void *write_flights(void *argument) {
 static void *write_history(void *argument) {
     struct writer *writer = argument;
     while (!__atomic_load_n(&are_done, __ATOMIC_SEQ_CST))
-        take_history(writer->stage, writer->file, false, &writer->told);
+        take_history(writer->stage, writer->file, &writer->told);
     return NULL;
 }
 
@@ -201,13 +201,13 @@ void test_threads(uint32_t rounds, uint32_t events, uint32_t flight) {
     EXPECT(pthread_join(taker, NULL) == 0 && pthread_join(updater, NULL) == 0);
     if (events != 0) {
         EXPECT(pthread_join(recorder, NULL) == 0);
-        take_history(stage, writer.file, true, &writer.told);
+        take_history(stage, writer.file, &writer.told);
         EXPECT(fclose(writer.file) == 0);
         expect_told(stage, &writer.told);
     }
     if (flight != 0) {
         EXPECT(pthread_join(flights, NULL) == 0);
-        expect_flight(stage, "flight-threads", flight);
+        expect_flight(stage, "flight-threads", RTE_MAX(flight, events));
     }
     pie_stage_read(stage, &stats);
     for (uint32_t i = 0; i < SENDERS; i++) {

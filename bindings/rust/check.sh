@@ -79,7 +79,7 @@ if [ "$found" -lt "$before" ]; then
 fi
 cd ../..
 shared=examples/shared
-"${CC:-cc}" -O1 -std=c11 -Iinclude -I$shared -o "$work/flight_text" $shared/flight_text.c $shared/flight_file.c $shared/history.c $shared/control.c \
+"${CC:-cc}" -O1 -std=c11 -Iinclude -I$shared -o "$work/flight_text" $shared/flight_text.c $shared/flight_file.c $shared/control.c \
     crates/pie_c/out/libpie_c.a -pthread -lm
 "$work/flight_text" "$work/flight" | cmp - "$work/text"
 echo "bindings/rust: $texts texts of a working queue are clean, and what it left when it was killed is too ($found events), as C writes it as well"

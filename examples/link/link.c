@@ -1,16 +1,16 @@
 /* A bottleneck in user space: two TUN devices, joined by a link of a given rate whose queue PIE manages. One thread; it waits in
  * ppoll for packets, for the end of a transmission, for the delay on the way back, and for the moment when an update is due. Another
- * thread writes the history, so that no packet waits for a file.
+ * thread follows the flight recorder and writes the history, so that no packet waits for a file.
  *
  * Nothing here touches another device: what comes in by the one TUN device goes out by the other. */
 #define _GNU_SOURCE
 #include "flight_file.h"
 #include "flow.h"
-#include "history.h"
 #include "metrics.h"
 #include "options.h"
 #include "packet.h"
 #include "pie.h"
+#include "pie_follow.h"
 
 #include <errno.h>
 #include <fcntl.h>
@@ -32,7 +32,7 @@
 #define AT_ONCE 64         /* packets read from one device before the link is looked at again */
 #define BACK_PACKETS 65536 /* that may be on the way back */
 #define WORDS 128          /* random words taken at once */
-#define LOOK_TIME 1000000  /* ns that the history's thread waits where there is no event */
+#define LOOK_TIME 1000000  /* ns that the history's thread waits before it looks again */
 
 struct bottleneck {
     const struct options *options;
@@ -46,8 +46,10 @@ struct bottleneck {
     uint64_t granted;      /* bits that a grant's last packet had beyond it */
     size_t step;           /* of the rate, the one in force */
     uint64_t next_update;  /* the moment from which an update is not too soon */
-    struct history history;
     struct flight_file flight;
+    struct pie_flight_follower follower;
+    FILE *history;         /* NULL where none is written */
+    _Atomic uint64_t missed; /* events that are missing in it so far */
     struct flows flows;
     struct flow_top top;   /* the last period that ended with packets, until it is told; by `telling` */
     pthread_mutex_t telling;
@@ -145,20 +147,19 @@ static uint64_t tag_of(struct bottleneck *link, const struct packet *packet, uin
 
 /* An arrival: the library says whether the packet waits, is marked or is dropped. */
 static void arrive(struct bottleneck *link, struct packet *packet, uint64_t now) {
-    struct pie_event *event = next_event(&link->history, SENDER, now);
+    struct pie_event event = {.moment = now, .word = random_word(), .caller = SENDER};
     uint32_t room = (uint32_t)link->options->control.opening.packets - link->queue.count;
     packet->tag = tag_of(link, packet, now);
     packet->moment = now;
     packet->ecn = ecn_of(packet->bytes, packet->size);
-    event->tag = packet->tag;
-    event->size = packet->size;
-    event->ecn = (uint8_t)packet->ecn;
-    event->word = random_word();
-    uint32_t verdict = pie_arrive_event(&link->pie, link->queue.bytes, room, event);
+    event.tag = packet->tag;
+    event.size = packet->size;
+    event.ecn = (uint8_t)packet->ecn;
+    uint32_t verdict = pie_arrive_event(&link->pie, link->queue.bytes, room, &event);
     if (verdict > PIE_PACKETS)
         die_refused("pie_arrive_event", verdict);
-    keep_event(&link->flight, &link->pie, event);
-    count_event(&link->counted, event, 0);
+    keep_event(&link->flight, &link->pie, &event);
+    count_event(&link->counted, &event, 0);
     packet->arrived = link->pie.moment;
     if (verdict == PIE_MARK) {
         set_ce(packet->bytes, packet->size);
@@ -209,15 +210,12 @@ static uint64_t rate_at(struct bottleneck *link, uint64_t moment) {
 /* The oldest packet leaves the queue, and is on the link until this moment. */
 static void depart(struct bottleneck *link, uint64_t now, uint64_t until) {
     struct packet *packet = pop(&link->queue);
-    struct pie_event *event = next_event(&link->history, LINK, now);
-    event->tag = packet->tag;
-    event->size = packet->size;
-    event->ecn = (uint8_t)packet->ecn;
-    uint32_t code = pie_depart_event(&link->pie, link->queue.bytes, packet->arrived, event);
+    struct pie_event event = {.moment = now, .tag = packet->tag, .size = packet->size, .caller = LINK, .ecn = (uint8_t)packet->ecn};
+    uint32_t code = pie_depart_event(&link->pie, link->queue.bytes, packet->arrived, &event);
     if (code != PIE_DONE)
         die_refused("pie_depart_event", code);
-    keep_event(&link->flight, &link->pie, event);
-    count_event(&link->counted, event, link->pie.moment - packet->arrived);
+    keep_event(&link->flight, &link->pie, &event);
+    count_event(&link->counted, &event, link->pie.moment - packet->arrived);
     packet->moment = until;
     push(&link->there, packet);
 }
@@ -254,10 +252,10 @@ static void serve(struct bottleneck *link, uint64_t now) {
 static void update(struct bottleneck *link, uint64_t now) {
     if (now < link->next_update)
         return;
-    struct pie_event *event = next_event(&link->history, TIMER, now);
-    uint32_t code = pie_update_event(&link->pie, link->queue.bytes, event);
-    keep_event(&link->flight, &link->pie, event);
-    count_event(&link->counted, event, 0);
+    struct pie_event event = {.moment = now, .caller = TIMER};
+    uint32_t code = pie_update_event(&link->pie, link->queue.bytes, &event);
+    keep_event(&link->flight, &link->pie, &event);
+    count_event(&link->counted, &event, 0);
     if (code == PIE_DONE)
         link->counted.late += now - link->next_update > link->pie.params.t_update;
     else if (code != PIE_TOO_SOON)
@@ -288,7 +286,7 @@ static void tell(struct bottleneck *link, uint64_t now) {
     struct metrics *counted = &link->counted;
     if (!is_metrics_due(&link->metrics, now))
         return;
-    counted->lost = link->history.file != NULL ? link->history.ring.lost_in_all : 0;
+    counted->lost = atomic_load(&link->missed);
     counted->prob = link->pie.prob;
     counted->delay = link->pie.old_delay;
     counted->target = link->pie.params.target;
@@ -308,7 +306,6 @@ static void step(struct bottleneck *link) {
     receive(link, link->from, arrive);
     receive(link, link->to, turn_back);
     serve(link, moment_of(link));
-    publish_events(&link->history);
     tell(link, now);
 }
 
@@ -339,6 +336,20 @@ static void tell_flows(struct bottleneck *link) {
     fflush(stdout);
 }
 
+static int write_to(void *user, const unsigned char *bytes, size_t count) {
+    return fwrite(bytes, 1, count, (FILE *)user) == count ? 0 : 1;
+}
+
+/* Writes the events since the last look. */
+static void follow(struct bottleneck *link) {
+    if (link->history == NULL)
+        return;
+    int answer = pie_flight_follow_text(&link->follower, link->flight.scratch, write_to, link->history);
+    if (answer == PIE_FLIGHT_STOPPED)
+        die(link->options->history);
+    atomic_store(&link->missed, link->follower.missed);
+}
+
 /* The thread that writes the history, flows, the metrics, and the flight recorder's text. */
 static void *write_history(void *argument) {
     struct bottleneck *link = argument;
@@ -347,10 +358,11 @@ static void *write_history(void *argument) {
         write_if_asked(link);
         tell_flows(link);
         write_told_metrics(&link->metrics, "link");
-        if (!write_events(&link->history))
-            nanosleep(&pause, NULL);
+        follow(link);
+        nanosleep(&pause, NULL);
     }
     write_if_asked(link);
+    follow(link);
     return NULL;
 }
 
@@ -379,11 +391,17 @@ static void open_link(struct bottleneck *link, const struct options *options) {
         die_refused("pie_open", code);
     link->next_update = pie_due(&link->pie);
     uint64_t moment = moment_of(link), unix_time = clock_now(CLOCK_REALTIME);
-    if (!open_history(&link->history, options->history, opening) || !write_time(&link->history, moment, unix_time))
-        die(options->history);
-    if (!open_flight(&link->flight, options->flight, opening, &link->pie))
-        die(options->flight);
-    tell_flight(&link->flight, moment, unix_time);
+    if (options->flight != NULL || options->history != NULL) {
+        if (!open_flight(&link->flight, options->flight, opening, &link->pie))
+            die(options->flight != NULL ? options->flight : "memory");
+        tell_flight(&link->flight, moment, unix_time);
+    }
+    if (options->history != NULL) {
+        link->history = strcmp(options->history, "-") == 0 ? stdout : fopen(options->history, "w");
+        if (link->history == NULL)
+            die(options->history);
+        pie_flight_follow_open(&link->follower, link->flight.memory, link->flight.bytes);
+    }
     if (!open_flows(&link->flows, options->flows))
         die(options->flows);
     open_metrics(&link->metrics, options->metrics, options->to);
@@ -400,14 +418,14 @@ static void close_link(struct bottleneck *link) {
     pthread_join(link->writer, NULL);
     if (!remove_metrics())
         die(link->options->metrics);
-    if (!close_history(&link->history))
-        die("history");
+    if (link->history != NULL && (link->history == stdout ? fflush(stdout) : fclose(link->history)) != 0)
+        die(link->options->history);
     if (!close_flows(&link->flows))
         die("flows");
     if (link->flows.missing != 0)
         fprintf(stderr, "link: flows of %" PRIu64 " packets are missing in the file: there were too many\n", link->flows.missing);
-    if (link->history.text.lost != 0)
-        fprintf(stderr, "link: %" PRIu64 " events are missing in the history\n", link->history.text.lost);
+    if (link->follower.missed != 0)
+        fprintf(stderr, "link: %" PRIu64 " events are missing in the history\n", link->follower.missed);
     printf("link: %" PRIu64 " packets arrived: %" PRIu64 " waited, %" PRIu64 " marked, %" PRIu64 " dropped early, %" PRIu64
            " for want of bytes, %" PRIu64 " of room; %" PRIu64 " left, %" PRIu64 " lost at the devices\n",
            counted->arrived, counted->enqueued, counted->marked, counted->early, counted->over_bytes, counted->over_packets, counted->departed,

@@ -36,7 +36,6 @@ struct replay {
     uint64_t now;                   /* the greatest moment of an arrival */
     uint64_t free_at, rest;         /* when the link is free; and what its last transmission took of a ns more, times the rate */
     uint64_t word;                  /* the random generator's state */
-    uint64_t events;                /* so far */
     struct counts counts;
 };
 
@@ -67,40 +66,30 @@ static uint64_t random_word(uint64_t *state) {
     return word ^ word >> 31;
 }
 
-/* The history is written here, in the same thread, before the ring is full. */
-static void keep(struct replay *replay) {
-    publish_events(&replay->history);
-    if (++replay->events % (HISTORY_SLOTS / 2) == 0)
-        write_events(&replay->history);
-}
-
 /* The link takes the oldest packet; it is free again at the end of its transmission. */
 static void depart(struct replay *replay) {
     const struct waiting *packet = &replay->queue[replay->first];
-    struct pie_event *event = next_event(&replay->history, LINK, replay->free_at);
-    event->tag = packet->tag;
-    event->size = packet->size;
-    event->ecn = (uint8_t)packet->ecn;
+    struct pie_event event = {.moment = replay->free_at, .tag = packet->tag, .size = packet->size, .caller = LINK, .ecn = (uint8_t)packet->ecn};
     replay->first = (replay->first + 1) % MOST_PACKETS;
     replay->packets--;
     replay->bytes -= packet->size;
-    uint32_t code = pie_depart_event(&replay->pie, replay->bytes, packet->arrived, event);
+    uint32_t code = pie_depart_event(&replay->pie, replay->bytes, packet->arrived, &event);
     if (code != PIE_DONE)
         die_refused("a departure", code);
     uint64_t parts = packet->size * 8 * SECOND + replay->rest;
     replay->free_at += parts / replay->options.control.rate;
     replay->rest = parts % replay->options.control.rate;
     replay->counts.departures++;
-    keep(replay);
+    write_event(&replay->history, &event);
 }
 
 static void update(struct replay *replay) {
-    struct pie_event *event = next_event(&replay->history, TIMER, pie_due(&replay->pie));
-    uint32_t code = pie_update_event(&replay->pie, replay->bytes, event);
+    struct pie_event event = {.moment = pie_due(&replay->pie), .caller = TIMER};
+    uint32_t code = pie_update_event(&replay->pie, replay->bytes, &event);
     if (code != PIE_DONE)
         die_refused("an update", code);
     replay->counts.updates++;
-    keep(replay);
+    write_event(&replay->history, &event);
 }
 
 /* What comes before an arrival at this moment. */
@@ -118,14 +107,11 @@ static void go_on(struct replay *replay, uint64_t until) {
 
 /* An arrival; answers the verdict, or why it is refused. */
 static uint32_t arrive(struct replay *replay, const struct ip_packet *packet, uint32_t size, uint64_t tag) {
-    struct pie_event *event = next_event(&replay->history, SENDER, replay->now);
-    event->tag = tag;
-    event->size = size;
-    event->ecn = (uint8_t)packet->ecn;
-    event->word = random_word(&replay->word);
+    struct pie_event event = {.moment = replay->now, .tag = tag, .size = size, .caller = SENDER, .ecn = (uint8_t)packet->ecn};
+    event.word = random_word(&replay->word);
     uint32_t room = (uint32_t)(replay->options.control.opening.packets - replay->packets);
-    uint32_t verdict = pie_arrive_event(&replay->pie, replay->bytes, room, event);
-    keep(replay);
+    uint32_t verdict = pie_arrive_event(&replay->pie, replay->bytes, room, &event);
+    write_event(&replay->history, &event);
     if (verdict > PIE_PACKETS) {
         replay->counts.refused++;
         return verdict;

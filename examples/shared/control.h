@@ -12,6 +12,8 @@
 
 #define MOST_PACKETS 65536 /* that a queue of the examples may have room for */
 
+enum { SENDER = 1, LINK = 2, TIMER = 3 }; /* the callers in a history */
+
 struct control {
     uint64_t rate;              /* bits a second of the link */
     bool use_ecn;               /* whether packets are marked */

@@ -28,17 +28,13 @@ static void *new_file(const char *name, size_t bytes) {
 }
 
 bool open_flight(struct flight_file *file, const char *name, const struct pie_opening *opening, const struct pie_state *state) {
-    file->name = NULL;
-    if (name == NULL)
-        return true;
-    file->bytes = pie_flight_bytes(FLIGHT_EVENTS, opening->packets);
-    file->memory = new_file(name, file->bytes);
-    file->scratch = aligned_alloc(64, (file->bytes + 63) / 64 * 64);
-    if (file->memory == NULL || file->scratch == NULL ||
-        !pie_flight_open(&file->flight, file->memory, file->bytes, FLIGHT_EVENTS, opening, state))
-        return false;
+    size_t bytes = (pie_flight_bytes(FLIGHT_EVENTS, opening->packets) + 63) / 64 * 64;
     file->name = name;
-    return true;
+    file->bytes = bytes;
+    file->memory = name != NULL ? new_file(name, bytes) : aligned_alloc(64, bytes);
+    file->scratch = aligned_alloc(64, bytes);
+    return file->memory != NULL && file->scratch != NULL &&
+           pie_flight_open(&file->flight, file->memory, bytes, FLIGHT_EVENTS, opening, state);
 }
 
 static int write_to(void *user, const unsigned char *bytes, size_t count) {

@@ -1,4 +1,4 @@
-/* A flight recorder (include/pie_flight.h) in a file under mmap, so that what it holds outlives the process, and its text. */
+/* A flight recorder (include/pie_flight.h) in a file under mmap, so that what it holds outlives the process, or in memory of its own; and its text. */
 #ifndef SHARED_FLIGHT_FILE_H
 #define SHARED_FLIGHT_FILE_H
 
@@ -10,26 +10,26 @@
 #define FLIGHT_EVENTS 100000 /* that it keeps at the least */
 
 struct flight_file {
-    const char *name; /* NULL where none is kept */
+    const char *name; /* NULL where it lies in no file */
     struct pie_flight flight;
-    void *memory;
+    void *memory;     /* NULL where none is kept */
     void *scratch;    /* for a dump while the recorder goes on */
     size_t bytes;
 };
 
-/* Opens a recorder in a file of this name (NULL: none), right after the state was opened by this. A file that is there already is what
+/* Opens a recorder in a file of this name (NULL: in memory of its own), right after the state was opened by this. A file that is there already is what
  * an earlier run left: it goes to NAME.before. False where that cannot be done. */
 bool open_flight(struct flight_file *file, const char *name, const struct pie_opening *opening, const struct pie_state *state);
 
 /* Keeps an event, after its call. */
 static inline void keep_event(struct flight_file *file, const struct pie_state *state, const struct pie_event *event) {
-    if (file->name != NULL)
+    if (file->memory != NULL)
         pie_flight_keep(&file->flight, state, event);
 }
 
 /* Tells the recorder that it was `unix_time` (nanoseconds since 1970) at this moment: its texts begin with that. One thread at a time. */
 static inline void tell_flight(const struct flight_file *file, uint64_t moment, uint64_t unix_time) {
-    if (file->name != NULL)
+    if (file->memory != NULL)
         pie_flight_clock(file->memory, moment, unix_time);
 }
 

@@ -39,7 +39,7 @@ struct owner {
     uint64_t left;
 };
 
-static void hand_over(void *user, PIE_RING_WORD *queued, uint64_t places) {
+static void hand_over(void *user, PIE_WORD *queued, uint64_t places) {
     const struct owner *owner = (const struct owner *)user;
     uint64_t i;
     for (i = 0; i < owner->queue->count; i++) {
@@ -282,18 +282,18 @@ static void damaged(uint64_t seed, uint64_t rounds) {
 
 static struct queue shared_queue;
 static struct pie_flight shared_flight;
-static PIE_RING_WORD is_over, is_enough; /* the writer has ended; it may end */
+static PIE_WORD is_over, is_enough; /* the writer has ended; it may end */
 static uint64_t shared_events;
 
 static void *write_all(void *unused) {
     struct pie_event event;
     uint64_t i;
     (void)unused;
-    for (i = 0; i < shared_events || PIE_RING_LOAD(is_enough) == 0; i++) {
+    for (i = 0; i < shared_events || PIE_LOAD(is_enough) == 0; i++) {
         step(&shared_queue, &event);
         pie_flight_keep(&shared_flight, &shared_queue.pie, &event);
     }
-    PIE_RING_STORE(is_over, 1);
+    PIE_STORE(is_over, 1);
     return NULL;
 }
 
@@ -308,10 +308,10 @@ static void threads(uint64_t seed, uint64_t events) {
     scratch = aligned(bytes);
     expect(pie_flight_open(&shared_flight, memory, bytes, wanted, &shared_queue.opening, &shared_queue.pie), "a recorder opens", bytes);
     shared_events = events;
-    PIE_RING_STORE(is_over, 0);
-    PIE_RING_STORE(is_enough, 0);
+    PIE_STORE(is_over, 0);
+    PIE_STORE(is_enough, 0);
     expect(pthread_create(&writer, NULL, write_all, NULL) == 0, "no thread", 0);
-    while (!PIE_RING_LOAD(is_over)) {
+    while (!PIE_LOAD(is_over)) {
         int answer;
         text.count = 0;
         text.stop_at = 0;
@@ -321,7 +321,7 @@ static void threads(uint64_t seed, uint64_t events) {
             gone++;
             continue;
         }
-        PIE_RING_STORE(is_enough, tries - gone >= 5);
+        PIE_STORE(is_enough, tries - gone >= 5);
         expect(answer == PIE_FLIGHT_DONE, "a dump beside the writer answers", (uint64_t)answer);
         last = decide_again(&text, &first);
         expect(last >= before || last == 0, "a dump is older than the one before", last);

@@ -14,7 +14,7 @@ header_test flight_steps 1 200
 
 # wrong NAME OLD NEW [TEST COUNT]: a header with this change is found
 wrong() {
-    cp include/pie.h include/pie_ring.h "$work"
+    cp include/pie.h "$work"
     python3 - "$2" "$3" "$work/pie_flight.h" <<'END' || exit 1
 import sys
 old, new, to = sys.argv[1:]
@@ -43,20 +43,20 @@ wrong "packets that departed since, not told by their departures" "number != kep
 wrong "a packet that waits, told by its neighbour's place" \
     "words + layout->queued_at + left % layout->queued" "words + layout->queued_at + (left + 1) % layout->queued"
 wrong "parameters a bit too narrow" "{34, 34, 40, 20, 20, 16, 31, 40, 5}" "{34, 34, 40, 20, 19, 16, 31, 40, 5}"
-wrong "a snapshot of the newest alone" "count >= oldest)" "count <= oldest && found != NULL)"
-wrong "the numbers begun anew" "PIE_RING_LOAD(snapshot[PIE_FLIGHT_COUNT]), PIE_UNKNOWN" "UINT64_C(0), PIE_UNKNOWN"
+wrong "a snapshot of the newest alone" "count >= oldest ||" "(count <= oldest && found != NULL) ||"
+wrong "the numbers begun anew" "PIE_LOAD(snapshot[PIE_FLIGHT_COUNT]), PIE_UNKNOWN" "UINT64_C(0), PIE_UNKNOWN"
 wrong "a time of day at its own moment" "PIE_FLIGHT_CLOCK], unix_time - moment" "PIE_FLIGHT_CLOCK], unix_time"
 wrong "a time of day before the packets that wait" "    pie_flight_text_queue(text, words, layout, snapshot);
     if (unix_time != 0)
         pie_flight_written(text, pie_write_clock(0, unix_time, pie_flight_next(text), PIE_RESUME_ROOM));" "    if (unix_time != 0)
         pie_flight_written(text, pie_write_clock(0, unix_time, pie_flight_next(text), PIE_RESUME_ROOM));
     pie_flight_text_queue(text, words, layout, snapshot);"
-wrong "a snapshot that changed during its copy" "(PIE_RING_LOAD(from[at]) != PIE_RING_LOAD(to[at]))" "(from == to)" flight_steps 200
-wrong "a snapshot that is one while it is written" "    PIE_RING_STORE(to[PIE_FLIGHT_NUMBER], 0);
-    PIE_RING_STORE(to[PIE_FLIGHT_COUNT]" "    PIE_RING_STORE(to[PIE_FLIGHT_COUNT]" flight_steps 200
+wrong "a snapshot that changed during its copy" "(PIE_LOAD(from[at]) != PIE_LOAD(to[at]))" "(from == to)" flight_steps 200
+wrong "a snapshot that is one while it is written" "    PIE_STORE(to[PIE_FLIGHT_NUMBER], 0);
+    PIE_STORE(to[PIE_FLIGHT_COUNT]" "    PIE_STORE(to[PIE_FLIGHT_COUNT]" flight_steps 200
 wrong "an event that is written over while it is copied" "KEPT]) + layout->burst;
 }" "KEPT]);
 }" flight_steps 200
-wrong "packets of which later departures tell" "    kept = PIE_RING_LOAD(from[PIE_FLIGHT_KEPT]);
+wrong "packets of which later departures tell" "    kept = PIE_LOAD(from[PIE_FLIGHT_KEPT]);
     i = kept < layout->events" "    i = kept < layout->events" flight_steps 200
 exit $failed

@@ -2,26 +2,32 @@
  * decided again, or it was made too late. One thread does both, so a seed makes the same steps again.
  * usage: flight_steps SEED ROUNDS */
 #define _DEFAULT_SOURCE
-#include "pie_ring.h"
+#include <stdint.h>
+#ifdef __cplusplus
+#include <atomic>
+using namespace std;
+#define PIE_WORD atomic<uint64_t>
+#else
+#include <stdatomic.h>
+#define PIE_WORD _Atomic uint64_t
+#endif
 
 /* A word of the recorder's memory was loaded, or stored. */
-static void after_word(const PIE_RING_WORD *word, int is_stored);
+static void after_word(const PIE_WORD *word, int is_stored);
 
-static inline uint64_t load_word(const PIE_RING_WORD *word) {
-    uint64_t value = PIE_RING_LOAD(*word);
+static inline uint64_t load_word(const PIE_WORD *word) {
+    uint64_t value = atomic_load_explicit(word, memory_order_acquire);
     after_word(word, 0);
     return value;
 }
 
-static inline void store_word(PIE_RING_WORD *word, uint64_t value) {
-    PIE_RING_STORE(*word, value);
+static inline void store_word(PIE_WORD *word, uint64_t value) {
+    atomic_store_explicit(word, value, memory_order_release);
     after_word(word, 1);
 }
 
-#undef PIE_RING_LOAD
-#undef PIE_RING_STORE
-#define PIE_RING_LOAD(word) load_word(&(word))
-#define PIE_RING_STORE(word, value) store_word(&(word), (value))
+#define PIE_LOAD(word) load_word(&(word))
+#define PIE_STORE(word, value) store_word(&(word), (value))
 #define PIE_FLIGHT_STORE(word, value) store_word(&(word), (value))
 
 #include "flight_again.h"
@@ -41,8 +47,8 @@ enum who { NOBODY, COPY, WRITER };
 
 static struct {
     enum who goes;                      /* and may be stopped */
-    const PIE_RING_WORD *begin, *end;   /* of the recorder's memory */
-    const PIE_RING_WORD *at;            /* where the copy is stopped next, NULL where no word says it */
+    const PIE_WORD *begin, *end;        /* of the recorder's memory */
+    const PIE_WORD *at;                 /* where the copy is stopped next, NULL where no word says it */
     uint64_t loads;                     /* .. and with none, behind so many loads from here on */
     uint64_t stores;                    /* the writer is stopped behind so many stores from here on */
     uint64_t stops, seed;
@@ -90,7 +96,7 @@ static void keep_part(uint64_t stores) {
 }
 
 /* The next snapshot's number: it is taken behind the next event that is kept. */
-static const PIE_RING_WORD *up_to_a_snapshot(void) {
+static const PIE_WORD *up_to_a_snapshot(void) {
     while (writer.flight.count + 1 < writer.flight.next)
         keep_events(1);
     return writer.flight.words + PIE_FLIGHT_HEAD + writer.flight.taken % writer.flight.snapshots * PIE_FLIGHT_SNAPSHOT;
@@ -109,7 +115,7 @@ static void change_over(void) {
     steps.goes = COPY;
 }
 
-static void after_word(const PIE_RING_WORD *word, int is_stored) {
+static void after_word(const PIE_WORD *word, int is_stored) {
     if (steps.goes == WRITER && is_stored && steps.stores-- == 0)
         longjmp(steps.stopped, 1);
     if (steps.goes != COPY || is_stored || word < steps.begin || word >= steps.end || steps.stops == 0)
@@ -127,7 +133,7 @@ static int one_dump(void *memory, size_t bytes, void *scratch, uint64_t wanted, 
     text.count = 0;
     steps.at = is_directed ? up_to_a_snapshot() : NULL;
     started = writer.flight.count;
-    steps.begin = (const PIE_RING_WORD *)memory;
+    steps.begin = (const PIE_WORD *)memory;
     steps.end = steps.begin + bytes / 8;
     steps.loads = 1 + below(&steps.seed, most_words);
     steps.stops = 1 + below(&steps.seed, STOPS);

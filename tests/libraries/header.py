@@ -27,6 +27,8 @@ CODES = {"DONE": ["PIE_DONE", "PIE_ENQUEUE"], "OVER_BYTES": ["PIE_BYTES"], "OVER
 ECN = {"NotEct": "PIE_NOT_ECT", "Ect1": "PIE_ECT1", "Ect0": "PIE_ECT0", "Ce": "PIE_CE"}
 REFUSALS = {"Moment": "PIE_BAD_MOMENT", "Size": "PIE_BAD_SIZE", "TooSoon": "PIE_TOO_SOON", "Params": "PIE_BAD_PARAMS",
             "State": "PIE_BAD_STATE", "Queue": "PIE_BAD_QUEUE", "Arrived": "PIE_BAD_ARRIVED", "NotWaited": "PIE_NOT_WAITED", "Limits": "PIE_BAD_LIMITS"}
+LINK_REFUSALS = {"Busy": "PIE_BUSY", "TooSoon": "PIE_TOO_SOON", "Exhausted": "PIE_EXHAUSTED", "Full": "PIE_FULL", "NoEvent": "PIE_TOO_MANY",
+                 "NoMemory": "PIE_NO_MEMORY", "NoCallers": "PIE_NO_CALLERS", "OneNumber": "PIE_ONE_NUMBER"}
 VERDICTS = {"Enqueue": "PIE_ENQUEUE", "Mark": "PIE_MARK", "Early": "PIE_EARLY", "Bytes": "PIE_BYTES", "Packets": "PIE_PACKETS"}
 PROFILES = {"One": "PIE_ALWAYS_ON", "Two": "PIE_ON_AND_OFF"}
 MODES = {"Bounded": "PIE_BOUNDED", "Rolling": "PIE_ROLLING"}
@@ -292,6 +294,31 @@ def compare_link(root):
     tries = {name[13:] for name in calls if name.startswith("pie_link_try_")}
     waits = set(re.findall(r"static inline uint32_t pie_link_(\w+)\(struct pie_port", header.text))
     yield from same("include/pie_link.h: the calls that wait", sorted(waits), sorted(tries), "of those that don't")
+    members = re.search(r"class pie_link_port \{(.*?)\n\};", header.text, re.S)
+    handed = re.findall(r"uint32_t (\w+)\([^)]*\) noexcept \{ return (?:this [^?]*\? )?pie_link_(\w+)\(", members[1] if members else "")
+    yield from same("include/pie_link.h: what a member of pie_link_port calls", [it for it in handed if it[0] != it[1]], [], "here")
+    yield from same("include/pie_link.h: the members of pie_link_port", sorted(it[0] for it in handed),
+                    sorted([name[9:] for name in calls] + [*waits]), "of the calls")
+    yield from compare_rust_link(root, header)
+
+
+def compare_rust_link(root, header):
+    """The declarations in Rust of the calls of include/pie_link.h, the codes of its refusals and the orders in which they are told."""
+    text = read_source(root / "bindings/rust/src", "link*.rs")
+    rust = Rust(text, {**RUST_TYPES, "RawPort": "pie_port"}, r"(?<!pub )")
+    yield from same("bindings/rust: calls of a link", rust.functions, header.functions, "in include/pie_link.h")
+    found = {LINK_REFUSALS.get(name): int(number) for number, name in re.findall(r"(\d+) => LinkRefusal::(\w+)", text)}
+    codes = {**Header((root / "include/pie.h").read_text()).constants, **header.constants}
+    yield from same("bindings/rust: refusals of a link", found, {it: codes.get(it) for it in LINK_REFUSALS.values()}, "in include/pie_link.h")
+    orders = {}
+    for comment, name in re.findall(r"/\*((?:(?!\*/).)*?)\*/\nuint32_t pie_link_(\w+)\(", header.text, re.S):
+        listed = re.search(r"Refused, in this order: ([^.]*)\.", one_line(comment.replace("\n *", "\n")))
+        # (a closed port, and an ECN field out of its range, can't be said in Rust)
+        if listed:
+            orders[name] = [it for it in re.findall(r"PIE_\w+", listed[1]) if it not in ("PIE_CLOSED", "PIE_OPEN", "PIE_APART", "PIE_BAD_ECN")]
+    told = {name: [{**REFUSALS, **LINK_REFUSALS}.get(it) for it in re.findall(r"`(\w+)`", listed) if it != "Refused"]
+            for listed, name in re.findall(r"/// # Errors\s*/// In this order: ([^.\[]*)\.[^\n]*\s*pub fn (\w+)", text)}
+    yield from same("bindings/rust: the order of a link's refusals", told, {it: orders.get(it) for it in told}, "in include/pie_link.h")
 
 
 def compare_flight(header, rust):
@@ -350,15 +377,16 @@ def compare_versions(header, root):
                 yield f"{path}: version {found and found[1]}, and in include/pie.h {version}"
 
 
-def read_source(folder, pattern):
-    return "\n".join(path.read_text() for path in sorted(folder.rglob(pattern)) if not path.stem.startswith("tests"))
+def read_source(folder, pattern, but="tests"):
+    """The files of these names, but those that begin with `but`."""
+    return "\n".join(path.read_text() for path in sorted(folder.rglob(pattern)) if not path.stem.startswith(but))
 
 
 def differences(root):
     header = Header((root / "include/pie.h").read_text())
     text = "\n".join(read_source(root / f"crates/{it}/src", "*.rt") for it in ("pie_abi", "pie_c"))
     source = Rust(text, TYPES, r'pub extern "C" ')
-    rust_text = read_source(root / "bindings/rust/src", "*.rs")
+    rust_text = read_source(root / "bindings/rust/src", "*.rs", "link")
     rust = Rust(rust_text, RUST_TYPES, r"(?<!pub )")
     if len(source.functions) < 10 or len(source.structs) != 6:
         yield "crates/pie_c/src: its functions and structs were not found"

@@ -62,8 +62,8 @@ else
             ${compiler%% *} -o example example.o $(pkg-config --libs pie_c)) || fail "$compiler does not build the README's example"
         expect "the README's example by $compiler" "$wanted" "$work/empty/example"
         # shellcheck disable=SC2046,SC2086
-        (cd "$work/empty" && $compiler $warnings $(pkg-config --cflags pie_c) -c -o ring.o "$repository/tests/libraries/ring.c") ||
-            fail "$compiler does not build a program over pie_ring.h"
+        (cd "$work/empty" && $compiler $warnings $(pkg-config --cflags pie_c) -c -o follow.o "$repository/tests/libraries/follow.c") ||
+            fail "$compiler does not build a program over pie_follow.h and pie_text.h"
     done
     if command -v "${CC:-cc}" > /dev/null; then
         # shellcheck disable=SC2046

@@ -1,6 +1,6 @@
 #!/usr/bin/env python3
 """Tries wrong headers and wrong bindings: each edit below is made in a copy of include/ and bindings/, and tests/libraries/header.py, the rows
-in C or the rows in Rust have to refuse it. It needs the library (`rt lib` in crates/pie_c), a C compiler and cargo, and takes some
+in C or the rows in Rust have to refuse it. It needs both libraries (bindings/c/library.py), a C compiler and cargo, and takes some
 minutes; .ci/run leaves it out. Exit status 1 where an edit passes everything.
 
 usage: tests/libraries/wrong_headers.py [NAME..]    NAME: a word of the edits to try
@@ -15,7 +15,7 @@ import tempfile
 from pathlib import Path
 
 ROOT = Path(__file__).resolve().parents[2]
-HEADER, CRATE = "include/pie.h", "bindings/rust/src/"
+HEADER, CRATE, LINK = "include/pie.h", "bindings/rust/src/", "bindings/rust/src/link.rs"
 ARRIVE = "uint64_t queued, uint32_t size, uint32_t room, uint32_t ecn, uint64_t word"
 
 # of each: a name, the file, and in pairs what is replaced, which the file has once, and what by
@@ -83,12 +83,22 @@ EDITS = [
     ("Rust: a mark is a drop", CRATE + "state.rs", "Verdict::Enqueue | Verdict::Mark)", "Verdict::Enqueue)"),
     ("Rust: sizes looked at before moments", CRATE + "state.rs", "/// In this order: `Moment`, `Size`, `Queue`.\n    pub fn arrive",
      "/// In this order: `Size`, `Moment`, `Queue`.\n    pub fn arrive"),
+    ("Rust: a departure at a link that updates", LINK, "unsafe { pie_link_try_depart(", "unsafe { pie_link_try_update("),
+    ("Rust: an arrival at a link without its random word", LINK, "moment, tag, word, size, ecn: ecn as u8,", "moment, tag, size, ecn: ecn as u8,"),
+    ("Rust: ports of two links are gathered", LINK, "self.link == other.link && ", ""),
+    ("Rust: the ports of a link from the highest number on", LINK, "ports.reverse();", ""),
+    ("Rust: a waiting call that answers busy", CRATE + "link_wait.rs", "Err(LinkRefusal::Busy) => wait(rounds)",
+     "Err(LinkRefusal::Busy) if rounds < 1 => wait(rounds)"),
+    ("Rust: two refusals of a link exchanged", CRATE + "link_refusal.rs", "105 => LinkRefusal::Full", "106 => LinkRefusal::Full",
+     "106 => LinkRefusal::NoEvent", "105 => LinkRefusal::NoEvent"),
+    ("Rust: callers of 32 bits", CRATE + "link_library.rs", "callers: u16", "callers: u32"),
+    ("C++: a reset that departs", "include/pie_link.h", "{ return pie_link_reset(&port", "{ return pie_link_depart(&port"),
     ("Rust: documentation with another range", CRATE + "params.rs", "1 to 65535 bytes (1024;", "1 to 65536 bytes (1024;"),
 ]
 
 
 def copied(folder):
-    for name in ("include", "bindings", "crates/pie_abi/src", "crates/pie_c/src", "docs"):
+    for name in ("include", "bindings", "crates/pie_abi/src", "crates/pie_c/src", "crates/pie_link_c/src", "docs"):
         shutil.copytree(ROOT / name, folder / name, ignore=shutil.ignore_patterns("target"))
 
 
@@ -102,7 +112,8 @@ def refused_by(folder, prefix):
         program = folder / name.replace(" ", "_")
         steps += [(name, [*compile_c, "-o", program, folder / source, library]), (name, [program])]
     environment = {**os.environ, "PIE_C_PREFIX": str(prefix), "CARGO_TARGET_DIR": str(prefix / "target")}
-    steps.append(("the rows in Rust", ["cargo", "test", "--offline", "--tests", "--manifest-path", folder / "bindings/rust/Cargo.toml"]))
+    steps.append(("the tests in Rust", ["cargo", "test", "--offline", "--tests", "--features", "link", "--manifest-path",
+                                        folder / "bindings/rust/Cargo.toml"]))
     return next((name for name, step in steps if run(step, environment).returncode != 0), None)
 
 
@@ -134,6 +145,7 @@ def main():
         prefix = Path(prefix)
         (prefix / "lib").mkdir()
         shutil.copy(ROOT / "crates/pie_c/out/libpie_c.a", prefix / "lib")
+        shutil.copy(ROOT / "crates/pie_link_c/out/libpie_link_c.a", prefix / "lib/libpie_link.a")
         if refusal := tried(prefix, HEADER):
             sys.exit(f"tests/libraries/wrong_headers.py: what the repository has is refused by {refusal}")
         chosen = [edit for edit in EDITS if not sys.argv[1:] or any(word in edit[0] for word in sys.argv[1:])]

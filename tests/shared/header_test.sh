@@ -1,4 +1,4 @@
-# What the tests of include/pie_ring.h and include/pie_flight.h share, for bash's `.`: of NAME, whose test is tests/libraries/NAME.c, `header_test
+# What the tests of include/pie_flight.h and include/pie_follow.h share, for bash's `.`: of NAME, whose test is tests/libraries/NAME.c, `header_test
 # NAME ARGUMENT..` builds the test as C11, C++11 and C++17 with warnings as errors, and with the sanitizers, and runs each in a folder of its own,
 # `$work`. It works at the top of the repository, and sets `$failed` where something fails.
 cd "$(dirname "$0")/../.."

@@ -83,6 +83,12 @@ impl Event {
         Event(RawEvent { caller, moment, tag, size, ecn: ecn as u8, ..RawEvent::default() })
     }
 
+    /// One that a link handed out.
+    #[cfg(feature = "link")]
+    pub(crate) fn of_raw(raw: RawEvent) -> Event {
+        Event(raw)
+    }
+
     /// The code that the call answered, where it was refused.
     #[inline]
     pub(crate) fn refused(&self) -> Option<u32> {
@@ -105,6 +111,12 @@ impl Event {
 }
 
 impl ParamsEvent {
+    /// One that a link handed out.
+    #[cfg(feature = "link")]
+    pub(crate) fn of_raw(event: Event, params: Params) -> ParamsEvent {
+        ParamsEvent { event, params }
+    }
+
     pub(crate) fn refused(&self) -> Option<u32> {
         self.event.refused()
     }

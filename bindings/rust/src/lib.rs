@@ -28,6 +28,9 @@
 //! Each call has a form that leaves an [`Event`] beside its answer, whose text is a record of a history. With the feature `std` a `Recorder`
 //! writes a history, which `pie audit` decides again and `pie explain` explains. What runs for a month keeps its last events alone, in a
 //! [`Flight`] recorder.
+//!
+//! A [`State`] is one thread's at a time. With the feature `link`, which takes the library `libpie_link.a` too, several threads share one
+//! controller by a `Link`, each by a `Port` of its own.
 #![no_std]
 #![deny(missing_docs)]
 #![deny(unsafe_op_in_unsafe_fn)]
@@ -41,6 +44,14 @@ mod flight_event;
 #[cfg(feature = "std")]
 mod flight_text;
 mod library;
+#[cfg(feature = "link")]
+mod link;
+#[cfg(feature = "link")]
+mod link_library;
+#[cfg(feature = "link")]
+mod link_refusal;
+#[cfg(feature = "link")]
+mod link_wait;
 mod opening;
 mod params;
 #[cfg(feature = "std")]
@@ -53,6 +64,10 @@ pub use event::{Event, Packet, ParamsEvent};
 #[cfg(feature = "std")]
 pub use flight::DumpFault;
 pub use flight::{Flight, FlightRefusal};
+#[cfg(feature = "link")]
+pub use link::{Folded, Link, LinkUpdated, Port};
+#[cfg(feature = "link")]
+pub use link_refusal::LinkRefusal;
 pub use opening::{Mode, Opening};
 pub use params::{Parameter, Params};
 #[cfg(feature = "std")]

@@ -79,6 +79,14 @@ pub enum Ecn {
     Ce = 3,
 }
 
+#[cfg(feature = "link")]
+impl Ecn {
+    /// The ECN field of these bits, of which the lowest two count.
+    pub(crate) fn of(bits: u8) -> Ecn {
+        [Ecn::NotEct, Ecn::Ect1, Ecn::Ect0, Ecn::Ce][usize::from(bits & 3)]
+    }
+}
+
 /// Whether the controller turns itself on and off (RFC 8033, section 5.3).
 #[derive(Clone, Copy, Debug, PartialEq, Eq, Hash)]
 pub enum Profile {

@@ -1,0 +1,225 @@
+/* A crowd at one link: so many threads make calls of all kinds for some seconds, one of them is cancelled between two calls halfway, and one more
+ * folds, and writes the text of all that it is handed. Each thread sums up what it was answered, in its order; `read` sums up the same from the
+ * text, so that each caller's calls stand there once and in its order. bindings/c/threads.sh builds and runs it, and has the text audited.
+ *     crowd run THREADS SECONDS SUMS > text
+ *     crowd read THREADS SUMS < text */
+#include "pie_link.h"
+
+#include <pthread.h>
+#include <stdio.h>
+#include <stdlib.h>
+#include <string.h>
+
+#define CHECK(c) \
+    do { \
+        if (!(c)) { \
+            fprintf(stderr, "bindings/c/crowd.c:%d: %s\n", __LINE__, #c); \
+            exit(1); \
+        } \
+    } while (0)
+
+enum { MOST = 64 };
+
+/* What a caller was answered: how many calls, and a sum in which their order counts. */
+struct sum {
+    uint64_t count, order;
+};
+
+static void add(struct sum *sum, uint64_t kind, uint64_t moment) {
+    sum->count++;
+    sum->order = (sum->order ^ (moment << 4 | kind)) * UINT64_C(0x100000001b3);
+}
+
+static struct worker {
+    struct pie_port port; /* its number is that of its place; number 0 folds */
+    struct sum sum;
+    uint64_t busy; /* times that another had the turn */
+    pthread_t id;
+} workers[MOST];
+static atomic_ullong answered[MOST]; /* calls so far, for others to read */
+static atomic_int is_over, at_work;
+static struct pie_opening opening;
+static uint64_t start; /* the clock at the moment 0 */
+
+static uint64_t now(void) {
+    struct timespec time;
+    timespec_get(&time, TIME_UTC);
+    return (uint64_t)time.tv_sec * 1000000000 + (uint64_t)time.tv_nsec - start;
+}
+
+static uint64_t next_word(uint64_t *word) {
+    *word ^= *word << 13, *word ^= *word >> 7, *word ^= *word << 17;
+    return *word;
+}
+
+/* A call of some kind: one in five without waiting. */
+static uint32_t ask(struct worker *worker, struct pie_event *event, uint64_t word) {
+    struct pie_port *port = &worker->port;
+    struct pie_params params = opening.params;
+    uint32_t code, choice = word >> 40 & 1023;
+    params.target = UINT64_C(2000000) + (word >> 8 & 0xfffff);
+    if (choice < 200)
+        code = pie_link_try_arrive(port, event);
+    else if (choice < 600)
+        code = pie_link_arrive(port, event);
+    else if (choice < 980)
+        code = pie_link_depart(port, event);
+    else if (choice < 1020)
+        code = pie_link_update(port, event);
+    else if (choice < 1022)
+        code = pie_link_set_params(port, &params, event);
+    else
+        code = pie_link_reset(port, event);
+    worker->busy += code == PIE_BUSY;
+    return code;
+}
+
+static void *work(void *of) {
+    struct worker *worker = of;
+    size_t number = (size_t)(worker - workers);
+    uint64_t word = UINT64_C(0x9e3779b97f4a7c15) * (number + 1), tag = 0, last = 0;
+    while (!is_over) {
+        uint64_t time = now(), random = next_word(&word);
+        struct pie_event event = {.tag = ++tag, .size = 1 + (uint32_t)(random >> 54), .ecn = random >> 52 & 3, .word = next_word(&word)};
+        uint32_t code;
+        event.moment = last = time > last ? time : last + 1;
+        code = ask(worker, &event, next_word(&word));
+        if (code < 100) {
+            CHECK(event.caller == number && event.moment == last);
+            add(&worker->sum, event.kind, event.moment);
+            answered[number] = worker->sum.count;
+        } else {
+            CHECK(code == PIE_BUSY || code == PIE_FULL || code == PIE_TOO_SOON);
+        }
+        if (code == PIE_FULL)
+            sched_yield();
+        pthread_testcancel(); /* (no call has a place where a thread is cancelled: this is the only one) */
+    }
+    at_work--;
+    return NULL;
+}
+
+/* Whether each of these has made a call since. */
+static int have_gone_on(const unsigned long long *before, int threads) {
+    int i;
+    for (i = 1; i < threads; i++)
+        if (answered[i] == before[i])
+            return 0;
+    return 1;
+}
+
+/* Writes what the log holds, but no more than it has room for at once; whether it came to its end. */
+static int fold(void) {
+    struct pie_event event;
+    struct pie_params params;
+    unsigned char bytes[64 * PIE_RECORD_ROOM];
+    size_t count = 0, folded = 0, length;
+    uint32_t code = PIE_DONE;
+    while (folded < opening.tail && (code = pie_link_fold(&workers[0].port, &event, &params)) == PIE_DONE) {
+        length = event.kind == PIE_EVENT_PARAMS ? pie_write_params(&event, &params, bytes + count, sizeof bytes - count)
+                                                : pie_write_event(&event, bytes + count, sizeof bytes - count);
+        CHECK(length != 0);
+        count += length;
+        folded++;
+        if (sizeof bytes - count < PIE_RECORD_ROOM) {
+            CHECK(fwrite(bytes, 1, count, stdout) == count);
+            count = 0;
+        }
+    }
+    CHECK((code == PIE_DONE || code == PIE_TOO_MANY) && fwrite(bytes, 1, count, stdout) == count);
+    return code == PIE_TOO_MANY;
+}
+
+static void run(int threads, double seconds, const char *sums) {
+    unsigned char record[PIE_RECORD_ROOM];
+    unsigned long long before[MOST];
+    uint64_t half = (uint64_t)(seconds * 5e8), busy = 0;
+    int is_cancelled = 0, i;
+    FILE *file = fopen(sums, "w");
+    pie_default_opening(&opening, 1000000000);
+    opening.mode = PIE_BOUNDED; /* no event goes but by a fold */
+    opening.tail = 1 << 14;
+    opening.packets = 1000;
+    opening.params.max_burst = 0;
+    CHECK(file != NULL && pie_link_open(&opening, (uint16_t)(threads + 1), &workers[0].port) == PIE_DONE);
+    CHECK(fwrite(record, 1, pie_write_opening(&opening, record, sizeof record), stdout) > 0);
+    start = now();
+    for (i = threads; i > 0; i--)
+        CHECK(pie_link_share(&workers[0].port, &workers[i].port) == PIE_DONE);
+    at_work = threads;
+    for (i = 1; i <= threads; i++)
+        CHECK(pthread_create(&workers[i].id, NULL, work, &workers[i]) == 0);
+    while (at_work != 0) {
+        int is_empty = fold();
+        if (!is_cancelled && now() > half) {
+            void *answer;
+            is_cancelled = 1;
+            CHECK(pthread_cancel(workers[threads].id) == 0 && pthread_join(workers[threads].id, &answer) == 0 && answer == PTHREAD_CANCELED);
+            at_work--;
+            for (i = 1; i < threads; i++)
+                before[i] = answered[i];
+        }
+        /* (the others go on after the one that was cancelled, however long they wait for a processor) */
+        is_over = is_cancelled && now() > 2 * half && have_gone_on(before, threads);
+        CHECK(now() < 2 * half + UINT64_C(120000000000));
+        if (is_empty)
+            sched_yield();
+    }
+    for (i = 1; i < threads; i++)
+        CHECK(pthread_join(workers[i].id, NULL) == 0);
+    while (!fold())
+        ;
+    for (i = 1; i <= threads; i++) {
+        busy += workers[i].busy;
+        fprintf(file, "%llu %llu\n", (unsigned long long)workers[i].sum.count, (unsigned long long)workers[i].sum.order);
+        CHECK(pie_link_close(&workers[i].port) == PIE_DONE);
+    }
+    CHECK(pie_link_close(&workers[0].port) == PIE_DONE && fclose(file) == 0 && fflush(stdout) == 0);
+    fprintf(stderr, "%llu calls without waiting found it busy\n", (unsigned long long)busy);
+}
+
+/* The kind, the caller and the moment with which each record begins. */
+static void read_text(int threads, const char *sums) {
+    static const char *const kinds[] = {"arrive", "depart", "update", "reset", "params"};
+    static struct sum found[MOST];
+    char line[4 * PIE_RECORD_ROOM];
+    uint64_t events = 0, changes = 0;
+    unsigned long long count, order;
+    int before = 0, i;
+    FILE *file;
+    CHECK(fgets(line, sizeof line, stdin) != NULL && strncmp(line, "open3,", 6) == 0);
+    while (fgets(line, sizeof line, stdin) != NULL) {
+        char *at = strchr(line, ',');
+        CHECK(at != NULL);
+        *at = 0;
+        for (i = 0; i < 5 && strcmp(line, kinds[i]) != 0; i++)
+            ;
+        long caller = strtol(at + 1, &at, 10);
+        CHECK(i < 5 && caller >= 1 && caller <= threads && *at == ',');
+        add(&found[caller], (uint64_t)i + 1, strtoull(at + 1, NULL, 10));
+        events++;
+        changes += caller != before;
+        before = (int)caller;
+    }
+    file = fopen(sums, "r");
+    CHECK(file != NULL);
+    for (i = 1; i <= threads; i++) {
+        CHECK(fscanf(file, "%llu %llu", &count, &order) == 2);
+        CHECK(count > 0 && found[i].count == count && found[i].order == order);
+    }
+    fclose(file);
+    printf("%llu events of %d callers, each one's once and in its order; %llu times the next event was another's\n", (unsigned long long)events,
+           threads, (unsigned long long)changes);
+}
+
+int main(int argc, char **argv) {
+    int threads = argc > 2 ? atoi(argv[2]) : 0;
+    CHECK(argc > 3 && threads >= 2 && threads < MOST);
+    if (strcmp(argv[1], "run") == 0 && argc == 5)
+        run(threads, atof(argv[3]), argv[4]);
+    else if (strcmp(argv[1], "read") == 0 && argc == 4)
+        read_text(threads, argv[3]);
+    else
+        return 2;
+    return 0;
+}

@@ -1,0 +1,292 @@
+//! A link: one controller with its queue and its event log, which several threads call.
+
+use core::fmt;
+use core::sync::atomic::{AtomicU64, Ordering};
+use std::io::{self, Write};
+use std::vec::Vec;
+
+use crate::library::RawEvent;
+use crate::link_library::{
+    RawPort, pie_link_close, pie_link_gather, pie_link_open, pie_link_share, pie_link_try_arrive, pie_link_try_depart, pie_link_try_fold,
+    pie_link_try_reset, pie_link_try_set_params, pie_link_try_update,
+};
+use crate::link_refusal::{link_done, link_done_with, link_refusal};
+use crate::link_wait::until_served;
+use crate::{Ecn, Event, LinkRefusal, Opening, Packet, Params, ParamsEvent, Recorder, Verdict};
+
+/// The code that a departure answers where there was no packet.
+const NONE: u32 = 5;
+
+/// The kind of an event that sets parameters.
+const SETS: u8 = 5;
+
+/// Links that were opened so far, each of which has its number.
+static LINKS: AtomicU64 = AtomicU64::new(0);
+
+/// A link: one controller with its queue and its event log, which several threads call, each by a [`Port`] of its own. Each packet is a name
+/// there, its `tag`: the link has the order in which packets leave, and the caller has the packets.
+///
+/// What is proved of the library `libpie_link.a`, for all interleavings of any number of threads: whenever nobody has the turn, there is one
+/// history of one thread behind all ports. It has each port's calls once and in its order, every answer is RFC 8033's at its place, and no event
+/// is lost. Not proved: this crate, which hands each call on; the calls that wait, which are loops over those that don't; and that a call
+/// that waits is ever served. That the calls of several ports may run at once is trusted, as docs/PROMISES.md says.
+///
+/// ```
+/// use juniperbowls::{Ecn, Link, Opening, Packet, Verdict};
+///
+/// # fn main() -> Result<(), Box<dyn std::error::Error>> {
+/// let [mut sender, mut link] = Link::ports(&Opening::for_rate(100_000_000))?;
+/// let sends = std::thread::spawn(move || {
+///     let packet = Packet { tag: 7, size: 1500, ecn: Ecn::Ect0 };
+///     sender.arrive(packet, 0x9e37_79b9_7f4a_7c15, 10)
+/// });
+/// assert_eq!(sends.join().unwrap()?, Verdict::Enqueue);
+/// let packet = link.depart(25)?.ok_or("no packet waits")?;
+/// assert_eq!((packet.tag, link.depart(26)?), (7, None));
+/// assert_eq!(link.fold()?.to_string(), "arrive,0,10,7,1500,ect0,11400714819323198485,enqueue");
+/// # Ok(())
+/// # }
+/// ```
+#[derive(Debug)]
+pub struct Link(());
+
+/// One caller of a [`Link`], or several: a range of numbers, by the least of which its events are told. It is one thread's at a time, and may go
+/// to another. Where it is dropped its numbers are nobody's, and what it asked stays in the history; the last one of a link frees it.
+///
+/// A call whose name has `try` never waits: it answers [`LinkRefusal::Busy`] where another port has the turn, and nothing has happened. The
+/// others try again until they are served: after a pause, then with the processor given up, then after a sleep of at most a millisecond.
+///
+/// ```compile_fail
+/// fn is_shared<T: Sync>() {}
+/// is_shared::<juniperbowls::Port>();
+/// ```
+#[derive(Debug)]
+pub struct Port {
+    raw: RawPort,
+    /// The number of its link.
+    link: u64,
+}
+
+// SAFETY: the library's proof shows that what a port points to may go to another thread; no call keeps anything of the thread that made it.
+unsafe impl Send for Port {}
+
+impl Drop for Port {
+    fn drop(&mut self) {
+        // SAFETY: as `link_library` says. A port that was gathered is closed already, which is then answered.
+        unsafe { pie_link_close(&mut self.raw) };
+    }
+}
+
+/// What an update at a link took and left.
+#[derive(Clone, Copy, Debug, PartialEq, Eq, Hash)]
+pub struct LinkUpdated {
+    /// The queueing delay that it took, in ns (section 5.2); 0 while the controller is inactive.
+    pub delay: u64,
+    /// The probability after it.
+    pub prob: u64,
+    /// The burst allowance after it, in ns.
+    pub burst: u64,
+}
+
+/// An event of the log, which a fold handed out. Its text, by `Display`, is its record in a history.
+#[derive(Clone, Copy, Debug, PartialEq, Eq, Hash)]
+pub enum Folded {
+    /// Any event but new parameters.
+    Event(Event),
+    /// New parameters.
+    Params(ParamsEvent),
+}
+
+impl Folded {
+    /// Writes its record into a history.
+    ///
+    /// # Errors
+    /// As of [`Recorder::record`].
+    pub fn record<W: Write>(&self, history: &mut Recorder<W>) -> io::Result<()> {
+        match self {
+            Folded::Event(event) => history.record(event),
+            Folded::Params(event) => history.record_params(event),
+        }
+    }
+}
+
+impl fmt::Display for Folded {
+    fn fmt(&self, f: &mut fmt::Formatter<'_>) -> fmt::Result {
+        match self {
+            Folded::Event(event) => event.fmt(f),
+            Folded::Params(event) => event.fmt(f),
+        }
+    }
+}
+
+impl Link {
+    /// Opens a link with an empty queue, and the port with all its numbers, 0 to `callers` - 1.
+    ///
+    /// # Errors
+    /// In this order: what [`State::open`](crate::State::open) refuses, `NoCallers`, `NoMemory`.
+    pub fn open(opening: &Opening, callers: u16) -> Result<Port, LinkRefusal> {
+        let mut port = Port { raw: RawPort::CLOSED, link: LINKS.fetch_add(1, Ordering::Relaxed) };
+        let raw = opening.raw();
+        // SAFETY: as `link_library` says.
+        link_done_with(unsafe { pie_link_open(&raw, callers, &mut port.raw) }, &opening.params)?;
+        Ok(port)
+    }
+
+    /// Opens a link and so many ports, of one number each, in the order of their numbers: 1 to 65535.
+    ///
+    /// # Errors
+    /// As of [`Link::open`].
+    pub fn ports<const PORTS: usize>(opening: &Opening) -> Result<[Port; PORTS], LinkRefusal> {
+        const { assert!(PORTS >= 1 && PORTS <= u16::MAX as usize, "a link has 1 to 65535 callers") }
+        let mut first = Link::open(opening, PORTS as u16)?;
+        let mut ports = (1..PORTS).map(|_| first.share()).collect::<Result<Vec<_>, _>>()?;
+        ports.push(first);
+        ports.reverse();
+        ports.try_into().map_err(|_| LinkRefusal::NoCallers)
+    }
+}
+
+impl Port {
+    /// A port with the highest number of this one.
+    ///
+    /// # Errors
+    /// In this order: `OneNumber`, `NoMemory`. The number then stays with this port.
+    pub fn share(&mut self) -> Result<Port, LinkRefusal> {
+        let mut added = Port { raw: RawPort::CLOSED, link: self.link };
+        // SAFETY: as `link_library` says.
+        link_done(unsafe { pie_link_share(&mut self.raw, &mut added.raw) })?;
+        Ok(added)
+    }
+
+    /// Takes the numbers of another port of this link.
+    ///
+    /// # Errors
+    /// The other port, of another link, or where neither's numbers follow on the other's.
+    pub fn gather(&mut self, mut other: Port) -> Result<(), Port> {
+        // SAFETY: as `link_library` says. The library is handed two ports of one link, as it has to be.
+        if self.link == other.link && unsafe { pie_link_gather(&mut self.raw, &mut other.raw) } == 0 { Ok(()) } else { Err(other) }
+    }
+
+    /// A packet arrives; `word` is random, each number as likely as any other. The packet is queued by [`Verdict::Enqueue`] and
+    /// [`Verdict::Mark`].
+    ///
+    /// # Errors
+    /// In this order: `Busy`; `Refused` by `Moment` or `Size`; `Exhausted`, `Full`.
+    pub fn try_arrive(&mut self, packet: Packet, word: u64, moment: u64) -> Result<Verdict, LinkRefusal> {
+        let Packet { tag, size, ecn } = packet;
+        let mut event = RawEvent { moment, tag, word, size, ecn: ecn as u8, ..RawEvent::default() };
+        // SAFETY: as `link_library` says.
+        let code = unsafe { pie_link_try_arrive(&mut self.raw, &mut event) };
+        Verdict::of(code).map_err(|_| link_refusal(code))
+    }
+
+    /// The link asks for the next packet, which leaves, [`Ecn::Ce`] where it was marked; none where none waits.
+    ///
+    /// # Errors
+    /// In this order: `Busy`; `Refused` by `Moment`; `Exhausted`, `Full`.
+    pub fn try_depart(&mut self, moment: u64) -> Result<Option<Packet>, LinkRefusal> {
+        let mut event = RawEvent { moment, ..RawEvent::default() };
+        // SAFETY: as `link_library` says.
+        match unsafe { pie_link_try_depart(&mut self.raw, &mut event) } {
+            0 => Ok(Some(Packet { tag: event.tag, size: event.size, ecn: Ecn::of(event.ecn) })),
+            NONE => Ok(None),
+            code => Err(link_refusal(code)),
+        }
+    }
+
+    /// The probability is computed anew.
+    ///
+    /// # Errors
+    /// In this order: `Busy`; `Refused` by `Moment`; `TooSoon`, `Exhausted`, `Full`.
+    pub fn try_update(&mut self, moment: u64) -> Result<LinkUpdated, LinkRefusal> {
+        let mut event = RawEvent { moment, ..RawEvent::default() };
+        // SAFETY: as `link_library` says.
+        link_done(unsafe { pie_link_try_update(&mut self.raw, &mut event) })?;
+        Ok(LinkUpdated { delay: event.delay, prob: event.prob, burst: event.burst })
+    }
+
+    /// Probability, delays and rate estimate start anew.
+    ///
+    /// # Errors
+    /// As of [`Port::try_depart`].
+    pub fn try_reset(&mut self, moment: u64) -> Result<(), LinkRefusal> {
+        let mut event = RawEvent { moment, ..RawEvent::default() };
+        // SAFETY: as `link_library` says.
+        link_done(unsafe { pie_link_try_reset(&mut self.raw, &mut event) })
+    }
+
+    /// New parameters hold from the next event on.
+    ///
+    /// # Errors
+    /// In this order: `Refused` by `Params`; `Busy`; `Refused` by `Moment`; `Exhausted`, `Full`.
+    pub fn try_set_params(&mut self, params: &Params, moment: u64) -> Result<(), LinkRefusal> {
+        let mut event = RawEvent { moment, ..RawEvent::default() };
+        // SAFETY: as `link_library` says.
+        link_done_with(unsafe { pie_link_try_set_params(&mut self.raw, params, &mut event) }, params)
+    }
+
+    /// Hands out the oldest event of the log, which leaves it. What all folds of a link hand out, in their order, is its history as far as they
+    /// come; of a link that lets no event go ([`Mode::Bounded`](crate::Mode::Bounded)) nothing is missing.
+    ///
+    /// # Errors
+    /// In this order: `Busy`, `NoEvent`, `NoMemory`.
+    pub fn try_fold(&mut self) -> Result<Folded, LinkRefusal> {
+        let (mut event, mut params) = (RawEvent::default(), Params::UNSET);
+        // SAFETY: as `link_library` says.
+        link_done(unsafe { pie_link_try_fold(&mut self.raw, &mut event, &mut params) })?;
+        let is_set = event.kind == SETS;
+        let event = Event::of_raw(event);
+        Ok(if is_set { Folded::Params(ParamsEvent::of_raw(event, params)) } else { Folded::Event(event) })
+    }
+}
+
+/// The calls that wait while another port has the turn. Each answers as the one of its name with `try` does, but never `Busy`.
+impl Port {
+    /// [`Port::try_arrive`], once it has the turn.
+    ///
+    /// # Errors
+    /// As of that, but `Busy`.
+    pub fn arrive(&mut self, packet: Packet, word: u64, moment: u64) -> Result<Verdict, LinkRefusal> {
+        until_served(|| self.try_arrive(packet, word, moment))
+    }
+
+    /// [`Port::try_depart`], once it has the turn.
+    ///
+    /// # Errors
+    /// As of that, but `Busy`.
+    pub fn depart(&mut self, moment: u64) -> Result<Option<Packet>, LinkRefusal> {
+        until_served(|| self.try_depart(moment))
+    }
+
+    /// [`Port::try_update`], once it has the turn.
+    ///
+    /// # Errors
+    /// As of that, but `Busy`.
+    pub fn update(&mut self, moment: u64) -> Result<LinkUpdated, LinkRefusal> {
+        until_served(|| self.try_update(moment))
+    }
+
+    /// [`Port::try_reset`], once it has the turn.
+    ///
+    /// # Errors
+    /// As of that, but `Busy`.
+    pub fn reset(&mut self, moment: u64) -> Result<(), LinkRefusal> {
+        until_served(|| self.try_reset(moment))
+    }
+
+    /// [`Port::try_set_params`], once it has the turn.
+    ///
+    /// # Errors
+    /// As of that, but `Busy`.
+    pub fn set_params(&mut self, params: &Params, moment: u64) -> Result<(), LinkRefusal> {
+        until_served(|| self.try_set_params(params, moment))
+    }
+
+    /// [`Port::try_fold`], once it has the turn.
+    ///
+    /// # Errors
+    /// As of that, but `Busy`.
+    pub fn fold(&mut self) -> Result<Folded, LinkRefusal> {
+        until_served(|| self.try_fold())
+    }
+}

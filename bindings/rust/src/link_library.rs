@@ -1,0 +1,35 @@
+//! What the library of the link declares: `crates/pie_link_c/src` has the functions, and `tests/libraries/header.py` compares these declarations
+//! with them.
+
+use core::ffi::c_void;
+use core::ptr::null_mut;
+
+use crate::Params;
+use crate::library::{RawEvent, RawOpening};
+
+/// A port as the library holds it: a pointer, null where it is closed. It is moved, and never copied.
+#[repr(C)]
+#[derive(Debug)]
+pub(crate) struct RawPort {
+    at: *mut c_void,
+}
+
+impl RawPort {
+    /// A closed port.
+    pub(crate) const CLOSED: RawPort = RawPort { at: null_mut() };
+}
+
+// SAFETY, of each call of these: the declarations are the library's, the references live for the call, and none overlaps another. A port is
+// handed in by a reference that nobody else has, and memory is ordered where it goes to another thread, as safe Rust has it.
+unsafe extern "C" {
+    pub(crate) fn pie_link_open(opening: &RawOpening, callers: u16, port: &mut RawPort) -> u32;
+    pub(crate) fn pie_link_share(port: &mut RawPort, added: &mut RawPort) -> u32;
+    pub(crate) fn pie_link_gather(port: &mut RawPort, other: &mut RawPort) -> u32;
+    pub(crate) fn pie_link_close(port: &mut RawPort) -> u32;
+    pub(crate) fn pie_link_try_arrive(port: &mut RawPort, event: &mut RawEvent) -> u32;
+    pub(crate) fn pie_link_try_depart(port: &mut RawPort, event: &mut RawEvent) -> u32;
+    pub(crate) fn pie_link_try_update(port: &mut RawPort, event: &mut RawEvent) -> u32;
+    pub(crate) fn pie_link_try_reset(port: &mut RawPort, event: &mut RawEvent) -> u32;
+    pub(crate) fn pie_link_try_set_params(port: &mut RawPort, params: &Params, event: &mut RawEvent) -> u32;
+    pub(crate) fn pie_link_try_fold(port: &mut RawPort, event: &mut RawEvent, params: &mut Params) -> u32;
+}

@@ -1,0 +1,76 @@
+//! Why a call at a port is refused.
+
+use core::error::Error;
+use core::fmt;
+
+use crate::refusal::refusal;
+use crate::{Params, Refusal};
+
+/// Why a call at a [`Port`](crate::Port) is refused. It then changed nothing, and leaves no event in the history.
+#[derive(Clone, Copy, Debug, PartialEq, Eq, Hash)]
+pub enum LinkRefusal {
+    /// Another port has the turn: try it again, or call the form that waits.
+    Busy,
+    /// An update before it is due.
+    TooSoon,
+    /// There were as many events as the opening allows.
+    Exhausted,
+    /// The event log of a link that lets none go ([`Mode::Bounded`](crate::Mode::Bounded)) is full: fold some.
+    Full,
+    /// A fold where the log holds no event.
+    NoEvent,
+    /// There was no memory.
+    NoMemory,
+    /// A link for no callers.
+    NoCallers,
+    /// A port that has one caller's number has none to share.
+    OneNumber,
+    /// What the calls of a [`State`](crate::State) refuse too.
+    Refused(Refusal),
+}
+
+impl fmt::Display for LinkRefusal {
+    fn fmt(&self, f: &mut fmt::Formatter<'_>) -> fmt::Result {
+        f.write_str(match self {
+            LinkRefusal::Busy => "another port has the turn",
+            LinkRefusal::TooSoon => "an update before it is due",
+            LinkRefusal::Exhausted => "as many events as the opening allows",
+            LinkRefusal::Full => "the event log is full",
+            LinkRefusal::NoEvent => "the log holds no event",
+            LinkRefusal::NoMemory => "out of memory",
+            LinkRefusal::NoCallers => "a link for no callers",
+            LinkRefusal::OneNumber => "the port has one number alone",
+            LinkRefusal::Refused(why) => return why.fmt(f),
+        })
+    }
+}
+
+impl Error for LinkRefusal {}
+
+/// The refusal with this code.
+pub(crate) fn link_refusal(code: u32) -> LinkRefusal {
+    match code {
+        103 => LinkRefusal::TooSoon,
+        104 => LinkRefusal::Exhausted,
+        105 => LinkRefusal::Full,
+        106 => LinkRefusal::NoEvent,
+        121 => LinkRefusal::Busy,
+        123 => LinkRefusal::NoMemory,
+        124 => LinkRefusal::NoCallers,
+        125 => LinkRefusal::OneNumber,
+        _ => LinkRefusal::Refused(refusal(u64::from(code), 0)),
+    }
+}
+
+/// What a call answered that has no more to say.
+pub(crate) fn link_done(code: u32) -> Result<(), LinkRefusal> {
+    if code == 0 { Ok(()) } else { Err(link_refusal(code)) }
+}
+
+/// What a call answered that was handed these parameters.
+pub(crate) fn link_done_with(code: u32, params: &Params) -> Result<(), LinkRefusal> {
+    match (code, params.first_bad()) {
+        (107, Some(parameter)) => Err(LinkRefusal::Refused(Refusal::Params(parameter))),
+        _ => link_done(code),
+    }
+}

@@ -1,0 +1,160 @@
+//! Calls at the ports of a link: what each answers, by one thread; and threads that meet there.
+
+use std::sync::atomic::{AtomicU64, Ordering::SeqCst};
+use std::sync::{Barrier, mpsc};
+use std::thread;
+
+use juniperbowls::{
+    Ecn, Folded, Link, LinkRefusal, LinkUpdated, MAX_MOMENT, Mode, Opening, Packet, Parameter, Params, Port, Refusal, Verdict,
+};
+
+const PACKET: Packet = Packet { tag: 7, size: 1000, ecn: Ecn::Ect0 };
+
+fn opening(tail: u64) -> Opening {
+    Opening { mode: Mode::Bounded, tail, ..Opening::for_rate(100_000_000) }
+}
+
+/// The records of all events that the log has.
+fn folded(port: &mut Port) -> Vec<String> {
+    let mut records = Vec::new();
+    loop {
+        match port.fold() {
+            Ok(event) => records.push(event.to_string()),
+            Err(why) => {
+                assert_eq!(why, LinkRefusal::NoEvent);
+                return records;
+            }
+        }
+    }
+}
+
+#[test]
+fn an_opening_is_refused_in_its_order() {
+    let bad = Opening { params: Params { target: 1, ..Params::default() }, moment: MAX_MOMENT + 1, ..opening(8) };
+    assert_eq!(Link::open(&bad, 0).unwrap_err(), LinkRefusal::Refused(Refusal::Params(Parameter::Target)));
+    let bad = Opening { moment: MAX_MOMENT + 1, ..opening(0) };
+    assert_eq!(Link::open(&bad, 0).unwrap_err(), LinkRefusal::Refused(Refusal::Moment));
+    assert_eq!(Link::open(&opening(0), 0).unwrap_err(), LinkRefusal::Refused(Refusal::Limits));
+    assert_eq!(Link::open(&opening(8), 0).unwrap_err(), LinkRefusal::NoCallers);
+}
+
+#[test]
+fn numbers_are_shared_and_gathered() {
+    let mut port = Link::open(&opening(8), 3).unwrap();
+    let mut highest = port.share().unwrap();
+    let middle = port.share().unwrap();
+    assert_eq!(port.share().unwrap_err(), LinkRefusal::OneNumber);
+    assert_eq!(highest.share().unwrap_err(), LinkRefusal::OneNumber);
+    let mut apart = port.gather(highest).unwrap_err();
+    assert_eq!(apart.reset(1), Ok(()));
+    let mut strange = Link::open(&opening(8), 2).unwrap();
+    let other = strange.share().unwrap();
+    let other = port.gather(other).unwrap_err();
+    strange.gather(other).unwrap();
+    port.gather(middle).unwrap();
+    port.gather(apart).unwrap();
+    assert_eq!(port.reset(2), Ok(()));
+    assert_eq!(folded(&mut port), ["reset,2,1,done", "reset,0,2,done"]);
+}
+
+#[test]
+fn each_call_answers() {
+    let [mut first, mut second] = Link::ports(&opening(8)).unwrap();
+    assert_eq!(first.arrive(PACKET, 9, 10), Ok(Verdict::Enqueue));
+    assert_eq!(first.arrive(PACKET, 9, MAX_MOMENT + 1), Err(LinkRefusal::Refused(Refusal::Moment)));
+    assert_eq!(first.arrive(Packet { size: 0, ..PACKET }, 9, 20), Err(LinkRefusal::Refused(Refusal::Size)));
+    assert_eq!(second.depart(30), Ok(Some(PACKET)));
+    assert_eq!(second.try_depart(31), Ok(None));
+    assert_eq!(second.update(32), Err(LinkRefusal::TooSoon));
+    assert_eq!(second.update(15_000_000), Ok(LinkUpdated { delay: 0, prob: 0, burst: 150_000_000 }));
+    assert_eq!(second.reset(15_000_001), Ok(()));
+    let bad = Params { alpha: u64::MAX, ..Params::default() };
+    assert_eq!(second.set_params(&bad, 15_000_002), Err(LinkRefusal::Refused(Refusal::Params(Parameter::Alpha))));
+    assert_eq!(second.set_params(&Params { target: 5, ..Params::default() }, 15_000_002), Ok(()));
+    let marked = Packet { ecn: Ecn::Ce, tag: u64::MAX, size: 65_535 };
+    assert_eq!(first.arrive(marked, 1, 15_000_003), Ok(Verdict::Enqueue));
+    assert_eq!(first.depart(15_000_004), Ok(Some(marked)));
+    assert_eq!(first.arrive(PACKET, 9, 15_000_005), Err(LinkRefusal::Full));
+    assert!(matches!(first.fold(), Ok(Folded::Event(event)) if event.to_string() == "arrive,0,10,7,1000,ect0,9,enqueue"));
+    let events = [
+        "depart,1,30,left,7,1000,ect0",
+        "depart,1,31,empty",
+        "update,1,15000000,0,0,150000000",
+        "reset,1,15000001,done",
+        "params,1,15000002,5,15000000,150000000,125,1250,1024,262144,100000000000,16384,done",
+        "arrive,0,15000003,18446744073709551615,65535,ce,1,enqueue",
+        "depart,0,15000004,left,18446744073709551615,65535,ce",
+    ];
+    assert_eq!(folded(&mut second), events);
+    drop(first);
+    assert_eq!(second.arrive(PACKET, 9, 15_000_006), Ok(Verdict::Enqueue));
+}
+
+#[test]
+fn as_many_events_as_the_opening_allows() {
+    let mut port = Link::open(&Opening { events: 1, ..opening(8) }, 1).unwrap();
+    assert_eq!(port.reset(1), Ok(()));
+    assert_eq!(port.try_reset(2), Err(LinkRefusal::Exhausted));
+}
+
+/// Threads that begin each burst together, so that they meet: each one's calls stand in the history once and in its order, whoever folds.
+#[test]
+fn threads_meet() {
+    const THREADS: usize = 6;
+    const BURSTS: u64 = 300;
+    const BURST: u64 = 16;
+    let [first, ports @ ..] = Link::ports::<{ THREADS + 1 }>(&opening(1 << 10)).unwrap();
+    let (barrier, busy, done) = (Barrier::new(THREADS), AtomicU64::new(0), AtomicU64::new(0));
+    let (send, folds) = mpsc::channel();
+    thread::scope(|scope| {
+        for mut port in ports {
+            let (barrier, busy, done) = (&barrier, &busy, &done);
+            scope.spawn(move || {
+                for tag in 0..BURSTS * BURST {
+                    if tag % BURST == 0 {
+                        barrier.wait();
+                    }
+                    loop {
+                        match port.try_arrive(Packet { tag, ..PACKET }, 0, tag) {
+                            Err(LinkRefusal::Busy) => busy.fetch_add(1, SeqCst),
+                            Err(LinkRefusal::Full) => {
+                                thread::yield_now();
+                                continue;
+                            }
+                            answer => {
+                                answer.unwrap();
+                                break;
+                            }
+                        };
+                        thread::yield_now();
+                    }
+                }
+                done.fetch_add(1, SeqCst);
+            });
+        }
+        let (mut port, done) = (first, &done);
+        scope.spawn(move || {
+            loop {
+                let is_last = done.load(SeqCst) == THREADS as u64;
+                match port.fold() {
+                    Ok(event) => send.send(event.to_string()).unwrap(),
+                    Err(LinkRefusal::NoEvent) if is_last => return,
+                    Err(LinkRefusal::NoEvent) => thread::yield_now(),
+                    Err(why) => panic!("{why}"),
+                }
+            }
+        });
+        let (mut next, mut before, mut changes) = ([0; THREADS], 0, 0_u64);
+        for record in folds {
+            let mut fields = record.split(',').skip(1);
+            let caller = fields.next().unwrap().parse::<usize>().unwrap();
+            assert_eq!(fields.nth(1).unwrap().parse(), Ok(next[caller - 1]), "caller {caller}: {record}");
+            next[caller - 1] += 1;
+            changes += u64::from(caller != before);
+            before = caller;
+        }
+        assert_eq!(next, [BURSTS * BURST; THREADS]);
+        // (each burst of each thread begins with a change, but for the first of a round that goes on with the last one's thread)
+        assert!(changes >= BURSTS * (THREADS as u64 - 1), "the turn changed hands {changes} times");
+    });
+}

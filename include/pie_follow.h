@@ -1,0 +1,137 @@
+/* Follows a flight recorder (pie_flight.h): one thread reads the events as another keeps them, or writes the whole history, so that the data path
+ * never touches a file. Nothing waits, and nothing is lost silently: whoever comes too late is told how many events it missed. C11, or C++11 and
+ * later; link with libpie_c.a.
+ *
+ *     (under the lock)                                                  (the thread that writes)
+ *     uint32_t verdict = pie_arrive_event(&pie, .., event);             pie_flight_follow_open(&follower, memory, bytes);    (once)
+ *     pie_flight_keep(&flight, &pie, event);                            pie_flight_follow_text(&follower, scratch, write, user);
+ */
+#ifndef PIE_FOLLOW_H
+#define PIE_FOLLOW_H
+
+#include "pie_flight.h"
+
+#ifdef __cplusplus
+extern "C" {
+#endif
+
+#define PIE_FOLLOWED 32 /* events that are copied at once */
+
+/* Who reads the events of a recorder as they are kept: one thread, of any process that has the memory. */
+struct pie_flight_follower {
+    PIE_WORD *words;                 /* the memory */
+    struct pie_flight_layout layout;
+    uint64_t next;                   /* the number of the next event, counted from 0 */
+    uint64_t missed;                 /* events that were written over before they were read, in all */
+    uint64_t untold;                 /* .. of which the text has to tell */
+    int is_begun;                    /* the text has its beginning */
+    size_t at, count;                /* the next of those that were copied, and how many those are */
+    uint64_t copied[PIE_FOLLOWED][PIE_FLIGHT_EVENT];
+};
+
+/* Begins to follow a recorder at its first event. Answers 1, and 0 where the memory is no recorder's. */
+static inline int pie_flight_follow_open(struct pie_flight_follower *follower, const void *memory, size_t bytes) {
+    memset(follower, 0, sizeof *follower);
+    follower->words = (PIE_WORD *)(uintptr_t)memory;
+    return pie_flight_layout_in(&follower->layout, follower->words, bytes);
+}
+
+/* Copies events that were kept since, and answers 0; or how many were written over before they were read. It goes on behind these, so far that
+ * half of the memory is left before it is too late again. */
+static inline uint64_t pie_flight_copy_next(struct pie_flight_follower *follower) {
+    const struct pie_flight_layout *layout = &follower->layout;
+    uint64_t number = follower->next, kept = PIE_LOAD(follower->words[PIE_FLIGHT_KEPT]), missed;
+    follower->at = follower->count = 0;
+    for (; number < kept && follower->count < PIE_FOLLOWED; number++)
+        pie_flight_load(follower->copied[follower->count++], follower->words + layout->events_at + number % layout->events * PIE_FLIGHT_EVENT,
+                        PIE_FLIGHT_EVENT);
+    kept = PIE_LOAD(follower->words[PIE_FLIGHT_KEPT]);
+    if (kept <= follower->next || kept - follower->next + layout->burst <= layout->events)
+        return 0;
+    missed = kept - layout->events / 2 - follower->next;
+    follower->count = 0;
+    follower->next += missed;
+    follower->missed += missed;
+    return missed;
+}
+
+/* Reads the next event, and the parameters of one of kind PIE_EVENT_PARAMS: answers 1, and 0 where there is none yet. Where events were written over
+ * before they were read it is of kind PIE_EVENT_LOST, and its tag is how many. */
+static inline int pie_flight_follow(struct pie_flight_follower *follower, struct pie_event *event, struct pie_params *params) {
+    if (follower->at == follower->count) {
+        uint64_t missed = pie_flight_copy_next(follower);
+        if (missed != 0) {
+            memset(event, 0, sizeof *event);
+            event->kind = PIE_EVENT_LOST;
+            event->tag = missed;
+            return 1;
+        }
+        if (follower->count == 0)
+            return 0;
+    }
+    pie_flight_read(event, params, follower->copied[follower->at++]);
+    follower->next++;
+    return 1;
+}
+
+/* Writes how many events are missing, and what a new text begins with: a snapshot behind them. */
+static inline void pie_flight_follow_anew(struct pie_flight_follower *follower, struct pie_flight_text *text, void *scratch) {
+    uint64_t begun = pie_flight_copy((PIE_WORD *)scratch, follower->words, &follower->layout, NULL, NULL), count;
+    PIE_WORD *snapshot = pie_flight_oldest((PIE_WORD *)scratch, &follower->layout, begun, follower->next);
+    if (snapshot == NULL) {
+        text->answer = PIE_FLIGHT_GONE;
+        return;
+    }
+    count = PIE_LOAD(snapshot[PIE_FLIGHT_COUNT]);
+    pie_flight_written(text, pie_write_lost(follower->untold + count - follower->next, pie_flight_next(text), PIE_RESUME_ROOM));
+    pie_flight_text_begin(text, (PIE_WORD *)scratch, &follower->layout, snapshot);
+    follower->missed += count - follower->next;
+    follower->next = count;
+    follower->untold = 0;
+    follower->at = follower->count = 0;
+}
+
+/* Writes what a history begins with: the opening, and the time of day where it is known. */
+static inline void pie_flight_follow_begin(struct pie_flight_follower *follower, struct pie_flight_text *text) {
+    struct pie_opening opening;
+    uint64_t unix_time = PIE_LOAD(follower->words[PIE_FLIGHT_CLOCK]);
+    unsigned char *out = pie_flight_next(text);
+    pie_flight_load(&opening, follower->words + PIE_FLIGHT_OPENING, sizeof opening / 8);
+    pie_flight_written(text, pie_write_opening(&opening, out, PIE_RECORD_ROOM));
+    if (unix_time != 0 && memcmp(out, "open3,", 6) == 0)
+        pie_flight_written(text, pie_write_clock(0, unix_time, pie_flight_next(text), PIE_RESUME_ROOM));
+    follower->is_begun = 1;
+}
+
+/* Writes the history as it is kept, of a recorder of pie_flight_keep that was opened right after pie_open: at each call the text of the events since
+ * the one before, from the opening on. Where it came too late, a line `lost,<count>` tells how many events are missing, where an audit ends; and
+ * behind it a text begins anew, which resumes and stands alone (`sed 1,/^lost,/d`). `scratch` is memory for a copy, as of pie_flight_dump.
+ *
+ * Answers PIE_FLIGHT_DONE or PIE_FLIGHT_STOPPED; PIE_FLIGHT_BROKEN as pie_flight_dump; PIE_FLIGHT_GONE where the new text cannot begin yet: at the next
+ * call. */
+static inline int pie_flight_follow_text(struct pie_flight_follower *follower, void *scratch, pie_flight_write write, void *user) {
+    struct pie_flight_text text;
+    struct pie_event event;
+    struct pie_params params;
+    pie_flight_text_to(&text, write, user);
+    if (!follower->is_begun)
+        pie_flight_follow_begin(follower, &text);
+    if (follower->untold != 0)
+        pie_flight_follow_anew(follower, &text, scratch);
+    while (text.answer != PIE_FLIGHT_STOPPED && text.answer != PIE_FLIGHT_GONE && pie_flight_follow(follower, &event, &params)) {
+        if (event.kind != PIE_EVENT_LOST) {
+            pie_flight_text_event(&text, &event, &params);
+        } else {
+            follower->untold += event.tag;
+            pie_flight_follow_anew(follower, &text, scratch);
+        }
+    }
+    pie_flight_flush(&text);
+    return text.answer;
+}
+
+#ifdef __cplusplus
+}
+#endif
+
+#endif

@@ -1,0 +1,75 @@
+/* The text of a history as it is written, record by record: the calls of pie.h that write a record, with the numbers that a refusal's record tells.
+ * C11, or C++11 and later; link with libpie_c.a.
+ *
+ *     struct pie_history history = {0};
+ *     count = pie_text_opening(&history, &opening, bytes, sizeof bytes);
+ *     fwrite(bytes, 1, count, file);
+ *     verdict = pie_arrive_event(&pie, .., &event);
+ *     count = pie_text_event(&history, &event, NULL, bytes, sizeof bytes);
+ *
+ * A thread that must not touch a file keeps its events in a flight recorder (pie_flight.h), and another follows that, or it calls a link (pie_link.h),
+ * of which another folds. */
+#ifndef PIE_TEXT_H
+#define PIE_TEXT_H
+
+#include "pie.h"
+
+#include <stddef.h>
+#include <stdint.h>
+
+#ifdef __cplusplus
+extern "C" {
+#endif
+
+/* A text that is being written: begin with {0}, and with pie_text_opening. */
+struct pie_history {
+    uint64_t records; /* in it so far: a refusal tells its number */
+    uint64_t untold;  /* calls that were refused by codes that no history has */
+    uint64_t lost;    /* events that are missing */
+};
+
+/* Writes the opening (pie_write_opening), and answers its bytes: none where pie_open refuses it. `room` is at least PIE_RECORD_ROOM. */
+static inline size_t pie_text_opening(struct pie_history *text, const struct pie_opening *opening, unsigned char *out, size_t room) {
+    size_t count = pie_write_opening(opening, out, room);
+    text->records = count != 0 ? 1 : 0;
+    return count;
+}
+
+/* Writes the time of day (pie_write_clock), anywhere behind an opening of version three, and answers its bytes: none where `moment` is above
+ * 2^60 - 1. `room` is at least PIE_RECORD_ROOM. */
+static inline size_t pie_text_clock(struct pie_history *text, uint64_t moment, uint64_t unix_time, unsigned char *out, size_t room) {
+    size_t count = pie_write_clock(moment, unix_time, out, room);
+    text->records += count != 0 ? 1 : 0;
+    return count;
+}
+
+/* Writes the record of one event, with the parameters of one of kind PIE_EVENT_PARAMS, and answers its bytes: none of a refusal that no
+ * history has. `room` is at least PIE_RECORD_ROOM. An event that can't be is told as one that is missing. */
+static inline size_t pie_text_event(struct pie_history *text, const struct pie_event *event, const struct pie_params *params,
+                                    unsigned char *out, size_t room) {
+    size_t count;
+    if (event->kind != PIE_EVENT_LOST && event->answer > 100) {
+        count = pie_write_refused(text->records + 1, event->answer, out, room);
+        text->records += count != 0 ? 1 : 0;
+        text->untold += count != 0 ? 0 : 1;
+        return count;
+    }
+    text->records++;
+    if (event->kind == PIE_EVENT_LOST)
+        text->lost += event->tag;
+    if (event->kind == PIE_EVENT_PARAMS)
+        count = pie_write_params(event, params, out, room);
+    else
+        count = pie_write_event(event, out, room);
+    if (count == 0) {
+        text->lost++;
+        count = pie_write_lost(1, out, room);
+    }
+    return count;
+}
+
+#ifdef __cplusplus
+}
+#endif
+
+#endif

@@ -1,0 +1,36 @@
+#!/usr/bin/env bash
+# Builds the test of include/pie_follow.h and include/pie_text.h (follow.c beside this) as C11, C++11 and C++17 with warnings as errors, and with the
+# thread sanitizer and the address and undefined behaviour sanitizers, and runs it: random events that are followed at random times and by another
+# thread, and a writer at full speed, whose events are read whole or told as missed. Then six wrong followers, each of which is found.
+# What cannot be tried here is told on a line that begins with NOT RUN.
+#
+# usage: tests/libraries/follow.sh [EVENTS]      EVENTS: 20000 where none are given
+# needs: library
+set -u
+. "$(dirname "$0")/../shared/header_test.sh"
+header_test follow 1 "${1:-20000}"
+
+# wrong NAME OLD NEW: a header with this change is found
+wrong() {
+    cp include/pie.h include/pie_flight.h include/pie_text.h "$work"
+    python3 - "$2" "$3" "$work/pie_follow.h" <<'END' || exit 1
+import sys
+old, new, to = sys.argv[1:]
+text = open("include/pie_follow.h").read()
+assert old in text, old
+open(to, "w").write(text.replace(old, new, 1))
+END
+    "$cc" -std=c11 -O1 -I"$work" -o "$work/wrong" tests/libraries/follow.c "$lib" -pthread || exit 1
+    if (cd "$work" && timeout 120 ./wrong 1 "${1:-20000}") > "$work/said" 2>&1; then
+        echo "$script: not found: $1"
+        failed=1
+    fi
+}
+wrong "one who looks once" "    kept = PIE_LOAD(follower->words[PIE_FLIGHT_KEPT]);
+    if" "    if"
+wrong "one who trusts a burst that is being put" "kept - follower->next + layout->burst <=" "kept - follower->next <="
+wrong "one who is silent of what it missed" "        if (missed != 0) {" "        if (missed == 1) {"
+wrong "a gap that counts no further than the memory" "follower->untold + count - follower->next" "follower->untold"
+wrong "a new text that begins with the oldest snapshot" "begun, follower->next);" "begun, 0);"
+wrong "a new text that begins where it was" "    follower->next = count;" ""
+exit $failed

@@ -34,7 +34,8 @@
 
 /* What was counted. */
 struct counts {
-    uint64_t arrivals, verdicts[PIE_PACKETS + 1], departures, updates, late, lost;
+    struct pie_stats stats; /* of the events */
+    uint64_t late, lost;    /* updates that were; packets that no device took */
 };
 
 struct bottleneck {
@@ -134,7 +135,7 @@ static void release(struct bottleneck *link, struct packets *packets, int device
 static void arrive(struct bottleneck *link, struct packet *packet, uint64_t now) {
     struct pie_event event = {.moment = now, .word = random_word(), .caller = SENDER};
     uint32_t room = (uint32_t)link->options->control.opening.packets - link->queue.count;
-    packet->tag = ++link->counts.arrivals;
+    packet->tag = link->counts.stats.arrivals + 1;
     packet->moment = now;
     packet->ecn = ecn_of(packet->bytes, packet->size);
     event.tag = packet->tag;
@@ -145,7 +146,6 @@ static void arrive(struct bottleneck *link, struct packet *packet, uint64_t now)
         die_refused("pie_arrive_event", verdict);
     keep_event(&link->flight, &link->pie, &event);
     packet->arrived = link->pie.moment;
-    link->counts.verdicts[verdict]++;
     if (verdict == PIE_MARK) {
         set_ce(packet->bytes, packet->size);
         packet->ecn = PIE_CE;
@@ -154,6 +154,7 @@ static void arrive(struct bottleneck *link, struct packet *packet, uint64_t now)
         push(&link->queue, packet);
     else
         free(packet);
+    pie_count_event(&link->counts.stats, &event, link->queue.bytes, 0);
 }
 
 /* What comes from the other side is delayed, and nothing else. */
@@ -200,7 +201,7 @@ static void depart(struct bottleneck *link, uint64_t now, uint64_t until) {
     if (code != PIE_DONE)
         die_refused("pie_depart_event", code);
     keep_event(&link->flight, &link->pie, &event);
-    link->counts.departures++;
+    pie_count_event(&link->counts.stats, &event, link->queue.bytes, link->pie.moment - packet->arrived);
     packet->moment = until;
     push(&link->there, packet);
 }
@@ -241,7 +242,7 @@ static void update(struct bottleneck *link, uint64_t now) {
     uint32_t code = pie_update_event(&link->pie, link->queue.bytes, &event);
     keep_event(&link->flight, &link->pie, &event);
     if (code == PIE_DONE) {
-        link->counts.updates++;
+        pie_count_event(&link->counts.stats, &event, link->queue.bytes, 0);
         link->counts.late += now - link->next_update > link->pie.params.t_update;
     } else if (code != PIE_TOO_SOON) {
         die_refused("pie_update_event", code);
@@ -358,6 +359,7 @@ static void open_link(struct bottleneck *link, const struct options *options) {
 
 static void close_link(struct bottleneck *link) {
     const struct counts *counts = &link->counts;
+    const struct pie_stats *stats = &counts->stats;
     free_all(&link->queue);
     free_all(&link->there);
     free_all(&link->back);
@@ -369,9 +371,8 @@ static void close_link(struct bottleneck *link) {
         fprintf(stderr, "link: %" PRIu64 " events are missing in the history\n", link->follower.missed);
     printf("link: %" PRIu64 " packets arrived: %" PRIu64 " waited, %" PRIu64 " marked, %" PRIu64 " dropped early, %" PRIu64
            " for want of bytes, %" PRIu64 " of room; %" PRIu64 " left, %" PRIu64 " lost at the devices\n",
-           counts->arrivals, counts->verdicts[PIE_ENQUEUE], counts->verdicts[PIE_MARK], counts->verdicts[PIE_EARLY],
-           counts->verdicts[PIE_BYTES], counts->verdicts[PIE_PACKETS], counts->departures, counts->lost);
-    printf("link: %" PRIu64 " updates, %" PRIu64 " of them later than by a whole period\n", counts->updates, counts->late);
+           stats->arrivals, stats->enqueued, stats->marked, stats->early, stats->over_bytes, stats->over_packets, stats->left, counts->lost);
+    printf("link: %" PRIu64 " updates, %" PRIu64 " of them later than by a whole period\n", stats->updates, counts->late);
 }
 
 int main(int count, char **words) {

@@ -1,4 +1,5 @@
-/* The text of a history as it is written, record by record: the calls of pie.h that write a record, with the numbers that a refusal's record tells.
+/* The text of a history as it is written, record by record: the calls of pie.h that write a record, with the numbers that a refusal's record tells;
+ * and the statistics of its events.
  * C11, or C++11 and later; link with libpie_c.a.
  *
  *     struct pie_history history = {0};
@@ -66,6 +67,39 @@ static inline size_t pie_text_event(struct pie_history *text, const struct pie_e
         count = pie_write_lost(1, out, room);
     }
     return count;
+}
+
+/* Counts an event in the statistics, which begin with {0}: none that was refused. `bytes` are those that wait after it, and `waited` is what the packet
+ * of a departure had waited, in ns. */
+static inline void pie_count_event(struct pie_stats *stats, const struct pie_event *event, uint64_t bytes, uint64_t waited) {
+    uint64_t is_empty = event->answer == PIE_NONE;
+    switch (event->kind) {
+    case PIE_EVENT_ARRIVE:
+        stats->arrivals++;
+        stats->enqueued += event->answer == PIE_ENQUEUE;
+        stats->marked += event->answer == PIE_MARK;
+        stats->early += event->answer == PIE_EARLY;
+        stats->over_bytes += event->answer == PIE_BYTES;
+        stats->over_packets += event->answer == PIE_PACKETS;
+        break;
+    case PIE_EVENT_DEPART:
+        stats->empty += is_empty;
+        stats->left += 1 - is_empty;
+        stats->left_bytes += event->size * (1 - is_empty);
+        stats->waited += waited;
+        stats->waited_high += stats->waited < waited;
+        break;
+    case PIE_EVENT_UPDATE:
+        stats->updates++;
+        if (event->delay > stats->largest_delay)
+            stats->largest_delay = event->delay;
+        break;
+    default:
+        stats->resets += event->kind == PIE_EVENT_RESET;
+        stats->changes += event->kind == PIE_EVENT_PARAMS;
+    }
+    if (bytes > stats->largest_queue)
+        stats->largest_queue = bytes;
 }
 
 #ifdef __cplusplus

@@ -1,7 +1,7 @@
 #!/usr/bin/env bash
-# Builds the static library and runs the worked rows, the documentation's examples, the events, the flight recorder and the example queues in Rust
-# over it, with no network; and audits the history that the recorded queue writes, and the texts of a queue with a flight recorder: while it works,
-# and after it was killed, when the recorder in C writes the same. Where cargo (1.82 or later) or a C compiler to link by isn't there, a line that
+# Builds the static libraries and runs the worked rows, the documentation's examples, the events, the flight recorder, the calls at a link and the
+# example queues in Rust over them, with no network; and audits the history that the recorded queue writes, what four threads at a link fold, and the
+# texts of a queue with a flight recorder: while it works, and after it was killed, when the recorder in C writes the same. Where cargo (1.82 or later) or a C compiler to link by isn't there, a line that
 # begins with NOT RUN says so.
 # needs: library, program
 set -eu
@@ -16,7 +16,7 @@ cd bindings/rust
 # (what is built here is run once: nothing is kept for a next build, nor for a debugger)
 export CARGO_INCREMENTAL=0 CARGO_PROFILE_DEV_DEBUG=0 CARGO_PROFILE_TEST_DEBUG=0
 cargo test --offline --locked --quiet
-cargo test --offline --locked --quiet --features std -- --include-ignored
+cargo test --offline --locked --quiet --features link -- --include-ignored
 cargo run --offline --locked --quiet --example queue | tail -n 1
 work=$(mktemp -d)
 working=
@@ -35,6 +35,21 @@ if [ "$times" != '2026-11-24T20:00:00.000500000Z 2026-11-24T20:00:01.000000002Z'
     exit 1
 fi
 echo "bindings/rust: the audit finds the recorded queue's history clean ($events events, at $times)"
+cargo run --offline --locked --quiet --features link --example link > "$history"
+events=$(grep -c -E '^(arrive|depart|update|reset|params),' "$history")
+found=$("$program" audit < "$history")
+if [ "$found" != "clean,$events" ]; then
+    echo "bindings/rust/check.sh: what threads at a link folded is not clean: $found of $events events"
+    exit 1
+fi
+# callers 1 and 2 send packets 1 to 20000, each in its order
+for caller in 1 2; do
+    if ! grep -o "^arrive,$caller,[0-9]*,[0-9]*" "$history" | cut -d, -f4 | cmp -s - <(seq 20000); then
+        echo "bindings/rust/check.sh: sender $caller's arrivals at a link are not all there, once and in order"
+        exit 1
+    fi
+done
+echo "bindings/rust: four threads at a link: the audit finds their history clean ($events events)"
 
 # clean TEXT: audits a text that resumes, and sets found to the number of its last event; it tells the time of day
 clean() {

@@ -21,7 +21,8 @@ struct waiting {
 };
 
 struct counts {
-    uint64_t frames, verdicts[PIE_PACKETS + 1], departures, updates, refused;
+    struct pie_stats stats;                       /* of the events */
+    uint64_t frames, refused;
     uint64_t passed_over, others, cut, wrong; /* frames that the filter passed over, of other protocols, cut, of a wrong length */
     uint64_t large, backwards;                /* packets above USUAL_MTU; frames earlier than one before them */
 };
@@ -79,7 +80,7 @@ static void depart(struct replay *replay) {
     uint64_t parts = packet->size * 8 * SECOND + replay->rest;
     replay->free_at += parts / replay->options.control.rate;
     replay->rest = parts % replay->options.control.rate;
-    replay->counts.departures++;
+    pie_count_event(&replay->counts.stats, &event, replay->bytes, replay->pie.moment - packet->arrived);
     write_event(&replay->history, &event);
 }
 
@@ -88,7 +89,7 @@ static void update(struct replay *replay) {
     uint32_t code = pie_update_event(&replay->pie, replay->bytes, &event);
     if (code != PIE_DONE)
         die_refused("an update", code);
-    replay->counts.updates++;
+    pie_count_event(&replay->counts.stats, &event, replay->bytes, 0);
     write_event(&replay->history, &event);
 }
 
@@ -116,7 +117,6 @@ static uint32_t arrive(struct replay *replay, const struct ip_packet *packet, ui
         replay->counts.refused++;
         return verdict;
     }
-    replay->counts.verdicts[verdict]++;
     if (verdict == PIE_ENQUEUE || verdict == PIE_MARK) {
         if (replay->packets == 0 && replay->free_at < replay->now) {
             replay->free_at = replay->now;
@@ -127,6 +127,7 @@ static uint32_t arrive(struct replay *replay, const struct ip_packet *packet, ui
         replay->packets++;
         replay->bytes += size;
     }
+    pie_count_event(&replay->counts.stats, &event, replay->bytes, 0);
     return verdict;
 }
 
@@ -246,10 +247,10 @@ static void say(uint64_t count, const char *what) {
 
 static void summarize(const struct replay *replay) {
     const struct counts *counts = &replay->counts;
+    const struct pie_stats *stats = &counts->stats;
     fprintf(stderr, "replay: %" PRIu64 " frames; of the packets %" PRIu64 " waited, %" PRIu64 " were marked, %" PRIu64 " dropped early, %" PRIu64
             " for want of bytes, %" PRIu64 " of room; %" PRIu64 " left; %" PRIu64 " updates\n",
-            counts->frames, counts->verdicts[PIE_ENQUEUE], counts->verdicts[PIE_MARK], counts->verdicts[PIE_EARLY],
-            counts->verdicts[PIE_BYTES], counts->verdicts[PIE_PACKETS], counts->departures, counts->updates);
+            counts->frames, stats->enqueued, stats->marked, stats->early, stats->over_bytes, stats->over_packets, stats->left, stats->updates);
     say(counts->passed_over, "frames that the filter passed over");
     say(counts->others, "frames without an IP packet, passed over");
     say(counts->cut, "frames that were captured too short to tell their packet's length, passed over");

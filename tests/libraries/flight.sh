@@ -14,7 +14,7 @@ header_test flight_steps 1 200
 
 # wrong NAME OLD NEW [TEST COUNT]: a header with this change is found
 wrong() {
-    cp include/pie.h "$work"
+    cp include/pie.h include/pie_text.h "$work"
     python3 - "$2" "$3" "$work/pie_flight.h" <<'END' || exit 1
 import sys
 old, new, to = sys.argv[1:]
@@ -35,9 +35,9 @@ wrong "a snapshot an event late, of a burst's packets" "    pie_flight_end(fligh
         pie_flight_snapshot(flight, state);
     pie_flight_end(flight, &burst);"
 wrong "an arrival's moment as it was handed in" \
-    "pie_flight_came(flight, event, state->moment, event->ecn)" "pie_flight_came(flight, event, event->moment, event->ecn)"
+    "pie_flight_came(flight, event, state->moment," "pie_flight_came(flight, event, event->moment,"
 wrong "a marked packet that is queued as it came" \
-    "pie_flight_came(flight, event, state->moment, PIE_CE)" "pie_flight_came(flight, event, state->moment, event->ecn)"
+    "event->answer == PIE_MARK ? (uint64_t)PIE_CE : event->ecn);" "event->ecn);"
 wrong "packets that are overwritten too soon" "layout->queued = packets;" "layout->queued = packets / 2 + 1;"
 wrong "packets that departed since, not told by their departures" "number != kept && left != came &&" "number != kept && left + 1 < came &&"
 wrong "a packet that waits, told by its neighbour's place" \

@@ -169,7 +169,6 @@ static void arrive(struct bottleneck *link, struct packet *packet, uint64_t now)
         push(&link->queue, packet);
     else
         free(packet);
-    pie_count_event(&link->counts.stats, &event, link->queue.bytes, 0);
 }
 
 /* What comes from the other side is delayed, and nothing else. */

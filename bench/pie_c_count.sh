@@ -2,7 +2,8 @@
 # Counts by valgrind the instructions of the library's calls, which no load changes, beside the stored ones (bench/pie_c_count.txt): a
 # mean over 1000 calls of a kind (bench/pie_c_count.c), inside the library alone. Ends with the status 1 where a kind of call grew.
 #
-# usage: bench/pie_c_count.sh [--store]    after `rt lib` in crates/pie_c; --store keeps what was counted
+# usage: bench/pie_c_count.sh [--store | --within PERCENT]    after `rt lib` in crates/pie_c
+#        --store: keeps what was counted; --within: only what grew by more than so many per cent ends with the status 1
 set -eu
 cd "$(dirname "$0")/.."
 for tool in "${CC:-cc}" valgrind; do
@@ -14,6 +15,10 @@ done
 work=$(mktemp -d)
 trap 'rm -rf "$work"' EXIT
 stored=bench/pie_c_count.txt
+within=0
+if [ "${1-}" = --within ]; then
+    within=$2
+fi
 "${CC:-cc}" -O2 -Iinclude -o "$work/count" bench/pie_c_count.c crates/pie_c/out/libpie_c.a
 for kind in arrive_considered arrive_passed arrive_dropped depart_measured depart_unmeasured update update_too_soon empty reset set_params \
     arrive_event write_event; do
@@ -24,7 +29,8 @@ done > "$work/counted"
 if [ "${1-}" = --store ]; then
     cp "$work/counted" "$stored"
 fi
-awk 'NR == FNR {before[$1] = $2; next}
-    {note = $2 > before[$1] ? ": IT GREW" : $2 < before[$1] ? ": fewer" : ""; grew += $2 > before[$1]
+awk -v within="$within" 'NR == FNR {before[$1] = $2; next}
+    {has_grown = $2 * 100 > before[$1] * (100 + within); grew += has_grown
+     note = has_grown ? ": IT GREW" : $2 < before[$1] ? ": fewer" : ""
      printf "%-18s %4d instructions, stored %4d%s\n", $1, $2, before[$1], note}
     END {exit grew > 0}' "$stored" "$work/counted"

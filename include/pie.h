@@ -17,7 +17,7 @@
  * What a caller owes, since nothing can check it: each pointer points to a struct of its type that is aligned, and that no
  * other thread reads or writes during the call; the structs of one call do not overlap, but that `params` may be the
  * state's own, &state->params; queued bytes are those that wait; each packet that is queued leaves by one pie_depart or pie_depart_waited. A call
- * for a packet is some thirty to eighty instructions, an update some 400; none waits for anybody or takes memory, so a call may
+ * for a packet is some thirty to eighty instructions, an update some 270; none waits for anybody or takes memory, so a call may
  * stand under a spin lock.
  *
  * What is easily got wrong, and what to do:

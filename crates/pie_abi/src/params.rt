@@ -32,6 +32,7 @@ pub struct PieParams {
 
 impl PieParams {
     /// The same fields as the record that pie_params checks.
+    #[inline(always)]
     pub fn raw(&self) -> RawParams
         ensures { result ≡ raw_of self.now }
     {

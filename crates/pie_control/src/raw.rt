@@ -50,7 +50,9 @@ impl RawControl {
         self.last = moment;
     }
 
-    /// Makes an update, as [`Control::update`](crate::Control::update) does, where probability and old delay are in their ranges.
+    /// Makes an update, as [`Control::update`](crate::Control::update) does, where probability and old delay are in their ranges. Compiled where
+    /// it is called, as all that it calls: handed over, parameters and registers would go through memory.
+    #[inline(always)]
     pub fn update(
         &mut self,
         params: &RawParams,

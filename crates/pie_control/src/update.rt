@@ -34,6 +34,7 @@ pub fn delay(bytes: u64, average: u64, threshold: u64) -> u64
 }
 
 /// A gain times the difference of two times, in units of `10^-12`.
+#[inline(always)]
 fn weighted(gain: u64, time: u64, from: u64) -> i64
     requires gain { gain ≤ 10 ^ 6 }
     requires time { time ≤ MAX_DELAY }
@@ -60,6 +61,7 @@ fn product(gain: u64, difference: i64) -> i64
 }
 
 /// By how much the probability would change, before auto-tuning.
+#[inline(always)]
 #[tactic(auto, unfolding(crate::specs::Next::raw_step))]
 fn raw_step(params: &RawParams, delay: u64, old: u64) -> i64
     requires params { IsInRange params.now }
@@ -90,6 +92,7 @@ fn tuning_divisor(prob: u64) -> u32
 }
 
 /// The step after auto-tuning, and after the cap where that is chosen, at the probability before the update.
+#[inline(always)]
 #[tactic(auto, using(crate::proofs::Quotients::quotients), unfolding(crate::specs::Next::tuned_step))]
 fn tuned_step(choice: Step, prob: u64, step: i64) -> i64
     requires above { negsuc (2 ^ 62) ≤ℤ step }
@@ -142,6 +145,7 @@ fn decays(decay: Decay, params: &RawParams, delay: u64, old: u64) -> bool
 }
 
 /// The sum of probability and step, after the decay where there is one.
+#[inline(always)]
 #[tactic(auto, using(crate::proofs::Quotients::quotients), unfolding(crate::specs::Next::decayed))]
 fn decayed(decays: bool, sum: i128) -> i128
     requires above { negsuc (2 ^ 63) ≤ℤ sum }
@@ -169,6 +173,7 @@ pub fn next_probability(params: &Params, choice: Step, prob: Prob, delay: u64, o
 }
 
 /// The probability after an update by these elements, over plain numbers that are in their ranges.
+#[inline(always)]
 #[tactic(auto, unfolding(crate::specs::Next::next))]
 pub(crate) fn next(params: &RawParams, elements: Elements, prob: u64, delay: u64, old: u64) -> Prob
     requires params { IsInRange params.now }

@@ -1,9 +1,9 @@
-/* Events a second of one to four threads at one controller, in bursts: at a link (include/pie_link.h), where each event is a turn of its own; at a spin
- * lock around the recorded calls of pie.h, each of whose events a flight recorder keeps; and at the same lock around the plain calls, whose events are
- * put into the recorder in bulk, as a data plane does. Each thread lets a burst of packets arrive, and as many depart, and between two bursts spends
- * on each packet the time of making it; none is more than a burst ahead of another, so that they meet. An event is a packet that arrived or departed.
- * Each line is `kind threads burst events/s changes`, once a run, for bench/pie_link_c.sh: the last is how often a burst follows on another thread's,
- * of all bursts; at the link of those whose events its log still holds.
+/* Events a second of one to four threads at one controller, in bursts: at a link (include/pie_link.h), where each event is a turn of its own; at a
+ * spin lock around the recorded calls of pie.h, each of whose events a flight recorder keeps; and at the same lock around the plain calls, whose
+ * events are put into the recorder in bulk, as a data plane does. Each thread lets a burst of packets arrive, and as many depart, and between two
+ * bursts spends on each packet the time of making it; none is more than a burst ahead of another, so that they meet. An event is a packet that
+ * arrived or departed. Each line is `kind threads burst events/s changes`, once a run, for bench/pie_link_c.sh: the last is how often a burst
+ * follows on another thread's, of all bursts; at the link of those whose events its log still holds.
  *
  * usage: pie_link_c RUNS MILLISECONDS */
 #define _GNU_SOURCE

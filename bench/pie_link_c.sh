@@ -8,8 +8,9 @@ set -eu
 . "$(dirname "$0")/shared.sh"
 cd "$here/.."
 before=$(cut -d' ' -f1 /proc/loadavg)
-"${CC:-cc}" -O2 -std=gnu11 -Wall -Wextra -Iinclude -o "$work/link" bench/pie_link_c.c crates/pie_link_c/out/libpie_link_c.a crates/pie_c/out/libpie_c.a \
-    -pthread
+libs="crates/pie_link_c/out/libpie_link_c.a crates/pie_c/out/libpie_c.a"
+# shellcheck disable=SC2086
+"${CC:-cc}" -O2 -std=gnu11 -Wall -Wextra -Iinclude -o "$work/link" bench/pie_link_c.c $libs -pthread
 "$work/link" "${1:-9}" "${2:-100}" > "$work/lines"
 echo "load $before before and $(cut -d' ' -f1 /proc/loadavg) after, on $(nproc) processors, ${1:-9} runs of ${2:-100} ms"
 python3 - "$work/lines" <<'PYTHON'
